@@ -1,0 +1,5 @@
+pub mod Sizes
+pub mod Digits
+pub mod Text
+pub mod Ranges
+pub mod Results
