@@ -1,0 +1,7 @@
+use Rattle.std.proofs.Common.{◌≡◌, ◌-◌, replicate}
+use Rattle.big_memory.specs.Lists.{put}
+use Rattle.big_memory.specs.Marks.{marks_of}
+use Rattle.big_memory.proofs.marks.mark.Given as goal
+
+abbrev pub invariant-loop-unit : goal.invariant-loop-unit
+invariant-loop-unit l = marks_of l.guard ≡ put l.from (replicate (l.unit - l.from) l.on) (marks_of l.initial.guard)

@@ -1,0 +1,214 @@
+ghost use Rattle.std.specs.Prelude.{◌≡◌, ◌+◌, ◌-◌, ◌/◌, ◌%◌, ◌≤◌, ◌<◌, true, false, length, replicate, IfOk, MatchOption, MatchResult};
+ghost use Rattle.mix_bits.specs.Sizes.{bytes_of};
+ghost use Rattle.big_memory.specs.Lists.{part};
+ghost use Rattle.big_memory.specs.Memory.{IsRam, IsDoneUnless, IsDoneUnlessRefused, copied, copy_refusal, filled, floor_of, in_memory, loaded, meets_gate, meets_guard, refusal, stored, with_bytes, with_marks, zeroed};
+
+use super::refusals::{Access, NoMemory};
+use super::{bytes, marks};
+use mix_bits::Size;
+use std::alloc::Global;
+use std::marker::Model;
+
+/// How many bytes one mark of the guard covers.
+const UNIT: usize = 16;
+
+/// Where the gate page begins.
+const GATE_PAGE: u32 = 0x1000;
+
+/// Where the gate page ends.
+const GATE_PAGE_END: u32 = 0x2000;
+
+/// The machine's memory, big endian, with a guard of one bit for each unit of 16 bytes.
+///
+/// Calls refuse an access as a whole, before they change anything. An access of no bytes is refused
+/// nowhere.
+#[derive(Drop)]
+pub struct Ram {
+    bytes: Vec<u8>,
+    guard: Vec<u8>,
+}
+
+impl Model for Ram {
+    ghost use Rattle.big_memory.specs.Marks.{marks_of};
+    ghost use Rattle.big_memory.specs.Memory.{Memory, IsRam};
+
+    ghost Value = { Memory };
+
+    ghost view = { λ ram. record { bytes = ram.bytes.items; marks = marks_of ram.guard.items } };
+
+    ghost invariant = { λ ram. IsRam (record { bytes = ram.bytes.items; marks = marks_of ram.guard.items }) };
+}
+
+impl Ram {
+    /// Memory of whole KiB, all zeros, with nothing guarded.
+    pub fn new(alloc: Global, bytes: u32) -> Result<Ram, NoMemory>
+        requires least { 131072 ≤ bytes }
+        requires most { bytes ≤ 16777216 }
+        requires whole { bytes % 1024 ≡ 0 }
+        ensures zeros { IfOk result (λ ram. ram ≡ zeroed bytes) }
+        ensures whole { IfOk result (λ ram. IsRam ram) }
+    {
+        Ok(Ram {
+            bytes: vec![in alloc; 0; bytes as usize]?,
+            guard: vec![in alloc; 0; bytes as usize / UNIT / marks::UNITS_A_BYTE]?,
+        })
+    }
+
+    /// How many bytes there are.
+    pub fn len(&self) -> u32
+        ensures len { result ≡ length self.now.bytes }
+        ensures whole { IsRam self.now }
+    {
+        self.bytes.len() as u32
+    }
+
+    /// The lowest address of the stack.
+    pub fn floor(&self) -> u32
+        ensures { result ≡ floor_of self.now }
+    {
+        self.len() - self.len() / 4
+    }
+
+    /// The number in the bytes at `a`.
+    pub fn load(&self, a: u32, s: Size) -> Result<u32, Access>
+        ensures { result ≡ loaded self.now a s }
+    {
+        let count = bytes::count(s);
+        if count == 0 {
+            Ok(0)
+        } else if self.has(a, count) {
+            Ok(bytes::read_number(&self.bytes, a as usize, s))
+        } else {
+            Err(Access::Outside(a))
+        }
+    }
+
+    /// Stores the low bytes of `v` at `a`.
+    pub fn store(&mut self, a: u32, s: Size, v: u32) -> Result<(), Access>
+        ensures { IsDoneUnlessRefused self.old a (bytes_of s) (stored self.old a s v) self.new result (record {}) }
+    {
+        let count = bytes::count(s);
+        self.probe(a, count)?;
+        if count > 0 {
+            bytes::write_number(&mut self.bytes, a as usize, s, v);
+        }
+        Ok(())
+    }
+
+    /// The `n` bytes at `a`.
+    pub fn span(&self, a: u32, n: u32) -> Result<&[u8], Access>
+        ensures { MatchResult result
+            (λ span. (in_memory self.now a n ≡ true) × (span.now ≡ part a n self.now.bytes))
+            (λ e. (in_memory self.now a n ≡ false) × (e ≡ Access.Outside a)) }
+    {
+        if n == 0 {
+            Ok(&[])
+        } else if self.has(a, n) {
+            Ok(&self.bytes[a as usize..a as usize + n as usize])
+        } else {
+            Err(Access::Outside(a))
+        }
+    }
+
+    /// What a store of `n` bytes at `a` would answer.
+    pub fn probe(&self, a: u32, n: u32) -> Result<(), Access>
+        ensures { MatchOption (refusal self.now a n) (result ≡ Ok (record {})) (λ e. result ≡ Err e) }
+    {
+        if n == 0 {
+            Ok(())
+        } else if !self.has(a, n) {
+            Err(Access::Outside(a))
+        } else if is_in_gate_page(a, n) {
+            Err(Access::Gate(a))
+        } else if self.is_guarded(a, n) {
+            Err(Access::Frame(a))
+        } else {
+            Ok(())
+        }
+    }
+
+    /// Stores `n` zeros at `a`.
+    pub fn fill(&mut self, a: u32, n: u32) -> Result<(), Access>
+        ensures { IsDoneUnlessRefused self.old a n (filled self.old a n) self.new result (record {}) }
+    {
+        self.probe(a, n)?;
+        if n > 0 {
+            bytes::zero(&mut self.bytes, a as usize, n as usize);
+        }
+        Ok(())
+    }
+
+    /// Stores at `to` what stands in the `n` bytes at `from`, as if through another place.
+    pub fn copy(&mut self, from: u32, to: u32, n: u32) -> Result<(), Access>
+        ensures { IsDoneUnless (copy_refusal self.old from to n) self.old (copied self.old from to n) self.new result (record {}) }
+    {
+        if n > 0 && !self.has(from, n) {
+            return Err(Access::Outside(from));
+        }
+        self.probe(to, n)?;
+        if n > 0 {
+            bytes::copy(&mut self.bytes, from as usize, to as usize, n as usize);
+        }
+        Ok(())
+    }
+
+    /// Writes past the gate page and the guard. For the loader and for switch frames.
+    pub fn fix(&mut self, a: u32, bytes: &[u8])
+        requires { a + length bytes.now ≤ length self.old.bytes }
+        ensures { self.new ≡ with_bytes a bytes.now self.old }
+    {
+        bytes::write_piece(&mut self.bytes, a as usize, bytes);
+    }
+
+    /// Guards the units of [`lo`, `hi`).
+    pub fn guard(&mut self, lo: u32, hi: u32)
+        requires first { lo % 16 ≡ 0 }
+        requires last { hi % 16 ≡ 0 }
+        requires stack { floor_of self.old ≤ lo }
+        requires order { lo < hi }
+        requires within { hi ≤ length self.old.bytes }
+        ensures { self.new ≡ with_marks (lo / 16) (replicate ((hi - lo) / 16) true) self.old }
+    {
+        let (from, to) = (lo as usize / UNIT, hi as usize / UNIT);
+        marks::mark(&mut self.guard, from, to, true);
+    }
+
+    /// Ends the guard of the units of [`lo`, `hi`).
+    pub fn unguard(&mut self, lo: u32, hi: u32)
+        requires first { lo % 16 ≡ 0 }
+        requires last { hi % 16 ≡ 0 }
+        requires stack { floor_of self.old ≤ lo }
+        requires order { lo < hi }
+        requires within { hi ≤ length self.old.bytes }
+        ensures { self.new ≡ with_marks (lo / 16) (replicate ((hi - lo) / 16) false) self.old }
+    {
+        let (from, to) = (lo as usize / UNIT, hi as usize / UNIT);
+        marks::mark(&mut self.guard, from, to, false);
+    }
+
+    /// Whether `n` bytes at `a`, at least one, lie in memory.
+    fn has(&self, a: u32, n: u32) -> bool
+        requires { 0 < n }
+        ensures { result ≡ in_memory self.now a n }
+    {
+        u64::from(a) + u64::from(n) <= self.bytes.len() as u64
+    }
+
+    /// Whether one of `n` bytes at `a`, at least one and all in memory, lies in a guarded unit.
+    fn is_guarded(&self, a: u32, n: u32) -> bool
+        requires some { 0 < n }
+        requires within { a + n ≤ length self.now.bytes }
+        ensures { result ≡ meets_guard self.now a n }
+    {
+        let first = a as usize;
+        let last = first + n as usize - 1;
+        marks::any_marked(&self.guard, first / UNIT, last / UNIT + 1)
+    }
+}
+
+/// Whether one of `n` bytes at `a` lies in the gate page.
+fn is_in_gate_page(a: u32, n: u32) -> bool
+    ensures { result ≡ meets_gate a n }
+{
+    a < GATE_PAGE_END && u64::from(a) + u64::from(n) > u64::from(GATE_PAGE)
+}

@@ -1,0 +1,6 @@
+pub mod Fits
+pub mod Lowest
+pub mod Order
+pub mod Keeps
+pub mod Walk
+pub mod Undo

@@ -1,0 +1,17 @@
+use Rattle.std.proofs.Common.{sym, ◌∙◌, rules, arith}
+use Rattle.std.proofs.lemmas.Bool.{OnFalse_from}
+use Rattle.host_heap.proofs.Keeps.{IsSound-freed, freed-none}
+use Rattle.host_heap.proofs.heap.Heap.free.Goals as goal
+
+pub invariant_of-self : goal.invariant_of-self
+invariant_of-self c = (rw c.remove.ensures.items (IsSound-freed _ c.args.address c.self.invariant.0), omega arith)
+
+pub returns-clause-found : goal.returns-clause-found
+returns-clause-found c = search rules
+
+pub returns-clause-after : goal.returns-clause-after
+returns-clause-after c = search rules
+
+pub returns-clause-unchanged : goal.returns-clause-unchanged
+returns-clause-unchanged c =
+    OnFalse_from c.begins_at-found.result _ (λ e. returns-clause-after c ∙ freed-none _ _ (sym (returns-clause-found c) ∙ e))

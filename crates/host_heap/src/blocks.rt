@@ -1,0 +1,66 @@
+//! The steps of the heap on its list of blocks, which stands in order of address. Sums are 64 bits wide, so none wraps.
+ghost use Rattle.std.specs.Prelude.{◌≡◌, ◌≢◌, ◌+◌, ◌<◌, ◌≤◌, ◌^◌, IfSome, All, vec_len, vec_capacity};
+ghost use Rattle.std.specs.List.Sorted.{IsNonDecreasingBy};
+ghost use Rattle.host_heap.specs.Space.{Space, rounded};
+ghost use Rattle.host_heap.specs.Place.{lowest_fit, with_block, begins_at, without};
+ghost use Rattle.host_heap.specs.Sound.{IsSound};
+
+use crate::block::Block;
+
+/// The size in bytes of the block that a request for `size` bytes gets. It may be 2^32, which fits nowhere.
+pub fn rounded(size: u32) -> u64
+    ensures value { result ≡ rounded size }
+    ensures least { 8 ≤ result }
+    ensures most { result ≤ 2 ^ 32 }
+{
+    ((u64::from(size) + 7) / 8 * 8).max(8)
+}
+
+/// The lowest address from `low` on at which `size` bytes end by `high` and meet no block.
+pub fn lowest_fit(blocks: &[Block], low: u32, high: u32, size: u64) -> Option<u32>
+    requires sound { IsSound (record { low = low; high = high; blocks = blocks.now }) }
+    requires least { 8 ≤ size }
+    requires most { size ≤ 2 ^ 32 }
+    ensures value { result ≡ lowest_fit (record { low = low; high = high; blocks = blocks.now }) size }
+    ensures within { IfSome result (λ address. address + size ≤ high) }
+{
+    let mut address = low;
+    for block in blocks {
+        if u64::from(address) + size <= u64::from(block.address) {
+            return Some(address);
+        }
+        address = block.address + block.size;
+    }
+    if u64::from(address) + size <= u64::from(high) {
+        Some(address)
+    } else {
+        None
+    }
+}
+
+/// Puts a block in between those below it and those above it.
+pub fn add(blocks: &mut Vec<Block>, block: Block)
+    requires room { vec_len blocks.old < vec_capacity blocks.old }
+    requires order { IsNonDecreasingBy (λ b. b.address) blocks.old.items }
+    requires apart { All (λ b. b.address ≢ block.address) blocks.old.items }
+    ensures items { blocks.new.items ≡ with_block blocks.old.items block }
+    ensures capacity { vec_capacity blocks.old ≤ vec_capacity blocks.new }
+{
+    let index = blocks.partition_point(|b| b.address < block.address);
+    blocks.insert(index, block).unwrap();
+}
+
+/// Whether a block begins at this address.
+pub fn begins_at(blocks: &[Block], address: u32) -> bool
+    ensures { result ≡ begins_at blocks.now address }
+{
+    blocks.iter().any(|block| block.address == address)
+}
+
+/// Leaves out the block that begins at this address.
+pub fn remove(blocks: &mut Vec<Block>, address: u32)
+    ensures items { blocks.new.items ≡ without blocks.old.items address }
+    ensures capacity { vec_capacity blocks.new ≡ vec_capacity blocks.old }
+{
+    blocks.retain(|block| block.address != address);
+}

@@ -1,0 +1,90 @@
+//! The heap's own calls: each keeps its blocks in it, apart, in order of address and at multiples of 8.
+ghost use Rattle.std.specs.Prelude.{◌≡◌, ◌<◌, ◌≤◌, ◌%◌, [], IfOk, IfSome, IfNone};
+ghost use Rattle.std.specs.Bool.{OnFalse};
+ghost use Rattle.host_heap.specs.Space.{Space};
+ghost use Rattle.host_heap.specs.Place.{IsPlace, place_for, taken, begins_at, freed};
+ghost use Rattle.host_heap.specs.Sound.{IsSound};
+
+use crate::block::Block;
+use crate::blocks::{add, begins_at, lowest_fit, remove, rounded};
+use std::alloc::{AllocError, Global};
+use std::marker::Model;
+
+// How many blocks a heap holds at the most.
+const BLOCK_LIMIT: usize = 4096;
+
+/// A range of addresses and the blocks of it that are in use. Contracts see its bounds and the list of its blocks.
+#[derive(Drop)]
+pub struct Heap {
+    low: u32,
+    high: u32,
+    blocks: Vec<Block>,
+}
+
+impl Model for Heap {
+    ghost use Rattle.std.specs.Prelude.{◌≤◌, vec_capacity};
+    ghost use Rattle.host_heap.specs.Space.{Space};
+    ghost use Rattle.host_heap.specs.Sound.{IsSound};
+
+    ghost Value = { Space };
+
+    ghost view = { λ h. record { low = h.low; high = h.high; blocks = h.blocks.items } };
+
+    ghost invariant = { λ h. IsSound (record { low = h.low; high = h.high; blocks = h.blocks.items }) × (4096 ≤ vec_capacity h.blocks) };
+}
+
+impl Heap {
+    /// A heap with no block, from `lo` up to but without `hi`. It reserves the room for all blocks that it may ever hold.
+    pub fn new(alloc: Global, lo: u32, hi: u32) -> Result<Heap, AllocError>
+        requires low { lo % 16 ≡ 0 }
+        requires high { hi % 16 ≡ 0 }
+        requires order { lo ≤ hi }
+        ensures { IfOk result (λ heap. heap ≡ record { low = lo; high = hi; blocks = [] }) }
+    {
+        Ok(Heap {
+            low: lo,
+            high: hi,
+            blocks: Vec::with_capacity(alloc, BLOCK_LIMIT)?,
+        })
+    }
+
+    /// Makes a block of `size` bytes, rounded up to a multiple of 8 and at least 8, at the lowest address that has room for it.
+    pub fn get(&mut self, size: u32) -> Option<u32>
+        ensures place { IsPlace self.old size result }
+        ensures value { result ≡ place_for self.old size }
+        ensures after { self.new ≡ taken self.old size }
+
+        ensures aligned { IfSome result (λ address. address % 8 ≡ 0) }
+        ensures unchanged { IfNone result (self.new ≡ self.old) }
+    {
+        if self.blocks.len() == BLOCK_LIMIT {
+            return None;
+        }
+        let rounded_size = rounded(size);
+        let address = lowest_fit(&self.blocks, self.low, self.high, rounded_size)?;
+        let block = Block {
+            address,
+            size: rounded_size as u32,
+        };
+        add(&mut self.blocks, block);
+        Some(address)
+    }
+
+    /// Gives up the block that begins at this address, and says whether there was one.
+    pub fn free(&mut self, address: u32) -> bool
+        ensures found { result ≡ begins_at self.old.blocks address }
+        ensures after { self.new ≡ freed self.old address }
+        ensures unchanged { OnFalse result (self.new ≡ self.old) }
+    {
+        let found = begins_at(&self.blocks, address);
+        remove(&mut self.blocks, address);
+        found
+    }
+
+    /// What holds of every heap: its blocks lie in it, apart, in order of address, at multiples of 8, and are at most 4096.
+    pub fn every_heap_is_sound(&self)
+        ensures { IsSound self.now }
+    {
+        let _low = &self.low;
+    }
+}

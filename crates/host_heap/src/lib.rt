@@ -1,0 +1,17 @@
+//! The heap of the machine: which of its addresses are in use. It holds no bytes, which are the memory's.
+//! How sizes are rounded, where a block goes and how many there may be are this project's own choices.
+#![tactic(auto)]
+
+mod block;
+mod blocks;
+mod heap;
+mod laws;
+#[cfg(test)]
+mod tests;
+
+pub use block::Block;
+pub use heap::Heap;
+pub use laws::{
+    empty_heap_is_sound, freeing_keeps_sound, freeing_undoes_taking, lowest_fit_is_lowest,
+    place_is_aligned, place_is_unique, taking_keeps_sound,
+};

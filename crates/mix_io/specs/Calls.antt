@@ -1,0 +1,26 @@
+-- The calls of an object in memory, and which of them fail.
+use Rattle.std.specs.Prelude.{ℕ, ◌+◌, ◌-◌, ◌^◌, ◌==◌, min, Bool, List, if◌then◌else◌}
+use Rattle.std.specs.List.{list_any}
+
+-- a count with one more, which stands still at the last value of 64 bits
+abbrev pub counted : ℕ → ℕ
+counted count = min (count + 1) (2 ^ 64 - 1)
+
+-- a count after a call that failed, or did not
+abbrev pub counted_if : Bool → ℕ → ℕ
+counted_if failed count = if failed then counted count else count
+
+-- the numbers of the calls that fail, and the number of the next call
+pub record CallNumbers : Type 0 where
+  pub fails : List ℕ
+  pub next : ℕ
+
+-- calls are numbered from 1
+abbrev pub calls_from_one : List ℕ → CallNumbers
+calls_from_one fails = record { fails = fails; next = 1 }
+
+abbrev pub fails_next : CallNumbers → Bool
+fails_next calls = list_any (λ n. n == calls.next) calls.fails
+
+abbrev pub after_call : CallNumbers → CallNumbers
+after_call calls = record { fails = calls.fails; next = counted calls.next }

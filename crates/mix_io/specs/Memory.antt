@@ -1,0 +1,96 @@
+-- The shelf, the source and the sink in memory: what each holds, what a call answers and what it leaves.
+use Rattle.std.specs.Prelude.{ℕ, ◌-◌, Bool, true, false, not, ◌&&◌, ◌||◌, List, [], ◌∷◌, ◌++◌, length, take, drop, Option, Some, None, Result, Ok, Err, is_none, is_some, nat_le, slice_get, bytes_eq, if◌then◌else◌}
+use Rattle.std.specs.List.{list_any}
+use Rattle.mix_io.specs.Calls.{CallNumbers, after_call, counted_if, fails_next}
+use Rattle.mix_io.specs.declared.errors.Failed.{Failed}
+use Rattle.mix_io.specs.declared.errors.FetchError.{FetchError}
+use Rattle.mix_io.specs.declared.errors.FetchError.TheVariants.{Failed as FetchFailed, NoMemory, TooLong}
+
+-- ---- a source: the bytes that are left
+
+pub record MemorySource : Type 0 where
+  pub bytes : List ℕ
+  pub calls : CallNumbers
+  pub faults : ℕ
+
+abbrev pub taken : MemorySource → Result (Option ℕ) Failed
+taken s = if fails_next s.calls then Err (record {}) else Ok (slice_get s.bytes 0)
+
+abbrev pub after_take : MemorySource → MemorySource
+after_take s = record {
+  bytes = if fails_next s.calls then s.bytes else drop 1 s.bytes;
+  calls = after_call s.calls;
+  faults = counted_if (fails_next s.calls) s.faults;
+}
+
+-- ---- a sink: the bytes that it holds, and how many it has room for
+
+pub record MemorySink : Type 0 where
+  pub bytes : List ℕ
+  pub room : ℕ
+  pub calls : CallNumbers
+  pub faults : ℕ
+
+abbrev pub room_left : MemorySink → ℕ
+room_left s = s.room - length s.bytes
+
+-- a put fails at a numbered call, and where the piece exceeds the room that is left
+abbrev pub takes_piece : MemorySink → List ℕ → Bool
+takes_piece s piece = not (fails_next s.calls) && nat_le (length piece) (room_left s)
+
+-- nothing at a numbered call, else what fits
+abbrev pub kept_of : MemorySink → List ℕ → List ℕ
+kept_of s piece = if fails_next s.calls then [] else take (room_left s) piece
+
+abbrev pub after_put : MemorySink → List ℕ → MemorySink
+after_put s piece = record {
+  bytes = s.bytes ++ kept_of s piece;
+  room = s.room;
+  calls = after_call s.calls;
+  faults = counted_if (not (takes_piece s piece)) s.faults;
+}
+
+-- ---- a shelf: names beside contents, with one count of faults for the names that it has and one for all others
+
+pub record MemoryShelf : Type 0 where
+  pub names : List (List ℕ)
+  pub files : List (List ℕ)
+  pub calls : CallNumbers
+  pub known_faults : ℕ
+  pub other_faults : ℕ
+
+-- the file beside a name
+abbrev pub file_named : List (List ℕ) → List (List ℕ) → List ℕ → Option (List ℕ)
+file_named [] files name = None
+file_named (n ∷ names) [] name = None
+file_named (n ∷ names) (file ∷ files) name = if bytes_eq n name then Some file else file_named names files name
+
+abbrev pub file_of : MemoryShelf → List ℕ → Option (List ℕ)
+file_of s name = file_named s.names s.files name
+
+abbrev pub faults_of : MemoryShelf → List ℕ → ℕ
+faults_of s name = if is_some (file_of s name) then s.known_faults else s.other_faults
+
+-- a fetch fails at a numbered call, and for a name that the shelf lacks
+abbrev pub lacks : MemoryShelf → List ℕ → Bool
+lacks s name = fails_next s.calls || is_none (file_of s name)
+
+abbrev pub has_failed : {V : Type 0} → Result V FetchError → Bool
+has_failed (Ok v) = false
+has_failed (Err FetchFailed) = true
+has_failed (Err NoMemory) = false
+has_failed (Err (TooLong limit)) = false
+
+abbrev pub after_fetch : MemoryShelf → List ℕ → MemoryShelf
+after_fetch s name = record {
+  names = s.names;
+  files = s.files;
+  calls = after_call s.calls;
+  known_faults = counted_if (fails_next s.calls && is_some (file_of s name)) s.known_faults;
+  other_faults = counted_if (is_none (file_of s name)) s.other_faults;
+}
+
+-- no name stands twice
+abbrev pub are_distinct : List (List ℕ) → Bool
+are_distinct [] = true
+are_distinct (name ∷ names) = not (list_any (bytes_eq name) names) && are_distinct names

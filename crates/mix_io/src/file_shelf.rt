@@ -1,0 +1,86 @@
+// A shelf over the files of the system.
+ghost use Rattle.std.specs.Prelude.{◌≡◌, ◌≤◌, ℕ, List, Option, None, IfOk, IfSome, length};
+ghost use Rattle.mix_io.specs.Counts.{FetchCause};
+ghost use Rattle.std.specs.IoError.{error_kind};
+ghost use Rattle.mix_io.specs.Told.{Fetches, NamesLimit};
+ghost use Rattle.mix_io.specs.Files.{IsRefusal, ReadsWhole};
+
+use super::counts::count_fault;
+use super::errors::FetchError;
+use super::traits::Shelf;
+use std::alloc::Global;
+use std::fs;
+use std::io::{self, ErrorKind, Read};
+use std::rt::Files;
+
+/// How many bytes one read asks for.
+const CHUNK: usize = 4096;
+
+/// Finds files by their paths, and tells nothing. It keeps one count of faults for all names together.
+#[derive(Drop)]
+pub struct FileShelf<'a, R: Files> {
+    rt: &'a R,
+    faults: u64,
+}
+
+impl<'a, R: Files> FileShelf<'a, R> {
+    pub fn new(rt: &'a R) -> FileShelf<'a, R>
+        ensures { (name : List ℕ) → ⟦<FileShelf<'a, R> as Shelf>⟧.faults result name ≡ 0 }
+    {
+        FileShelf { rt, faults: 0 }
+    }
+}
+
+impl<R: Files> Shelf for FileShelf<'_, R> {
+    ghost contents = { λ _. None };
+
+    ghost faults = { λ s _. s.faults };
+
+    fn fetch(&mut self, alloc: Global, name: &str, limit: u32) -> Result<Vec<u8>, FetchError> {
+        let fetched = read_file(self.rt, alloc, name, limit);
+        if let Err(FetchError::Failed) = &fetched {
+            self.faults = count_fault(self.faults);
+        }
+        fetched
+    }
+}
+
+fn read_file<R: Files>(rt: &R, alloc: Global, name: &str, limit: u32) -> Result<Vec<u8>, FetchError>
+    ensures within { IfOk result (λ v. length v.items ≤ limit) }
+    ensures limit { NamesLimit limit result }
+{
+    let mut file = fs::open(rt, name).map_err(refusal)?;
+    read_whole(alloc, &mut file, limit)
+}
+
+/// What a reader has left, if that is at most `limit` bytes.
+fn read_whole<F: Read>(alloc: Global, file: &mut F, limit: u32) -> Result<Vec<u8>, FetchError>
+    ensures within { IfOk result (λ v. length v.items ≤ limit) }
+    ensures limit { NamesLimit limit result }
+    ensures whole { IfSome (F.remaining file.old) (λ bytes. ReadsWhole bytes limit result) }
+{
+    let mut bytes = Vec::new(alloc);
+    let mut chunk = [0; CHUNK];
+    loop {
+        let count = file.read(&mut chunk).map_err(refusal)?;
+        if count == 0 {
+            return Ok(bytes);
+        }
+        if count > limit as usize - bytes.len() {
+            return Err(FetchError::TooLong(limit));
+        }
+        bytes
+            .extend_from_slice(&chunk[..count])
+            .map_err(|_| FetchError::NoMemory)?;
+    }
+}
+
+/// Want of memory stays what it is, and every other error is a failure.
+fn refusal(error: io::Error) -> FetchError
+    ensures { IsRefusal (error_kind error) result }
+{
+    match error.kind() {
+        ErrorKind::OutOfMemory => FetchError::NoMemory,
+        _ => FetchError::Failed,
+    }
+}

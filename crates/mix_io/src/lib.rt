@@ -1,0 +1,31 @@
+//! What the machine meets of the world outside it: files, input, output and devices, by four traits,
+//! each with objects in memory for tests and for closed runs, and with adapters over std.
+#![tactic(auto)]
+
+mod conversation;
+mod counter;
+mod counts;
+mod errors;
+mod file_shelf;
+mod memory_shelf;
+mod memory_sink;
+mod memory_source;
+mod script_device;
+mod std_sink;
+mod std_source;
+mod tape;
+#[cfg(test)]
+mod tests;
+mod traits;
+
+pub use counter::Counter;
+pub use errors::{Failed, FetchError, NoMemory};
+pub use file_shelf::FileShelf;
+pub use memory_shelf::{MemShelf, have_distinct_names};
+pub use memory_sink::MemSink;
+pub use memory_source::MemSource;
+pub use script_device::ScriptDevice;
+pub use std_sink::StdSink;
+pub use std_source::StdSource;
+pub use tape::Tape;
+pub use traits::{Device, Shelf, Sink, Source};

@@ -1,0 +1,158 @@
+// What no clause says: that the calls succeed with ample memory, and that the adapters reach the outside.
+ghost use Rattle.std.specs.Prelude.{◌≤◌, IfOk};
+
+use super::{
+    Counter, Device, Failed, FetchError, FileShelf, MemShelf, MemSink, MemSource, ScriptDevice,
+    Shelf, Sink, Source, StdSink, StdSource, Tape, have_distinct_names,
+};
+use std::io::{self, Read, Write};
+use std::test::Fail;
+use std::{fs, process};
+
+#[test]
+fn devices_answer(rt: HostRuntime) -> Result<(), Fail> {
+    let alloc = rt.alloc();
+    let script = ScriptDevice::new(alloc, vec![in alloc; Some(9), None]?)?;
+    let mut script: Box<dyn Device> = Box::new(alloc, script)?;
+    let mut counter: Box<dyn Device> = Box::new(alloc, Counter::new(alloc)?)?;
+    let mut tape: Box<dyn Device> = Box::new(alloc, Tape::new(alloc)?)?;
+    for (answer, total, held) in [
+        (Ok(9), 0xffff_fffd, 0),
+        (Err(Failed), 0xffff_fffa, 1),
+        (Err(Failed), 0xffff_fff7, 2),
+    ] {
+        assert_eq!(rt; script.ask(0xffff_fffd), answer);
+        assert_eq!(rt; counter.ask(0xffff_fffd), Ok(total));
+        assert_eq!(rt; tape.ask(0xffff_fffd), Ok(held));
+    }
+    Ok(())
+}
+
+#[test]
+fn a_tape_is_full_at_its_1025th_ask(rt: HostRuntime) -> Result<(), Fail> {
+    let mut tape = Tape::new(rt.alloc())?;
+    for held in 0..1024 {
+        assert_eq!(rt; tape.ask(7), Ok(held));
+    }
+    assert_eq!(rt; tape.ask(7), Err(Failed));
+    Ok(())
+}
+
+#[test]
+fn a_source_in_memory(rt: HostRuntime) -> Result<(), Fail> {
+    let alloc = rt.alloc();
+    let mut source = MemSource::new(b"hi".to_vec(alloc)?, vec![in alloc; 2]?);
+    for taken in [Ok(Some(b'h')), Err(Failed), Ok(Some(b'i')), Ok(None)] {
+        assert_eq!(rt; source.take(), taken);
+    }
+    Ok(())
+}
+
+#[test]
+fn a_sink_in_memory(rt: HostRuntime) -> Result<(), Fail> {
+    let alloc = rt.alloc();
+    let mut sink = MemSink::new(alloc, 6, vec![in alloc; 2]?)?;
+    for (put, held) in [
+        (Ok(()), "abc"),
+        (Err(Failed), "abc"),
+        (Ok(()), "abcabc"),
+        (Err(Failed), "abcabc"),
+    ] {
+        assert_eq!(rt; sink.put(b"abc"), put);
+        assert_eq!(rt; sink.held(), held.as_bytes());
+    }
+    Ok(())
+}
+
+#[test]
+fn a_shelf_in_memory(rt: HostRuntime) -> Result<(), Fail> {
+    let alloc = rt.alloc();
+    let names = vec![in alloc;
+        String::from_str(alloc, "F")?,
+        String::from_str(alloc, "G")?,
+    ]?;
+    let contents = vec![in alloc; b"H".to_vec(alloc)?, b"long".to_vec(alloc)?]?;
+    assert!(rt; names.len() == contents.len() && have_distinct_names(&names));
+    let mut shelf = MemShelf::new(names, contents, vec![in alloc; 4]?);
+    assert_eq!(rt; shelf.fetch(alloc, "F", 3)?.as_slice(), b"H".as_slice());
+    assert_eq!(rt; shelf.fetch(alloc, "G", 3), Err(FetchError::TooLong(3)));
+    assert_eq!(rt; shelf.fetch(alloc, "E", 3), Err(FetchError::Failed));
+    assert_eq!(rt; shelf.fetch(alloc, "F", 3), Err(FetchError::Failed));
+    assert_eq!(rt; shelf.fetch(alloc, "G", 4)?.as_slice(), b"long".as_slice());
+    Ok(())
+}
+
+#[test]
+fn files_of_the_system(rt: HostRuntime) -> Result<(), Fail> {
+    let alloc = rt.alloc();
+    let id = process::id(rt.process());
+    let path = format!(in alloc; "/tmp/mix_io-{id}")?;
+    fs::write(&rt, path.as_str(), b"hello")?;
+    let mut shelf = FileShelf::new(&rt);
+    assert_eq!(rt;
+        shelf.fetch(alloc, path.as_str(), 5)?.as_slice(),
+        b"hello".as_slice()
+    );
+    assert_eq!(rt;
+        shelf.fetch(alloc, path.as_str(), 4),
+        Err(FetchError::TooLong(4))
+    );
+    fs::remove_file(&rt, path.as_str())?;
+    assert_eq!(rt;
+        shelf.fetch(alloc, path.as_str(), 5),
+        Err(FetchError::Failed)
+    );
+    Ok(())
+}
+
+#[test]
+fn standard_input_at_its_end(rt: HostRuntime) -> Result<(), Fail> {
+    let mut input = StdSource::new(rt.stdin());
+    assert_eq!(rt; input.take(), Ok(None));
+    Ok(())
+}
+
+/// Gives or takes two bytes at a time, and breaks when `left` calls were made.
+#[derive(Drop)]
+struct Breaking {
+    left: u32,
+}
+
+impl Breaking {
+    fn call(&mut self, room: usize) -> io::Result<usize>
+        ensures { IfOk result (λ n. n ≤ room) }
+    {
+        if self.left == 0 {
+            return Err(io::Error::from(io::ErrorKind::BrokenPipe));
+        }
+        self.left -= 1;
+        Ok(room.min(2))
+    }
+}
+
+impl Read for Breaking {
+    fn read(&mut self, buf: &mut [u8]) -> io::Result<usize> {
+        self.call(buf.len())
+    }
+}
+
+impl Write for Breaking {
+    fn write(&mut self, buf: &[u8]) -> io::Result<usize> {
+        self.call(buf.len())
+    }
+
+    fn flush(&mut self) -> io::Result<()> {
+        Ok(())
+    }
+}
+
+#[test]
+fn a_stream_that_breaks(rt: HostRuntime) -> Result<(), Fail> {
+    let mut source = StdSource::new(Breaking { left: 1 });
+    assert_eq!(rt; source.take(), Ok(Some(0)));
+    assert_eq!(rt; source.take(), Err(Failed));
+    let mut sink = StdSink::new(Breaking { left: 3 });
+    assert_eq!(rt; sink.put(b"four"), Ok(()));
+    assert_eq!(rt; sink.put(b"four"), Err(Failed));
+    Ok(())
+}

@@ -1,0 +1,6 @@
+pub mod Numbers
+pub mod Words
+pub mod Lines
+pub mod Machines
+pub mod Loads
+pub mod Ends

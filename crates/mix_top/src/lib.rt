@@ -1,0 +1,13 @@
+//! The whole program as one call over traits: words, a shelf of files, an input, an output and a trace.
+#![tactic(auto)]
+
+mod lines;
+mod load;
+mod machine;
+mod number;
+mod rows;
+mod top;
+mod words;
+
+pub use top::mixed_main;
+pub use words::{BadWord, Command, Job, read_words};

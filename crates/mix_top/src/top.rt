@@ -1,0 +1,184 @@
+ghost use Rattle.std.specs.Prelude.{◌≡◌, ◌≤◌, [], length, map};
+ghost use Rattle.std.specs.String.{string_bytes};
+ghost use Rattle.mix_top.specs.Words.{HasRam, NamesFlat, command_of};
+ghost use Rattle.mix_top.specs.Lines.{fetch_line, fetch_status, load_error_line, load_error_status};
+ghost use Rattle.mix_top.specs.Ends.{Closes, Ends, FileWay, Finishes, Way, flat_name as flat_name_of};
+ghost use Rattle.mix_top.specs.declared.words.Command.TheVariants.{Run};
+
+use super::lines::{exit_text, fault_text, load_text, words_text};
+use super::load::load;
+use super::machine::{Stop, run};
+use super::words::{Command, Job, read_words};
+use mix_bits::Line;
+use mix_io::{FetchError, Shelf, Sink, Source};
+use mixed_machine::LoadError;
+use std::alloc::Global;
+
+/// The largest file that is fetched.
+const FILE_LIMIT: u32 = 16_777_216;
+
+/// All that the program does, over words and four objects of the outside. The answer is the status of
+/// the program: 0 or 1 for an exit with code 0 or another, 2 for bad words, 3 for a file that is not
+/// loaded, 4 for a shelf that failed, 6 for an output and 7 for a trace that failed, 9 for want of
+/// memory, 10 for a fault, 11 where all steps were done.
+pub fn mixed_main<F: Shelf, I: Source, O: Sink, T: Sink>(
+    alloc: Global,
+    words: &[String],
+    shelf: &mut F,
+    input: &mut I,
+    out: &mut O,
+    trace: &mut T,
+) -> u8
+    ensures { Ends (map string_bytes words.now) (F.contents shelf.old)
+        (record { left = I.left input.old; faults = I.faults input.old })
+        (record { left = I.left input.new; faults = I.faults input.new })
+        (record {
+          shelf_faults = F.faults shelf.old;
+          out = record { held = O.held out.old; faults = O.faults out.old };
+          trace = record { held = T.held trace.old; faults = T.faults trace.old };
+        })
+        (record {
+          shelf_faults = F.faults shelf.new;
+          out = record { held = O.held out.new; faults = O.faults out.new };
+          trace = record { held = T.held trace.new; faults = T.faults trace.new };
+        })
+        result }
+{
+    let _ = input;
+    match read_words(words) {
+        Ok(Command::Run(job)) => run_job(alloc, words, job, shelf, out, trace),
+        Err(bad) => close(trace, words_text(bad.place).bytes(), 2),
+    }
+}
+
+/// Fetches the file of a job, and runs its program.
+fn run_job<F: Shelf, O: Sink, T: Sink>(
+    alloc: Global,
+    words: &[String],
+    job: Job,
+    shelf: &mut F,
+    out: &mut O,
+    trace: &mut T,
+) -> u8
+    requires job { command_of (map string_bytes words.now) ≡ Ok (Run job) }
+    requires named { NamesFlat (map string_bytes words.now) (Run job) }
+    requires ram { HasRam (Run job) }
+    ensures { Way (map string_bytes words.now) (F.contents shelf.old)
+        (record {
+          shelf_faults = F.faults shelf.old;
+          out = record { held = O.held out.old; faults = O.faults out.old };
+          trace = record { held = T.held trace.old; faults = T.faults trace.old };
+        })
+        (record {
+          shelf_faults = F.faults shelf.new;
+          out = record { held = O.held out.new; faults = O.faults out.new };
+          trace = record { held = T.held trace.new; faults = T.faults trace.new };
+        })
+        result }
+{
+    match shelf.fetch(alloc, flat_name(words, job), FILE_LIMIT) {
+        Ok(file) => run_file(alloc, &file, job, out, trace),
+        Err(error) => close_unfetched(error, trace),
+    }
+}
+
+/// Loads a file, and runs its program.
+fn run_file<O: Sink, T: Sink>(
+    alloc: Global,
+    file: &[u8],
+    job: Job,
+    out: &mut O,
+    trace: &mut T,
+) -> u8
+    requires size { length file.now ≤ 16777216 }
+    requires ram { HasRam (Run job) }
+    ensures { FileWay job file.now
+        (record { held = O.held out.old; faults = O.faults out.old })
+        (record { held = O.held out.new; faults = O.faults out.new })
+        (record { held = T.held trace.old; faults = T.faults trace.old })
+        (record { held = T.held trace.new; faults = T.faults trace.new })
+        result }
+{
+    match load(alloc, file, job.kib) {
+        Ok(mut machine) => {
+            let mut steps = job.steps;
+            let stop = run(&mut machine, out, &mut steps);
+            finish(stop, trace)
+        }
+        Err(error) => close_unloaded(error, trace),
+    }
+}
+
+/// The line and the status where a file was not fetched.
+fn close_unfetched<T: Sink>(error: FetchError, trace: &mut T) -> u8
+    ensures { Closes
+        (record { held = T.held trace.old; faults = T.faults trace.old })
+        (record { held = T.held trace.new; faults = T.faults trace.new })
+        [] (fetch_line error) (fetch_status error) result }
+{
+    match error {
+        FetchError::NoMemory => close(trace, b"memory\n", 9),
+        FetchError::Failed => close(trace, b"fetch flat\n", 4),
+        FetchError::TooLong(_) => close(trace, load_text("long", 0).bytes(), 3),
+    }
+}
+
+/// The line and the status where a file was not loaded.
+fn close_unloaded<T: Sink>(error: LoadError, trace: &mut T) -> u8
+    ensures { Closes
+        (record { held = T.held trace.old; faults = T.faults trace.old })
+        (record { held = T.held trace.new; faults = T.faults trace.new })
+        [] (load_error_line error) (load_error_status error) result }
+{
+    match error {
+        LoadError::NoMemory => close(trace, b"memory\n", 9),
+        LoadError::Empty => close(trace, load_text("empty", 0).bytes(), 3),
+        LoadError::TooLarge(end) => close(trace, load_text("toolarge", end).bytes(), 3),
+    }
+}
+
+/// The end line and the status of a run.
+fn finish<T: Sink>(stop: Stop, trace: &mut T) -> u8
+    ensures { Finishes stop
+        (record { held = T.held trace.old; faults = T.faults trace.old })
+        (record { held = T.held trace.new; faults = T.faults trace.new })
+        result }
+{
+    match stop {
+        Stop::Exit(code) => close(
+            trace,
+            exit_text(code).bytes(),
+            if code == 0 { 0 } else { 1 },
+        ),
+        Stop::Fault(fault) => close(trace, fault_text(fault).bytes(), 10),
+        Stop::Limit => close(trace, b"limit\n", 11),
+        Stop::OutFault => 6,
+    }
+}
+
+/// Puts the last line on the trace, and answers the status, or 7 where the trace failed.
+fn close<T: Sink>(trace: &mut T, line: &[u8], status: u8) -> u8
+    ensures { Closes
+        (record { held = T.held trace.old; faults = T.faults trace.old })
+        (record { held = T.held trace.new; faults = T.faults trace.new })
+        [] line.now status result }
+{
+    match trace.put(line) {
+        Ok(()) => status,
+        Err(_) => 7,
+    }
+}
+
+/// The name of a job's flat file.
+fn flat_name(words: &[String], job: Job) -> &str
+    requires { NamesFlat (map string_bytes words.now) (Run job) }
+    ensures { result.now ≡ flat_name_of (map string_bytes words.now) job }
+{
+    match job.flat {
+        Some(place) => match words[place as usize].strip_prefix("flat=") {
+            Some(name) => name,
+            None => unreachable!(),
+        },
+        None => unreachable!(),
+    }
+}

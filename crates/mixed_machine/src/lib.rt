@@ -1,0 +1,12 @@
+//! What the mixed machine is: its state, one step, runs of steps, and laws of these. The definitions
+//! stand in `specs/`; the code here is the types that they share with the crates above, and the laws,
+//! each as the contract of a function that does nothing.
+#![tactic(auto)]
+
+mod laws;
+mod load;
+mod rows;
+
+pub use laws::run_laws;
+pub use load::LoadError;
+pub use rows::Row;

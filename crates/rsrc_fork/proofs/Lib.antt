@@ -1,0 +1,5 @@
+pub mod Lookups
+pub mod Steps
+pub mod NextId
+pub mod Listing
+pub mod Small

@@ -1,0 +1,25 @@
+-- Look-ups among slices agree with those among the resources that they show.
+use Rattle.std.proofs.Common.{◌≡◌, refl, ap, List, [], ◌∷◌, ◌++◌, Some, None, option_map, Ok, Err, Bor, ℕ}
+use Rattle.std.proofs.lemmas.List.{map-append}
+use Rattle.std.specs.Map.{lookup, keys_of}
+use Rattle.std.proofs.lemmas.Map.Made.{lookup-map_values}
+use Rattle.rsrc_fork.specs.declared.error.RsrcError.TheVariants.{Twice}
+use Rattle.rsrc_fork.specs.declared.name.Name.{Name}
+use Rattle.rsrc_fork.specs.Resources.{seen, same_name, bytes_of, names_of, with_resource}
+
+pub lookup_seen : (name : Name) (entries : List (Name × Bor (List ℕ)))
+    → bytes_of (seen entries) name ≡ option_map (λ (piece : Bor (List ℕ)). piece.now) (lookup (same_name name) entries)
+lookup_seen name entries = lookup-map_values (λ (piece : Bor (List ℕ)). piece.now) (same_name name) entries
+
+pub names_seen : (entries : List (Name × Bor (List ℕ))) → names_of (seen entries) ≡ keys_of entries
+names_seen [] = refl
+names_seen (e ∷ es) = ap (λ names. e.0 ∷ names) (names_seen es)
+
+module _ (name : Name) (entries : List (Name × Bor (List ℕ))) (piece : Bor (List ℕ)) where
+  pub found_twice : (there : Bor (List ℕ)) → lookup (same_name name) entries ≡ Some there
+      → with_resource (seen entries) name piece.now ≡ Err (Twice name.kind name.id)
+  found_twice there found = rw (lookup_seen, found)
+
+  pub found_new : lookup (same_name name) entries ≡ None
+      → with_resource (seen entries) name piece.now ≡ Ok (seen (entries ++ (name, piece) ∷ []))
+  found_new found = rw (lookup_seen, found, map-append)

@@ -1,0 +1,36 @@
+-- The resources of a fork are no longer than its file.
+use Rattle.std.proofs.Common.{◌≡◌, ◌≤◌, ◌^◌, ℕ, sym, subst, List, [], ◌∷◌, length, get_or, ◌+◌, Bool, true, false, if◌then◌else◌, Option, Some, None, IfSome, option_map, slice_range, Ok, Bor, arith, length-take, length-drop}
+use Rattle.std.proofs.lemmas.List.Elements.{All-map, All-head, All-tail}
+use Rattle.rsrc_fork.specs.declared.name.Name.{Name}
+use Rattle.rsrc_fork.specs.Listing.{Reference, references_of, resource_at, start_at, end_at}
+use Rattle.rsrc_fork.specs.References.{resources_of}
+use Rattle.rsrc_fork.specs.Resources.{Resource, AreSmall, bytes_of, same_name}
+use Rattle.rsrc_fork.proofs.Listing.{fork_is}
+
+within : (bytes : List ℕ) (start end : ℕ) → length (slice_range bytes start end) ≤ length bytes
+within bytes start end = simp (length-take, length-drop) (omega arith)
+
+pub small_is : (bytes : List ℕ) (resources : List Resource) → length bytes ≤ 2 ^ 24 → resources_of bytes ≡ Ok resources → AreSmall resources
+small_is bytes resources fits e =
+    subst AreSmall (sym (fork_is bytes resources e).listed)
+    (All-map (λ (resource : Resource). length resource.1 ≤ 2 ^ 24) (resource_at bytes) (references_of bytes) (λ k d lt. small (get_or (references_of bytes) k d)))
+  where
+    small : (r : Reference) → length (resource_at bytes r).1 ≤ 2 ^ 24
+    small r = omega (arith, within bytes (start_at bytes r + 4) (end_at bytes r))
+
+pub small_found : (resources : List Resource) (name : Name) → AreSmall resources → IfSome (bytes_of resources name) (λ piece. length piece ≤ 2 ^ 24)
+small_found [] name h = tt
+small_found (r ∷ rs) name h = by (same_name name r.0) (small_found rs name (All-tail IsSmall r rs h))
+  where
+    IsSmall : Resource → Type 0
+    IsSmall resource = length resource.1 ≤ 2 ^ 24
+
+    by : (same : Bool) → IfSome (bytes_of rs name) (λ piece. length piece ≤ 2 ^ 24)
+        → IfSome (if same then Some r.1 else bytes_of rs name) (λ piece. length piece ≤ 2 ^ 24)
+    by true rest = All-head IsSmall r rs h
+    by false rest = rest
+
+pub small_piece : (found : Option (Bor (List ℕ))) (resources : List Resource) (name : Name) → AreSmall resources
+    → option_map (λ (piece : Bor (List ℕ)). piece.now) found ≡ bytes_of resources name → IfSome found (λ piece. length piece.now ≤ 2 ^ 24)
+small_piece None resources name h e = tt
+small_piece (Some piece) resources name h e = subst (λ (o : Option (List ℕ)). IfSome o (λ piece. length piece ≤ 2 ^ 24)) (sym e) (small_found resources name h)

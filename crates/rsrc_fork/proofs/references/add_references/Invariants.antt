@@ -1,0 +1,7 @@
+use Rattle.std.proofs.Common.{◌≡◌, Ok}
+use Rattle.rsrc_fork.specs.References.{with_references}
+use Rattle.rsrc_fork.specs.Resources.{seen}
+use Rattle.rsrc_fork.proofs.references.add_references.Given as goal
+
+abbrev pub invariant-loop-j : goal.invariant-loop-j
+invariant-loop-j l = with_references l.bytes l.areas l.entry (seen l.initial.resources.entries) l.j ≡ Ok (seen l.resources.entries)

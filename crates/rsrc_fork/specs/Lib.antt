@@ -1,0 +1,6 @@
+pub mod Fields
+pub mod Outcome
+pub mod Header
+pub mod Resources
+pub mod References
+pub mod Listing

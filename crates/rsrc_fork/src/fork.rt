@@ -1,0 +1,65 @@
+use crate::error::RsrcError;
+use crate::lookup::{find, least_above};
+use crate::name::Name;
+use crate::references::{Resources, resources_of};
+use std::alloc::Global;
+use std::marker::Model;
+
+/// A resource fork that was read. Contracts see it as its resources in the order of the file: the name
+/// and the bytes of each.
+#[derive(Drop)]
+pub struct Fork<'a> {
+    resources: Resources<'a>,
+}
+
+impl<'a> Model for Fork<'a> {
+    ghost use Rattle.std.specs.Prelude.{List};
+    ghost use Rattle.rsrc_fork.specs.Resources.{AreSmall, Resource, seen};
+
+    ghost Value = { List Resource };
+
+    ghost view = { λ fork. seen fork.resources.entries };
+
+    ghost invariant = { λ fork. AreSmall (seen fork.resources.entries) };
+}
+
+impl<'a> Fork<'a> {
+    ghost use Rattle.std.specs.Prelude.{◌≡◌, ◌≢◌, ◌^◌, ◌≤◌, List, length, option_map, IfOk, IfErr, IfSome};
+    ghost use Rattle.rsrc_fork.specs.Outcome.{Gives};
+    ghost use Rattle.rsrc_fork.specs.Listing.{IsFork};
+    ghost use Rattle.rsrc_fork.specs.References.{resources_of};
+    ghost use Rattle.rsrc_fork.specs.Resources.{Resource, bytes_of, named, next_id, IsNextId};
+
+    /// Reads the fork in a file's bytes. A refusal is the first in the order of the file: the header,
+    /// the place of the type list, and then each type and its references in turn. It keeps an entry for
+    /// each resource, and copies no bytes.
+    pub fn read(alloc: Global, bytes: &'a [u8]) -> Result<Fork<'a>, RsrcError>
+        requires { length bytes.now ≤ 2 ^ 24 }
+        ensures is { Gives (λ fork. fork) result (resources_of bytes.now) }
+
+        // The same by the list of the references: a file that is a fork is read, and no other.
+        ensures fork { IfOk result (IsFork bytes.now) }
+        ensures refused { IfErr result (λ e. e ≢ RsrcError.NoMemory →
+            (resources : List Resource) → ¬ IsFork bytes.now resources) }
+    {
+        let resources = resources_of(alloc, bytes)?;
+        Ok(Fork { resources })
+    }
+
+    /// The bytes of a resource. They stand in the file that was read.
+    pub fn get(&self, kind: u32, id: i16) -> Option<&'a [u8]>
+        ensures is { option_map (λ piece. piece.now) result ≡ bytes_of self.now (named kind id) }
+        ensures small { IfSome result (λ piece. length piece.now ≤ 2 ^ 24) }
+    {
+        find(&self.resources, Name { kind, id })
+    }
+
+    /// The least id above `after` among the resources of a type. It looks at each name of the fork.
+    #[tactic(auto, using(crate::proofs::Lookups::names_seen, crate::proofs::NextId::next_id_is))]
+    pub fn ids(&self, kind: u32, after: i16) -> Option<i16>
+        ensures is { result ≡ next_id self.now kind after }
+        ensures next { IsNextId self.now kind after result }
+    {
+        least_above(&self.resources, kind, after)
+    }
+}
