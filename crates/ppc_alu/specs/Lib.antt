@@ -1,0 +1,4 @@
+pub mod Words
+pub mod Results
+pub mod Masks
+pub mod Condition

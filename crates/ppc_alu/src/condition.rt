@@ -1,0 +1,89 @@
+// Comparisons and the condition register.
+ghost use Rattle.std.specs.Prelude.{◌≡◌, ◌<◌};
+ghost use Rattle.ppc_alu.specs.Condition.{bit_of, combined, compared, field_of, is_less as is_less_lem, with_bit, with_field};
+
+use mix_bits::{digit, with_digit};
+
+/// How two bits of the condition register are combined.
+#[derive(Clone, Copy, Debug, PartialEq, Eq)]
+pub enum CrOp {
+    And,
+    Or,
+    Xor,
+    Nand,
+    Nor,
+    /// The same bit in both.
+    Eqv,
+    /// The first with the complement of the second.
+    Andc,
+    Orc,
+}
+
+/// The four bits LT, GT, EQ and SO of a comparison, LT most significant.
+pub fn compare(signed: bool, a: u32, b: u32, so: bool) -> u32
+    ensures { result ≡ compared signed a b so }
+{
+    let less = is_less(signed, a, b);
+    let greater = is_less(signed, b, a);
+    8 * u32::from(less) + 4 * u32::from(greater) + 2 * u32::from(a == b) + u32::from(so)
+}
+
+/// Whether a word is below another one, as signed or unsigned numbers.
+fn is_less(signed: bool, a: u32, b: u32) -> bool
+    ensures { result ≡ is_less_lem signed a b }
+{
+    if signed {
+        a.cast_signed() < b.cast_signed()
+    } else {
+        a < b
+    }
+}
+
+pub fn cr_logic(op: CrOp, a: bool, b: bool) -> bool
+    ensures { result ≡ combined op a b }
+{
+    match op {
+        CrOp::And => a && b,
+        CrOp::Or => a || b,
+        CrOp::Xor => a != b,
+        CrOp::Nand => !(a && b),
+        CrOp::Nor => !(a || b),
+        CrOp::Eqv => a == b,
+        CrOp::Andc => a && !b,
+        CrOp::Orc => a || !b,
+    }
+}
+
+/// A bit of the condition register, bit 0 most significant.
+pub fn cr_bit(cr: u32, bit: u32) -> bool
+    requires { bit < 32 }
+    ensures { result ≡ bit_of cr bit }
+{
+    digit(cr, 31 - bit, 1) == 1
+}
+
+/// A field of the condition register, field 0 most significant.
+pub fn cr_field(cr: u32, field: u32) -> u32
+    requires { field < 8 }
+    ensures value { result ≡ field_of cr field }
+    ensures below { result < 16 }
+{
+    digit(cr, 28 - 4 * field, 4)
+}
+
+/// The condition register with a bit replaced.
+pub fn with_cr_bit(cr: u32, bit: u32, on: bool) -> u32
+    requires { bit < 32 }
+    ensures { result ≡ with_bit cr bit on }
+{
+    with_digit(cr, 31 - bit, 1, u32::from(on))
+}
+
+/// The condition register with a field replaced.
+pub fn with_cr_field(cr: u32, field: u32, bits: u32) -> u32
+    requires field { field < 8 }
+    requires bits { bits < 16 }
+    ensures { result ≡ with_field cr field bits }
+{
+    with_digit(cr, 28 - 4 * field, 4, bits)
+}
