@@ -1,0 +1,6 @@
+pub mod Params
+pub mod Makes
+pub mod Words
+pub mod Fields
+pub mod Rules
+pub mod Exact

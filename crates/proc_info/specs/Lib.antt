@@ -1,0 +1,6 @@
+pub mod Codes
+pub mod Nothing
+pub mod Signature
+pub mod Rules
+pub mod Views
+pub mod Filling

@@ -1,0 +1,114 @@
+-- A procInfo word, a number below 2 ^ 32, and the signature that it stands for
+-- (Inside Macintosh: PowerPC System Software, chapter 2).
+use Rattle.std.specs.Prelude.{ℕ, zero, suc, ◌≡◌, ◌+◌, ◌*◌, ◌/◌, ◌%◌, ◌^◌, ◌<◌, Bool, false, not, Result, Ok, Err, is_ok, if◌then◌else◌, ◌==◌, ◌||◌, List, [], ◌∷◌}
+use Rattle.std.specs.List.{list_any}
+use Rattle.mix_bits.specs.Results.{◌>>=◌}
+use Rattle.mix_bits.specs.declared.size.Size.{Size}
+use Rattle.mix_bits.specs.declared.size.Size.TheVariants.{Zero}
+use Rattle.proc_info.specs.declared.bad_info.BadInfo.{BadInfo}
+use Rattle.proc_info.specs.declared.bad_info.BadInfo.TheVariants.{TopBit, Place, Gap, Twice}
+use Rattle.proc_info.specs.declared.conv.Conv.{Conv}
+use Rattle.proc_info.specs.declared.conv.Shape.{Shape}
+use Rattle.proc_info.specs.declared.conv.Shape.TheVariants.{Stack, Dispatched, Registers}
+use Rattle.proc_info.specs.declared.param.Param.{Param}
+use Rattle.proc_info.specs.Codes.{conv_at, conv_code, shape_of, size_at, size_code, is_place}
+
+-- how a procedure is called; a field that its convention does not use is 0 or no size
+pub record Signature : Type 0 where
+  pub conv : Conv
+  pub result : Size
+  pub place : ℕ
+  pub selector : Size
+  pub params : List Param
+
+-- a word has one digit of this base for each parameter
+abbrev pub base : Shape → ℕ
+base Stack = 4
+base Dispatched = 4
+base Registers = 32
+
+-- how many parameters there may be
+abbrev pub most_params : Shape → ℕ
+most_params Stack = 13
+most_params Dispatched = 12
+most_params Registers = 4
+
+-- the parameter that the lowest digit says: its size, and above that its register
+abbrev pub param_at : Shape → ℕ → Param
+param_at Stack v = record { size = size_at (v % 4); reg = 0 }
+param_at Dispatched v = record { size = size_at (v % 4); reg = 0 }
+param_at Registers v = record { size = size_at (v % 4); reg = v / 4 % 8 }
+
+-- The parameters that a number's digits say, the lowest digit first, at most `most` of them: they end where all
+-- digits that are left are 0; a digit of size 0 at or before another digit than 0 is a gap.
+unfoldable pub params_at : Shape → ℕ → ℕ → Result (List Param) BadInfo
+params_at shape zero v = if v == 0 then Ok [] else Err Gap
+params_at shape (suc most) v =
+    if v == 0 then Ok [] else
+    (if v % 4 == 0 then Err Gap else
+    (params_at shape most (v / base shape) >>= λ ps. Ok (param_at shape v ∷ ps)))
+
+-- whether a register is named by two parameters
+abbrev pub is_twice : List Param → Bool
+is_twice [] = false
+is_twice (p ∷ ps) = list_any (λ q. q.reg == p.reg) ps || is_twice ps
+
+-- the signature, if it names no register twice
+abbrev pub unless_twice : Signature → Result Signature BadInfo
+unless_twice s = if is_twice s.params then Err Twice else Ok s
+
+-- the signatures of a word that has these parameters, in the three shapes
+abbrev pub on_stack : Conv → ℕ → List Param → Signature
+on_stack conv w ps = record { conv = conv; result = size_at (w / 16 % 4); place = 0; selector = Zero; params = ps }
+
+abbrev pub with_selector : Conv → ℕ → List Param → Signature
+with_selector conv w ps = record { conv = conv; result = size_at (w / 16 % 4); place = 0; selector = size_at (w / 64 % 4); params = ps }
+
+abbrev pub in_registers : Conv → ℕ → List Param → Signature
+in_registers conv w ps = record { conv = conv; result = size_at (w / 16 % 4); place = w / 64 % 32; selector = Zero; params = ps }
+
+-- the signature of a word whose convention has this shape: the result's size stands in bits 4 and 5, on top of it
+-- the selector's size or the result's place where the shape has one, and then the parameters
+unfoldable pub signature_by : Shape → Conv → ℕ → Result Signature BadInfo
+signature_by Stack conv w = params_at Stack (most_params Stack) (w / 64) >>= λ ps. Ok (on_stack conv w ps)
+signature_by Dispatched conv w =
+    if w / 64 % 4 == 0 then Err Gap else
+    (params_at Dispatched (most_params Dispatched) (w / 256) >>= λ ps. Ok (with_selector conv w ps))
+signature_by Registers conv w =
+    if not (w / 2 ^ 31 == 0) then Err TopBit else
+    (if not (is_place (w / 64 % 32) (size_at (w / 16 % 4))) then Err Place else
+    (params_at Registers (most_params Registers) (w / 2048) >>= λ ps. unless_twice (in_registers conv w ps)))
+
+-- the signature of a word, or the first that holds of Convention, TopBit, Place, Gap and Twice
+unfoldable pub signature_of : ℕ → Result Signature BadInfo
+signature_of w = conv_at (w % 16) >>= λ conv. signature_by (shape_of conv) conv w
+
+-- whether a word has a signature
+abbrev pub has_signature : ℕ → Bool
+has_signature w = is_ok (signature_of w)
+
+-- the digit of a parameter
+abbrev pub digit_of_param : Shape → Param → ℕ
+digit_of_param Stack p = size_code p.size
+digit_of_param Dispatched p = size_code p.size
+digit_of_param Registers p = size_code p.size + 4 * p.reg
+
+-- the number whose digits are these parameters
+abbrev pub params_word : Shape → List Param → ℕ
+params_word shape [] = 0
+params_word shape (p ∷ ps) = digit_of_param shape p + base shape * params_word shape ps
+
+-- the word of a signature whose convention has this shape
+abbrev pub word_by : Shape → Signature → ℕ
+word_by Stack s = conv_code s.conv + 16 * size_code s.result + 64 * params_word Stack s.params
+word_by Dispatched s = conv_code s.conv + 16 * size_code s.result + 64 * size_code s.selector + 256 * params_word Dispatched s.params
+word_by Registers s = conv_code s.conv + 16 * size_code s.result + 64 * s.place + 2048 * params_word Registers s.params
+
+-- the word of a signature
+abbrev pub word_of : Signature → ℕ
+word_of s = word_by (shape_of s.conv) s
+
+-- that a signature is some word's: its own word's
+pub record IsSignature (s : Signature) : Type 0 where
+  pub fits : word_of s < 2 ^ 32
+  pub back : signature_of (word_of s) ≡ Ok s

@@ -1,0 +1,22 @@
+//! The procInfo word of the Mixed Mode Manager, which says how a procedure is called, and the signature
+//! that such a word stands for (Inside Macintosh: PowerPC System Software, chapter 2).
+//!
+//! `read` and `write` are inverse to each other.
+#![tactic(auto)]
+
+mod bad_info;
+mod conv;
+mod param;
+mod reader;
+mod sig;
+mod size;
+#[cfg(test)]
+mod tests;
+mod writer;
+
+pub use bad_info::BadInfo;
+pub use conv::Conv;
+pub use param::Param;
+pub use reader::read;
+pub use sig::Sig;
+pub use writer::write;
