@@ -1,0 +1,19 @@
+//! 68000 arithmetic: values and condition codes.
+#![tactic(auto)]
+
+mod decimal;
+mod logical;
+mod products;
+mod quotients;
+mod shifts;
+mod sizes;
+mod sums;
+#[cfg(test)]
+mod tests;
+
+pub use decimal::{abcd, sbcd};
+pub use logical::{LogicOp, logic};
+pub use products::mul;
+pub use quotients::{Quotient, div};
+pub use shifts::{ShiftOp, shift};
+pub use sums::{Out, add, addx, cmp, sub, subx};

@@ -1,0 +1,36 @@
+// AND, OR and EOR.
+ghost use Rattle.std.specs.Prelude.{◌≡◌, ◌≢◌};
+ghost use Rattle.mix_bits.specs.Sizes.{truncated};
+ghost use Rattle.mix_bits.specs.declared.size.Size.TheVariants.{Zero};
+ghost use Rattle.m68_alu.specs.Logical.{combined};
+
+use super::sizes::result_flags;
+use super::sums::Out;
+use m68_isa::Ccr;
+use mix_bits::{Size, trunc};
+
+/// How bits are combined.
+#[derive(Clone, Copy, Debug, PartialEq, Eq)]
+pub enum LogicOp {
+    And,
+    Or,
+    Eor,
+}
+
+/// AND, OR or EOR: N and Z by the result, V and C cleared, X as it was.
+pub fn logic(op: LogicOp, s: Size, dst: u32, src: u32, old: Ccr) -> Out
+    requires { s ≢ Zero }
+    ensures { result ≡ combined op s (truncated dst s) (truncated src s) old }
+{
+    let d = trunc(dst, s);
+    let r = trunc(src, s);
+    let value = match op {
+        LogicOp::And => d & r,
+        LogicOp::Or => d | r,
+        LogicOp::Eor => d ^ r,
+    };
+    Out {
+        value,
+        ccr: result_flags(s, value, old),
+    }
+}

@@ -1,0 +1,158 @@
+// Sums and differences.
+ghost use Rattle.std.specs.Prelude.{◌≡◌, ◌≢◌, ◌<◌, ◌≤ℤ◌, ◌+ℤ◌, ◌-ℤ◌, pos, neg_ℤ, false, FitsSigned};
+ghost use Rattle.std.specs.Int.{from_bool, w64};
+ghost use Rattle.mix_bits.specs.Sizes.{modulus as modulus_lem, signed_of, truncated};
+ghost use Rattle.mix_bits.specs.declared.size.Size.TheVariants.{Zero};
+ghost use Rattle.m68_alu.specs.Sizes.{leaves as leaves_lem};
+ghost use Rattle.m68_alu.specs.Sums.{difference_of, signed_difference, signed_total, sum_of, with_old_extend, with_old_zero};
+
+use super::sizes::{is_negative, leaves, modulus, signed};
+use m68_isa::Ccr;
+use mix_bits::{Size, trunc};
+
+/// A value and the condition codes after it.
+#[derive(Clone, Copy, Debug, PartialEq, Eq)]
+pub struct Out {
+    pub value: u32,
+    pub ccr: Ccr,
+}
+
+/// ADD.
+pub fn add(s: Size, dst: u32, src: u32, old: Ccr) -> Out
+    requires { s ≢ Zero }
+    ensures { result ≡ sum_of s (truncated dst s) (truncated src s) false }
+{
+    let _ = old;
+    sum(s, trunc(dst, s), trunc(src, s), false)
+}
+
+/// ADDX: with X, and Z is only cleared.
+pub fn addx(s: Size, dst: u32, src: u32, old: Ccr) -> Out
+    requires { s ≢ Zero }
+    ensures { result ≡ with_old_zero (sum_of s (truncated dst s) (truncated src s) old.x) old }
+{
+    keep_zero(sum(s, trunc(dst, s), trunc(src, s), old.x), old)
+}
+
+/// SUB.
+pub fn sub(s: Size, dst: u32, src: u32, old: Ccr) -> Out
+    requires { s ≢ Zero }
+    ensures { result ≡ difference_of s (truncated dst s) (truncated src s) false }
+{
+    let _ = old;
+    difference(s, trunc(dst, s), trunc(src, s), false)
+}
+
+/// SUBX: with X, and Z is only cleared.
+pub fn subx(s: Size, dst: u32, src: u32, old: Ccr) -> Out
+    requires { s ≢ Zero }
+    ensures { result ≡ with_old_zero (difference_of s (truncated dst s) (truncated src s) old.x) old }
+{
+    keep_zero(difference(s, trunc(dst, s), trunc(src, s), old.x), old)
+}
+
+/// CMP: a difference that leaves X as it was.
+pub fn cmp(s: Size, dst: u32, src: u32, old: Ccr) -> Out
+    requires { s ≢ Zero }
+    ensures { result ≡ with_old_extend (difference_of s (truncated dst s) (truncated src s) false) old }
+{
+    let out = difference(s, trunc(dst, s), trunc(src, s), false);
+    Out {
+        value: out.value,
+        ccr: Ccr {
+            x: old.x,
+            ..out.ccr
+        },
+    }
+}
+
+/// The result with Z only cleared.
+fn keep_zero(out: Out, old: Ccr) -> Out
+    ensures { result ≡ with_old_zero out old }
+{
+    Out {
+        value: out.value,
+        ccr: Ccr {
+            z: old.z && out.ccr.z,
+            ..out.ccr
+        },
+    }
+}
+
+/// The sum of two values of a size and a carry.
+fn sum(s: Size, d: u32, r: u32, carry: bool) -> Out
+    requires d { d < modulus_lem s }
+    requires r { r < modulus_lem s }
+    ensures { result ≡ sum_of s d r carry }
+{
+    let total = u64::from(d) + (u64::from(r) + u64::from(carry));
+    let value = (total % modulus(s)) as u32;
+    let out = total >= modulus(s);
+    Out {
+        value,
+        ccr: Ccr {
+            x: out,
+            n: is_negative(s, value),
+            z: value == 0,
+            v: sum_overflows(s, d, r, carry),
+            c: out,
+        },
+    }
+}
+
+/// The difference of two values of a size and a borrow.
+fn difference(s: Size, d: u32, r: u32, borrow: bool) -> Out
+    requires d { d < modulus_lem s }
+    requires r { r < modulus_lem s }
+    ensures { result ≡ difference_of s d r borrow }
+{
+    let taken = u64::from(r) + u64::from(borrow);
+    let value = ((u64::from(d) + modulus(s) - taken) % modulus(s)) as u32;
+    let out = u64::from(d) < taken;
+    Out {
+        value,
+        ccr: Ccr {
+            x: out,
+            n: is_negative(s, value),
+            z: value == 0,
+            v: difference_overflows(s, d, r, borrow),
+            c: out,
+        },
+    }
+}
+
+/// Whether the sum of two signed values and a carry is no value of the size.
+fn sum_overflows(s: Size, d: u32, r: u32, carry: bool) -> bool
+    ensures { result ≡ leaves_lem s (signed_total (signed_of d s) (signed_of r s) carry) }
+{
+    leaves(s, total(signed(s, d), signed(s, r), carry))
+}
+
+/// The same of a difference.
+fn difference_overflows(s: Size, d: u32, r: u32, borrow: bool) -> bool
+    ensures { result ≡ leaves_lem s (signed_difference (signed_of d s) (signed_of r s) borrow) }
+{
+    leaves(s, remaining(signed(s, d), signed(s, r), borrow))
+}
+
+fn total(d: i64, r: i64, carry: bool) -> i64
+    requires d_low { neg_ℤ (pos 2147483648) ≤ℤ d }
+    requires d_high { d ≤ℤ pos 2147483647 }
+    requires r_low { neg_ℤ (pos 2147483648) ≤ℤ r }
+    requires r_high { r ≤ℤ pos 2147483647 }
+    ensures value { result ≡ signed_total d r carry }
+    ensures fits { FitsSigned w64 result }
+{
+    d + (r + i64::from(carry))
+}
+
+fn remaining(d: i64, r: i64, borrow: bool) -> i64
+    requires d_low { neg_ℤ (pos 2147483648) ≤ℤ d }
+    requires d_high { d ≤ℤ pos 2147483647 }
+    requires r_low { neg_ℤ (pos 2147483648) ≤ℤ r }
+    requires r_high { r ≤ℤ pos 2147483647 }
+    ensures value { result ≡ signed_difference d r borrow }
+    ensures fits { FitsSigned w64 result }
+{
+    d - (r + i64::from(borrow))
+}

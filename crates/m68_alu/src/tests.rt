@@ -1,0 +1,228 @@
+use crate::{Out, Quotient, ShiftOp, abcd, add, addx, cmp, div, mul, sbcd, shift, sub, subx};
+use m68_isa::Ccr;
+use mix_bits::Size;
+
+/// A result with its flags as the bits X N Z V C.
+fn out(value: u32, flags: u32) -> Out {
+    Out {
+        value,
+        ccr: Ccr::from_bits(flags),
+    }
+}
+
+fn none() -> Ccr {
+    Ccr::from_bits(0)
+}
+
+#[test]
+fn sums(rt: HostRuntime) {
+    let xz = Ccr::from_bits(0b10100);
+    assert_eq!(rt; add(Size::One, 0x7F, 1, none()), out(0x80, 0b01010));
+    assert_eq!(rt; add(Size::One, 0xFF, 1, none()), out(0, 0b10101));
+    assert_eq!(rt; add(Size::Two, 0x8000, 0x8000, none()), out(0, 0b10111));
+    assert_eq!(rt;
+        add(Size::Four, 0xFFFF_FFFF, 0xFFFF_FFFF, none()),
+        out(0xFFFF_FFFE, 0b11001)
+    );
+    assert_eq!(rt; sub(Size::Two, 0, 0x8000, none()), out(0x8000, 0b11011));
+    assert_eq!(rt; sub(Size::Four, 5, 5, none()), out(0, 0b00100));
+    assert_eq!(rt; sub(Size::One, 0x1_80, 1, none()), out(0x7F, 0b00010));
+    assert_eq!(rt; subx(Size::One, 0, 0, xz), out(0xFF, 0b11001));
+    assert_eq!(rt; subx(Size::One, 1, 0, xz), out(0, 0b00100));
+    assert_eq!(rt; addx(Size::One, 0xFF, 0, xz), out(0, 0b10101));
+    assert_eq!(rt; addx(Size::One, 0x7F, 0, xz), out(0x80, 0b01010));
+    assert_eq!(rt; addx(Size::Two, 0, 0, none()), out(0, 0b00000));
+    assert_eq!(rt; cmp(Size::Two, 1, 2, none()), out(0xFFFF, 0b01001));
+    assert_eq!(rt; cmp(Size::Two, 2, 2, xz), out(0, 0b10100));
+}
+
+#[test]
+fn shifts(rt: HostRuntime) {
+    let x = Ccr::from_bits(0b10000);
+    let rows = [
+        (
+            ShiftOp::As,
+            true,
+            Size::One,
+            0x40,
+            1,
+            none(),
+            out(0x80, 0b01010),
+        ),
+        (
+            ShiftOp::As,
+            true,
+            Size::One,
+            0x60,
+            2,
+            none(),
+            out(0x80, 0b11011),
+        ),
+        (
+            ShiftOp::As,
+            true,
+            Size::One,
+            0xFF,
+            1,
+            none(),
+            out(0xFE, 0b11001),
+        ),
+        (
+            ShiftOp::As,
+            true,
+            Size::One,
+            0x81,
+            9,
+            none(),
+            out(0, 0b00110),
+        ),
+        (
+            ShiftOp::As,
+            false,
+            Size::One,
+            0x81,
+            1,
+            none(),
+            out(0xC0, 0b11001),
+        ),
+        (
+            ShiftOp::As,
+            false,
+            Size::Two,
+            0x8000,
+            63,
+            none(),
+            out(0xFFFF, 0b11001),
+        ),
+        (ShiftOp::As, false, Size::Four, 7, 0, x, out(7, 0b10000)),
+        (
+            ShiftOp::Ls,
+            true,
+            Size::Two,
+            0x8001,
+            1,
+            none(),
+            out(2, 0b10001),
+        ),
+        (
+            ShiftOp::Ls,
+            false,
+            Size::Two,
+            0x8001,
+            1,
+            none(),
+            out(0x4000, 0b10001),
+        ),
+        (
+            ShiftOp::Ls,
+            false,
+            Size::Four,
+            0x8000_0000,
+            32,
+            none(),
+            out(0, 0b10101),
+        ),
+        (
+            ShiftOp::Ls,
+            false,
+            Size::Four,
+            0x8000_0000,
+            33,
+            none(),
+            out(0, 0b00100),
+        ),
+        (
+            ShiftOp::Rox,
+            true,
+            Size::One,
+            0x80,
+            1,
+            none(),
+            out(0, 0b10101),
+        ),
+        (ShiftOp::Rox, true, Size::One, 0x80, 1, x, out(1, 0b10001)),
+        (ShiftOp::Rox, false, Size::One, 1, 1, x, out(0x80, 0b11001)),
+        (ShiftOp::Rox, false, Size::One, 1, 0, x, out(1, 0b10001)),
+        (
+            ShiftOp::Rox,
+            true,
+            Size::One,
+            0x5A,
+            9,
+            x,
+            out(0x5A, 0b10001),
+        ),
+        (ShiftOp::Ro, true, Size::One, 0x80, 1, x, out(1, 0b10001)),
+        (
+            ShiftOp::Ro,
+            false,
+            Size::One,
+            1,
+            1,
+            none(),
+            out(0x80, 0b01001),
+        ),
+        (ShiftOp::Ro, false, Size::One, 2, 1, none(), out(1, 0b00000)),
+        (
+            ShiftOp::Ro,
+            true,
+            Size::Four,
+            0x1234_5678,
+            32,
+            none(),
+            out(0x1234_5678, 0b00000),
+        ),
+    ];
+    for (op, left, size, value, count, old, wanted) in rows {
+        assert_eq!(rt; shift(op, left, size, value, count, old), wanted);
+    }
+}
+
+#[test]
+fn decimal(rt: HostRuntime) {
+    let x = Ccr::from_bits(0b10000);
+    let z = Ccr::from_bits(0b00100);
+    assert_eq!(rt; abcd(0x58, 0x46, x), out(0x05, 0b10001));
+    assert_eq!(rt; abcd(0x12, 0x34, none()), out(0x46, 0b00000));
+    assert_eq!(rt; abcd(0x99, 0x01, z), out(0x00, 0b10101));
+    assert_eq!(rt; abcd(0x99, 0x99, none()), out(0x98, 0b10001));
+    assert_eq!(rt; sbcd(0x05, 0x46, none()), out(0x59, 0b10001));
+    assert_eq!(rt; sbcd(0x46, 0x05, none()), out(0x41, 0b00000));
+    assert_eq!(rt; sbcd(0x00, 0x00, z), out(0x00, 0b00100));
+    assert_eq!(rt; sbcd(0x00, 0x00, x), out(0x99, 0b10001));
+}
+
+#[test]
+fn products_and_quotients(rt: HostRuntime) {
+    assert_eq!(rt;
+        mul(false, 0xFFFF, 0xFFFF, none()),
+        out(0xFFFE_0001, 0b01000)
+    );
+    assert_eq!(rt; mul(true, 0xFFFF, 0xFFFF, none()), out(1, 0b00000));
+    assert_eq!(rt;
+        mul(true, 0x8000, 0x8000, none()),
+        out(0x4000_0000, 0b00000)
+    );
+    assert_eq!(rt; mul(true, 0xFFFF, 2, none()), out(0xFFFF_FFFE, 0b01000));
+    assert_eq!(rt;
+        mul(false, 0x5_0000, 7, Ccr::from_bits(0b10011)),
+        out(0, 0b10100)
+    );
+    let done = |value, flags| Quotient::Done(out(value, flags));
+    assert_eq!(rt; div(false, 100_000, 3, none()), done(0x0001_8235, 0b01000));
+    assert_eq!(rt;
+        div(true, 0xFFFF_FFF9, 2, none()),
+        done(0xFFFF_FFFD, 0b01000)
+    );
+    assert_eq!(rt; div(true, 7, 0xFFFE, none()), done(0x0001_FFFD, 0b01000));
+    assert_eq!(rt; div(true, 0, 5, none()), done(0, 0b00100));
+    assert_eq!(rt;
+        div(true, 0x8000_0000, 0xFFFF, none()),
+        Quotient::Overflow(Ccr::from_bits(0b00010))
+    );
+    assert_eq!(rt;
+        div(false, 0x1_0000, 1, Ccr::from_bits(0b11101)),
+        Quotient::Overflow(Ccr::from_bits(0b11110))
+    );
+    assert_eq!(rt; div(false, 5, 0x1_0000, none()), Quotient::ByZero);
+}
