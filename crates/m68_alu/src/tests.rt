@@ -174,7 +174,7 @@ fn shifts(rt: HostRuntime) {
         ),
     ];
     for (op, left, size, value, count, old, wanted) in rows {
-        assert_eq!(rt; shift(op, left, size, value, count, old), wanted);
+        assert_eq!(rt; shift(op, left, size, value, count % 64, old), wanted);
     }
 }
 
