@@ -1,0 +1,85 @@
+-- Which record of a descriptor is taken; the choice among several is this project's own.
+use Rattle.std.specs.Prelude.{ℕ, ◌==◌, Bool, true, false, if◌then◌else◌, List, [], ◌∷◌, filter, Option, Some, None, is_some, find}
+use Rattle.mix_bits.specs.declared.isa.Isa.{Isa}
+use Rattle.mix_bits.specs.declared.isa.Isa.TheVariants.{M68, Ppc}
+use Rattle.routine_desc.specs.declared.record.Rec.{Rec}
+use Rattle.routine_desc.specs.declared.choice.Found.{Found}
+use Rattle.routine_desc.specs.declared.choice.Scan.{Scan}
+use Rattle.routine_desc.specs.Layout.{has_flag}
+
+abbrev pub is_isa : Isa → Isa → Bool
+is_isa M68 M68 = true
+is_isa M68 Ppc = false
+is_isa Ppc M68 = false
+is_isa Ppc Ppc = true
+
+abbrev pub has_selector : ℕ → Rec → Bool
+has_selector selector r = r.selector == selector
+
+abbrev pub is_default : Rec → Bool
+is_default r = has_flag r.flags 16
+
+-- the first list that has a record
+abbrev pub first_of : List Rec → List Rec → List Rec
+first_of [] others = others
+first_of (r ∷ rs) others = r ∷ rs
+
+-- the candidates: all records, or, with a selector, those with an equal one, or else the defaults
+abbrev pub candidates : List Rec → Option ℕ → List Rec
+candidates records None = records
+candidates records (Some selector) = first_of (filter (has_selector selector) records) (filter is_default records)
+
+abbrev pub head_of : List Rec → Option Rec
+head_of [] = None
+head_of (r ∷ rs) = Some r
+
+-- the first of the first filter that leaves a record: the PowerPC candidates where the first candidate says so, those
+-- of the caller's set, all
+abbrev pub chosen_among : Isa → List Rec → Option Rec
+chosen_among caller [] = None
+chosen_among caller (r ∷ rs) =
+    head_of (first_of (if has_flag r.flags 4 then filter (λ c. is_isa c.isa Ppc) (r ∷ rs) else [])
+    (first_of (filter (λ c. is_isa c.isa caller) (r ∷ rs)) (r ∷ rs)))
+
+abbrev pub choice : List Rec → Isa → Option ℕ → Option Rec
+choice records caller selector = chosen_among caller (candidates records selector)
+
+-- what one scan of a list keeps: its first record, the first of PowerPC code, and the first of the caller's set
+abbrev pub found_of : Isa → List Rec → Found
+found_of caller rs = record {
+  first = head_of rs;
+  native = head_of (filter (λ c. is_isa c.isa Ppc) rs);
+  own = head_of (filter (λ c. is_isa c.isa caller) rs);
+}
+
+-- every record matches where there is no selector
+abbrev pub matches_selector : Option ℕ → Rec → Bool
+matches_selector None r = true
+matches_selector (Some selector) r = has_selector selector r
+
+abbrev pub scan_of : Isa → Option ℕ → List Rec → Scan
+scan_of caller selector rs = record {
+  equal = found_of caller (filter (matches_selector selector) rs);
+  fallback = found_of caller (filter is_default rs);
+}
+
+-- a scan with one more record before the others, if it is one of those asked
+abbrev pub found_before : Rec → Isa → Bool → Found → Found
+found_before r caller false others = others
+found_before r caller true others = record {
+  first = Some r;
+  native = if is_isa r.isa Ppc then Some r else others.native;
+  own = if is_isa r.isa caller then Some r else others.own;
+}
+
+-- what is taken of a scan
+abbrev pub or_else : Option Rec → Option Rec → Option Rec
+or_else None other = other
+or_else (Some r) other = Some r
+
+abbrev pub chosen_with : Option Rec → Found → Option Rec
+chosen_with None found = None
+chosen_with (Some r) found = or_else (if has_flag r.flags 4 then found.native else None) (or_else found.own (Some r))
+
+abbrev pub chosen_of : Found → Option Rec
+chosen_of found = chosen_with found.first found

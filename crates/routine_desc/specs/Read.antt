@@ -1,0 +1,79 @@
+-- What a descriptor says, or the first rule that it breaks.
+use Rattle.std.specs.Prelude.{ℕ, zero, suc, ◌≡◌, ◌+◌, ◌*◌, ◌/◌, ◌%◌, ◌==◌, ◌≤◌, Bool, true, ◌&&◌, if◌then◌else◌, List, [], ◌∷◌, ◌++◌, length, take, Option, Some, None, Result, Ok, Err}
+use Rattle.std.specs.List.{list_all}
+use Rattle.mix_bits.specs.Results.{◌>>=◌}
+use Rattle.big_memory.specs.Memory.{Memory}
+use Rattle.proc_info.specs.Signature.{Signature, signature_of}
+use Rattle.proc_info.specs.declared.bad_info.BadInfo.{BadInfo}
+use Rattle.routine_desc.specs.declared.record.Rec.{Rec}
+use Rattle.routine_desc.specs.declared.record.Desc.{Desc}
+use Rattle.routine_desc.specs.declared.record.BadDesc.{BadDesc}
+use Rattle.routine_desc.specs.declared.record.BadDesc.TheVariants.{Info, Mixed}
+use Rattle.routine_desc.specs.Layout.{bad_header, bad_record, number_at, record_at}
+
+-- the value, unless a rule is broken
+abbrev pub unless_broken : {A : Type 0} → Option BadDesc → Result A BadDesc → Result A BadDesc
+unless_broken None value = value
+unless_broken (Some e) value = Err e
+
+-- the record, if its procInfo has a signature
+abbrev pub if_signed : Result Signature BadInfo → Rec → Result Rec BadDesc
+if_signed (Ok signature) r = Ok r
+if_signed (Err e) r = Err (Info e)
+
+unfoldable pub read_record : Memory → ℕ → ℕ → Result Rec BadDesc
+read_record m a p = unless_broken (bad_record m p) (if_signed (signature_of (number_at m p 4)) (record_at m a p))
+
+-- the first k records, of 20 bytes each
+unfoldable pub first_records : Memory → ℕ → ℕ → Result (List Rec) BadDesc
+first_records m a zero = Ok []
+first_records m a (suc k) = first_records m a k >>= λ rs. read_record m a (a + 12 + 20 * k) >>= λ r. Ok (rs ++ r ∷ [])
+
+-- whether a convention, by its number, is dispatched
+abbrev pub is_dispatched_code : ℕ → Bool
+is_dispatched_code code = if code == 8 then true else (if code == 9 then true else (if code == 12 then true else code == 14))
+
+-- the records are called alike: in one convention, and with one procInfo, or, where it is dispatched, one selector size
+abbrev pub is_alike : ℕ → ℕ → Bool
+is_alike info other =
+    (info % 16 == other % 16) && (if is_dispatched_code (info % 16) then info / 64 % 4 == other / 64 % 4 else info == other)
+
+abbrev pub all_alike : List Rec → Bool
+all_alike [] = true
+all_alike (r ∷ rs) = list_all (λ other. is_alike r.info other.info) rs
+
+abbrev pub if_alike : List Rec → Result (List Rec) BadDesc
+if_alike rs = if all_alike rs then Ok rs else Err Mixed
+
+-- the records of the descriptor at an address
+abbrev pub body_of : Memory → ℕ → Result (List Rec) BadDesc
+body_of m a = first_records m a (number_at m (a + 10) 2 + 1) >>= if_alike
+
+abbrev pub desc_of : Memory → ℕ → Result (List Rec) BadDesc
+desc_of m a = unless_broken (bad_header m a) (body_of m a)
+
+-- the records that a descriptor holds
+abbrev pub records_of : Desc → List Rec
+records_of desc = take desc.count desc.recs
+
+-- an answer of the reader
+pub record IsDesc (a : ℕ) (records : Result (List Rec) BadDesc) (desc : Desc) : Type 0 where
+  pub at : desc.at ≡ a
+  pub few : desc.count ≤ 64
+  pub records_are : records ≡ Ok (records_of desc)
+
+abbrev pub Answers : ℕ → Result (List Rec) BadDesc → Result Desc BadDesc → Type 0
+Answers a records (Ok desc) = IsDesc a records desc
+Answers a records (Err e) = records ≡ Err e
+
+abbrev pub Reads : Memory → ℕ → Result Desc BadDesc → Type 0
+Reads m a result = Answers a (desc_of m a) result
+
+-- the same once the header is good
+abbrev pub ReadsBody : Memory → ℕ → Result Desc BadDesc → Type 0
+ReadsBody m a result = Answers a (body_of m a) result
+
+-- a list filled with the first records, as many as it has places, or the refusal of one of them
+abbrev pub FillsRecords : {E : Type 0} → Memory → ℕ → List Rec → List Rec → Result E BadDesc → Type 0
+FillsRecords m a old new (Ok done) = (first_records m a (length old) ≡ Ok new) × (length new ≡ length old)
+FillsRecords m a old new (Err e) = (first_records m a (length old) ≡ Err e) × (length new ≡ length old)

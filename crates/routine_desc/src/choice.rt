@@ -1,0 +1,134 @@
+// The choice among records.
+ghost use Rattle.std.specs.Prelude.{◌≡◌, ◌≤◌};
+ghost use Rattle.routine_desc.specs.Read.{records_of};
+ghost use Rattle.routine_desc.specs.Choice.{choice, chosen_of, found_before, is_default as is_default_lem, is_isa as is_isa_lem, matches_selector, scan_of};
+
+use super::record::{Desc, Rec};
+use mix_bits::Isa;
+
+/// The first of some records, the first one of PowerPC code, and the first one of the caller's set.
+#[derive(Clone, Copy)]
+pub struct Found {
+    pub first: Option<Rec>,
+    pub native: Option<Rec>,
+    pub own: Option<Rec>,
+}
+
+/// What is found among the records with an equal selector, or all where none is given, and among the
+/// defaults.
+#[derive(Clone, Copy)]
+pub struct Scan {
+    pub equal: Found,
+    pub fallback: Found,
+}
+
+/// Nothing found.
+const NOTHING: Found = Found {
+    first: None,
+    native: None,
+    own: None,
+};
+
+/// The record that a caller of a set takes. A dispatched descriptor has a selector: the records that
+/// have it are asked first, and the defaults where there is none. Of those asked, the first of PowerPC
+/// code is taken where the first one says so, else the first of the caller's set, else the first.
+pub fn choose(desc: &Desc, caller: Isa, selector: Option<u32>) -> Option<Rec>
+    requires { desc.now.count ≤ 64 }
+    ensures { result ≡ choice (records_of desc.now) caller selector }
+{
+    let scan = look(&desc.recs[..desc.count as usize], caller, selector);
+    match selector {
+        None => chosen(scan.equal),
+        Some(_) if scan.equal.first.is_some() => chosen(scan.equal),
+        Some(_) => chosen(scan.fallback),
+    }
+}
+
+/// Scans the records once.
+fn look(recs: &[Rec], caller: Isa, selector: Option<u32>) -> Scan
+    ensures { result ≡ scan_of caller selector recs.now }
+{
+    match recs {
+        [] => Scan {
+            equal: NOTHING,
+            fallback: NOTHING,
+        },
+        [first, others @ ..] => {
+            let rest = look(others, caller, selector);
+            Scan {
+                equal: found_with(first, caller, matches(first, selector), rest.equal),
+                fallback: found_with(first, caller, is_default(first), rest.fallback),
+            }
+        }
+    }
+}
+
+/// What is found when a record stands before the others, if it is one of those asked.
+fn found_with(rec: &Rec, caller: Isa, asked: bool, others: Found) -> Found
+    ensures { result ≡ found_before rec.now caller asked others }
+{
+    if asked {
+        Found {
+            first: Some(*rec),
+            native: if is_isa(rec.isa, Isa::Ppc) {
+                Some(*rec)
+            } else {
+                others.native
+            },
+            own: if is_isa(rec.isa, caller) {
+                Some(*rec)
+            } else {
+                others.own
+            },
+        }
+    } else {
+        others
+    }
+}
+
+/// The record that is taken of those found.
+fn chosen(found: Found) -> Option<Rec>
+    ensures { result ≡ chosen_of found }
+{
+    match found.first {
+        None => None,
+        Some(first) => {
+            if first.flags / 4 % 2 == 1 && found.native.is_some() {
+                found.native
+            } else if found.own.is_some() {
+                found.own
+            } else {
+                Some(first)
+            }
+        }
+    }
+}
+
+/// Whether a record has the selector, if one is asked for.
+fn matches(rec: &Rec, selector: Option<u32>) -> bool
+    ensures { result ≡ matches_selector selector rec.now }
+{
+    match selector {
+        None => true,
+        Some(selector) => rec.selector == selector,
+    }
+}
+
+/// Whether a record is a default.
+fn is_default(rec: &Rec) -> bool
+    ensures { result ≡ is_default_lem rec.now }
+{
+    rec.flags / 16 % 2 == 1
+}
+
+/// Whether two sets are the same.
+fn is_isa(one: Isa, other: Isa) -> bool
+    ensures { result ≡ is_isa_lem one other }
+{
+    match (one, other) {
+        (Isa::M68, Isa::M68) => true,
+        (Isa::M68, Isa::Ppc) => false,
+        (Isa::Ppc, Isa::M68) => false,
+        (Isa::Ppc, Isa::Ppc) => true,
+    }
+}

@@ -1,0 +1,16 @@
+//! Routine descriptors: the records that tell of what set a routine is, and how it is called.
+#![tactic(auto)]
+
+mod choice;
+mod flags;
+mod making;
+mod read;
+mod record;
+#[cfg(test)]
+mod tests;
+
+pub use choice::choose;
+pub use flags::RoutineFlags;
+pub use making::build;
+pub use read::read_desc;
+pub use record::{BadDesc, Desc, Rec};

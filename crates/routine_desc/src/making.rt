@@ -1,0 +1,81 @@
+// The descriptors that the host makes.
+ghost use Rattle.std.specs.Prelude.{◌≡◌, ◌≤◌, ◌<◌, ◌+◌, ◌++◌, length};
+ghost use Rattle.big_memory.specs.Memory.{IsDoneUnlessRefused, with_bytes};
+ghost use Rattle.routine_desc.specs.Build.{header_bytes, image as image_lem, record_bytes};
+
+use arrayvec::ArrayVec;
+use big_memory::{Access, Ram};
+
+/// The bytes of a descriptor of one or two records.
+type Image = ArrayVec<u8, 52>;
+
+/// Writes a descriptor of one record with this procInfo, ISA code and procDescriptor at `a`, or, where
+/// `m68k` is some, of that 68K code's record and then this one. All flags are 0. It is refused as a
+/// store of its 32 or 52 bytes would be.
+pub fn build(
+    ram: &mut Ram,
+    a: u32,
+    info: u32,
+    m68k: Option<u32>,
+    isa: u8,
+    proc: u32,
+) -> Result<(), Access>
+    ensures { let bytes = image_lem info m68k isa proc in
+        IsDoneUnlessRefused ram.old a (length bytes) (with_bytes a bytes ram.old) ram.new result (record {}) }
+{
+    let image = image(info, m68k, isa, proc);
+    put(ram, a, &image)
+}
+
+/// Stores some bytes as a whole.
+fn put(ram: &mut Ram, a: u32, bytes: &[u8]) -> Result<(), Access>
+    requires some { 0 < length bytes.now }
+    requires few { length bytes.now ≤ 52 }
+    ensures { IsDoneUnlessRefused ram.old a (length bytes.now) (with_bytes a bytes.now ram.old) ram.new result (record {}) }
+{
+    ram.probe(a, bytes.len() as u32)?;
+    ram.fix(a, bytes);
+    Ok(())
+}
+
+/// The bytes of the descriptor.
+fn image(info: u32, m68k: Option<u32>, isa: u8, proc: u32) -> Image
+    ensures bytes { result.items ≡ image_lem info m68k isa proc }
+    ensures some { 0 < length result.items }
+    ensures few { length result.items ≤ 52 }
+{
+    let mut image = ArrayVec::new();
+    match m68k {
+        None => {
+            append(&mut image, &[0xAA, 0xFE, 7, 0, 0, 0, 0, 0, 0, 0, 0, 0]);
+            append_record(&mut image, info, isa, proc);
+        }
+        Some(code) => {
+            append(&mut image, &[0xAA, 0xFE, 7, 0, 0, 0, 0, 0, 0, 0, 0, 1]);
+            append_record(&mut image, info, 0, code);
+            append_record(&mut image, info, isa, proc);
+        }
+    }
+    image
+}
+
+/// Appends a record.
+fn append_record(image: &mut Image, info: u32, isa: u8, proc: u32)
+    requires { length image.old.items ≤ 32 }
+    ensures bytes { image.new.items ≡ image.old.items ++ record_bytes info isa proc }
+    ensures longer { length image.new.items ≡ length image.old.items + 20 }
+{
+    append(image, &info.to_be_bytes());
+    append(image, &[0, isa, 0, 0]);
+    append(image, &proc.to_be_bytes());
+    append(image, &[0; 8]);
+}
+
+/// Appends a piece for which there is room.
+fn append(image: &mut Image, piece: &[u8])
+    requires { length image.old.items + length piece.now ≤ 52 }
+    ensures bytes { image.new.items ≡ image.old.items ++ piece.now }
+    ensures longer { length image.new.items ≡ length image.old.items + length piece.now }
+{
+    let _fits = image.try_extend_from_slice(piece);
+}

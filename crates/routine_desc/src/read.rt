@@ -1,0 +1,216 @@
+// Reading a descriptor.
+ghost use Rattle.std.specs.Prelude.{◌≡◌, ◌≤◌, ◌+◌, length, IfNone};
+ghost use Rattle.std.specs.Bool.{OnTrue};
+ghost use Rattle.std.specs.List.{list_all};
+ghost use Rattle.mix_bits.specs.Sizes.{bytes_of};
+ghost use Rattle.big_memory.specs.Memory.{in_memory};
+ghost use Rattle.routine_desc.specs.Layout.{are_good_flags, bad_header, bad_record, isa_of, number_at, record_at, target_of};
+ghost use Rattle.routine_desc.specs.Read.{FillsRecords, Reads, ReadsBody, all_alike as all_alike_lem, is_alike as is_alike_lem, is_dispatched_code, read_record as read_record_lem};
+
+use super::record::{BadDesc, Desc, Rec};
+use big_memory::Ram;
+use mix_bits::{Isa, Size};
+use proc_info::read;
+
+/// The descriptor at an address, or the first rule that it breaks. Guards do not matter.
+pub fn read_desc(ram: &Ram, a: u32) -> Result<Desc, BadDesc>
+    ensures { Reads ram.now a result }
+{
+    match broken_header(ram, a) {
+        Some(bad) => Err(bad),
+        None => read_body(ram, a),
+    }
+}
+
+/// The records of a descriptor whose header is good.
+fn read_body(ram: &Ram, a: u32) -> Result<Desc, BadDesc>
+    requires header { a + 12 ≤ length ram.now.bytes }
+    requires few { number_at ram.now (a + 10) 2 ≤ 63 }
+    ensures { ReadsBody ram.now a result }
+{
+    let _len = ram.len();
+    let count = number(ram, a + 10, Size::Two) + 1;
+    let mut recs = [Rec::NONE; 64];
+    match read_records(ram, a, &mut recs[..count as usize]) {
+        Ok(()) => {
+            if all_alike(&recs[..count as usize]) {
+                Ok(Desc { at: a, count, recs })
+            } else {
+                Err(BadDesc::Mixed)
+            }
+        }
+        Err(bad) => Err(bad),
+    }
+}
+
+/// The first rule that a header breaks.
+fn broken_header(ram: &Ram, a: u32) -> Option<BadDesc>
+    ensures value { result ≡ bad_header ram.now a }
+    ensures within { IfNone result (a + 12 ≤ length ram.now.bytes) }
+    ensures few { IfNone result (number_at ram.now (a + 10) 2 ≤ 63) }
+{
+    let _len = ram.len();
+    if !has(ram, a, 12) {
+        Some(BadDesc::Access)
+    } else if number(ram, a, Size::Two) != 0xAAFE {
+        Some(BadDesc::Magic)
+    } else if number(ram, a + 2, Size::One) != 7 {
+        Some(BadDesc::Version)
+    } else if !((number(ram, a + 4, Size::Four) == 0) & (number(ram, a + 8, Size::One) == 0)) {
+        Some(BadDesc::Reserved)
+    } else if number(ram, a + 10, Size::Two) > 63 {
+        Some(BadDesc::Count)
+    } else {
+        None
+    }
+}
+
+/// The first rule that a record breaks, but for the signature of its procInfo.
+fn broken_record(ram: &Ram, p: u32) -> Option<BadDesc>
+    ensures value { result ≡ bad_record ram.now p }
+    ensures within { IfNone result (p + 20 ≤ length ram.now.bytes) }
+{
+    let _len = ram.len();
+    if !has(ram, p, 20) {
+        Some(BadDesc::Access)
+    } else if !((number(ram, p + 4, Size::One) == 0) & (number(ram, p + 12, Size::Four) == 0)) {
+        Some(BadDesc::Reserved)
+    } else if number(ram, p + 5, Size::One) > 1 {
+        Some(BadDesc::Isa)
+    } else if !have_meaning(number(ram, p + 6, Size::Two)) {
+        Some(BadDesc::Flags)
+    } else {
+        None
+    }
+}
+
+/// A record, or the rule that it breaks.
+#[tactic(auto, unfolding(crate::specs::Read::read_record))]
+fn read_record(ram: &Ram, a: u32, p: u32) -> Result<Rec, BadDesc>
+    ensures { result ≡ read_record_lem ram.now a p }
+{
+    match broken_record(ram, p) {
+        Some(bad) => Err(bad),
+        None => match read(number(ram, p, Size::Four)) {
+            Ok(_) => Ok(record(ram, a, p)),
+            Err(bad) => Err(BadDesc::Info(bad)),
+        },
+    }
+}
+
+/// The record at `p` of the descriptor at `a`.
+fn record(ram: &Ram, a: u32, p: u32) -> Rec
+    requires { p + 20 ≤ length ram.now.bytes }
+    ensures { result ≡ record_at ram.now a p }
+{
+    let _len = ram.len();
+    let flags = number(ram, p + 6, Size::Two);
+    Rec {
+        info: number(ram, p, Size::Four),
+        isa: isa(number(ram, p + 5, Size::One)),
+        flags,
+        target: target(a, flags, number(ram, p + 8, Size::Four)),
+        selector: number(ram, p + 16, Size::Four),
+    }
+}
+
+/// The set of an ISA code.
+fn isa(code: u32) -> Isa
+    ensures { result ≡ isa_of code }
+{
+    if code == 0 { Isa::M68 } else { Isa::Ppc }
+}
+
+/// The target: procDescriptor, or its distance from the descriptor.
+fn target(a: u32, flags: u32, proc: u32) -> u32
+    ensures { result ≡ target_of a flags proc }
+{
+    if flags % 2 == 1 {
+        a.wrapping_add(proc)
+    } else {
+        proc
+    }
+}
+
+/// Whether flags have a meaning for this host.
+fn have_meaning(flags: u32) -> bool
+    ensures { result ≡ are_good_flags flags }
+{
+    (flags < 0x20) & !(flags / 2 % 2 == 1)
+}
+
+/// Fills the list with the records of a descriptor, from the first one on.
+fn read_records(ram: &Ram, a: u32, recs: &mut [Rec]) -> Result<(), BadDesc>
+    requires header { a + 12 ≤ length ram.now.bytes }
+    requires few { length recs.old ≤ 64 }
+    ensures { FillsRecords ram.now a recs.old recs.new result }
+{
+    let _len = ram.len();
+    for k in 0..recs.len() {
+        match read_record(ram, a, a + 12 + 20 * k as u32) {
+            Ok(rec) => recs[k] = rec,
+            Err(bad) => return Err(bad),
+        }
+    }
+    Ok(())
+}
+
+/// Whether all records are called like the first one.
+fn all_alike(recs: &[Rec]) -> bool
+    ensures { result ≡ all_alike_lem recs.now }
+{
+    match recs {
+        [] => true,
+        [first, others @ ..] => are_like(first.info, others),
+    }
+}
+
+/// Whether all records are called as a procInfo word says.
+fn are_like(info: u32, recs: &[Rec]) -> bool
+    ensures { result ≡ list_all (λ other. is_alike_lem info other.info) recs.now }
+{
+    match recs {
+        [] => true,
+        [first, others @ ..] => is_alike(info, first.info) && are_like(info, others),
+    }
+}
+
+/// Whether two procInfo words are of one convention, and of one selector size or else the same.
+fn is_alike(info: u32, other: u32) -> bool
+    ensures { result ≡ is_alike_lem info other }
+{
+    if info % 16 != other % 16 {
+        false
+    } else if is_dispatched(info % 16) {
+        info / 64 % 4 == other / 64 % 4
+    } else {
+        info == other
+    }
+}
+
+/// Whether the convention of this number is dispatched.
+fn is_dispatched(code: u32) -> bool
+    ensures { result ≡ is_dispatched_code code }
+{
+    matches!(code, 8 | 9 | 12 | 14)
+}
+
+/// Whether `n` bytes at `a` lie in RAM.
+fn has(ram: &Ram, a: u32, n: u32) -> bool
+    requires { 1 ≤ n }
+    ensures value { result ≡ in_memory ram.now a n }
+    ensures within { OnTrue result (a + n ≤ length ram.now.bytes) }
+{
+    u64::from(a) + u64::from(n) <= u64::from(ram.len())
+}
+
+/// The number in the bytes at `a`.
+fn number(ram: &Ram, a: u32, s: Size) -> u32
+    requires { a + bytes_of s ≤ length ram.now.bytes }
+    ensures { result ≡ number_at ram.now a (bytes_of s) }
+{
+    match ram.load(a, s) {
+        Ok(number) => number,
+        Err(_) => unreachable!(),
+    }
+}

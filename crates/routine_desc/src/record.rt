@@ -1,0 +1,60 @@
+// Records, descriptors and why they are refused.
+ghost use Rattle.std.specs.Prelude.{◌≡◌};
+
+use mix_bits::Isa;
+use proc_info::BadInfo;
+
+/// A routine record.
+#[derive(Clone, Copy, Debug, PartialEq, Eq)]
+pub struct Rec {
+    /// The procInfo word, which has a signature in a record that was read.
+    pub info: u32,
+    pub isa: Isa,
+    /// The routine flags, as `RoutineFlags` names them.
+    pub flags: u32,
+    /// The address of 68K code, or of the transition vector of PowerPC code.
+    pub target: u32,
+    pub selector: u32,
+}
+
+impl Rec {
+    /// A record of nothing, which stands past the last one.
+    pub const NONE: Rec = Rec {
+        info: 0,
+        isa: Isa::M68,
+        flags: 0,
+        target: 0,
+        selector: 0,
+    };
+}
+
+/// A routine descriptor: its address and the first `count` records.
+#[derive(Clone, Copy)]
+pub struct Desc {
+    pub at: u32,
+    pub count: u32,
+    pub recs: [Rec; 64],
+}
+
+/// Why a descriptor is refused.
+#[derive(Clone, Copy, Debug, PartialEq, Eq)]
+pub enum BadDesc {
+    /// The header or a record does not lie in RAM.
+    Access,
+    /// It does not begin with the word $AAFE.
+    Magic,
+    /// The version is not 7.
+    Version,
+    /// A reserved field is not 0.
+    Reserved,
+    /// There are more than 64 records.
+    Count,
+    /// A record's set is neither 68K nor PowerPC.
+    Isa,
+    /// A record needs preparing, holds an index or has a flag that there is none of.
+    Flags,
+    /// A record's procInfo has no signature.
+    Info(BadInfo),
+    /// The records are not called alike.
+    Mixed,
+}

@@ -1,0 +1,188 @@
+use crate::{BadDesc, Desc, Rec, build, choose, read_desc};
+use big_memory::{Access, Ram};
+use mix_bits::{Isa, Size};
+use proc_info::BadInfo;
+use std::test::Fail;
+
+/// Where the descriptors of these tests stand.
+const AT: u32 = 0x1_0020;
+
+/// A header for two records, a 68K record and a PowerPC record, both of C code with a long result.
+const FAT: [u8; 52] = [
+    0xAA, 0xFE, 7, 0, 0, 0, 0, 0, 0, 0, 0, 1, //
+    0, 0, 0, 0x31, 0, 0, 0, 0, 0, 1, 0, 0x58, 0, 0, 0, 0, 0, 0, 0, 0, //
+    0, 0, 0, 0x31, 0, 1, 0, 0, 0, 1, 0, 0x60, 0, 0, 0, 0, 0, 0, 0, 0,
+];
+
+fn rec(info: u32, isa: Isa, flags: u32, target: u32, selector: u32) -> Rec {
+    Rec {
+        info,
+        isa,
+        flags,
+        target,
+        selector,
+    }
+}
+
+/// Stores bytes one by one.
+fn put(ram: &mut Ram, at: u32, bytes: &[u8]) {
+    let mut place = at;
+    for byte in bytes {
+        let _stored = ram.store(place, Size::One, u32::from(*byte));
+        place = place.wrapping_add(1);
+    }
+}
+
+/// The answer without the records.
+fn refusal(read: &Result<Desc, BadDesc>) -> Option<BadDesc> {
+    match read {
+        Ok(_) => None,
+        Err(bad) => Some(*bad),
+    }
+}
+
+#[test]
+fn fields_are_tested_in_their_order(rt: HostRuntime) -> Result<(), Fail> {
+    let rows = [
+        (0, 0xAB, BadDesc::Magic),
+        (2, 6, BadDesc::Version),
+        (7, 1, BadDesc::Reserved),
+        (8, 1, BadDesc::Reserved),
+        (10, 1, BadDesc::Count),
+        (11, 64, BadDesc::Count),
+        (16, 1, BadDesc::Reserved),
+        (27, 1, BadDesc::Reserved),
+        (17, 2, BadDesc::Isa),
+        (19, 2, BadDesc::Flags),
+        (19, 0x20, BadDesc::Flags),
+        (18, 1, BadDesc::Flags),
+        (15, 0x3F, BadDesc::Info(BadInfo::Convention)),
+        (35, 0xF1, BadDesc::Mixed),
+        (35, 0x30, BadDesc::Mixed),
+        (11, 63, BadDesc::Info(BadInfo::Gap)),
+    ];
+    let mut ram = Ram::new(rt.alloc(), 131_072)?;
+    for (at, byte, wanted) in rows {
+        put(&mut ram, AT, &FAT);
+        put(&mut ram, AT + 52, &[0; 1220]);
+        if wanted == BadDesc::Info(BadInfo::Gap) {
+            put(&mut ram, AT + 52, &[0, 0, 4, 0x40]);
+        }
+        put(&mut ram, AT.wrapping_add(at), &[byte]);
+        assert_eq!(rt; refusal(&read_desc(&ram, AT)), Some(wanted));
+    }
+    assert_eq!(rt; refusal(&read_desc(&ram, 131_064)), Some(BadDesc::Access));
+    put(&mut ram, 131_060, &FAT[..12]);
+    assert_eq!(rt; refusal(&read_desc(&ram, 131_060)), Some(BadDesc::Access));
+    Ok(())
+}
+
+#[test]
+fn as_many_records_as_a_descriptor_may_have(rt: HostRuntime) -> Result<(), Fail> {
+    let mut ram = Ram::new(rt.alloc(), 131_072)?;
+    put(&mut ram, AT, &FAT[..12]);
+    let mut place = AT + 12;
+    for _ in 0..64 {
+        put(&mut ram, place, &FAT[32..]);
+        place = place.wrapping_add(20);
+    }
+    put(&mut ram, AT + 11, &[63]);
+    match read_desc(&ram, AT) {
+        Ok(desc) => {
+            assert_eq!(rt; desc.at, AT);
+            assert_eq!(rt; desc.count, 64);
+            assert_eq!(rt; desc.recs[63], rec(0x31, Isa::Ppc, 0, 0x1_0060, 0));
+        }
+        Err(_) => assert!(rt; false),
+    }
+    Ok(())
+}
+
+#[test]
+fn descriptors_are_built_and_read_back(rt: HostRuntime) -> Result<(), Fail> {
+    let mut ram = Ram::new(rt.alloc(), 131_072)?;
+    assert_eq!(rt; build(&mut ram, AT, 0x31, None, 1, 0x1_0040), Ok(()));
+    match read_desc(&ram, AT) {
+        Ok(desc) => {
+            assert_eq!(rt; desc.count, 1);
+            assert_eq!(rt; desc.recs[0], rec(0x31, Isa::Ppc, 0, 0x1_0040, 0));
+        }
+        Err(_) => assert!(rt; false),
+    }
+    assert_eq!(rt;
+        build(&mut ram, AT, 0x31, Some(0x1_0058), 1, 0x1_0060),
+        Ok(())
+    );
+    match read_desc(&ram, AT) {
+        Ok(desc) => {
+            assert_eq!(rt; desc.count, 2);
+            assert_eq!(rt; desc.recs[0], rec(0x31, Isa::M68, 0, 0x1_0058, 0));
+            assert_eq!(rt; desc.recs[1], rec(0x31, Isa::Ppc, 0, 0x1_0060, 0));
+        }
+        Err(_) => assert!(rt; false),
+    }
+    assert_eq!(rt;
+        build(&mut ram, 131_064, 0x31, None, 1, 0),
+        Err(Access::Outside(131_064))
+    );
+    assert_eq!(rt;
+        build(&mut ram, 0x0FF0, 0x31, None, 1, 0),
+        Err(Access::Gate(0x0FF0))
+    );
+    Ok(())
+}
+
+#[test]
+fn a_relative_target_is_counted_from_the_descriptor(rt: HostRuntime) -> Result<(), Fail> {
+    let mut ram = Ram::new(rt.alloc(), 131_072)?;
+    put(&mut ram, AT, &FAT);
+    put(&mut ram, AT + 11, &[0]);
+    put(&mut ram, AT + 19, &[1]);
+    put(&mut ram, AT + 20, &[0, 0, 0, 0x20]);
+    match read_desc(&ram, AT) {
+        Ok(desc) => assert_eq!(rt; desc.recs[0], rec(0x31, Isa::M68, 1, 0x1_0040, 0)),
+        Err(_) => assert!(rt; false),
+    }
+    Ok(())
+}
+
+#[test]
+fn the_choice_among_records(rt: HostRuntime) {
+    let old = rec(0xB9, Isa::M68, 0, 1, 7);
+    let native = rec(0xB9, Isa::M68, 4, 2, 7);
+    let new = rec(0xB9, Isa::Ppc, 0, 3, 7);
+    let other = rec(0xB9, Isa::M68, 0x10, 4, 9);
+    let rows = [
+        ([old, new], Isa::M68, None, Some(old)),
+        ([old, new], Isa::Ppc, None, Some(new)),
+        ([native, new], Isa::M68, None, Some(new)),
+        ([new, native], Isa::M68, None, Some(native)),
+        ([new, new], Isa::M68, None, Some(new)),
+        ([other, new], Isa::M68, Some(7), Some(new)),
+        ([old, other], Isa::Ppc, Some(9), Some(other)),
+        ([old, other], Isa::Ppc, Some(8), Some(other)),
+        ([other, old], Isa::M68, Some(9), Some(other)),
+        ([other, old], Isa::Ppc, Some(7), Some(old)),
+        ([other, new], Isa::Ppc, Some(9), Some(other)),
+        ([native, other], Isa::M68, Some(7), Some(native)),
+        ([native, new], Isa::M68, Some(7), Some(new)),
+        ([native, new], Isa::Ppc, Some(7), Some(new)),
+        ([native, old], Isa::M68, None, Some(native)),
+        ([old, native], Isa::M68, None, Some(old)),
+        ([old, native], Isa::Ppc, None, Some(old)),
+        ([new, old], Isa::Ppc, None, Some(new)),
+        ([new, old], Isa::M68, None, Some(old)),
+        ([old, new], Isa::Ppc, Some(8), None),
+    ];
+    for ([first, second], caller, selector, wanted) in rows {
+        let mut recs = [Rec::NONE; 64];
+        recs[0] = first;
+        recs[1] = second;
+        let desc = Desc {
+            at: AT,
+            count: 2,
+            recs,
+        };
+        assert_eq!(rt; choose(&desc, caller, selector), wanted);
+    }
+}
