@@ -2,12 +2,12 @@
 use Rattle.std.proofs.Common.{◌≡◌, ℕ, Bool, true, false, if◌then◌else◌, List, [], ◌∷◌, filter, length, take, drop, ◌-◌, get_or, ◌<◌, arith, Option, Some, None, is_some, sym, ap, subst, ◌∙◌, refl}
 use Rattle.std.proofs.lemmas.List.{same_lists, places}
 use Rattle.mix_bits.specs.declared.isa.Isa.{Isa}
-use Rattle.mix_bits.specs.declared.isa.Isa.TheVariants.{M68, Ppc}
+use Rattle.mix_bits.specs.declared.isa.Isa.TheVariants.{Ppc}
 use Rattle.routine_desc.specs.declared.record.Rec.{Rec}
 use Rattle.routine_desc.specs.declared.choice.Found.{Found}
 use Rattle.routine_desc.specs.declared.choice.Scan.{Scan}
 use Rattle.routine_desc.specs.Layout.{has_flag}
-use Rattle.routine_desc.specs.Choice.{candidates, choice, chosen_among, chosen_of, chosen_with, first_of, found_before, found_of, has_selector, head_of, is_default, is_isa, matches_selector, or_else, scan_of}
+use Rattle.routine_desc.specs.Choice.{candidates, choice, chosen_among, chosen_of, first_of, found_before, found_of, has_selector, head_of, is_default, is_isa, matches_selector, or_else, scan_of}
 
 -- the head of a filtered list, with one more record before it
 head-filter : (b : Bool) (r : Rec) (rs : List Rec) → head_of (if b then r ∷ rs else rs) ≡ (if b then Some r else head_of rs)

@@ -1,5 +1,5 @@
 -- The first records, one after the other.
-use Rattle.std.proofs.Common.{◌≡◌, ℕ, zero, suc, ◌+◌, ◌-◌, ◌*◌, ◌<◌, ◌≤◌, List, [], ◌∷◌, ◌++◌, length, take, set, Result, Ok, Err, arith, sym, ap, subst, ◌∙◌, refl, zero-add}
+use Rattle.std.proofs.Common.{◌≡◌, ℕ, zero, suc, ◌+◌, ◌*◌, ◌<◌, List, [], ◌∷◌, ◌++◌, length, take, set, Ok, Err, arith, ap, ◌∙◌, refl, zero-add}
 use Rattle.std.proofs.lemmas.List.{same_lists, places, get_or-set_same, length-set}
 use Rattle.mix_bits.specs.Results.{◌>>=◌}
 use Rattle.big_memory.specs.Memory.{Memory}

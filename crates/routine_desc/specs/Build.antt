@@ -1,6 +1,11 @@
 -- The bytes of a descriptor that the host makes: flags 0, and 0 in each field that is not read.
-use Rattle.std.specs.Prelude.{ℕ, List, [], ◌∷◌, ◌++◌, Option, Some, None}
+use Rattle.std.specs.Prelude.{ℕ, ◌≡◌, ◌≤◌, ◌+◌, List, [], ◌∷◌, ◌++◌, length, Option, Some, None, Ok}
 use Rattle.byteorder.specs.Endian.{big_bytes}
+use Rattle.big_memory.specs.Memory.{Memory, with_bytes}
+use Rattle.proc_info.specs.Signature.{Signature, signature_of}
+use Rattle.routine_desc.specs.declared.record.Rec.{Rec}
+use Rattle.routine_desc.specs.Layout.{isa_of}
+use Rattle.routine_desc.specs.Read.{desc_of}
 
 -- the header, with the index of the last record
 abbrev pub header_bytes : ℕ → List ℕ
@@ -13,3 +18,21 @@ record_bytes info isa proc = big_bytes 4 info ++ (0 ∷ isa ∷ 0 ∷ 0 ∷ [] +
 abbrev pub image : ℕ → Option ℕ → ℕ → ℕ → List ℕ
 image info None isa proc = header_bytes 0 ++ record_bytes info isa proc
 image info (Some m68k) isa proc = header_bytes 1 ++ (record_bytes info 0 m68k ++ record_bytes info isa proc)
+
+-- the records that were asked for
+abbrev pub asked_record : ℕ → ℕ → ℕ → Rec
+asked_record info isa proc = record { info = info; isa = isa_of isa; flags = 0; target = proc; selector = 0 }
+
+abbrev pub asked : ℕ → Option ℕ → ℕ → ℕ → List Rec
+asked info None isa proc = asked_record info isa proc ∷ []
+asked info (Some m68k) isa proc = asked_record info 0 m68k ∷ (asked_record info isa proc ∷ [])
+
+-- a descriptor that was built is read back as these records, if its procInfo has a signature and its ISA is one of the two
+abbrev pub ReadsBack : Memory → ℕ → ℕ → Option ℕ → ℕ → ℕ → Type 0
+ReadsBack m a info m68k isa proc =
+    isa ≤ 1 → (signature : Signature) → signature_of info ≡ Ok signature → desc_of m a ≡ Ok (asked info m68k isa proc)
+
+-- the bytes stand in memory from an address on, and nothing else changed
+pub record IsPut (old : Memory) (a : ℕ) (bytes : List ℕ) (new : Memory) : Type 0 where
+  pub within : a + length bytes ≤ length old.bytes
+  pub done : new ≡ with_bytes a bytes old

@@ -1,16 +1,13 @@
 -- The layout of a routine descriptor, as this project takes it
 -- (Inside Macintosh: PowerPC System Software, chapter 2).
-use Rattle.std.specs.Prelude.{ℕ, ◌≡◌, ◌+◌, ◌*◌, ◌/◌, ◌%◌, ◌^◌, ◌==◌, nat_le, nat_lt, Bool, not, ◌&&◌, ◌||◌, if◌then◌else◌, List, take, drop, Option, Some, None, Result, Ok, Err}
+use Rattle.std.specs.Prelude.{ℕ, ◌+◌, ◌/◌, ◌%◌, ◌^◌, ◌==◌, nat_lt, Bool, not, ◌&&◌, if◌then◌else◌, drop, Option, Some, None}
 use Rattle.byteorder.specs.Endian.{big_number}
-use Rattle.mix_bits.specs.Results.{◌>>=◌}
 use Rattle.mix_bits.specs.declared.isa.Isa.{Isa}
 use Rattle.mix_bits.specs.declared.isa.Isa.TheVariants.{M68, Ppc}
 use Rattle.big_memory.specs.Memory.{Memory, in_memory}
-use Rattle.proc_info.specs.Signature.{signature_of}
-use Rattle.proc_info.specs.declared.bad_info.BadInfo.{BadInfo}
 use Rattle.routine_desc.specs.declared.record.Rec.{Rec}
 use Rattle.routine_desc.specs.declared.record.BadDesc.{BadDesc}
-use Rattle.routine_desc.specs.declared.record.BadDesc.TheVariants.{Access, Magic, Version, Reserved, Count, Isa as BadIsa, Flags, Info, Mixed}
+use Rattle.routine_desc.specs.declared.record.BadDesc.TheVariants.{Access, Magic, Version, Reserved, Count, Isa as BadIsa, Flags}
 
 -- the number in the n bytes at an address
 abbrev pub number_at : Memory → ℕ → ℕ → ℕ

@@ -1,7 +1,7 @@
 // The descriptors that the host makes.
-ghost use Rattle.std.specs.Prelude.{◌≡◌, ◌≤◌, ◌<◌, ◌+◌, ◌++◌, length};
+ghost use Rattle.std.specs.Prelude.{◌≡◌, ◌≤◌, ◌<◌, ◌+◌, ◌++◌, ◌^◌, length, IfOk, IfSome};
 ghost use Rattle.big_memory.specs.Memory.{IsDoneUnlessRefused, with_bytes};
-ghost use Rattle.routine_desc.specs.Build.{header_bytes, image as image_lem, record_bytes};
+ghost use Rattle.routine_desc.specs.Build.{IsPut, ReadsBack, header_bytes, image as image_lem, record_bytes};
 
 use arrayvec::ArrayVec;
 use big_memory::{Access, Ram};
@@ -11,7 +11,8 @@ type Image = ArrayVec<u8, 52>;
 
 /// Writes a descriptor of one record with this procInfo, ISA code and procDescriptor at `a`, or, where
 /// `m68k` is some, of that 68K code's record and then this one. All flags are 0. It is refused as a
-/// store of its 32 or 52 bytes would be.
+/// store of its 32 or 52 bytes would be. Where procInfo has a signature and the ISA code is 0 or 1,
+/// `read_desc` gives these records back.
 pub fn build(
     ram: &mut Ram,
     a: u32,
@@ -20,8 +21,9 @@ pub fn build(
     isa: u8,
     proc: u32,
 ) -> Result<(), Access>
-    ensures { let bytes = image_lem info m68k isa proc in
+    ensures exact { let bytes = image_lem info m68k isa proc in
         IsDoneUnlessRefused ram.old a (length bytes) (with_bytes a bytes ram.old) ram.new result (record {}) }
+    ensures reads_back { IfOk result (λ done. ReadsBack ram.new a info m68k isa proc) }
 {
     let image = image(info, m68k, isa, proc);
     put(ram, a, &image)
@@ -31,7 +33,8 @@ pub fn build(
 fn put(ram: &mut Ram, a: u32, bytes: &[u8]) -> Result<(), Access>
     requires some { 0 < length bytes.now }
     requires few { length bytes.now ≤ 52 }
-    ensures { IsDoneUnlessRefused ram.old a (length bytes.now) (with_bytes a bytes.now ram.old) ram.new result (record {}) }
+    ensures exact { IsDoneUnlessRefused ram.old a (length bytes.now) (with_bytes a bytes.now ram.old) ram.new result (record {}) }
+    ensures put { IfOk result (λ done. IsPut ram.old a bytes.now ram.new) }
 {
     ram.probe(a, bytes.len() as u32)?;
     ram.fix(a, bytes);
@@ -43,6 +46,7 @@ fn image(info: u32, m68k: Option<u32>, isa: u8, proc: u32) -> Image
     ensures bytes { result.items ≡ image_lem info m68k isa proc }
     ensures some { 0 < length result.items }
     ensures few { length result.items ≤ 52 }
+    ensures fits { IfSome m68k (λ code. code < 2 ^ 32) }
 {
     let mut image = ArrayVec::new();
     match m68k {

@@ -1,5 +1,5 @@
 -- What the scan found is what the filters leave.
-use Rattle.std.proofs.Common.{◌≡◌, ◌∙◌, sym}
+use Rattle.std.proofs.Common.{◌∙◌, sym}
 use Rattle.routine_desc.proofs.ChoiceLemmas.{choose-all, choose-equal, choose-default}
 use Rattle.routine_desc.proofs.choice.choose.Goals as goal
 

@@ -1,7 +1,6 @@
 -- Four pieces, one after the other.
 use Rattle.std.proofs.Common.{◌≡◌, ◌++◌, ◌∷◌, [], List, ap, ◌∙◌, append_assoc}
 use Rattle.byteorder.specs.Endian.{big_bytes}
-use Rattle.routine_desc.specs.Build.{record_bytes}
 use Rattle.routine_desc.proofs.making.append_record.Goals as goal
 
 -- four pieces behind a list are their concatenation behind it

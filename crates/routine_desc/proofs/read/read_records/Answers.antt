@@ -1,5 +1,5 @@
 -- One more record is read, or refused.
-use Rattle.std.proofs.Common.{◌≡◌, ◌+◌, ◌-◌, ◌*◌, suc, length, Ok, Err, sym, ap, subst, ◌∙◌, arith}
+use Rattle.std.proofs.Common.{◌≡◌, ◌+◌, ◌-◌, suc, length, Ok, Err, sym, ap, ◌∙◌, arith}
 use Rattle.routine_desc.specs.Read.{first_records}
 use Rattle.routine_desc.proofs.RecordLemmas.{records-none, records-more, records-refused, records-stay_refused, take-set}
 use Rattle.routine_desc.proofs.read.read_records.Goals as goal

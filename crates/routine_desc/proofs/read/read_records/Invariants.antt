@@ -1,5 +1,5 @@
 -- The first k records are read.
-use Rattle.std.proofs.Common.{◌≡◌, take, length, Ok}
+use Rattle.std.proofs.Common.{◌≡◌, take, Ok}
 use Rattle.routine_desc.specs.Read.{first_records}
 use Rattle.routine_desc.proofs.read.read_records.Given as goal
 
