@@ -1,0 +1,57 @@
+-- What the calls on a chain answer.
+use Rattle.std.specs.Prelude.{◌≡◌, ℕ, suc, ◌+◌, ◌-◌, ◌/◌, ◌%◌, ◌<◌, ◌≤◌, ◌==◌, nat_lt, Bool, false, ◌||◌, if◌then◌else◌, List, [], ◌∷◌, length, replicate, Option, Some, None, Result, Ok, Err}
+use Rattle.big_memory.specs.Memory.{Memory, floor_of, with_bytes, with_marks}
+use Rattle.switch_frame.specs.declared.active.Active.{Active}
+use Rattle.switch_frame.specs.declared.kind.Kind.{Kind}
+use Rattle.switch_frame.specs.declared.full.Full.{Full}
+use Rattle.switch_frame.specs.declared.full.Full.TheVariants.{Frames, Outside, Crossed, Stack}
+use Rattle.switch_frame.specs.declared.held.Held.{Held}
+use Rattle.switch_frame.specs.Sets.{caller_isa, callee_isa, frame_size}
+use Rattle.switch_frame.specs.Records.{Record, isa_of, held_of}
+use Rattle.switch_frame.specs.Chain.{outer_of, most_frames}
+
+-- the innermost caller, with its depth
+abbrev pub innermost : List Record → Option Held
+innermost [] = None
+innermost (r ∷ rs) = Some (held_of r (suc (length rs)))
+
+-- whether a stack pointer stands above the innermost frame's lo
+abbrev pub is_crossed : List Record → ℕ → Bool
+is_crossed [] sp = false
+is_crossed (r ∷ rs) sp = nat_lt r.lo sp
+
+-- where the frame of a caller with this stack pointer begins and ends
+abbrev pub hi_of : ℕ → ℕ
+hi_of sp = sp - sp % 16
+
+abbrev pub lo_of : Kind → ℕ → ℕ
+lo_of kind sp = hi_of sp - frame_size (caller_isa kind)
+
+-- the range of a new frame, or the first refusal: so many frames are live already; the stack pointer is not in the
+-- stack; it is above the innermost frame; the callee, whose stack pointer is `below` bytes below the frame, would
+-- leave the stack
+abbrev pub room_of : Memory → List Record → ℕ → Kind → ℕ → Result (ℕ × ℕ) Full
+room_of m rs sp kind below =
+    if length rs == most_frames then Err Frames
+    else (if nat_lt sp (floor_of m) || nat_lt (length m.bytes) sp then Err (Outside sp)
+    else (if is_crossed rs sp then Err (Crossed (outer_of rs))
+    else (if nat_lt (lo_of kind sp - below) (floor_of m) then Err (Stack (lo_of kind sp - below))
+    else Ok (lo_of kind sp, hi_of sp))))
+
+-- a range that such a call gives for a kind
+pub record IsPlace (m : Memory) (rs : List Record) (kind : Kind) (lo hi : ℕ) : Type 0 where
+  pub few : length rs < most_frames
+  pub aligned : hi % 16 ≡ 0
+  pub size : hi ≡ lo + frame_size (caller_isa kind)
+  pub stack : floor_of m ≤ lo
+  pub within : hi ≤ length m.bytes
+  pub below : is_crossed rs hi ≡ false
+
+-- the caller is of the set that the innermost frame's caller called, where a frame is live
+abbrev pub IsCalled : Active → List Record → Type 0
+IsCalled caller [] = Unit {0}
+IsCalled caller (r ∷ rs) = callee_isa r.kind ≡ isa_of caller
+
+-- the memory with a frame's bytes, and its guard, replaced
+abbrev pub with_frame : ℕ → ℕ → List ℕ → Bool → Memory → Memory
+with_frame lo hi bytes on m = with_marks (lo / 16) (replicate ((hi - lo) / 16) on) (with_bytes lo bytes m)

@@ -1,0 +1,50 @@
+-- Laws of chains.
+use Rattle.std.specs.Prelude.{◌≡◌, ℕ, ◌+◌, ◌<◌, ◌≤◌, nat_lt, Bool, false, ◌&&◌, ◌||◌, List, [], ◌∷◌, length, slice_index_or, None, Ok}
+use Rattle.big_memory.specs.Lists.{put}
+use Rattle.big_memory.specs.Memory.{Memory, IsRam, meets_guard, refusal, with_bytes}
+use Rattle.switch_frame.specs.declared.kind.Kind.{Kind}
+use Rattle.switch_frame.specs.Records.{Record}
+use Rattle.switch_frame.specs.Chain.{Chain, Links, cleared, outer_of, records, view}
+use Rattle.switch_frame.specs.Calls.{IsPlace, room_of}
+
+-- the bytes of a chain's frames, read by their layout, are its records
+abbrev pub ReadsBack : Type 0
+ReadsBack = (m : Memory) (top : ℕ) (rs : List Record) → Links m top rs → records m.bytes top ≡ rs
+
+-- the frames outside the innermost one are a chain that begins at its outer lo
+abbrev pub ReadsOuter : Type 0
+ReadsOuter = (m : Memory) (top : ℕ) (r : Record) (rs : List Record) → Links m top (r ∷ rs) → Links m (outer_of rs) rs
+
+-- memory with nothing guarded has a chain of no frames
+abbrev pub BeginsEmpty : Type 0
+BeginsEmpty = (m : Memory) → IsRam m → ((unit : ℕ) → slice_index_or m.marks unit false ≡ false) → Chain m 0 []
+
+-- the memory is what loads read of the memory beside the frames
+abbrev pub ViewIsMemory : Type 0
+ViewIsMemory = (m : Memory) (top : ℕ) (rs : List Record) → Links m top rs → view (cleared m.bytes rs) rs ≡ m.bytes
+
+abbrev pub KeepsLength : Type 0
+KeepsLength = (m : Memory) (top : ℕ) (rs : List Record) → Links m top rs → length (cleared m.bytes rs) ≡ length m.bytes
+
+-- a store that is not refused keeps the chain with its records, and goes to the memory beside the frames
+pub record IsStored (m : Memory) (top : ℕ) (rs : List Record) (a : ℕ) (ys : List ℕ) : Type 0 where
+  pub chain : Chain (with_bytes a ys m) top rs
+  pub memory : cleared (put a ys m.bytes) rs ≡ put a ys (cleared m.bytes rs)
+
+abbrev pub StoresBeside : Type 0
+StoresBeside =
+    (m : Memory) (top : ℕ) (rs : List Record) (a n : ℕ) (ys : List ℕ) → length ys ≡ n → refusal m a n ≡ None → Chain m top rs → IsStored m top rs a ys
+
+-- whether one of the n bytes at a lies in the range of a record
+abbrev pub meets_frames : ℕ → ℕ → List Record → Bool
+meets_frames a n [] = false
+meets_frames a n (r ∷ rs) = (nat_lt a r.hi && nat_lt r.lo (a + n)) || meets_frames a n rs
+
+-- the guard refuses a store exactly where it meets a frame
+abbrev pub GuardIsFrames : Type 0
+GuardIsFrames =
+    (m : Memory) (top : ℕ) (rs : List Record) (a n : ℕ) → 0 < n → a + n ≤ length m.bytes → Chain m top rs → meets_guard m a n ≡ meets_frames a n rs
+
+-- a place is one that a call gives: to a caller whose stack pointer is its end, of a callee that takes no stack
+abbrev pub PlacesAreGiven : Type 0
+PlacesAreGiven = (m : Memory) (rs : List Record) (kind : Kind) (lo hi : ℕ) → IsPlace m rs kind lo hi → room_of m rs hi kind 0 ≡ Ok (lo, hi)

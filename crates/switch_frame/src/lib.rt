@@ -1,0 +1,27 @@
+//! Suspended callers of the mixed machine, each in a guarded frame of the machine's stack and nowhere
+//! else. Layout and placement of the frames are this project's own.
+//!
+//! Definitions and laws speak of the chain's records, innermost first, read from the bytes.
+#![tactic(auto)]
+
+mod active;
+mod files;
+mod frames;
+mod full;
+mod held;
+mod kind;
+mod laws;
+mod longs;
+mod program;
+mod rooms;
+#[cfg(test)]
+mod tests;
+
+pub use active::Active;
+pub use frames::{pop, push, top};
+pub use full::Full;
+pub use held::Held;
+pub use kind::Kind;
+pub use laws::chain_laws;
+pub use program::Program;
+pub use rooms::room;

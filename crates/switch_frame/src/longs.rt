@@ -1,0 +1,44 @@
+// Longs in memory, past the guard.
+ghost use Rattle.std.specs.Prelude.{◌≡◌, ◌+◌, ◌*◌, ◌≤◌, length};
+ghost use Rattle.big_memory.specs.Memory.{IsRam, with_bytes};
+ghost use Rattle.switch_frame.specs.Chain.{AreLongs};
+ghost use Rattle.switch_frame.specs.Longs.{bytes_of_longs, long_at, longs_at};
+
+use big_memory::Ram;
+use byteorder::{BigEndian, ByteOrder};
+use mix_bits::Size;
+
+/// The long at `a`.
+#[tactic(auto, unfolding(crate::specs::Longs::long_at))]
+pub fn read_long(ram: &Ram, a: u32) -> u32
+    requires { a + 4 ≤ length ram.now.bytes }
+    ensures { result ≡ long_at a ram.now.bytes }
+{
+    ram.load(a, Size::Four).unwrap()
+}
+
+/// Reads as many longs from `a` on as there is place for.
+pub fn read_longs(ram: &Ram, a: u32, to: &mut [u32])
+    requires ram { IsRam ram.now }
+    requires within { a + 4 * length to.old ≤ length ram.now.bytes }
+    ensures { to.new ≡ longs_at (length to.old) a ram.now.bytes }
+{
+    for (k, long) in to.iter_mut().enumerate() {
+        *long = read_long(ram, a + 4 * k as u32);
+    }
+}
+
+/// Writes longs from `a` on.
+pub fn write_longs(ram: &mut Ram, a: u32, longs: &[u32])
+    requires ram { IsRam ram.old }
+    requires within { a + 4 * length longs.now ≤ length ram.old.bytes }
+    ensures bytes { ram.new ≡ with_bytes a (bytes_of_longs longs.now) ram.old }
+    ensures ram { IsRam ram.new }
+    ensures longs { AreLongs (length longs.now) longs.now }
+{
+    for (k, long) in longs.iter().enumerate() {
+        let mut bytes = [0; 4];
+        BigEndian::write_u32(&mut bytes, *long);
+        ram.fix(a + 4 * k as u32, &bytes);
+    }
+}
