@@ -1,1 +1,16 @@
 pub mod Registers
+pub mod First
+pub mod Classes
+pub mod Operands
+pub mod Fields
+pub mod Extended
+pub mod Places
+pub mod Rows
+pub mod Immediates
+pub mod Moves
+pub mod Miscellaneous
+pub mod Branches
+pub mod Arithmetic
+pub mod Shifts
+pub mod Decode
+pub mod Laws

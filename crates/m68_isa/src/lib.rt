@@ -1,6 +1,28 @@
 //! The 68000 as a program sees it: its registers, and its instructions as words.
 #![tactic(auto)]
 
+mod arithmetic;
+mod branches;
+mod classes;
+mod decode;
+mod ea;
+mod first;
+mod found;
+mod immediates;
+mod instructions;
+mod laws;
+mod miscellaneous;
+mod moves;
+mod operand;
 mod registers;
+mod shifts;
+#[cfg(test)]
+mod tests;
 
+pub use decode::decode68;
+pub use ea::{Ea, Index};
+pub use instructions::{
+    BitOp, Decoded68, Exchange, ImmediateOp, Instr68, LogicOp, ShiftCount, ShiftOp,
+};
+pub use laws::table_laws;
 pub use registers::{Ccr, Regs68};

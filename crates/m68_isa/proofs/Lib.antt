@@ -1,0 +1,3 @@
+pub mod Extensions
+mod Table
+mod Counts

@@ -1,0 +1,37 @@
+-- Laws of the table as a whole, which the checker computes over all first words.
+use Rattle.std.specs.Prelude.{ℕ, zero, suc, ◌≡◌, ◌+◌, ◌*◌, ◌^◌, ◌<◌, Bool, true, false, if◌then◌else◌, nat_lt, List, [], ◌∷◌}
+use Rattle.m68_isa.specs.declared.instructions.Decoded68.{Decoded68}
+use Rattle.m68_isa.specs.declared.instructions.Decoded68.TheVariants.{Op, LineA, LineF, Privileged, Illegal, Short}
+use Rattle.m68_isa.specs.declared.first.First.{First}
+use Rattle.m68_isa.specs.First.{first_of}
+use Rattle.m68_isa.specs.Rows.{Row, row}
+use Rattle.m68_isa.specs.Decode.{rows_of, decoded}
+
+-- how many rows have a first word
+abbrev pub matches : List Row → First → ℕ
+matches [] f = 0
+matches (row has makes ∷ rows) f = if has f then suc (matches rows f) else matches rows f
+
+abbrev pub rows_with : ℕ → ℕ
+rows_with w = matches (rows_of (first_of w)) (first_of w)
+
+-- how many of the 2 ^ k numbers from 2 ^ k * base on pass a test
+abbrev pub how_many : ℕ → ℕ → (ℕ → Bool) → ℕ
+how_many zero base p = if p base then 1 else 0
+how_many (suc k) base p = how_many k (base * 2) p + how_many k (base * 2 + 1) p
+
+abbrev pub is_privileged : Decoded68 → Bool
+is_privileged (Op i used) = false
+is_privileged (LineA w) = false
+is_privileged LineF = false
+is_privileged Privileged = true
+is_privileged Illegal = false
+is_privileged Short = false
+
+pub record TableLaws : Type 0 where
+  -- no first word is in two rows, so that their order says nothing
+  pub one_row : (w : ℕ) → w < 2 ^ 16 → rows_with w < 2
+  -- of the 65536 first words so many are in a row
+  pub in_a_row : how_many 16 0 (λ w. nat_lt 0 (rows_with w)) ≡ 45816
+  -- and of these so many are the supervisor's
+  pub privileged : how_many 16 0 (λ w. is_privileged (decoded (w ∷ []))) ≡ 75

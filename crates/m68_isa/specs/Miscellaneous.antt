@@ -1,0 +1,93 @@
+-- Line 4: one operand, movem, control of the program, addresses
+-- (M68000 Family Programmer's Reference Manual, section 8, miscellaneous).
+use Rattle.std.specs.Prelude.{ℕ, ◌+◌, ◌*◌, ◌%◌, ◌==◌, ◌&&◌, ◌||◌, nat_lt, Bool, List, [], ◌∷◌, slice_index}
+use Rattle.mix_bits.specs.declared.size.Size.{Size}
+use Rattle.mix_bits.specs.declared.size.Size.TheVariants.{One, Two, Four}
+use Rattle.m68_isa.specs.declared.ea.Ea.{Ea}
+use Rattle.m68_isa.specs.declared.instructions.Instr68.{Instr68}
+use Rattle.m68_isa.specs.declared.instructions.Instr68.TheVariants.{Negx, Clr, Neg, Not, MoveFromSr, MoveToCcr, Nbcd, Swap, Pea, Ext, MovemToMemory, MovemFromMemory, Tst, Tas, Trap, Link, Unlk, Nop, Rts, Trapv, Rtr, Jsr, Jmp, Chk, Lea}
+use Rattle.m68_isa.specs.declared.classes.Class.TheVariants.{Data, DataAlterable, Control, ControlAlterable}
+use Rattle.m68_isa.specs.declared.first.First.{First}
+use Rattle.m68_isa.specs.declared.found.Found.{Found}
+use Rattle.m68_isa.specs.declared.found.Found.TheVariants.{Privileged, Illegal}
+use Rattle.m68_isa.specs.Classes.{in_class}
+use Rattle.m68_isa.specs.First.{size_of, long_or_word}
+use Rattle.m68_isa.specs.Operands.{extended_word, operand_at}
+use Rattle.m68_isa.specs.Rows.{Row, row, words, taken, one}
+
+-- an instruction at the size of bits 7 and 6, on a data alterable place
+abbrev pub sized : (Size → Ea → Instr68) → First → List ℕ → Found
+sized make f ws = one (make (size_of f.size)) (size_of f.size) f ws
+
+-- the mask's word, then those of the operand
+abbrev pub masked : (Size → ℕ → Ea → Instr68) → First → List ℕ → Found
+masked make f ws =
+    let s = long_or_word (f.size % 2) in
+    let e = operand_at ws 2 s f.mode f.lower in
+    taken (make s (slice_index ws 1) e.ea) e
+
+abbrev pub is_data_alterable : First → Bool
+is_data_alterable f = in_class DataAlterable f.mode f.lower
+
+-- 0100 uuu0 00 to 10: negx 0, clr 1, neg 2, not 3
+-- 0100 0000 11: move from SR; 0100 0100 11: move to CCR; 0100 0110 11: move to SR
+abbrev pub rows_4_one : List Row
+rows_4_one =
+    row (λ f. (f.upper == 0) && (nat_lt f.size 3 && is_data_alterable f)) (sized Negx)
+    ∷ row (λ f. (f.upper == 1) && (nat_lt f.size 3 && is_data_alterable f)) (sized Clr)
+    ∷ row (λ f. (f.upper == 2) && (nat_lt f.size 3 && is_data_alterable f)) (sized Neg)
+    ∷ row (λ f. (f.upper == 3) && (nat_lt f.size 3 && is_data_alterable f)) (sized Not)
+    ∷ row (λ f. (f.upper == 0) && (f.size == 3) && is_data_alterable f) (one MoveFromSr Two)
+    ∷ row (λ f. (f.upper == 2) && (f.size == 3) && in_class Data f.mode f.lower) (one MoveToCcr Two)
+    ∷ row (λ f. (f.upper == 3) && (f.size == 3) && in_class Data f.mode f.lower) (λ f ws. Privileged)
+    ∷ []
+
+-- 0100 1000 00: nbcd; 01: swap of a data register, pea of a control place
+-- 0100 1000 1z: ext of a data register, movem to a control alterable place or -(An)
+abbrev pub rows_4_8 : List Row
+rows_4_8 =
+    row (λ f. (f.size == 0) && is_data_alterable f) (one Nbcd One)
+    ∷ row (λ f. (f.size == 1) && (f.mode == 0)) (λ f ws. words 1 (Swap f.lower))
+    ∷ row (λ f. (f.size == 1) && in_class Control f.mode f.lower) (one Pea Four)
+    ∷ row (λ f. nat_lt 1 f.size && (f.mode == 0)) (λ f ws. words 1 (Ext (long_or_word (f.size % 2)) f.lower))
+    ∷ row (λ f. nat_lt 1 f.size && (in_class ControlAlterable f.mode f.lower || (f.mode == 4))) (masked MovemToMemory)
+    ∷ []
+
+-- 0100 1010 00 to 10: tst; 11: tas; $4AFC: illegal
+-- 0100 1100 1z: movem from a control place or (An)+
+abbrev pub rows_4_test : List Row
+rows_4_test =
+    row (λ f. (f.upper == 5) && nat_lt f.size 3 && is_data_alterable f) (sized Tst)
+    ∷ row (λ f. (f.upper == 5) && (f.size == 3) && is_data_alterable f) (one Tas One)
+    ∷ row (λ f. (f.upper == 5) && (f.size == 3) && (f.mode == 7) && (f.lower == 4)) (λ f ws. Illegal)
+    ∷ row (λ f. (f.upper == 6) && nat_lt 1 f.size && (in_class Control f.mode f.lower || (f.mode == 3))) (masked MovemFromMemory)
+    ∷ []
+
+-- 0100 1110 0100 vvvv: trap; 0101 0: link; 0101 1: unlk; 0110: move usp
+-- $4E70 reset, $4E71 nop, $4E72 stop, $4E73 rte, $4E75 rts, $4E76 trapv, $4E77 rtr
+abbrev pub rows_4_control : List Row
+rows_4_control =
+    row (λ f. nat_lt f.mode 2) (λ f ws. words 1 (Trap (f.mode * 8 + f.lower)))
+    ∷ row (λ f. f.mode == 2) (λ f ws. words 2 (Link f.lower (extended_word ws 1)))
+    ∷ row (λ f. f.mode == 3) (λ f ws. words 1 (Unlk f.lower))
+    ∷ row (λ f. (f.mode == 4) || (f.mode == 5)) (λ f ws. Privileged)
+    ∷ row (λ f. (f.mode == 6) && ((f.lower == 0) || (f.lower == 2) || (f.lower == 3))) (λ f ws. Privileged)
+    ∷ row (λ f. (f.mode == 6) && (f.lower == 1)) (λ f ws. words 1 Nop)
+    ∷ row (λ f. (f.mode == 6) && (f.lower == 5)) (λ f ws. words 1 Rts)
+    ∷ row (λ f. (f.mode == 6) && (f.lower == 6)) (λ f ws. words 1 Trapv)
+    ∷ row (λ f. (f.mode == 6) && (f.lower == 7)) (λ f ws. words 1 Rtr)
+    ∷ []
+
+-- 0100 1110 10: jsr; 11: jmp
+abbrev pub rows_4_jump : List Row
+rows_4_jump =
+    row (λ f. (f.size == 2) && in_class Control f.mode f.lower) (one Jsr Four)
+    ∷ row (λ f. (f.size == 3) && in_class Control f.mode f.lower) (one Jmp Four)
+    ∷ []
+
+-- 0100 rrr1 10: chk; 11: lea
+abbrev pub rows_4_odd : List Row
+rows_4_odd =
+    row (λ f. (f.size == 2) && in_class Data f.mode f.lower) (λ f ws. one (λ e. Chk e f.upper) Two f ws)
+    ∷ row (λ f. (f.size == 3) && in_class Control f.mode f.lower) (λ f ws. one (λ e. Lea e f.upper) Four f ws)
+    ∷ []

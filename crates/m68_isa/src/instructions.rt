@@ -1,0 +1,349 @@
+use super::ea::Ea;
+use mix_bits::Size;
+
+/// The operations between an immediate and an operand.
+#[derive(Clone, Copy, PartialEq)]
+pub enum ImmediateOp {
+    Ori,
+    Andi,
+    Subi,
+    Addi,
+    Eori,
+    Cmpi,
+}
+
+/// The bitwise operations.
+#[derive(Clone, Copy, PartialEq)]
+pub enum LogicOp {
+    And,
+    Or,
+    Eor,
+}
+
+/// The operations on one bit.
+#[derive(Clone, Copy, PartialEq)]
+pub enum BitOp {
+    Btst,
+    Bchg,
+    Bclr,
+    Bset,
+}
+
+/// The kinds of shifts: arithmetic, logical, rotation with extend, rotation.
+#[derive(Clone, Copy, PartialEq)]
+pub enum ShiftOp {
+    As,
+    Ls,
+    Rox,
+    Ro,
+}
+
+/// How far a register is shifted.
+#[derive(Clone, Copy, PartialEq)]
+pub enum ShiftCount {
+    /// By a number from 1 to 8.
+    Number(u8),
+    /// By a data register, modulo 64.
+    Register(u8),
+}
+
+/// Which registers `exg` exchanges.
+#[derive(Clone, Copy, PartialEq)]
+pub enum Exchange {
+    Data,
+    Address,
+    DataAddress,
+}
+
+/// An instruction of the 68000 in user mode, named as in the
+/// M68000 Family Programmer's Reference Manual, section 4. A register is a number below 8;
+/// which kind it is, the instruction says. Displacements are sign extended.
+#[derive(Clone, Copy, PartialEq)]
+pub enum Instr68 {
+    /// ori, andi, subi, addi, eori, cmpi.
+    Immediate {
+        op: ImmediateOp,
+        size: Size,
+        value: u32,
+        to: Ea,
+    },
+    /// andi, ori, eori to CCR: the low byte of the extension word.
+    ImmediateToCcr {
+        op: LogicOp,
+        value: u32,
+    },
+    /// btst, bchg, bclr, bset with the bit's number in a data register.
+    BitByRegister {
+        op: BitOp,
+        register: u8,
+        to: Ea,
+    },
+    /// The same with the bit's number in the low byte of the extension word.
+    BitByNumber {
+        op: BitOp,
+        bit: u32,
+        to: Ea,
+    },
+    /// movep between a data register and memory at the address register `base`.
+    Movep {
+        size: Size,
+        to_memory: bool,
+        register: u8,
+        base: u8,
+        disp: u32,
+    },
+    Move {
+        size: Size,
+        from: Ea,
+        to: Ea,
+    },
+    Movea {
+        size: Size,
+        from: Ea,
+        to: u8,
+    },
+    Negx {
+        size: Size,
+        to: Ea,
+    },
+    Clr {
+        size: Size,
+        to: Ea,
+    },
+    Neg {
+        size: Size,
+        to: Ea,
+    },
+    Not {
+        size: Size,
+        to: Ea,
+    },
+    MoveFromSr {
+        to: Ea,
+    },
+    MoveToCcr {
+        from: Ea,
+    },
+    Nbcd {
+        to: Ea,
+    },
+    Swap {
+        register: u8,
+    },
+    Pea {
+        from: Ea,
+    },
+    /// ext.w at size Two, from the byte; ext.l at size Four, from the word.
+    Ext {
+        size: Size,
+        register: u8,
+    },
+    /// movem to memory, with the mask as the extension word has it.
+    MovemToMemory {
+        size: Size,
+        mask: u32,
+        to: Ea,
+    },
+    /// movem from memory.
+    MovemFromMemory {
+        size: Size,
+        mask: u32,
+        from: Ea,
+    },
+    Tst {
+        size: Size,
+        of: Ea,
+    },
+    Tas {
+        to: Ea,
+    },
+    /// trap with its number from 0 to 15, which is vector 32 and on.
+    Trap {
+        number: u8,
+    },
+    Link {
+        register: u8,
+        disp: u32,
+    },
+    Unlk {
+        register: u8,
+    },
+    Nop,
+    Rts,
+    Trapv,
+    Rtr,
+    Jsr {
+        to: Ea,
+    },
+    Jmp {
+        to: Ea,
+    },
+    Chk {
+        bound: Ea,
+        register: u8,
+    },
+    Lea {
+        from: Ea,
+        to: u8,
+    },
+    /// addq of a number from 1 to 8.
+    Addq {
+        size: Size,
+        number: u8,
+        to: Ea,
+    },
+    /// subq of a number from 1 to 8.
+    Subq {
+        size: Size,
+        number: u8,
+        to: Ea,
+    },
+    Scc {
+        condition: u8,
+        to: Ea,
+    },
+    /// dbcc; the displacement counts from the address of the extension word.
+    Dbcc {
+        condition: u8,
+        register: u8,
+        disp: u32,
+    },
+    /// bcc, at condition 0 bra and at condition 1 bsr; the displacement counts from the
+    /// address behind the first word.
+    Bcc {
+        condition: u8,
+        disp: u32,
+    },
+    Moveq {
+        value: u32,
+        to: u8,
+    },
+    /// or between a data register and an operand, which is the destination at `to_memory`.
+    Or {
+        size: Size,
+        to_memory: bool,
+        register: u8,
+        operand: Ea,
+    },
+    /// divu or divs.
+    Div {
+        signed: bool,
+        by: Ea,
+        register: u8,
+    },
+    /// sbcd between data registers, or at `memory` between bytes before two addresses.
+    Sbcd {
+        memory: bool,
+        from: u8,
+        to: u8,
+    },
+    Sub {
+        size: Size,
+        to_memory: bool,
+        register: u8,
+        operand: Ea,
+    },
+    Suba {
+        size: Size,
+        from: Ea,
+        to: u8,
+    },
+    Subx {
+        size: Size,
+        memory: bool,
+        from: u8,
+        to: u8,
+    },
+    Cmp {
+        size: Size,
+        with: Ea,
+        register: u8,
+    },
+    Cmpa {
+        size: Size,
+        with: Ea,
+        register: u8,
+    },
+    Eor {
+        size: Size,
+        register: u8,
+        to: Ea,
+    },
+    /// cmpm of the address registers' values, (Ax)+ with (Ay)+.
+    Cmpm {
+        size: Size,
+        from: u8,
+        to: u8,
+    },
+    And {
+        size: Size,
+        to_memory: bool,
+        register: u8,
+        operand: Ea,
+    },
+    /// mulu or muls.
+    Mul {
+        signed: bool,
+        by: Ea,
+        register: u8,
+    },
+    Abcd {
+        memory: bool,
+        from: u8,
+        to: u8,
+    },
+    /// exg of the registers in bits 11 to 9 and in bits 2 to 0.
+    Exg {
+        kind: Exchange,
+        upper: u8,
+        lower: u8,
+    },
+    Add {
+        size: Size,
+        to_memory: bool,
+        register: u8,
+        operand: Ea,
+    },
+    Adda {
+        size: Size,
+        from: Ea,
+        to: u8,
+    },
+    Addx {
+        size: Size,
+        memory: bool,
+        from: u8,
+        to: u8,
+    },
+    /// asr, asl, lsr, lsl, roxr, roxl, ror, rol of a data register.
+    Shift {
+        op: ShiftOp,
+        left: bool,
+        size: Size,
+        count: ShiftCount,
+        register: u8,
+    },
+    /// The same of a word in memory, by one.
+    ShiftMemory {
+        op: ShiftOp,
+        left: bool,
+        to: Ea,
+    },
+}
+
+/// What the words of an instruction are.
+#[derive(Clone, Copy, PartialEq)]
+pub enum Decoded68 {
+    /// An instruction, and how many words it has.
+    Op(Instr68, u32),
+    /// A word from $A000 to $AFFF.
+    LineA(u16),
+    /// A word from $F000 to $FFFF.
+    LineF,
+    /// An instruction of the supervisor.
+    Privileged,
+    /// No instruction of the 68000.
+    Illegal,
+    /// The first word's row has more words than are given, or none is given.
+    Short,
+}
