@@ -3,9 +3,9 @@ use Rattle.std.specs.Prelude.{ℕ, bit_and, bit_or, bit_xor}
 use Rattle.mix_bits.specs.Sizes.{truncated}
 use Rattle.mix_bits.specs.declared.size.Size.{Size}
 use Rattle.m68_isa.specs.declared.registers.Ccr.{Ccr}
+use Rattle.m68_isa.specs.declared.instructions.LogicOp.{LogicOp}
+use Rattle.m68_isa.specs.declared.instructions.LogicOp.TheVariants.{And, Or, Eor}
 use Rattle.m68_alu.specs.declared.sums.Out.{Out}
-use Rattle.m68_alu.specs.declared.logical.LogicOp.{LogicOp}
-use Rattle.m68_alu.specs.declared.logical.LogicOp.TheVariants.{And, Or, Eor}
 use Rattle.m68_alu.specs.Sizes.{result_flags}
 
 abbrev pub bits_of : LogicOp → ℕ → ℕ → ℕ

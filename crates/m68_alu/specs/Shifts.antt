@@ -6,10 +6,10 @@ use Rattle.std.specs.Fn.{iterate}
 use Rattle.mix_bits.specs.Sizes.{modulus, truncated}
 use Rattle.mix_bits.specs.declared.size.Size.{Size}
 use Rattle.m68_isa.specs.declared.registers.Ccr.{Ccr}
+use Rattle.m68_isa.specs.declared.instructions.ShiftOp.{ShiftOp}
+use Rattle.m68_isa.specs.declared.instructions.ShiftOp.TheVariants.{As, Ls, Rox, Ro}
 use Rattle.m68_alu.specs.declared.sums.Out.{Out}
 use Rattle.m68_alu.specs.declared.shifts.Shifting.{Shifting}
-use Rattle.m68_alu.specs.declared.shifts.ShiftOp.{ShiftOp}
-use Rattle.m68_alu.specs.declared.shifts.ShiftOp.TheVariants.{As, Ls, Rox, Ro}
 use Rattle.m68_alu.specs.Sizes.{half, is_negative}
 
 -- the bit that goes out, and the one that comes in at the other end

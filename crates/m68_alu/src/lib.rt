@@ -12,8 +12,9 @@ mod sums;
 mod tests;
 
 pub use decimal::{abcd, sbcd};
-pub use logical::{LogicOp, logic};
+pub use logical::logic;
+pub use m68_isa::{LogicOp, ShiftOp};
 pub use products::mul;
 pub use quotients::{Quotient, div};
-pub use shifts::{ShiftOp, shift};
+pub use shifts::shift;
 pub use sums::{Out, add, addx, cmp, sub, subx};

@@ -6,16 +6,8 @@ ghost use Rattle.m68_alu.specs.Logical.{combined};
 
 use super::sizes::result_flags;
 use super::sums::Out;
-use m68_isa::Ccr;
+use m68_isa::{Ccr, LogicOp};
 use mix_bits::{Size, trunc};
-
-/// How bits are combined.
-#[derive(Clone, Copy, Debug, PartialEq, Eq)]
-pub enum LogicOp {
-    And,
-    Or,
-    Eor,
-}
 
 /// AND, OR or EOR: N and Z by the result, V and C cleared, X as it was.
 pub fn logic(op: LogicOp, s: Size, dst: u32, src: u32, old: Ccr) -> Out

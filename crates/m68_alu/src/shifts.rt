@@ -6,21 +6,8 @@ ghost use Rattle.m68_alu.specs.Shifts.{begun, bit_in as bit_in_lem, bit_out as b
 
 use super::sizes::{half, is_negative, modulus};
 use super::sums::Out;
-use m68_isa::Ccr;
+use m68_isa::{Ccr, ShiftOp};
 use mix_bits::{Size, trunc};
-
-/// What is shifted in, and what happens to X.
-#[derive(Clone, Copy, Debug, PartialEq, Eq)]
-pub enum ShiftOp {
-    /// Arithmetic: the sign from the left.
-    As,
-    /// Logical: zeros.
-    Ls,
-    /// Rotate through X.
-    Rox,
-    /// Rotate.
-    Ro,
-}
 
 /// A value on its way: the bit that went out last, X, and whether the sign changed.
 #[derive(Clone, Copy)]

@@ -1,4 +1,5 @@
 pub mod Layout
+pub mod Codes
 pub mod Read
 pub mod Choice
 pub mod Build

@@ -1,5 +1,6 @@
 // Records, descriptors and why they are refused.
 ghost use Rattle.std.specs.Prelude.{◌≡◌};
+ghost use Rattle.routine_desc.specs.Codes.{bad_desc_code};
 
 use mix_bits::Isa;
 use proc_info::BadInfo;
@@ -57,4 +58,23 @@ pub enum BadDesc {
     Info(BadInfo),
     /// The records are not called alike.
     Mixed,
+}
+
+impl BadDesc {
+    /// The refusal's number in a report of a fault.
+    pub fn code(self) -> u32
+        ensures { result ≡ bad_desc_code self }
+    {
+        match self {
+            BadDesc::Access => 1,
+            BadDesc::Magic => 2,
+            BadDesc::Version => 3,
+            BadDesc::Reserved => 4,
+            BadDesc::Count => 5,
+            BadDesc::Isa => 6,
+            BadDesc::Flags => 7,
+            BadDesc::Info(_) => 8,
+            BadDesc::Mixed => 9,
+        }
+    }
 }

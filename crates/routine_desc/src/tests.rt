@@ -78,6 +78,12 @@ fn fields_are_tested_in_their_order(rt: HostRuntime) -> Result<(), Fail> {
 }
 
 #[test]
+fn refusals_have_their_numbers(rt: HostRuntime) {
+    assert_eq!(rt; BadDesc::Access.code(), 1);
+    assert_eq!(rt; BadDesc::Info(BadInfo::Twice).code(), 8);
+}
+
+#[test]
 fn as_many_records_as_a_descriptor_may_have(rt: HostRuntime) -> Result<(), Fail> {
     let mut ram = Ram::new(rt.alloc(), 131_072)?;
     put(&mut ram, AT, &FAT[..12]);
