@@ -1,0 +1,76 @@
+-- What holds of the sections and the relocation words of a container that was read.
+use Rattle.std.proofs.Common.{◌≡◌, ◌∙◌, refl, ℕ, zero, suc, ◌+◌, ◌-◌, ◌*◌, ◌%◌, ◌^◌, ◌<◌, ◌≤◌, Bool, true, false, List, length, slice_range, Option, Some, None, length-take, length-drop, pow_mono, arith}
+use Rattle.std.proofs.Math.Nat.{mul-mod_right}
+use Rattle.pef_head.specs.declared.loader.Loader.{Loader}
+use Rattle.pef_head.specs.Container.{IsSection, packed_of, offset_of}
+use Rattle.pef_head.specs.Fields.{long_at}
+use Rattle.pef_head.specs.Parts.{IsLoadable, relocs_at, section_at}
+use Rattle.pef_head.specs.Places.{is_for, relocation, words_end, words_start}
+use Rattle.pef_head.specs.Search.{◌or◌, refused, least}
+use Rattle.pef_head.proofs.Whole.{instantiable}
+
+slice_length : (bytes : List ℕ) (start end : ℕ) → end ≤ length bytes → length (slice_range bytes start end) ≡ end - start
+slice_length bytes start end fits = simp (length-take, length-drop) (omega arith)
+
+slice_small : (bytes : List ℕ) (start end : ℕ) → length (slice_range bytes start end) ≤ length bytes
+slice_small bytes start end = simp (length-take, length-drop) (omega arith)
+
+pub loadable : (bytes : List ℕ) (k : ℕ) → IsSection bytes k → length bytes ≤ 2 ^ 24 → IsLoadable (section_at bytes k)
+loadable bytes k section small =
+    let parts = instantiable bytes k section.well_formed in
+    let long = slice_length bytes (offset_of bytes k) (offset_of bytes k + packed_of bytes k) section.bytes_fit in
+    record {
+      kind = parts.kind;
+      kept = parts.kept;
+      aligned = pow_mono section.aligned;
+      whole = λ plain. long ∙ (added (offset_of bytes k) (packed_of bytes k) ∙ parts.packed plain);
+      small = at_most _ (length bytes) (slice_small bytes (offset_of bytes k) (offset_of bytes k + packed_of bytes k)) small;
+    }
+  where
+    added : (a b : ℕ) → a + b - a ≡ b
+    added a b = omega arith
+
+    at_most : (a b : ℕ) → a ≤ b → b ≤ 2 ^ 24 → a ≤ 2 ^ 24
+    at_most a b p q = omega arith
+
+least_below : (test : ℕ → Bool) (n k : ℕ) → least test n ≡ Some k → k < n
+least_below test zero k found = absurd (cc)
+least_below test (suc n) k found = by (least test n) refl (test n) refl found (λ i h. least_below test n i h)
+  where
+    by : (o : Option ℕ) → least test n ≡ o → (t : Bool) → test n ≡ t → (o or refused t n) ≡ Some k
+        → ((i : ℕ) → least test n ≡ Some i → i < n) → k < suc n
+    by (Some i) before t q h earlier =
+        let same : i ≡ k = cc in
+        omega (arith, earlier i before, same)
+    by None before true q h earlier =
+        let same : n ≡ k = cc in
+        omega (arith, same)
+    by None before false q h earlier = absurd (cc)
+
+module _ (bytes : List ℕ) (l : Loader) (k : ℕ) (fits : l.end ≤ length bytes)
+    (words : (h : ℕ) → h < l.headers → words_end bytes l h ≤ l.end) where
+  pub relocs_even : length (relocs_at bytes l k) % 2 ≡ 0
+  relocs_even = by (least (is_for bytes l k) l.headers) refl
+    where
+      even : (start n : ℕ) → start + 2 * n ≤ length bytes → length (slice_range bytes start (start + 2 * n)) % 2 ≡ 0
+      even start n fit =
+          let long : length (slice_range bytes start (start + 2 * n)) ≡ 2 * n = slice_length bytes start (start + 2 * n) fit ∙ omega arith in
+          rw long (mul-mod_right 2 n)
+
+      by : (o : Option ℕ) → least (is_for bytes l k) l.headers ≡ o → length (relocs_at bytes l k) % 2 ≡ 0
+      by None q = rw q refl
+      by (Some h) q =
+          rw q (even (words_start bytes l h) (long_at bytes (relocation l h + 4)) (within (words_end bytes l h) (words h (least_below (is_for bytes l k) l.headers h q))))
+        where
+          within : (n : ℕ) → n ≤ l.end → n ≤ length bytes
+          within n le = omega arith
+
+  pub relocs_small : length bytes ≤ 2 ^ 24 → length (relocs_at bytes l k) ≤ 2 ^ 24
+  relocs_small small = by (least (is_for bytes l k) l.headers) refl
+    where
+      at_most : (a : ℕ) → a ≤ length bytes → a ≤ 2 ^ 24
+      at_most a p = omega arith
+
+      by : (o : Option ℕ) → least (is_for bytes l k) l.headers ≡ o → length (relocs_at bytes l k) ≤ 2 ^ 24
+      by None q = rw q (omega arith)
+      by (Some h) q = rw q (at_most _ (slice_small bytes (words_start bytes l h) (words_end bytes l h)))

@@ -1,0 +1,56 @@
+-- Searches below a bound: where they end, and what they say of each number.
+use Rattle.std.proofs.Common.{◌≡◌, subst, sym, refl, ℕ, zero, suc, ◌<◌, Bool, true, false, nat_lt, Option, Some, None, slice_index_or, replicate, arith}
+use Rattle.std.proofs.lemmas.Bool.Decides.{nat_tests}
+use Rattle.pef_head.specs.Search.{◌or◌, refused, count_below, least}
+
+-- where the first number that passes is the least
+pub least_at : (test : ℕ → Bool) (n k : ℕ) → k < n → least test k ≡ None → test k ≡ true → least test n ≡ Some k
+least_at test zero k lt before passes = absurd (omega arith)
+least_at test (suc n) k lt before passes = by (nat_lt k n) refl (λ h. least_at test n k h before passes)
+  where
+    by : (b : Bool) → nat_lt k n ≡ b → (k < n → least test n ≡ Some k) → least test (suc n) ≡ Some k
+    by true q earlier = rw (earlier (grind (arith, nat_tests)))
+    by false q earlier =
+        let same : k ≡ n = grind (arith, nat_tests) in
+        subst (λ (m : ℕ). least test (suc m) ≡ Some k) same (rw before (rw passes))
+
+pub unmarked : (n k : ℕ) → slice_index_or (replicate n false) k false ≡ false
+unmarked zero k = refl
+unmarked (suc n) zero = refl
+unmarked (suc n) (suc k) = unmarked n k
+
+-- no number passes
+pub least_none : (test : ℕ → Bool) (n : ℕ) → ((k : ℕ) → k < n → test k ≡ false) → least test n ≡ None
+least_none test zero fails = refl
+least_none test (suc n) fails =
+    rw (least_none test n (λ k lt. fails k (omega arith))) (rw (fails n (omega arith)) refl)
+
+-- the first number that passes is the least
+pub least_first : (test : ℕ → Bool) (n k : ℕ) → k < n → ((i : ℕ) → i < k → test i ≡ false) → test k ≡ true → least test n ≡ Some k
+least_first test n k lt fails passes = least_at test n k lt (least_none test k fails) passes
+
+-- where none is the least, each fails
+pub fails_below : (test : ℕ → Bool) (n k : ℕ) → least test n ≡ None → k < n → test k ≡ false
+fails_below test zero k none lt = absurd (omega arith)
+fails_below test (suc n) k none lt =
+    by (least test n) refl (test n) refl none (λ before h. fails_below test n k before h) (nat_lt k n) refl
+  where
+    by : (o : Option ℕ) → least test n ≡ o → (t : Bool) → test n ≡ t → (o or refused t n) ≡ None
+        → (least test n ≡ None → k < n → test k ≡ false) → (b : Bool) → nat_lt k n ≡ b → test k ≡ false
+    by (Some i) before t p h earlier b q = absurd (cc)
+    by None before true p h earlier b q = absurd (cc)
+    by None before false p h earlier true q = earlier before (grind (arith, nat_tests))
+    by None before false p h earlier false q =
+        let same : k ≡ n = grind (arith, nat_tests) in
+        subst (λ (m : ℕ). test m ≡ false) (sym same) p
+
+-- where none passes, none is counted
+pub none_counted : (test : ℕ → Bool) (n : ℕ) → least test n ≡ None → count_below test n ≡ 0
+none_counted test zero none = refl
+none_counted test (suc n) none = by (least test n) refl (test n) refl none (λ before. none_counted test n before)
+  where
+    by : (o : Option ℕ) → least test n ≡ o → (t : Bool) → test n ≡ t → (o or refused t n) ≡ None
+        → (least test n ≡ None → count_below test n ≡ 0) → count_below test (suc n) ≡ 0
+    by (Some i) before t p h earlier = absurd (cc)
+    by None before true p h earlier = absurd (cc)
+    by None before false p h earlier = rw (earlier before, p) refl

@@ -1,0 +1,85 @@
+-- A container's header and its section headers, as Inside Macintosh: PowerPC System Software and Mac OS
+-- Runtime Architectures lay them out. Places count from the file's first byte.
+--
+-- The header has 40 bytes: four characters each for 'Joy!', 'peff' and the architecture, a long with the
+-- version, four longs that are not read, the count of the sections, the count of those that are
+-- instantiated, and a long. Section headers of 28 bytes follow: longs for the name, the default address,
+-- the total size, the unpacked size, the packed size and the place of the packed bytes, and then bytes
+-- for the kind, the share, the alignment as an exponent of two, and 0.
+use Rattle.std.specs.Prelude.{◌≡◌, false, ℕ, ◌+◌, ◌*◌, ◌^◌, ◌≤◌, ◌<◌, Bool, ◌&&◌, ◌||◌, ◌==◌, not, nat_lt, List, length, slice_index, Option}
+use Rattle.pef_head.specs.Fields.{word_at, long_at}
+use Rattle.pef_head.specs.Search.{least}
+
+abbrev pub section_count : List ℕ → ℕ
+section_count bytes = word_at bytes 32
+
+abbrev pub instantiated_count : List ℕ → ℕ
+instantiated_count bytes = word_at bytes 34
+
+-- the place of the section header with this number
+abbrev pub section_header : ℕ → ℕ
+section_header k = 40 + 28 * k
+
+abbrev pub total_of : List ℕ → ℕ → ℕ
+total_of bytes k = long_at bytes (section_header k + 8)
+
+abbrev pub unpacked_of : List ℕ → ℕ → ℕ
+unpacked_of bytes k = long_at bytes (section_header k + 12)
+
+abbrev pub packed_of : List ℕ → ℕ → ℕ
+packed_of bytes k = long_at bytes (section_header k + 16)
+
+abbrev pub offset_of : List ℕ → ℕ → ℕ
+offset_of bytes k = long_at bytes (section_header k + 20)
+
+abbrev pub kind_of : List ℕ → ℕ → ℕ
+kind_of bytes k = slice_index bytes (section_header k + 24)
+
+abbrev pub exponent_of : List ℕ → ℕ → ℕ
+exponent_of bytes k = slice_index bytes (section_header k + 26)
+
+-- kind 2 is pattern data, whose packed bytes describe the unpacked ones
+abbrev pub is_pattern : ℕ → Bool
+is_pattern kind = kind == 2
+
+-- kind 4 is the loader section
+abbrev pub is_loader : List ℕ → ℕ → Bool
+is_loader bytes k = kind_of bytes k == 4
+
+-- kinds that are not instantiated: the loader's, debug's, and those above executable data
+abbrev pub is_uninstantiable : ℕ → Bool
+is_uninstantiable kind = kind == 4 || kind == 5 || nat_lt 6 kind
+
+-- its packed bytes are not in the file
+abbrev pub leaves_file : List ℕ → ℕ → Bool
+leaves_file bytes k = nat_lt (length bytes) (offset_of bytes k + packed_of bytes k)
+
+-- it cannot be instantiated as its header says
+abbrev pub is_malformed : List ℕ → ℕ → Bool
+is_malformed bytes k =
+    is_uninstantiable (kind_of bytes k) || nat_lt 12 (exponent_of bytes k) || nat_lt (total_of bytes k) (unpacked_of bytes k)
+    || (not (is_pattern (kind_of bytes k)) && not (packed_of bytes k == unpacked_of bytes k))
+
+abbrev pub is_bad_section : List ℕ → ℕ → Bool
+is_bad_section bytes k = leaves_file bytes k || (nat_lt k (instantiated_count bytes) && is_malformed bytes k)
+
+-- the number of the first loader section
+abbrev pub loader_section : List ℕ → Option ℕ
+loader_section bytes = least (is_loader bytes) (section_count bytes)
+
+-- the section headers are in the file, which has at most 16 MiB
+pub record HasHeaders (bytes : List ℕ) : Type 0 where
+  pub headers_fit : section_header (section_count bytes) ≤ length bytes
+  pub small : length bytes ≤ 2 ^ 24
+
+-- a section's header and packed bytes are in the file, and it can be instantiated
+pub record IsSection (bytes : List ℕ) (k : ℕ) : Type 0 where
+  pub header_fits : section_header k + 28 ≤ length bytes
+  pub bytes_fit : offset_of bytes k + packed_of bytes k ≤ length bytes
+  pub aligned : exponent_of bytes k ≤ 12
+  pub well_formed : is_malformed bytes k ≡ false
+
+-- all packed bytes are in the file, and the instantiated sections are as they should be
+pub record HasSections (bytes : List ℕ) : Type 0 where
+  pub pieces : (k : ℕ) → k < section_count bytes → offset_of bytes k + packed_of bytes k ≤ length bytes
+  pub instantiated : (k : ℕ) → k < instantiated_count bytes → IsSection bytes k

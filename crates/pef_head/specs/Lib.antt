@@ -1,0 +1,12 @@
+pub mod Fields
+pub mod Search
+pub mod Container
+pub mod Loader
+pub mod Places
+pub mod Names
+pub mod Owners
+pub mod Relocations
+pub mod Refusals
+pub mod Parts
+pub mod Read
+pub mod Whole

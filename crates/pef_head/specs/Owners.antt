@@ -1,0 +1,30 @@
+-- Which libraries have a symbol, and what a search of a range of symbols keeps.
+use Rattle.std.specs.Prelude.{◌≡◌, ◌≢◌, ℕ, ◌-◌, ◌<◌, ◌≤◌, Bool, false, ◌==◌, not, List, slice_index_or, Option, Some, None}
+use Rattle.std.specs.Int.{from_bool}
+use Rattle.pef_head.specs.declared.loader.Loader.{Loader}
+use Rattle.pef_head.specs.Places.{holds}
+use Rattle.pef_head.specs.Search.{count_below}
+
+-- how many of the first n libraries have the symbol
+abbrev pub owners : List ℕ → Loader → ℕ → ℕ → ℕ
+owners bytes l n i = count_below (holds bytes l i) n
+
+-- it is in no library, or in two
+abbrev pub is_lost : List ℕ → Loader → ℕ → Bool
+is_lost bytes l i = not (owners bytes l l.libraries i == 1)
+
+-- the marks of the symbols from `from` on say, below the limit, which of them are in the first n libraries,
+-- and none of them is in two of these
+abbrev pub Marked : List ℕ → Loader → ℕ → ℕ → ℕ → List Bool → Type 0
+Marked bytes l n from limit marks =
+    (i : ℕ) → from ≤ i → i < limit → owners bytes l n i ≡ from_bool (slice_index_or marks (i - from) false)
+
+-- each of these symbols is in one library
+abbrev pub AllOwned : List ℕ → Loader → ℕ → ℕ → Type 0
+AllOwned bytes l from to = (i : ℕ) → from ≤ i → i < to → owners bytes l l.libraries i ≡ 1
+
+-- the first symbol from `from` on that is not in one library, if there is one before `to`
+abbrev pub IsFirstLost : List ℕ → Loader → ℕ → ℕ → Option ℕ → Type 0
+IsFirstLost bytes l from to None = AllOwned bytes l from to
+IsFirstLost bytes l from to (Some i) =
+    (from ≤ i) × (i < to) × (owners bytes l l.libraries i ≢ 1) × AllOwned bytes l from i

@@ -1,0 +1,119 @@
+//! The table of relocation headers.
+ghost use Rattle.std.specs.Prelude.{◌≡◌, ℕ, ◌+◌, ◌*◌, ◌^◌, ◌≤◌, ◌<◌, length, IfSome};
+ghost use Rattle.pef_head.specs.Places.{HasTables, is_for, is_repeated, relocated, relocation, words_end, words_start};
+ghost use Rattle.pef_head.specs.Relocations.{Seen};
+ghost use Rattle.pef_head.specs.Container.{instantiated_count};
+ghost use Rattle.pef_head.specs.Refusals.{is_bad_relocation};
+ghost use Rattle.pef_head.specs.Parts.{relocs_at};
+ghost use Rattle.pef_head.specs.Search.{least};
+
+use crate::container::instantiated_count;
+use crate::fields::{long_at, word_at};
+use crate::loader::Loader;
+use crate::places::relocation;
+
+/// How many numbers a section may have.
+const NUMBERS: usize = 65536;
+
+/// The section that a header is for.
+fn relocated(bytes: &[u8], l: Loader, h: u32) -> u16
+    requires tables { HasTables bytes.now l }
+    requires below { h < l.headers }
+    ensures { result ≡ relocated bytes.now l h }
+{
+    word_at(bytes, relocation(l, h))
+}
+
+/// The place of a header's first word.
+fn words_start(bytes: &[u8], l: Loader, h: u32) -> u64
+    requires tables { HasTables bytes.now l }
+    requires below { h < l.headers }
+    ensures is { result ≡ words_start bytes.now l h }
+    ensures small { result < 2 ^ 34 }
+{
+    l.start as u64 + l.area as u64 + long_at(bytes, relocation(l, h) + 8) as u64
+}
+
+/// The place behind a header's last word.
+fn words_end(bytes: &[u8], l: Loader, h: u32) -> u64
+    requires tables { HasTables bytes.now l }
+    requires below { h < l.headers }
+    ensures { result ≡ words_end bytes.now l h }
+{
+    words_start(bytes, l, h) + 2 * long_at(bytes, relocation(l, h) + 4) as u64
+}
+
+/// An earlier header is for the same section. Marks the section of this one.
+fn is_repeated(seen: &mut [bool], bytes: &[u8], l: Loader, h: u32) -> bool
+    requires tables { HasTables bytes.now l }
+    requires below { h < l.headers }
+    requires room { NUMBERS ≤ length seen.old }
+    requires seen { Seen bytes.now l h seen.old }
+    ensures is { result ≡ is_repeated bytes.now l h }
+    ensures seen { Seen bytes.now l (h + 1) seen.new }
+{
+    let section = relocated(bytes, l, h) as usize;
+    let repeated = seen[section];
+    seen[section] = true;
+    repeated
+}
+
+/// The header breaks a rule. Marks its section.
+fn is_bad_relocation(seen: &mut [bool], bytes: &[u8], l: Loader, h: u32) -> bool
+    requires tables { HasTables bytes.now l }
+    requires below { h < l.headers }
+    requires room { NUMBERS ≤ length seen.old }
+    requires seen { Seen bytes.now l h seen.old }
+    ensures is { result ≡ is_bad_relocation bytes.now l h }
+    ensures seen { Seen bytes.now l (h + 1) seen.new }
+{
+    let repeated = is_repeated(seen, bytes, l, h);
+    let instantiated = relocated(bytes, l, h) < instantiated_count(bytes);
+    !instantiated || repeated || (l.end as u64) < words_end(bytes, l, h)
+}
+
+/// The first relocation header that breaks a rule.
+#[tactic(auto, using(crate::proofs::Searches::least_at))]
+pub fn bad_relocation(bytes: &[u8], l: Loader) -> Option<u32>
+    requires { HasTables bytes.now l }
+    ensures is { result ≡ least (is_bad_relocation bytes.now l) l.headers }
+    ensures below { IfSome result (λ h. h < l.headers) }
+{
+    let mut seen = [false; NUMBERS];
+    for h in 0..l.headers {
+        if is_bad_relocation(&mut seen, bytes, l, h) {
+            return Some(h);
+        }
+    }
+    None
+}
+
+/// The relocation header of a section.
+#[tactic(auto, using(crate::proofs::Searches::least_at))]
+fn header_for(bytes: &[u8], l: Loader, k: u32) -> Option<u32>
+    requires { HasTables bytes.now l }
+    ensures is { result ≡ least (is_for bytes.now l k) l.headers }
+    ensures below { IfSome result (λ h. h < l.headers) }
+{
+    for h in 0..l.headers {
+        if relocated(bytes, l, h) as u32 == k {
+            return Some(h);
+        }
+    }
+    None
+}
+
+/// The words of a section's relocation header, or none where it has no header.
+pub fn relocs_at<'a>(bytes: &'a [u8], l: Loader, k: u32) -> &'a [u8]
+    requires tables { HasTables bytes.now l }
+    requires words { (h : ℕ) → h < l.headers → words_end bytes.now l h ≤ l.end }
+    ensures { result.now ≡ relocs_at bytes.now l k }
+{
+    match header_for(bytes, l, k) {
+        Some(h) => {
+            let start = words_start(bytes, l, h) as usize;
+            &bytes[start..words_end(bytes, l, h) as usize]
+        }
+        None => &[],
+    }
+}

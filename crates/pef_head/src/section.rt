@@ -1,0 +1,39 @@
+ghost use Rattle.std.specs.Prelude.{◌≡◌, ℕ, ◌^◌, ◌≤◌, length};
+ghost use Rattle.pef_head.specs.Container.{IsSection};
+ghost use Rattle.pef_head.specs.Parts.{parts, section_at};
+
+use crate::container::section_header;
+use crate::fields::long_at;
+
+/// An instantiated section: one that is loaded.
+#[derive(Clone, Copy, Debug, PartialEq, Eq)]
+pub struct Section<'a> {
+    /// 0 code, 1 data, 2 pattern data, 3 constant, 6 executable data.
+    pub kind: u8,
+    /// How many bytes it takes in memory.
+    pub total: u32,
+    /// How many of them come from the file; zeros follow.
+    pub unpacked: u32,
+    /// What divides its address, at most 4096. The file has this as an exponent of two.
+    pub align: u32,
+    /// Its bytes in the file: the unpacked ones, or those of pattern data, which describe them.
+    pub bytes: &'a [u8],
+}
+
+/// The section with this number.
+pub fn section_at<'a>(bytes: &'a [u8], k: u32) -> Section<'a>
+    requires section { IsSection bytes.now k }
+    requires small { length bytes.now ≤ 2 ^ 24 }
+    ensures { parts result ≡ section_at bytes.now k }
+{
+    let header = section_header(k);
+    let start = long_at(bytes, header + 20) as usize;
+    let end = start + long_at(bytes, header + 16) as usize;
+    Section {
+        kind: bytes[header as usize + 24],
+        total: long_at(bytes, header + 8),
+        unpacked: long_at(bytes, header + 12),
+        align: 1 << bytes[header as usize + 26],
+        bytes: &bytes[start..end],
+    }
+}

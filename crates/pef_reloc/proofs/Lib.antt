@@ -1,0 +1,10 @@
+mod Numbers
+mod Written
+mod Unpacked
+mod Placed
+mod Sequences
+mod Each
+mod Repeats
+mod Table
+mod Pieces
+mod Longs

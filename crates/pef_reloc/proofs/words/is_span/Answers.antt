@@ -1,0 +1,23 @@
+use Rattle.std.proofs.Common.{◌≡◌, ◌+◌, ℕ, List, Result, Bool, true, Ok, Err, if◌then◌else◌, arith, ap, sym, ◌∙◌}
+use Rattle.std.specs.Result.{is_ok}
+use Rattle.pef_reloc.specs.Program.{each, fill_span, fits_in}
+use Rattle.pef_reloc.proofs.Each.{each_next, each_end}
+use Rattle.pef_reloc.proofs.words.is_span.Goals as goal
+
+filled : (span : List ℕ) (place : ℕ) → fits_in span place ≡ true → Ok true ≡ fill_span span place true
+filled span place fits = let outcome : Bool → Result Bool Bool = λ t. if t then Ok true else Err true in sym (ap outcome fits)
+
+pub loop-place-preserved : goal.loop-place-preserved
+loop-place-preserved c =
+    let span = c.args.span.now in
+    let fits : fits_in span c.loop-place.place ≡ true = sym c.fits_in.ensures ∙ c.if-not-fits_in.false in
+    let done : Ok true ≡ fill_span span c.loop-place.place true = filled span c.loop-place.place fits in
+    record {
+      same = ap (λ n. is_ok (each span (fill_span span) (c.loop-place.place + n) true)) c.width_at-place.ensures.is
+          ∙ ap is_ok (each_next span (fill_span span) c.loop-place.place true true c.loop-place-test.true done) ∙ c.loop-place.invariant.same;
+      near = omega (arith, c.width_at-place.ensures.few);
+    }
+
+pub returns : goal.returns
+returns c =
+    sym (ap is_ok (each_end c.args.span.now (fill_span c.args.span.now) c.loop-place.place true c.loop-place-test.false)) ∙ c.loop-place.invariant.same

@@ -1,0 +1,147 @@
+-- Relocations as additions to the longs of a section (Inside Macintosh: Mac OS Runtime Architectures,
+-- chapter "PEF Structure").
+--
+-- The order of refusals is this project's own: an addition is refused first where its long leaves the
+-- section, then where what it adds is missing, and last where its instruction is one too many.
+use Rattle.std.specs.Prelude.{ℕ, ◌+◌, ◌-◌, ◌*◌, ◌%◌, ◌^◌, ◌==◌, nat_lt, if◌then◌else◌, List, [], ◌∷◌, length, drop, slice_index, Option, Some, None, Result, Ok, Err}
+use Rattle.byteorder.specs.Endian.{big_number, big_bytes}
+use Rattle.big_memory.specs.Lists.{put}
+use Rattle.pef_reloc.specs.declared.error.RelocError.{RelocError}
+use Rattle.pef_reloc.specs.declared.error.RelocError.TheVariants.{OutsideSection, ImportIndex, SectionIndex, Work}
+use Rattle.pef_reloc.specs.declared.cursor.Cursor.{Cursor}
+use Rattle.pef_reloc.specs.declared.section.Source.{Source}
+use Rattle.pef_reloc.specs.declared.section.Source.TheVariants.{FromC, FromD, FromImport, FromSection}
+use Rattle.pef_reloc.specs.declared.instruction.Instruction.{Instruction}
+use Rattle.pef_reloc.specs.declared.instruction.Instruction.TheVariants.{BySectDWithSkip, Run, ByImport, SetSectC, SetSectD, BySection, IncrPosition, SetPosition}
+use Rattle.pef_reloc.specs.declared.instruction.Turn.{Turn}
+use Rattle.pef_reloc.specs.declared.instruction.Turn.TheVariants.{SectC, SectD, TVector12, TVector8, VTable8, ImportRun}
+use Rattle.pef_reloc.specs.Lists.{times}
+
+-- where the sections stand, and the addresses of the imports
+pub record Sources : Type 0 where
+  pub bases : List ℕ
+  pub imports : List ℕ
+
+-- the section's bytes, and the rest of the state
+pub record State : Type 0 where
+  pub section : List ℕ
+  pub cursor : Cursor
+
+-- the section's bytes so far, and why no more was done
+pub record Refused : Type 0 where
+  pub section : List ℕ
+  pub error : RelocError
+
+abbrev pub refused : RelocError → State → Result State Refused
+refused error s = Err (record { section = s.section; error = error })
+
+infixl 30 ◌>>=◌
+-- what follows, unless there was a refusal
+abbrev pub ◌>>=◌ : {S E : Type 0} → Result S E → (S → Result S E) → Result S E
+Ok s >>= next = next s
+Err r >>= next = Err r
+
+-- one of the things that an instruction does
+pub data Operation : Type 0 where
+  Add : (source : Source) → Operation
+  Skip : (n : ℕ) → Operation
+  Place : (n : ℕ) → Operation
+  Import : (n : ℕ) → Operation
+  SetC : (n : ℕ) → Operation
+  SetD : (n : ℕ) → Operation
+
+abbrev pub base_of : Sources → ℕ → Result ℕ RelocError
+base_of sources n = if nat_lt n (length sources.bases) then Ok (slice_index sources.bases n) else Err (SectionIndex n)
+
+abbrev pub import_at : Sources → ℕ → Result ℕ RelocError
+import_at sources n = if nat_lt n (length sources.imports) then Ok (slice_index sources.imports n) else Err (ImportIndex n)
+
+abbrev pub value_of : Sources → Source → Cursor → Result ℕ RelocError
+value_of sources FromC cursor = Ok cursor.c
+value_of sources FromD cursor = Ok cursor.d
+value_of sources FromImport cursor = import_at sources cursor.index
+value_of sources (FromSection n) cursor = base_of sources n
+
+-- a value, unless the instruction that asks for it is one too many
+abbrev pub allowed : Cursor → Result ℕ RelocError → Result ℕ RelocError
+allowed cursor (Ok value) = if cursor.over then Err Work else Ok value
+allowed cursor (Err e) = Err e
+
+-- the state with a value
+abbrev pub given : Result ℕ RelocError → State → (ℕ → State) → Result State Refused
+given (Ok value) s next = Ok (next value)
+given (Err e) s next = refused e s
+
+abbrev pub moved : ℕ → Cursor → Cursor
+moved n cursor = record cursor { position = cursor.position + n }
+
+-- behind an addition: an import is followed by the next one
+abbrev pub passed : Source → Cursor → Cursor
+passed FromC cursor = moved 4 cursor
+passed FromD cursor = moved 4 cursor
+passed FromImport cursor = record cursor { position = cursor.position + 4; index = cursor.index + 1 }
+passed (FromSection n) cursor = moved 4 cursor
+
+-- the section with a value added to the long at a position
+abbrev pub with_long : ℕ → ℕ → List ℕ → List ℕ
+with_long position value section =
+    put position (big_bytes 4 ((big_number 4 (drop position section) + value) % 2 ^ 32)) section
+
+abbrev pub added : Source → State → ℕ → State
+added source s value = record {
+  section = with_long s.cursor.position value s.section;
+  cursor = passed source s.cursor;
+}
+
+abbrev pub does : Sources → Operation → State → Result State Refused
+does sources (Add source) s =
+    if nat_lt (length s.section) (s.cursor.position + 4)
+    then refused (OutsideSection (s.cursor.position % 2 ^ 32)) s
+    else given (allowed s.cursor (value_of sources source s.cursor)) s (added source s)
+does sources (Skip n) s = Ok (record s { cursor = moved n s.cursor })
+does sources (Place n) s = Ok (record s { cursor = record s.cursor { position = n } })
+does sources (Import n) s = Ok (record s { cursor = record s.cursor { index = n } })
+does sources (SetC n) s = given (allowed s.cursor (base_of sources n)) s (λ base. record s { cursor = record s.cursor { c = base } })
+does sources (SetD n) s = given (allowed s.cursor (base_of sources n)) s (λ base. record s { cursor = record s.cursor { d = base } })
+
+-- one operation after the other
+abbrev pub runs : Sources → List Operation → State → Result State Refused
+runs sources [] s = Ok s
+runs sources (o ∷ os) s = does sources o s >>= runs sources os
+
+-- what a turn of a run does
+abbrev pub turn_of : Turn → List Operation
+turn_of SectC = Add FromC ∷ []
+turn_of SectD = Add FromD ∷ []
+turn_of TVector12 = Add FromC ∷ Add FromD ∷ Skip 4 ∷ []
+turn_of TVector8 = Add FromC ∷ Add FromD ∷ []
+turn_of VTable8 = Add FromD ∷ Skip 4 ∷ []
+turn_of ImportRun = Add FromImport ∷ []
+
+-- what an instruction does
+abbrev pub operations : Instruction → List Operation
+operations (BySectDWithSkip skip count) = Skip (4 * skip) ∷ times count (Add FromD ∷ [])
+operations (Run turn count) = times count (turn_of turn)
+operations (ByImport n) = Import n ∷ Add FromImport ∷ []
+operations (SetSectC n) = SetC n ∷ []
+operations (SetSectD n) = SetD n ∷ []
+operations (BySection n) = Add (FromSection n) ∷ []
+operations (IncrPosition n) = Skip n ∷ []
+operations (SetPosition n) = Place n ∷ []
+
+-- an instruction is counted: one too many, where none is left
+abbrev pub begun : Cursor → Cursor
+begun cursor = record cursor { left = cursor.left - 1; over = cursor.left == 0 }
+
+abbrev pub work_left : Cursor → Option RelocError
+work_left cursor = if cursor.over then Some Work else None
+
+-- the end of an instruction that was one too many, whatever it did
+abbrev pub finished : State → Result State Refused
+finished s = if s.cursor.over then refused Work s else Ok s
+
+abbrev pub counted : State → State
+counted s = record s { cursor = begun s.cursor }
+
+abbrev pub executed : Sources → Instruction → State → Result State Refused
+executed sources i s = runs sources (operations i) (counted s) >>= finished

@@ -1,0 +1,561 @@
+ghost use Rattle.std.specs.Prelude.{◌≤◌};
+
+use crate::{RelocError, relocate, unpack};
+use big_memory::{Access, Ram};
+use mix_bits::Size;
+use std::alloc::{AllocError, Global};
+use std::process::Abort;
+use std::test::Fail;
+
+/// Whether pattern data answers so for a room of `n` bytes, and writes these first.
+fn unpacks(from: &[u8], n: usize, answer: Result<(), RelocError>, written: &[u8]) -> bool {
+    let mut room = [0xEE; 24];
+    if from.len() > 0x100_0000 || n > 20 {
+        return false;
+    }
+    unpack(from, &mut room[..n]) == answer
+        && room.starts_with(written)
+        && room[n..].starts_with(&[0xEE; 4])
+}
+
+#[test]
+fn each_opcode_writes_its_piece(rt: HostRuntime) {
+    let zeros = [0x03];
+    assert!(rt; unpacks(&zeros, 3, Ok(()), &[0, 0, 0]));
+    let block = [0x22, 0xAB, 0xCD];
+    assert!(rt; unpacks(&block, 2, Ok(()), &[0xAB, 0xCD]));
+    let again = [0x42, 0x02, 0xAB, 0xCD];
+    assert!(rt; unpacks(&again, 6, Ok(()), &[0xAB, 0xCD, 0xAB, 0xCD, 0xAB, 0xCD]));
+    let mixed = [0x62, 0x01, 0x02, 0x11, 0x12, 0xAA, 0xBB];
+    assert!(rt;
+        unpacks(
+            &mixed,
+            8,
+            Ok(()),
+            &[0x11, 0x12, 0xAA, 0x11, 0x12, 0xBB, 0x11, 0x12]
+        )
+    );
+    let mixed_zeros = [0x82, 0x01, 0x03, 0xAA, 0xBB, 0xCC];
+    assert!(rt;
+        unpacks(
+            &mixed_zeros,
+            11,
+            Ok(()),
+            &[0, 0, 0xAA, 0, 0, 0xBB, 0, 0, 0xCC, 0, 0]
+        )
+    );
+    let other = [0xA0];
+    assert!(rt; unpacks(&other, 0, Err(RelocError::Pattern(0)), &[]));
+    let several = [0x02, 0x21, 0x77, 0x41, 0x01, 0x55];
+    assert!(rt; unpacks(&several, 5, Ok(()), &[0, 0, 0x77, 0x55, 0x55]));
+    assert!(rt; unpacks(&[], 0, Ok(()), &[]));
+}
+
+#[test]
+fn a_count_of_zero_follows_as_a_number(rt: HostRuntime) {
+    // 130 is 1 and 2 in groups of seven bits; groups of 0 may lead
+    let long = [0x00, 0x81, 0x02];
+    assert!(rt; unpacks(&long, 20, Err(RelocError::Pattern(0)), &[0xEE]));
+    let led = [0x00, 0x80, 0x80, 0x80, 0x80, 0x80, 0x80, 0x03];
+    assert!(rt; unpacks(&led, 3, Ok(()), &[0, 0, 0]));
+    let block = [0x20, 0x02, 0x0A, 0x0B];
+    assert!(rt; unpacks(&block, 2, Ok(()), &[0x0A, 0x0B]));
+}
+
+#[test]
+fn a_number_has_at_most_32_bits(rt: HostRuntime) {
+    // a block of no bytes, so often: nothing is written
+    let largest = [0x40, 0x00, 0x8F, 0xFF, 0xFF, 0xFF, 0x7F];
+    assert!(rt; unpacks(&largest, 0, Ok(()), &[]));
+    let above = [0x40, 0x00, 0x90, 0x80, 0x80, 0x80, 0x00];
+    assert!(rt; unpacks(&above, 0, Err(RelocError::Pattern(0)), &[]));
+    let behind_another = [0x01, 0x40, 0x00, 0x90, 0x80, 0x80, 0x80, 0x00];
+    assert!(rt; unpacks(&behind_another, 1, Err(RelocError::Pattern(1)), &[0]));
+}
+
+#[test]
+fn parts_and_blocks_without_bytes_are_soon_written(rt: HostRuntime) {
+    let mixed = [0x60, 0x00, 0x00, 0x8F, 0xFF, 0xFF, 0xFF, 0x7F];
+    assert!(rt; unpacks(&mixed, 0, Ok(()), &[]));
+    let zeros = [0x80, 0x00, 0x00, 0x8F, 0xFF, 0xFF, 0xFF, 0x7F];
+    assert!(rt; unpacks(&zeros, 0, Ok(()), &[]));
+    let common = [0x82, 0x00, 0x8F, 0xFF, 0xFF, 0xFF, 0x7F];
+    assert!(rt; unpacks(&common, 20, Err(RelocError::Pattern(0)), &[0xEE]));
+}
+
+#[test]
+fn as_many_bytes_are_written_as_there_is_room_for(rt: HostRuntime) {
+    let again = [0x42, 0x02, 0xAB, 0xCD];
+    assert!(rt; unpacks(&again, 5, Err(RelocError::Pattern(0)), &[0xEE]));
+    assert!(rt;
+        unpacks(
+            &again,
+            7,
+            Err(RelocError::Pattern(4)),
+            &[0xAB, 0xCD, 0xAB, 0xCD, 0xAB, 0xCD, 0xEE]
+        )
+    );
+    let second = [0x01, 0x22, 0xAB, 0xCD];
+    assert!(rt; unpacks(&second, 2, Err(RelocError::Pattern(1)), &[0, 0xEE]));
+    let nothing_behind = [0x01, 0x40, 0x00, 0x00];
+    assert!(rt; unpacks(&nothing_behind, 1, Ok(()), &[0]));
+    let one_behind = [0x01, 0x01];
+    assert!(rt; unpacks(&one_behind, 1, Err(RelocError::Pattern(1)), &[0]));
+}
+
+#[test]
+fn an_instruction_that_is_cut_is_refused(rt: HostRuntime) {
+    assert!(rt; unpacks(&[0x01, 0x22, 0xAB], 3, Err(RelocError::Pattern(1)), &[0]));
+    assert!(rt; unpacks(&[0x01, 0x20], 3, Err(RelocError::Pattern(1)), &[0]));
+    assert!(rt; unpacks(&[0x01, 0x00, 0x81], 3, Err(RelocError::Pattern(1)), &[0]));
+    assert!(rt; unpacks(&[0x01, 0x42], 3, Err(RelocError::Pattern(1)), &[0]));
+    assert!(rt;
+        unpacks(
+            &[0x01, 0x42, 0x01, 0xAB],
+            5,
+            Err(RelocError::Pattern(1)),
+            &[0]
+        )
+    );
+    assert!(rt;
+        unpacks(
+            &[0x62, 0x01, 0x02, 0x11, 0x12, 0xAA],
+            8,
+            Err(RelocError::Pattern(0)),
+            &[0xEE]
+        )
+    );
+    assert!(rt;
+        unpacks(
+            &[0x62, 0x01, 0x02, 0x11],
+            8,
+            Err(RelocError::Pattern(0)),
+            &[0xEE]
+        )
+    );
+    assert!(rt;
+        unpacks(
+            &[0x82, 0x01, 0x03, 0xAA, 0xBB],
+            11,
+            Err(RelocError::Pattern(0)),
+            &[0xEE]
+        )
+    );
+    assert!(rt; unpacks(&[0x82, 0x01], 11, Err(RelocError::Pattern(0)), &[0xEE]));
+}
+
+/// Where sections 0 and 1 stand. Section 1 is relocated.
+const BASES: [u32; 2] = [0x1_0000, 0x1_0100];
+
+const IMPORTS: [u32; 3] = [0x1448, 0x1450, 0x1458];
+
+fn memory(alloc: Global) -> Result<Ram, Fail> {
+    Ok(Ram::new(alloc, 0x2_0000)?)
+}
+
+/// Relocates section 1 of this size.
+fn run(rt: &impl Abort, ram: &mut Ram, total: u32, words: &[u8]) -> Result<(), RelocError>
+    requires { total ≤ 32 }
+{
+    assert_eq!(rt; ram.len(), 0x2_0000);
+    assert!(rt; words.len() <= 0x100_0000 && words.len() % 2 == 0);
+    relocate(ram, 1, words, &BASES, &[16, total], &IMPORTS)
+}
+
+/// The words as bytes.
+fn bytes_of(alloc: Global, words: &[u16]) -> Result<Vec<u8>, AllocError> {
+    let mut bytes = Vec::new(alloc);
+    for word in words {
+        bytes.extend_from_slice(&word.to_be_bytes())?;
+    }
+    Ok(bytes)
+}
+
+/// What words answer for a section of eight longs 0 in a memory of its own, and its longs then.
+fn relocated(
+    rt: &impl Abort,
+    alloc: Global,
+    words: &[u16],
+) -> Result<(Result<(), RelocError>, [u32; 8]), Fail> {
+    let mut ram = memory(alloc)?;
+    let answer = run(rt, &mut ram, 32, &bytes_of(alloc, words)?);
+    let mut longs = [0; 8];
+    for (k, long) in longs.iter_mut().enumerate() {
+        *long = ram
+            .load(0x1_0100 + 4 * k as u32, Size::Four)
+            .unwrap_or(0xEEEE_EEEE);
+    }
+    Ok((answer, longs))
+}
+
+/// Whether words that are not refused leave these longs, and behind them 0.
+fn leaves(rt: &impl Abort, alloc: Global, words: &[u16], wanted: &[u32]) -> Result<bool, Fail> {
+    let (answer, longs) = relocated(rt, alloc, words)?;
+    let first = longs.starts_with(wanted);
+    Ok(answer.is_ok() && first && longs.iter().skip(wanted.len()).all(|long| *long == 0))
+}
+
+/// Whether words are refused so.
+fn refuses(rt: &impl Abort, alloc: Global, words: &[u16], error: RelocError) -> Result<bool, Fail> {
+    let (answer, _) = relocated(rt, alloc, words)?;
+    Ok(answer == Err(error))
+}
+
+#[test]
+fn each_row_has_its_effect(rt: HostRuntime) -> Result<(), Fail> {
+    let alloc = rt.alloc();
+    let (c, d) = (0x1_0000, 0x1_0100);
+    // BySectDWithSkip: over one long, then D twice
+    assert!(rt; leaves(&rt, alloc, &[0x0042], &[0, d, d])?);
+    // BySectC, BySectD
+    assert!(rt; leaves(&rt, alloc, &[0x4001, 0x4200], &[c, c, d])?);
+    // TVector12, TVector8
+    assert!(rt; leaves(&rt, alloc, &[0x4401, 0x4000], &[c, d, 0, c, d, 0, c])?);
+    assert!(rt; leaves(&rt, alloc, &[0x4601, 0x4000], &[c, d, c, d, c])?);
+    // VTable8
+    assert!(rt; leaves(&rt, alloc, &[0x4801, 0x4000], &[d, 0, d, 0, c])?);
+    // ImportRun, twice two imports: the index goes on
+    assert!(rt; leaves(&rt, alloc, &[0x4A00, 0x4A01], &[0x1448, 0x1450, 0x1458])?);
+    // SmByImport 1, and the import behind it
+    assert!(rt; leaves(&rt, alloc, &[0x6001, 0x4A00], &[0x1450, 0x1458])?);
+    // SmSetSectC 1, SmSetSectD 0, SmBySection
+    assert!(rt; leaves(&rt, alloc, &[0x6201, 0x4000], &[d])?);
+    assert!(rt; leaves(&rt, alloc, &[0x6400, 0x4200], &[c])?);
+    assert!(rt; leaves(&rt, alloc, &[0x6600, 0x6601], &[c, d])?);
+    // IncrPosition 8
+    assert!(rt; leaves(&rt, alloc, &[0x8007, 0x4000], &[0, 0, c])?);
+    // SmRepeat: one word two further times, two words one further time
+    assert!(rt; leaves(&rt, alloc, &[0x4200, 0x9001], &[d, d, d])?);
+    assert!(rt; leaves(&rt, alloc, &[0x4000, 0x4200, 0x9100], &[c, d, c, d])?);
+    // SetPosition 8, and back
+    assert!(rt;
+        leaves(
+            &rt,
+            alloc,
+            &[0xA000, 0x0008, 0x4000, 0xA000, 0x0000, 0x4200],
+            &[d, 0, c]
+        )?
+    );
+    // LgByImport 1, and the import behind it
+    assert!(rt; leaves(&rt, alloc, &[0xA400, 0x0001, 0x4A00], &[0x1450, 0x1458])?);
+    // LgSetOrBySection: add it, C, D
+    assert!(rt; leaves(&rt, alloc, &[0xB400, 0x0001], &[d])?);
+    assert!(rt; leaves(&rt, alloc, &[0xB440, 0x0001, 0x4000], &[d])?);
+    assert!(rt; leaves(&rt, alloc, &[0xB480, 0x0000, 0x4200], &[c])?);
+    Ok(())
+}
+
+#[test]
+fn large_numbers_have_their_high_bits_in_the_first_word(rt: HostRuntime) -> Result<(), Fail> {
+    let alloc = rt.alloc();
+    assert!(rt;
+        refuses(
+            &rt,
+            alloc,
+            &[0xA3FF, 0xFFFE, 0x4000],
+            RelocError::OutsideSection(0x3FF_FFFE)
+        )?
+    );
+    assert!(rt;
+        refuses(
+            &rt,
+            alloc,
+            &[0xA600, 0x0001],
+            RelocError::ImportIndex(0x200_0001)
+        )?
+    );
+    assert!(rt;
+        refuses(
+            &rt,
+            alloc,
+            &[0xB43F, 0xFFFF],
+            RelocError::SectionIndex(0x3F_FFFF)
+        )?
+    );
+    Ok(())
+}
+
+#[test]
+fn an_addition_stays_in_its_section(rt: HostRuntime) -> Result<(), Fail> {
+    let alloc = rt.alloc();
+    assert!(rt;
+        leaves(
+            &rt,
+            alloc,
+            &[0xA000, 28, 0x4000],
+            &[0, 0, 0, 0, 0, 0, 0, 0x1_0000]
+        )?
+    );
+    assert!(rt;
+        refuses(
+            &rt,
+            alloc,
+            &[0xA000, 29, 0x4000],
+            RelocError::OutsideSection(29)
+        )?
+    );
+    assert!(rt; refuses(&rt, alloc, &[0x0908], RelocError::OutsideSection(144))?);
+    let nine = relocated(&rt, alloc, &[0x4008])?;
+    assert_eq!(rt; nine.0, Err(RelocError::OutsideSection(32)));
+    assert!(rt; nine.1 == [0x1_0000; 8]);
+    // a long across two others: the high half of C goes into the first
+    assert!(rt; leaves(&rt, alloc, &[0x8001, 0x4000], &[1])?);
+    Ok(())
+}
+
+#[test]
+fn a_position_is_tested_before_it_is_cut_to_32_bits(rt: HostRuntime) -> Result<(), Fail> {
+    // 4096 bytes, 1048576 times: 4080 times 257, and 16
+    let mut words = Vec::new(rt.alloc());
+    for _ in 0..4080 {
+        words.extend_from_slice(&[0x8F, 0xFF, 0x90, 0xFF])?;
+    }
+    words.extend_from_slice(&[0x8F, 0xFF, 0x90, 0x0E])?;
+    words.extend_from_slice(&[0x40, 0x00])?;
+    let mut ram = memory(rt.alloc())?;
+    assert_eq!(rt;
+        run(&rt, &mut ram, 32, &words),
+        Err(RelocError::OutsideSection(0))
+    );
+    Ok(())
+}
+
+#[test]
+fn what_is_missing_is_refused_behind_the_position(rt: HostRuntime) -> Result<(), Fail> {
+    let alloc = rt.alloc();
+    let refusals = [
+        ([0x6003, 0x0000, 0x0000], RelocError::ImportIndex(3)),
+        ([0x4A03, 0x0000, 0x0000], RelocError::ImportIndex(3)),
+        ([0x6602, 0x0000, 0x0000], RelocError::SectionIndex(2)),
+        ([0x6202, 0x0000, 0x0000], RelocError::SectionIndex(2)),
+        ([0x6403, 0x0000, 0x0000], RelocError::SectionIndex(3)),
+        ([0xB440, 0x0005, 0x0000], RelocError::SectionIndex(5)),
+        ([0xA000, 0x0020, 0x6009], RelocError::OutsideSection(32)),
+        ([0xA000, 0x0020, 0x6609], RelocError::OutsideSection(32)),
+        ([0xA000, 0x0020, 0x6209], RelocError::SectionIndex(9)),
+        ([0x0000, 0x4000, 0xA400], RelocError::Short(4)),
+        ([0xB000, 0x0000, 0x0000], RelocError::Unsupported(0xB000)),
+        ([0x0000, 0x0000, 0xB000], RelocError::Unsupported(0xB000)),
+        ([0x4C00, 0x0000, 0x0000], RelocError::Unsupported(0x4C00)),
+        ([0x0000, 0x0000, 0xB4C0], RelocError::Unsupported(0xB4C0)),
+    ];
+    for (words, error) in refusals {
+        assert!(rt; refuses(&rt, alloc, &words, error)?, "{words:?}");
+    }
+    assert!(rt; refuses(&rt, alloc, &[0xA000], RelocError::Short(0))?);
+    Ok(())
+}
+
+#[test]
+fn a_repeat_goes_back_over_whole_instructions(rt: HostRuntime) -> Result<(), Fail> {
+    let alloc = rt.alloc();
+    assert!(rt; refuses(&rt, alloc, &[0x9001], RelocError::RepeatFront(0))?);
+    assert!(rt; refuses(&rt, alloc, &[0x4200, 0x9101], RelocError::RepeatFront(2))?);
+    // a repeat in the span
+    assert!(rt;
+        refuses(
+            &rt,
+            alloc,
+            &[0x4000, 0x9000, 0x9100],
+            RelocError::RepeatFront(4)
+        )?
+    );
+    // the span ends within SetPosition
+    assert!(rt;
+        refuses(
+            &rt,
+            alloc,
+            &[0xA000, 0xA000, 0x9000],
+            RelocError::RepeatFront(4)
+        )?
+    );
+    // the span is the second word of SetPosition, which adds D at 1, or is no instruction
+    assert!(rt; leaves(&rt, alloc, &[0xA000, 0x0001, 0x9000], &[0x0000_0101])?);
+    assert!(rt;
+        refuses(
+            &rt,
+            alloc,
+            &[0xA000, 0xB000, 0x9000],
+            RelocError::Unsupported(0xB000)
+        )?
+    );
+    // the span is SetPosition as a whole
+    assert!(rt; leaves(&rt, alloc, &[0x4200, 0xA000, 0x0000, 0x9203], &[0x5_0500])?);
+    // the longest span
+    assert!(rt;
+        leaves(
+            &rt,
+            alloc,
+            &[0, 0, 0, 0, 0, 0, 0, 0, 0, 0, 0, 0, 0, 0, 0, 0x4200, 0x9F00],
+            &[0x1_0100, 0x1_0100]
+        )?
+    );
+    Ok(())
+}
+
+/// Groups of SetPosition 0 and a repeat that runs it 256 further times, 258 instructions each.
+fn groups(alloc: Global, count: u32) -> Result<Vec<u8>, AllocError> {
+    let mut words = Vec::new(alloc);
+    for _ in 0..count {
+        words.extend_from_slice(&[0xA0, 0x00, 0x00, 0x00, 0x91, 0xFF])?;
+    }
+    Ok(words)
+}
+
+#[test]
+fn no_more_instructions_are_run_than_the_limit_allows(rt: HostRuntime) -> Result<(), Fail> {
+    let mut ram = memory(rt.alloc())?;
+    let below = groups(rt.alloc(), 65027)?;
+    assert_eq!(rt; run(&rt, &mut ram, 4, &below), Ok(()));
+    let above = groups(rt.alloc(), 65028)?;
+    assert_eq!(rt; run(&rt, &mut ram, 4, &above), Err(RelocError::Work));
+    assert_eq!(rt; ram.load(0x1_0100, Size::Four), Ok(0));
+    Ok(())
+}
+
+/// What words behind as many instructions as may be run answer, for a section of four bytes, at the
+/// position 0 or, if `moved`, behind the section.
+fn behind_the_limit(
+    rt: &impl Abort,
+    alloc: Global,
+    moved: bool,
+    words: &[u8],
+) -> Result<Result<(), RelocError>, Fail> {
+    let mut ram = memory(alloc)?;
+    let mut all = groups(alloc, 65027)?;
+    // an instruction that adds nothing, and a repeat that runs it 248 further times: 250 instructions
+    all.extend_from_slice(if moved { &[0x80, 0x03] } else { &[0x00, 0x00] })?;
+    all.extend_from_slice(&[0x90, 0xF7])?;
+    all.extend_from_slice(words)?;
+    Ok(run(rt, &mut ram, 4, &all))
+}
+
+#[test]
+fn the_limit_is_tested_last(rt: HostRuntime) -> Result<(), Fail> {
+    let alloc = rt.alloc();
+    assert_eq!(rt; behind_the_limit(&rt, alloc, false, &[])?, Ok(()));
+    assert_eq!(rt;
+        behind_the_limit(&rt, alloc, false, &[0x40, 0x00])?,
+        Err(RelocError::Work)
+    );
+    assert_eq!(rt;
+        behind_the_limit(&rt, alloc, false, &[0x00, 0x00])?,
+        Err(RelocError::Work)
+    );
+    assert_eq!(rt;
+        behind_the_limit(&rt, alloc, false, &[0x66, 0x02])?,
+        Err(RelocError::SectionIndex(2))
+    );
+    assert_eq!(rt;
+        behind_the_limit(&rt, alloc, false, &[0x60, 0x03])?,
+        Err(RelocError::ImportIndex(3))
+    );
+    assert_eq!(rt;
+        behind_the_limit(&rt, alloc, false, &[0x9F, 0x00])?,
+        Err(RelocError::RepeatFront(390_166))
+    );
+    assert_eq!(rt;
+        behind_the_limit(&rt, alloc, false, &[0xA0, 0x00])?,
+        Err(RelocError::Short(390_166))
+    );
+    assert_eq!(rt;
+        behind_the_limit(&rt, alloc, false, &[0xB0, 0x00])?,
+        Err(RelocError::Unsupported(0xB000))
+    );
+    assert_eq!(rt;
+        behind_the_limit(&rt, alloc, true, &[0x40, 0x00])?,
+        Err(RelocError::OutsideSection(996))
+    );
+    Ok(())
+}
+
+#[test]
+fn examples_by_hand(rt: HostRuntime) -> Result<(), Fail> {
+    let mut ram = memory(rt.alloc())?;
+    assert_eq!(rt; ram.len(), 0x2_0000);
+    ram.fix(0x1_0100, &[0, 0, 0, 1, 0, 0, 0, 2, 0, 0, 0, 3]);
+    let words = [0x42, 0x00, 0x90, 0x01];
+    assert_eq!(rt; run(&rt, &mut ram, 12, &words), Ok(()));
+    assert_eq!(rt; ram.load(0x1_0100, Size::Four), Ok(0x1_0101));
+    assert_eq!(rt; ram.load(0x1_0104, Size::Four), Ok(0x1_0102));
+    assert_eq!(rt; ram.load(0x1_0108, Size::Four), Ok(0x1_0103));
+    // a sum is cut to 32 bits
+    assert_eq!(rt; ram.len(), 0x2_0000);
+    ram.fix(0x1_0100, &[0xFF, 0xFF, 0xFF, 0xFF]);
+    assert_eq!(rt; run(&rt, &mut ram, 4, &[0x42, 0x00]), Ok(()));
+    assert_eq!(rt; ram.load(0x1_0100, Size::Four), Ok(0x1_00FF));
+    Ok(())
+}
+
+#[test]
+fn a_guard_and_the_gate_page_are_passed(rt: HostRuntime) -> Result<(), Fail> {
+    let mut ram = memory(rt.alloc())?;
+    assert_eq!(rt; ram.len(), 0x2_0000);
+    assert_eq!(rt;
+        relocate(&mut ram, 0, &[0x40, 0x00], &[0x1000], &[4], &[]),
+        Ok(())
+    );
+    assert_eq!(rt; ram.load(0x1000, Size::Four), Ok(0x1000));
+    assert_eq!(rt; ram.load(0x1004, Size::Four), Ok(0));
+    assert_eq!(rt; ram.len(), 0x2_0000);
+    ram.guard(0x1_8000, 0x1_8010);
+    assert_eq!(rt; ram.len(), 0x2_0000);
+    // section D is missing, and counts as 0
+    assert_eq!(rt;
+        relocate(&mut ram, 0, &[0x46, 0x00], &[0x1_8000], &[8], &[]),
+        Ok(())
+    );
+    assert_eq!(rt; ram.load(0x1_8000, Size::Four), Ok(0x1_8000));
+    assert_eq!(rt; ram.load(0x1_8004, Size::Four), Ok(0));
+    assert_eq!(rt; ram.probe(0x1_8000, 1), Err(Access::Frame(0x1_8000)));
+    Ok(())
+}
+
+#[test]
+fn an_empty_section_may_stand_anywhere(rt: HostRuntime) -> Result<(), Fail> {
+    let mut ram = memory(rt.alloc())?;
+    let bases = [0xFFFF_FFF0];
+    assert_eq!(rt; relocate(&mut ram, 0, &[], &bases, &[0], &[]), Ok(()));
+    assert_eq!(rt;
+        relocate(&mut ram, 0, &[0x40, 0x00], &bases, &[0], &[]),
+        Err(RelocError::OutsideSection(0))
+    );
+    Ok(())
+}
+
+#[test]
+fn each_refusal_has_its_text(rt: HostRuntime) -> Result<(), Fail> {
+    let texts = [
+        (RelocError::Pattern(4), "the pattern data is wrong at 4"),
+        (
+            RelocError::Short(6),
+            "the relocation at 6 lacks its second word",
+        ),
+        (
+            RelocError::Unsupported(0xB000),
+            "the relocation word 0xb000 is not known",
+        ),
+        (
+            RelocError::OutsideSection(32),
+            "a relocation at position 32 leaves its section",
+        ),
+        (
+            RelocError::ImportIndex(3),
+            "a relocation names the import 3, which is missing",
+        ),
+        (
+            RelocError::SectionIndex(2),
+            "a relocation names the section 2, which is missing",
+        ),
+        (
+            RelocError::RepeatFront(8),
+            "the relocation at 8 repeats what cannot be repeated",
+        ),
+        (RelocError::Work, "too many relocations are to be run"),
+    ];
+    for (error, wanted) in texts {
+        let text = format!(in rt.alloc(); "{error}")?;
+        assert_eq!(rt; text.as_str(), wanted);
+    }
+    Ok(())
+}
