@@ -1,4 +1,4 @@
 pub mod NumberLemmas
-pub mod Turns
 pub mod Ways
+pub mod Starts
 pub mod WordLemmas

@@ -1,54 +1,71 @@
 -- How the answers of the parts make up a way to end.
-use Rattle.std.proofs.Common.{◌≡◌, ℕ, ◌-◌, ◌<◌, ◌≤◌, List, [], length, Option, Some, None, IsSomeAnd, Ok, Err, arith, sym, ap, subst, refl}
+use Rattle.std.proofs.Common.{◌≡◌, ℕ, suc, ◌-◌, ◌<◌, ◌≤◌, inl, inr, List, [], length, Option, Some, None, IsSomeAnd, Ok, Err, arith, sym, ap, subst, ◌∙◌, refl, append-nil}
 use Rattle.std.specs.Prelude.{Vec}
-use Rattle.mix_bits.specs.declared.isa.Isa.TheVariants.{M68}
+use Rattle.mix_bits.specs.declared.isa.Isa.{Isa}
 use Rattle.mix_io.specs.Counts.{CountsStay, CountRose, FetchCause}
 use Rattle.mix_io.specs.Told.{Fetches, FetchesFile}
-use Rattle.mix_io.specs.Streams.{Output, Grows}
-use Rattle.mix_io.proofs.Streams.{grows-none}
+use Rattle.mix_io.specs.Streams.{Output, Grows, Breaks}
+use Rattle.mix_io.proofs.Streams.{grows-none, grows-more, breaks-after}
 use Rattle.mix_io.specs.declared.errors.FetchError.{FetchError}
 use Rattle.mix_io.specs.declared.errors.FetchError.TheVariants.{NoMemory as NoRoom, Failed, TooLong}
 use Rattle.mixed_machine.specs.State.{State}
-use Rattle.mixed_machine.specs.Exec.{log, line_of}
+use Rattle.mixed_machine.specs.Exec.{How, log, line_of, said_of}
 use Rattle.mixed_machine.specs.Exec.How.{Limited, Exited, Faulted}
 use Rattle.mixed_machine.specs.Load.{load_flat}
-use Rattle.mixed_machine.specs.Trace.{end_line}
+use Rattle.mixed_machine.specs.Endings.{end_line}
+use Rattle.switch_frame.specs.Records.{isa_of}
+use Rattle.mixed_machine.specs.Step.{step}
+use Rattle.mixed_machine.specs.Runs.{OutBroke, Ran, Runs, Sinks, TraceBroke}
 use Rattle.mixed_machine.specs.declared.load.LoadError.{LoadError}
 use Rattle.mixed_machine.specs.declared.load.LoadError.TheVariants.{NoMemory, Empty, TooLarge}
-use Rattle.mixed_machine.proofs.Quiet.{log-quiet}
 use Rattle.mix_top.specs.Lines.{words_line, fetch_line, fetch_status, load_error_line, load_error_status}
 use Rattle.mix_top.specs.Words.{command_of}
-use Rattle.mix_top.specs.Machines.{Runs}
 use Rattle.mix_top.specs.Loads.{Loads}
-use Rattle.mix_top.specs.Ends.{Contents, Closes, Early, FileWay, Way, Finishes, IsFile, IsLong, file_limit, flat_name, ram_size, status_of}
-use Rattle.mix_top.specs.Ends.FileWay.{no_memory, refused, ended, out_failed}
+use Rattle.mix_top.specs.Ends.{Contents, Input, Closes, Early, FileWay, ProgramWay, Way, Finishes, IsFile, IsLong, file_limit, flat_name, ram_size, status_of}
+use Rattle.mix_top.specs.Ends.FileWay.{no_memory, refused}
+use Rattle.mix_top.specs.Ends.ProgramWay.{ended, out_failed, trace_failed}
 use Rattle.mix_top.specs.Ends.Way.{bad_words, no_file, long_file, no_memory_for_file, fetched}
 use Rattle.mix_top.specs.declared.words.Command.TheVariants.{Run}
 use Rattle.mix_top.specs.declared.words.Job.{Job}
-use Rattle.mix_top.specs.declared.machine.Stop.{Stop}
-use Rattle.mix_top.specs.declared.machine.Stop.TheVariants.{Exit as ExitStop, Fault as FaultStop, Limit, OutFault as OutStop}
+use Rattle.mixed_machine.specs.declared.stop.Stop.{Stop}
+use Rattle.mixed_machine.specs.declared.stop.Stop.TheVariants.{Exit as ExitStop, Fault as FaultStop, Limit, ReadFault as ReadStop, OutFault as OutStop, TraceFault as TraceStop}
 
--- the steps of a run put no line before the last one
-after-steps : (n : ℕ) (s : State) (old new : Output) (line : List ℕ) (status result : ℕ) → Closes old new [] line status result
-    → Closes old new (log line_of n s) line status result
-after-steps n s old new line status result closes =
-    subst (λ xs. Closes old new xs line status result) (sym (log-quiet n s)) closes
+abbrev inputs : Option (List ℕ) → ℕ → Input
+inputs left faults = record { left = left; faults = faults }
+
+-- a last line after the lines of a run
+after-lines : (a b c : Output) (lines line : List ℕ) (status result : ℕ) → Grows a b lines → Closes b c [] line status result → Closes a c lines line status result
+after-lines a b c lines line status result first (inl (grows, same)) = inl (grows-more a b c lines line first grows, same)
+after-lines a b c lines line status result first (inr (breaks, same)) =
+    inr (subst (λ xs. Breaks a c xs line) (append-nil lines) (breaks-after a b c lines [] line first breaks), same)
+
+ended-way : (job : Job) (start last : State) (how : How) (set : Isa) (left : ℕ) (old now : Sinks) (trace_new : Output) (result : ℕ) → Ran 0 job.steps left start last how old now
+    → set ≡ isa_of last.active → Closes now.trace trace_new [] (end_line set how) (status_of how) result → ProgramWay job start old.out now.out old.trace trace_new result
+ended-way job start last how set left old now trace_new result ran set_is closes =
+    ended last how left ran.fewer ran.ends ran.took.said
+    (after-lines old.trace now.trace trace_new (log line_of (job.steps - left) start) (end_line (isa_of last.active) how) (status_of how) result ran.took.traced
+    (subst (λ s. Closes now.trace trace_new [] (end_line s how) (status_of how) result) set_is closes))
 
 -- a run that stopped, and what follows it
-pub way-of_run : (job : Job) (file : List ℕ) (start last : State) (left : ℕ) (out_old out_new trace_old trace_new : Output) (stop : Stop) (result : ℕ)
-    → load_flat (ram_size job) file ≡ Ok start → Runs job.steps left start last out_old out_new stop
-    → Finishes stop trace_old trace_new result → FileWay job file out_old out_new trace_old trace_new result
-way-of_run job file start last left oa ob ta tb (ExitStop code) result loaded runs closes =
-    ended start last (Exited code) left loaded runs.fewer runs.ends runs.said (after-steps (job.steps - left) start ta tb (end_line M68 (Exited code)) (status_of (Exited code)) result closes)
-way-of_run job file start last left oa ob ta tb (FaultStop fault) result loaded runs closes =
-    ended start last (Faulted fault) left loaded runs.fewer runs.ends runs.said (after-steps (job.steps - left) start ta tb (end_line M68 (Faulted fault)) (status_of (Faulted fault)) result closes)
-way-of_run job file start last left oa ob ta tb Limit result loaded runs closes =
-    ended start last Limited left loaded runs.fewer runs.ends runs.said (after-steps (job.steps - left) start ta tb (end_line M68 Limited) (status_of Limited) result closes)
-way-of_run job file start last left oa ob ta tb OutStop result loaded runs closes =
-    let some : 0 < left = runs.some in
-    let fewer : left ≤ job.steps = runs.fewer in
-    out_failed start last (job.steps - left) loaded (omega (arith, some, fewer)) runs.leads runs.goes runs.said
-    (subst (Grows ta tb) (sym (log-quiet (job.steps - left) start)) closes.0) closes.1
+pub way-of_run : (job : Job) (start last : State) (set : Isa) (old now : Sinks) (trace_new : Output) (stop : Stop) (result : ℕ) → Runs job.steps start last old now stop
+    → set ≡ isa_of last.active → Finishes stop set now.trace trace_new result → ProgramWay job start old.out now.out old.trace trace_new result
+way-of_run job start last set old now trace_new (ExitStop code) result runs set_is closes = ended-way job start last (Exited code) set runs.left old now trace_new result runs.stops set_is closes
+way-of_run job start last set old now trace_new (FaultStop fault) result runs set_is closes = ended-way job start last (Faulted fault) set runs.left old now trace_new result runs.stops set_is closes
+way-of_run job start last set old now trace_new Limit result runs set_is closes = ended-way job start last Limited set runs.left old now trace_new result runs.stops set_is closes
+way-of_run job start last set old now trace_new ReadStop result runs set_is closes = absurd runs.stops
+way-of_run job start last set old now trace_new OutStop result runs set_is closes =
+    let broke : OutBroke 0 job.steps runs.left start last old now = runs.stops in
+    let some : 0 < runs.left = broke.some in
+    let fewer : runs.left ≤ job.steps = broke.fewer in
+    out_failed last (job.steps - runs.left) (omega (arith, some, fewer)) broke.leads broke.says broke.said
+    (subst (λ t. Grows old.trace t (log line_of (job.steps - runs.left) start)) (sym closes.0) broke.traced) closes.1
+way-of_run job start last set old now trace_new TraceStop result runs set_is closes =
+    let broke : TraceBroke 0 job.steps runs.left start last old now = runs.stops in
+    let fewer : runs.left < job.steps = broke.fewer in
+    let one : job.steps - runs.left ≡ suc (job.steps - suc runs.left) = omega (arith, fewer) in
+    trace_failed broke.last last (job.steps - suc runs.left) (omega (arith, fewer)) broke.leads broke.goes broke.tells
+    (subst (λ j. Grows old.out now.out (log said_of j start)) one broke.said)
+    (subst (λ t. Breaks old.trace t (log line_of (job.steps - suc runs.left) start) (line_of (step broke.last))) (sym closes.0) broke.traced) closes.1
 
 -- one line, and nothing on the output
 early : (out ta tb : Output) (line : List ℕ) (status result : ℕ) → Closes ta tb [] line status result → Early out out ta tb line status result
@@ -123,3 +140,7 @@ pub way-of_words : (words : List (List ℕ)) (contents : Contents) (faults : Lis
     → Way words contents (record { shelf_faults = faults; out = out; trace = ta }) (record { shelf_faults = faults; out = out; trace = tb }) result
 way-of_words words contents faults out ta tb place line result bad line_is closes =
     bad_words place bad (λ n. refl) (early out ta tb (words_line place) 2 result (subst (λ l. Closes ta tb [] l 2 result) line_is closes))
+
+-- the input stays as it is
+pub input-same : (a b : Option (List ℕ)) (n m : ℕ) → b ≡ a → m ≡ n → inputs b m ≡ inputs a n
+input-same a b n m left calm = ap (λ l. inputs l m) left ∙ ap (inputs a) calm

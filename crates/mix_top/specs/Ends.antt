@@ -1,15 +1,16 @@
 -- The ways in which a call of the program ends, each with its cause. This is the whole promise of the
 -- public call: whatever the words, the files and the failures of the outside are, one of these holds.
-use Rattle.std.specs.Prelude.{◌≡◌, ℕ, ◌-◌, ◌*◌, ◌<◌, ◌≤◌, ◌==◌, ◌⊎◌, List, [], ◌++◌, length, drop, slice_index_or, Option, Some, None, IsSomeAnd, Ok, Err, unwrap_or, if◌then◌else◌}
-use Rattle.mix_bits.specs.declared.isa.Isa.TheVariants.{M68}
+use Rattle.std.specs.Prelude.{◌≡◌, ℕ, suc, ◌-◌, ◌*◌, ◌<◌, ◌≤◌, ◌==◌, ◌⊎◌, List, [], ◌++◌, length, drop, slice_index_or, Option, Some, None, IsSomeAnd, Ok, Err, unwrap_or, if◌then◌else◌}
+use Rattle.mix_bits.specs.declared.isa.Isa.{Isa}
 use Rattle.mix_io.specs.Counts.{CountsStay, CountRose}
 use Rattle.mix_io.specs.Streams.{Output, Grows, Breaks}
 use Rattle.mixed_machine.specs.State.{State}
 use Rattle.mixed_machine.specs.Step.{step}
-use Rattle.mixed_machine.specs.Exec.{How, exec, Leads, GoesOn, log, said_of, line_of}
+use Rattle.mixed_machine.specs.Exec.{How, exec, Leads, GoesTo, Says, Tells, log, said_of, line_of}
 use Rattle.mixed_machine.specs.Exec.How.{Limited, Exited, Faulted}
 use Rattle.mixed_machine.specs.Exec.End.{Ended}
-use Rattle.mixed_machine.specs.Trace.{end_line}
+use Rattle.mixed_machine.specs.Endings.{end_line}
+use Rattle.switch_frame.specs.Records.{isa_of}
 use Rattle.mixed_machine.specs.Load.{load_flat}
 use Rattle.mixed_machine.specs.declared.load.LoadError.{LoadError}
 use Rattle.mix_top.specs.Lines.{words_line, fetch_line, load_error_line}
@@ -18,8 +19,8 @@ use Rattle.mixed_machine.specs.declared.load.LoadError.TheVariants.{NoMemory}
 use Rattle.mix_top.specs.Words.{command_of}
 use Rattle.mix_top.specs.declared.words.Command.TheVariants.{Run}
 use Rattle.mix_top.specs.declared.words.Job.{Job}
-use Rattle.mix_top.specs.declared.machine.Stop.{Stop}
-use Rattle.mix_top.specs.declared.machine.Stop.TheVariants.{Exit as ExitStop, Fault as FaultStop, Limit, OutFault as OutStop}
+use Rattle.mixed_machine.specs.declared.stop.Stop.{Stop}
+use Rattle.mixed_machine.specs.declared.stop.Stop.TheVariants.{Exit as ExitStop, Fault as FaultStop, Limit, ReadFault as ReadStop, OutFault as OutStop, TraceFault as TraceStop}
 
 -- the input, as far as it tells: the bytes that are left, and its count of faults
 pub record Input : Type 0 where
@@ -77,6 +78,29 @@ pub record Early (out_old out_new trace_old trace_new : Output) (line : List ℕ
   pub out : Grows out_old out_new []
   pub trace : Closes trace_old trace_new [] line status result
 
+-- the ways to end once the job's file was loaded, and a program starts in this state
+pub data ProgramWay (job : Job) (start : State) (out_old out_new trace_old trace_new : Output) (result : ℕ) : Type 0 where
+  -- there was no memory for the machine
+  no_machine : Early out_old out_new trace_old trace_new (load_error_line NoMemory) 9 result → ProgramWay job start out_old out_new trace_old trace_new result
+  -- the run of the definition came to its end
+  ended : (last : State) (how : How) (left : ℕ)
+      → left ≤ job.steps → exec job.steps start ≡ Ended how last left
+      → Grows out_old out_new (log said_of (job.steps - left) start)
+      → Closes trace_old trace_new (log line_of (job.steps - left) start) (end_line (isa_of last.active) how) (status_of how) result
+      → ProgramWay job start out_old out_new trace_old trace_new result
+  -- the output failed at a step, of those allowed, that puts something; the step stands, and no end line is written
+  out_failed : (last : State) (done : ℕ)
+      → done < job.steps → Leads 0 done start last → Says (step last)
+      → Breaks out_old out_new (log said_of done start) (said_of (step last))
+      → Grows trace_old trace_new (log line_of done start) → result ≡ 6
+      → ProgramWay job start out_old out_new trace_old trace_new result
+  -- the trace failed at the line of a step, of those allowed; the step is done, and no end line is written
+  trace_failed : (before last : State) (done : ℕ)
+      → done < job.steps → Leads 0 done start before → GoesTo (step before) last → Tells (step before)
+      → Grows out_old out_new (log said_of (suc done) start)
+      → Breaks trace_old trace_new (log line_of done start) (line_of (step before)) → result ≡ 7
+      → ProgramWay job start out_old out_new trace_old trace_new result
+
 -- the ways to end once the job's file was fetched
 pub data FileWay (job : Job) (file : List ℕ) (out_old out_new trace_old trace_new : Output) (result : ℕ) : Type 0 where
   -- there was no memory for RAM
@@ -85,17 +109,9 @@ pub data FileWay (job : Job) (file : List ℕ) (out_old out_new trace_old trace_
   refused : (error : LoadError) → load_flat (ram_size job) file ≡ Err error
       → Early out_old out_new trace_old trace_new (load_error_line error) 3 result
       → FileWay job file out_old out_new trace_old trace_new result
-  -- the run of the definition came to its end
-  ended : (start last : State) (how : How) (left : ℕ) → load_flat (ram_size job) file ≡ Ok start
-      → left ≤ job.steps → exec job.steps start ≡ Ended how last left
-      → Grows out_old out_new (log said_of (job.steps - left) start)
-      → Closes trace_old trace_new (log line_of (job.steps - left) start) (end_line M68 how) (status_of how) result
-      → FileWay job file out_old out_new trace_old trace_new result
-  -- the output failed at a step, of those allowed, that puts something; the step stands, and no end line is written
-  out_failed : (start last : State) (done : ℕ) → load_flat (ram_size job) file ≡ Ok start
-      → done < job.steps → Leads done start last → GoesOn (step last)
-      → Breaks out_old out_new (log said_of done start) (said_of (step last))
-      → Grows trace_old trace_new (log line_of done start) → result ≡ 6
+  -- the program was loaded
+  loaded : (start : State) → load_flat (ram_size job) file ≡ Ok start
+      → ProgramWay job start out_old out_new trace_old trace_new result
       → FileWay job file out_old out_new trace_old trace_new result
 
 -- the ways to end
@@ -126,9 +142,12 @@ pub record Ends (words : List (List ℕ)) (contents : Contents) (input_old input
   pub input : input_new ≡ input_old
   pub way : Way words contents old new result
 
--- how a run that stopped ends the call: with its line and status, or, where the output failed, with none
-abbrev pub Finishes : Stop → Output → Output → ℕ → Type 0
-Finishes (ExitStop code) old new result = Closes old new [] (end_line M68 (Exited code)) (status_of (Exited code)) result
-Finishes (FaultStop fault) old new result = Closes old new [] (end_line M68 (Faulted fault)) (status_of (Faulted fault)) result
-Finishes Limit old new result = Closes old new [] (end_line M68 Limited) (status_of Limited) result
-Finishes OutStop old new result = Grows old new [] × (result ≡ 6)
+-- how a run that stopped while a set was active ends the call: with its line and status, or, where the outside
+-- stopped it, with none
+abbrev pub Finishes : Stop → Isa → Output → Output → ℕ → Type 0
+Finishes (ExitStop code) set old new result = Closes old new [] (end_line set (Exited code)) (status_of (Exited code)) result
+Finishes (FaultStop fault) set old new result = Closes old new [] (end_line set (Faulted fault)) (status_of (Faulted fault)) result
+Finishes Limit set old new result = Closes old new [] (end_line set Limited) (status_of Limited) result
+Finishes ReadStop set old new result = (new ≡ old) × (result ≡ 5)
+Finishes OutStop set old new result = (new ≡ old) × (result ≡ 6)
+Finishes TraceStop set old new result = (new ≡ old) × (result ≡ 7)

@@ -3,9 +3,7 @@
 
 mod lines;
 mod load;
-mod machine;
 mod number;
-mod rows;
 mod top;
 mod words;
 

@@ -1,11 +1,10 @@
 // The lines of the trace.
 ghost use Rattle.std.specs.Prelude.{◌≡◌, ◌+◌, ◌≤◌, ◌++◌, length, decimal};
 ghost use Rattle.mix_bits.specs.Text.{hexadecimal};
-ghost use Rattle.mix_bits.specs.declared.isa.Isa.TheVariants.{M68};
-ghost use Rattle.mixed_machine.specs.Trace.{exit_line, fault_line, fault_name};
+ghost use Rattle.mixed_machine.specs.Trace.{exit_line, fault_line, fault_name, set_name as set_name_of};
 ghost use Rattle.mix_top.specs.Lines.{words_line, load_line};
 
-use mix_bits::{Fault, FaultKind, Line};
+use mix_bits::{Fault, FaultKind, Isa, Line};
 
 /// `exit CODE`
 pub fn exit_text(code: u32) -> Line
@@ -18,14 +17,16 @@ pub fn exit_text(code: u32) -> Line
     line
 }
 
-/// `fault NAME 68k PC DETAIL ALSO`
-pub fn fault_text(fault: Fault) -> Line
-    ensures { result ≡ fault_line M68 fault }
+/// `fault NAME SET PC DETAIL ALSO`
+pub fn fault_text(set: Isa, fault: Fault) -> Line
+    ensures { result ≡ fault_line set fault }
 {
     let mut line = Line::new();
     add(&mut line, "fault ");
     add(&mut line, kind_name(fault.kind));
-    add(&mut line, " 68k ");
+    add(&mut line, " ");
+    add(&mut line, set_name(set));
+    add(&mut line, " ");
     add_long(&mut line, fault.pc);
     add(&mut line, " ");
     add_long(&mut line, fault.detail);
@@ -58,6 +59,17 @@ pub fn load_text(name: &str, number: u32) -> Line
     add_number(&mut line, number);
     add(&mut line, "\n");
     line
+}
+
+/// The name of a set.
+fn set_name(set: Isa) -> &'static str
+    ensures name { result.now ≡ set_name_of set }
+    ensures length { length result.now ≡ 3 }
+{
+    match set {
+        Isa::M68 => "68k",
+        Isa::Ppc => "ppc",
+    }
 }
 
 /// The name of a fault in its line.

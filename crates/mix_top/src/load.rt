@@ -1,17 +1,18 @@
 // Flat files as programs.
-ghost use Rattle.std.specs.Prelude.{◌≡◌, ◌+◌, ◌*◌, ◌/◌, ◌%◌, ◌<◌, ◌≤◌, length, IfOk};
+ghost use Rattle.std.specs.Prelude.{◌≡◌, ◌+◌, ◌*◌, ◌/◌, ◌%◌, ◌<◌, ◌≤◌, ◌-◌, length, IfOk};
 ghost use Rattle.big_memory.specs.Lists.{put};
 ghost use Rattle.mixed_machine.specs.Map.{host_functions, program_start, with_long, with_told, with_vectors};
 ghost use Rattle.mixed_machine.specs.Load.{load_flat, rounded_up, start_state, written};
-ghost use Rattle.mix_top.specs.Machines.{flat};
-ghost use Rattle.mix_top.specs.Loads.{Loads};
+ghost use Rattle.mix_engine.specs.Start.{start_of};
+ghost use Rattle.mix_top.specs.Loads.{IsProgram, Loads};
 
-use super::machine::Machine;
 use big_memory::{NoMemory, Ram};
 use byteorder::{BigEndian, ByteOrder};
 use m68_isa::Regs68;
+use mix_bits::Isa;
 use mixed_machine::LoadError;
 use std::alloc::Global;
+use switch_frame::{Active, Program};
 
 /// Where a program begins.
 const PROGRAM: u32 = 0x1_0000;
@@ -39,11 +40,12 @@ const HOST_CODE: u32 = 0x1800;
 const HOST_FUNCTIONS: u32 = 15;
 
 /// Loads a flat file of 68K code into `kib` KiB of RAM.
-pub fn load(alloc: Global, file: &[u8], kib: u32) -> Result<Machine, LoadError>
+pub fn load(alloc: Global, file: &[u8], kib: u32) -> Result<Program, LoadError>
     requires least { 128 ≤ kib }
     requires most { kib ≤ 16384 }
     requires size { length file.now ≤ 16777216 }
-    ensures { Loads (load_flat (1024 * kib) file.now) result }
+    ensures loads { Loads (load_flat (1024 * kib) file.now) result }
+    ensures program { IfOk result IsProgram }
 {
     let len = 1024 * kib;
     let end = PROGRAM + file.len() as u32;
@@ -53,29 +55,34 @@ pub fn load(alloc: Global, file: &[u8], kib: u32) -> Result<Machine, LoadError>
         Err(LoadError::TooLarge(end))
     } else {
         match start(alloc, file, len) {
-            Ok(machine) => Ok(machine),
+            Ok(program) => Ok(program),
             Err(_) => Err(LoadError::NoMemory),
         }
     }
 }
 
-/// The machine at the start of a program.
-fn start(alloc: Global, program: &[u8], len: u32) -> Result<Machine, NoMemory>
+/// A program of 68K code, ready to start.
+fn start(alloc: Global, program: &[u8], len: u32) -> Result<Program, NoMemory>
     requires least { 131072 ≤ len }
     requires most { len ≤ 16777216 }
     requires whole { len % 1024 ≡ 0 }
-    requires fits { 65536 + length program.now ≤ len }
-    ensures { IfOk result (λ machine. flat machine ≡ start_state len program.now) }
+    requires fits { rounded_up (program_start + length program.now) ≤ len - len / 4 }
+    ensures state { IfOk result (λ p. start_of p ≡ start_state len program.now) }
+    ensures program { IfOk result IsProgram }
 {
     let mut ram = Ram::new(alloc, len)?;
     write_memory(&mut ram, program, len);
     let mut regs = Regs68::cleared();
     regs.a[7] = len - 4;
     regs.pc = PROGRAM;
-    Ok(Machine {
+    Ok(Program {
         ram,
-        regs,
+        active: Active::M68(regs),
+        a5: 0,
+        main: Isa::M68,
         start_sp: len,
+        heap_lo: round_up(PROGRAM + program.len() as u32),
+        heap_hi: len - len / 4,
     })
 }
 
@@ -84,7 +91,8 @@ fn write_memory(ram: &mut Ram, program: &[u8], len: u32)
     requires least { 131072 ≤ len }
     requires ram { length ram.old.bytes ≡ len }
     requires fits { 65536 + length program.now ≤ len }
-    ensures { ram.new ≡ record ram.old { bytes = written len program.now ram.old.bytes } }
+    ensures value { ram.new ≡ record ram.old { bytes = written len program.now ram.old.bytes } }
+    ensures len { length ram.new.bytes ≡ length ram.old.bytes }
 {
     write_vectors(ram, HOST_FUNCTIONS);
     write_told(ram, len);

@@ -1,3 +1,3 @@
 pub mod Runs
 pub mod Logs
-pub mod Quiet
+pub mod Events

@@ -1,14 +1,39 @@
 -- Laws of runs.
-use Rattle.std.specs.Prelude.{◌≡◌, ◌≢◌, ℕ, ◌+◌}
+use Rattle.std.specs.Prelude.{◌≡◌, ◌≢◌, ℕ, ◌+◌, ◌≤◌}
+use Rattle.mixed_machine.specs.declared.stop.Stop.{Stop}
+use Rattle.mixed_machine.specs.declared.stop.Stop.TheVariants.{Limit}
 use Rattle.mixed_machine.specs.State.{State}
-use Rattle.mixed_machine.specs.Exec.{How, exec, Leads}
+use Rattle.mixed_machine.specs.Exec.{How, exec_to, Leads}
 use Rattle.mixed_machine.specs.Exec.How.{Limited}
-use Rattle.mixed_machine.specs.Exec.End.{Ended}
+use Rattle.mixed_machine.specs.Exec.End.{Back, Ended}
+use Rattle.mixed_machine.specs.Runs.{Runs, Sinks}
 
 -- where n steps were done and no end was reached, a run of n + m steps is one of m steps from there
 abbrev pub RunsContinue : Type 0
-RunsContinue = (n m : ℕ) (s t : State) → Leads n s t → exec (n + m) s ≡ exec m t
+RunsContinue = (d n m : ℕ) (s t : State) → Leads d n s t → exec_to d (n + m) s ≡ exec_to d m t
 
 -- a run that has ended has the same end where more steps are allowed, and these are left over
 abbrev pub EndsStay : Type 0
-EndsStay = (n m left : ℕ) (how : How) (s t : State) → how ≢ Limited → exec n s ≡ Ended how t left → exec (n + m) s ≡ Ended how t (left + m)
+EndsStay = (d n m left : ℕ) (how : How) (s t : State) → how ≢ Limited → exec_to d n s ≡ Ended how t left → exec_to d (n + m) s ≡ Ended how t (left + m)
+
+abbrev pub BacksStay : Type 0
+BacksStay = (d n m left : ℕ) (s t : State) → exec_to d n s ≡ Back t left → exec_to d (n + m) s ≡ Back t (left + m)
+
+-- a run at the step limit has no step left
+abbrev pub LimitsAreLast : Type 0
+LimitsAreLast = (d n left : ℕ) (s t : State) → exec_to d n s ≡ Ended Limited t left → left ≡ 0
+
+-- a run down to fewer callers is one down to more callers, and goes on where that one came back
+abbrev pub BacksContinue : Type 0
+BacksContinue = (e d n left : ℕ) (s t : State) → e ≤ d → exec_to d n s ≡ Back t left → exec_to e n s ≡ exec_to e left t
+
+abbrev pub EndsReach : Type 0
+EndsReach = (e d n left : ℕ) (how : How) (s t : State) → e ≤ d → exec_to d n s ≡ Ended how t left → exec_to e n s ≡ Ended how t left
+
+-- a run down to no caller never comes back
+abbrev pub NeverBack : Type 0
+NeverBack = (n left : ℕ) (s t : State) → exec_to 0 n s ≢ Back t left
+
+-- a run that was cut at its step limit and continued is the uncut run, with its output and its trace
+abbrev pub CutsContinue : Type 0
+CutsContinue = (n m : ℕ) (s t u : State) (a b c : Sinks) (stop : Stop) → Runs n s t a b Limit → Runs m t u b c stop → Runs (n + m) s u a c stop

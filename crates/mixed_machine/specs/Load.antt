@@ -1,12 +1,15 @@
 -- The state in which the program of a flat file starts.
-use Rattle.std.specs.Prelude.{ℕ, ◌+◌, ◌-◌, ◌*◌, ◌/◌, ◌==◌, nat_lt, List, length, replicate, if◌then◌else◌, slice_set, Result, Ok, Err}
+use Rattle.std.specs.Prelude.{ℕ, ◌+◌, ◌-◌, ◌*◌, ◌/◌, ◌==◌, nat_lt, List, [], length, replicate, if◌then◌else◌, slice_set, Result, Ok, Err}
 use Rattle.m68_isa.specs.declared.registers.Regs68.{Regs68}
 use Rattle.m68_isa.specs.Registers.{cleared_registers}
+use Rattle.mix_bits.specs.declared.isa.Isa.TheVariants.{M68 as set_m68}
+use Rattle.switch_frame.specs.declared.active.Active.TheVariants.{M68}
 use Rattle.big_memory.specs.Lists.{put}
 use Rattle.mixed_machine.specs.declared.load.LoadError.{LoadError}
 use Rattle.mixed_machine.specs.declared.load.LoadError.TheVariants.{Empty, TooLarge}
 use Rattle.mixed_machine.specs.Map.{exit_gate_68k, program_start, with_long, with_told, with_vectors, host_functions}
 use Rattle.mixed_machine.specs.State.{State}
+use Rattle.mixed_machine.specs.Machine.{start_sp_of}
 
 -- memory with the gate page, the program, and the return address to the exit gate on top of the stack
 unfoldable pub written : ℕ → List ℕ → List ℕ → List ℕ
@@ -22,7 +25,8 @@ abbrev pub start_registers : ℕ → Regs68
 start_registers len = record cleared_registers { a = slice_set cleared_registers.a 7 (len - 4); pc = program_start }
 
 abbrev pub start_state : ℕ → List ℕ → State
-start_state len program = record { memory = start_memory len program; active = start_registers len; start_sp = len }
+start_state len program =
+    record { memory = start_memory len program; active = M68 (start_registers len); callers = []; main = set_m68; a5 = 0; start_sp = start_sp_of set_m68 len }
 
 -- a number rounded up to a multiple of 16
 abbrev pub rounded_up : ℕ → ℕ

@@ -1,5 +1,7 @@
 -- The memory map, which is this project's own.
 use Rattle.std.specs.Prelude.{ℕ, zero, suc, ◌+◌, ◌*◌, ◌==◌, nat_le, nat_lt, Bool, ◌&&◌, ◌||◌, List}
+use Rattle.mix_bits.specs.declared.isa.Isa.{Isa}
+use Rattle.mix_bits.specs.declared.isa.Isa.TheVariants.{M68, Ppc}
 use Rattle.byteorder.specs.Endian.{big_bytes}
 use Rattle.big_memory.specs.Lists.{put}
 
@@ -16,6 +18,15 @@ exit_gate_ppc = 0x1010
 
 abbrev pub return_gate_ppc : ℕ
 return_gate_ppc = 0x1018
+
+-- the two gates of a set
+abbrev pub exit_gate : Isa → ℕ
+exit_gate M68 = exit_gate_68k
+exit_gate Ppc = exit_gate_ppc
+
+abbrev pub return_gate : Isa → ℕ
+return_gate M68 = return_gate_68k
+return_gate Ppc = return_gate_ppc
 
 abbrev pub is_gate : ℕ → Bool
 is_gate a = (a == exit_gate_68k) || (a == return_gate_68k) || (a == exit_gate_ppc) || (a == return_gate_ppc)

@@ -1,12 +1,16 @@
-//! What the mixed machine is: its state, one step, runs of steps, and laws of these. The definitions
-//! stand in `specs/`; the code here is the types that they share with the crates above, and the laws,
-//! each as the contract of a function that does nothing.
+//! What the mixed machine is: its state, one step, runs of steps, what a machine in memory stands for,
+//! and laws of these. The definitions stand in `specs/`; the code here is the types that they share
+//! with the crates above, and the laws, each as the contract of a function that does nothing.
 #![tactic(auto)]
 
+mod body;
 mod laws;
 mod load;
 mod rows;
+mod stop;
 
+pub use body::Body;
 pub use laws::run_laws;
 pub use load::LoadError;
-pub use rows::Row;
+pub use rows::{Row68, RowPpc, Trap};
+pub use stop::Stop;

@@ -9,9 +9,12 @@ use Rattle.mix_top.proofs.load.write_memory.Goals as goal
 abbrev changed : (List ℕ → List ℕ) → Memory → Memory
 changed f m = record m { bytes = f m.bytes }
 
-pub returns : goal.returns
+pub returns-clause-value : goal.returns-clause-value
 unfolding written
-returns c =
+returns-clause-value c =
     c.write_long.ensures.value ∙ ap (changed (with_long (c.args.len - 4) exit_gate_68k)) (c.write_program.ensures.value
     ∙ ap (changed (put program_start c.args.program.now)) (c.write_told.ensures.value
     ∙ ap (changed (with_told program_start 0 0 c.args.len)) c.write_vectors.ensures.value))
+
+pub returns-clause-len : goal.returns-clause-len
+returns-clause-len c = c.write_long.ensures.len ∙ (c.write_program.ensures.len ∙ (c.write_told.ensures.len ∙ c.write_vectors.ensures.len))

@@ -1,6 +1,16 @@
--- The laws are those of proofs/Runs.
-use Rattle.mixed_machine.proofs.Runs.{exec-continues, exec-stays}
+use Rattle.mixed_machine.proofs.Runs.{exec-continues, exec-stays, backs-stay, limits-last, backs-continue, ends-reach, never-back}
+use Rattle.mixed_machine.proofs.Events.{cuts-continue}
 use Rattle.mixed_machine.proofs.laws.run_laws.Goals as goal
 
 pub returns : goal.returns
-returns c = record { continues = exec-continues; stays = exec-stays }
+returns c =
+    record {
+      continues = exec-continues;
+      stays = exec-stays;
+      backs_stay = backs-stay;
+      last = limits-last;
+      backs = backs-continue;
+      reaches = ends-reach;
+      never_back = never-back;
+      cuts = cuts-continue;
+    }

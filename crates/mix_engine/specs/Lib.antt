@@ -1,0 +1,5 @@
+pub mod Turns
+pub mod Stack
+pub mod Faults
+pub mod Passing
+pub mod Start

@@ -1,0 +1,72 @@
+-- A run of a machine over an output and a trace, which may stop it.
+use Rattle.std.specs.Prelude.{◌≡◌, ℕ, suc, ◌-◌, ◌<◌, ◌≤◌}
+use Rattle.mix_io.specs.Streams.{Output, Grows, Breaks}
+use Rattle.mixed_machine.specs.declared.stop.Stop.{Stop}
+use Rattle.mixed_machine.specs.declared.stop.Stop.TheVariants.{Exit, Fault, Limit, ReadFault, OutFault, TraceFault}
+use Rattle.mixed_machine.specs.State.{State}
+use Rattle.mixed_machine.specs.Step.{step}
+use Rattle.mixed_machine.specs.Exec.{How, Leads, GoesTo, Says, Tells, exec_to, log, said_of, line_of}
+use Rattle.mixed_machine.specs.Exec.How.{Limited, Exited, Faulted}
+use Rattle.mixed_machine.specs.Exec.End.{Back, Ended}
+
+-- the two sinks of a run
+pub record Sinks : Type 0 where
+  pub out : Output
+  pub trace : Output
+
+-- both took what j steps from a state put
+pub record Took (j : ℕ) (s : State) (old new : Sinks) : Type 0 where
+  pub said : Grows old.out new.out (log said_of j s)
+  pub traced : Grows old.trace new.trace (log line_of j s)
+
+-- a run of at most n steps from s, down to d callers, that ended in t with `left` steps left
+pub record Ran (d n left : ℕ) (s t : State) (how : How) (old new : Sinks) : Type 0 where
+  pub fewer : left ≤ n
+  pub ends : exec_to d n s ≡ Ended how t left
+  pub took : Took (n - left) s old new
+
+-- one that came back to fewer than d callers
+pub record CameBack (d n left : ℕ) (s t : State) (old new : Sinks) : Type 0 where
+  pub fewer : left ≤ n
+  pub ends : exec_to d n s ≡ Back t left
+  pub took : Took (n - left) s old new
+
+-- one that the output stopped: the next step is one of those allowed, and puts something, of which the output
+-- took some front
+pub record OutBroke (d n left : ℕ) (s t : State) (old new : Sinks) : Type 0 where
+  pub some : 0 < left
+  pub fewer : left ≤ n
+  pub leads : Leads d (n - left) s t
+  pub says : Says (step t)
+  pub said : Breaks old.out new.out (log said_of (n - left) s) (said_of (step t))
+  pub traced : Grows old.trace new.trace (log line_of (n - left) s)
+
+-- one that the trace stopped: the last step is done, and has a line, of which the trace took some front
+pub record TraceBroke (d n left : ℕ) (s t : State) (old new : Sinks) : Type 0 where
+  pub last : State
+  pub fewer : left < n
+  pub leads : Leads d (n - suc left) s last
+  pub goes : GoesTo (step last) t
+  pub tells : Tells (step last)
+  pub said : Grows old.out new.out (log said_of (n - left) s)
+  pub traced : Breaks old.trace new.trace (log line_of (n - suc left) s) (line_of (step last))
+
+-- a run that stopped; the input is not read so far
+abbrev pub Stops : ℕ → ℕ → ℕ → State → State → Sinks → Sinks → Stop → Type 0
+Stops d n left s t old new (Exit code) = Ran d n left s t (Exited code) old new
+Stops d n left s t old new (Fault fault) = Ran d n left s t (Faulted fault) old new
+Stops d n left s t old new Limit = Ran d n left s t Limited old new
+Stops d n left s t old new ReadFault = ⊥
+Stops d n left s t old new OutFault = OutBroke d n left s t old new
+Stops d n left s t old new TraceFault = TraceBroke d n left s t old new
+
+-- a run of at most n steps from s to t
+pub record Runs (n : ℕ) (s t : State) (old new : Sinks) (stop : Stop) : Type 0 where
+  pub left : ℕ
+  pub stops : Stops 0 n left s t old new stop
+
+-- a run on its way: n - left steps led from s to t
+pub record Going (d n left : ℕ) (s t : State) (old new : Sinks) : Type 0 where
+  pub fewer : left ≤ n
+  pub leads : Leads d (n - left) s t
+  pub took : Took (n - left) s old new
