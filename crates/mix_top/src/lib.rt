@@ -4,6 +4,8 @@
 mod lines;
 mod load;
 mod number;
+#[cfg(test)]
+mod tests;
 mod top;
 mod words;
 

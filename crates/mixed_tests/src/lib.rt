@@ -2,6 +2,8 @@
 #![tactic(auto)]
 
 #[cfg(test)]
+mod crossing;
+#[cfg(test)]
 mod flat;
 #[cfg(test)]
 mod outside;
