@@ -1,6 +1,7 @@
 // 68K code that calls PowerPC code through a routine descriptor.
 use super::outside::{CALM, Faults, Wanted, call, compare};
 use std::alloc::Global;
+use std::process::Abort;
 use std::test::Fail;
 
 /// Pushes $41, calls the descriptor at $10020, removes the argument, and ends with the code in D0.
@@ -68,6 +69,21 @@ const fn vector_of(code: u32) -> [u8; 8] {
     [a, b, c, d, 0, 0, 0, 0]
 }
 
+/// Compares what the images of rows give.
+fn compare_rows(rt: &impl Abort, alloc: Global, rows: &[Row]) -> Result<(), Fail> {
+    for row in rows {
+        let file = image(alloc, *row)?;
+        let given = call(alloc, &["run", "flat=a", row.steps], &file, CALM)?;
+        let wanted = Wanted {
+            out: "",
+            trace: row.trace,
+            status: row.status,
+        };
+        compare(rt, &given, wanted);
+    }
+    Ok(())
+}
+
 #[test]
 fn calls_show_what_crosses_and_returns(rt: HostRuntime) -> Result<(), Fail> {
     let rows: [Row; 7] = [
@@ -112,20 +128,7 @@ fn calls_show_what_crosses_and_returns(rt: HostRuntime) -> Result<(), Fail> {
             ..CALL
         },
     ];
-    for row in rows {
-        let file = image(rt.alloc(), row)?;
-        let given = call(rt.alloc(), &["run", "flat=a", row.steps], &file, CALM)?;
-        compare(
-            &rt,
-            &given,
-            Wanted {
-                out: "",
-                trace: row.trace,
-                status: row.status,
-            },
-        );
-    }
-    Ok(())
+    compare_rows(&rt, rt.alloc(), &rows)
 }
 
 #[test]
@@ -182,20 +185,7 @@ fn a_crossing_is_refused_by_the_first_test_that_fails(rt: HostRuntime) -> Result
             ..refused
         },
     ];
-    for row in rows {
-        let file = image(rt.alloc(), row)?;
-        let given = call(rt.alloc(), &["run", "flat=a", row.steps], &file, CALM)?;
-        compare(
-            &rt,
-            &given,
-            Wanted {
-                out: "",
-                trace: row.trace,
-                status: row.status,
-            },
-        );
-    }
-    Ok(())
+    compare_rows(&rt, rt.alloc(), &rows)
 }
 
 #[test]
@@ -220,20 +210,7 @@ fn a_callee_that_does_not_return_is_refused(rt: HostRuntime) -> Result<(), Fail>
             ..refused
         },
     ];
-    for row in rows {
-        let file = image(rt.alloc(), row)?;
-        let given = call(rt.alloc(), &["run", "flat=a", row.steps], &file, CALM)?;
-        compare(
-            &rt,
-            &given,
-            Wanted {
-                out: "",
-                trace: row.trace,
-                status: row.status,
-            },
-        );
-    }
-    Ok(())
+    compare_rows(&rt, rt.alloc(), &rows)
 }
 
 #[test]
