@@ -1,6 +1,6 @@
 -- Decimal arithmetic of two digits in a byte. What it gives for digits above 9, and N and V, are this
 -- project's own (M68000 Family Programmer's Reference Manual, ABCD and SBCD in section 4).
-use Rattle.std.specs.Prelude.{ℕ, ℤ, ◌+◌, ◌-◌, ◌*◌, ◌/◌, ◌%◌, ◌^◌, ◌==◌, ◌&&◌, pos, ◌+ℤ◌, ◌-ℤ◌, nat_lt, int_lt, Bool, false, if◌then◌else◌}
+use Rattle.std.specs.Prelude.{ℕ, ℤ, ◌+◌, ◌*◌, ◌/◌, ◌%◌, ◌==◌, ◌&&◌, pos, ◌+ℤ◌, ◌-ℤ◌, nat_lt, int_lt, Bool, false, if◌then◌else◌}
 use Rattle.std.specs.Int.{cast_unsigned, from_bool, w32}
 use Rattle.m68_isa.specs.declared.registers.Ccr.{Ccr}
 use Rattle.m68_alu.specs.declared.sums.Out.{Out}

@@ -1,6 +1,5 @@
 -- AND, OR and EOR.
 use Rattle.std.specs.Prelude.{ℕ, bit_and, bit_or, bit_xor}
-use Rattle.mix_bits.specs.Sizes.{truncated}
 use Rattle.mix_bits.specs.declared.size.Size.{Size}
 use Rattle.m68_isa.specs.declared.registers.Ccr.{Ccr}
 use Rattle.m68_isa.specs.declared.instructions.LogicOp.{LogicOp}

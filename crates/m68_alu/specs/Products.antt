@@ -1,6 +1,6 @@
 -- Products of words, and quotients of a long by a word
 -- (M68000 Family Programmer's Reference Manual, MULS, MULU, DIVS and DIVU in section 4).
-use Rattle.std.specs.Prelude.{ℕ, ℤ, ◌+◌, ◌*◌, ◌/◌, ◌%◌, ◌^◌, ◌==◌, pos, ◌*ℤ◌, nat_le, int_div, int_rem, Bool, true, false, if◌then◌else◌}
+use Rattle.std.specs.Prelude.{ℕ, ℤ, ◌+◌, ◌*◌, ◌/◌, ◌%◌, ◌^◌, ◌==◌, ◌*ℤ◌, nat_le, int_div, int_rem, Bool, true, false, if◌then◌else◌}
 use Rattle.std.specs.Int.{cast_unsigned, w64}
 use Rattle.mix_bits.specs.Sizes.{signed_of, truncated}
 use Rattle.mix_bits.specs.declared.size.Size.TheVariants.{Two, Four}

@@ -1,6 +1,5 @@
 -- The numbers of a size, without a bound.
-use Rattle.std.specs.Prelude.{ℕ, ℤ, ◌*◌, ◌==◌, pos, neg_ℤ, nat_le, int_lt, int_le, Bool, false, ◌||◌}
-use Rattle.mix_bits.specs.Sizes.{modulus}
+use Rattle.std.specs.Prelude.{ℕ, ℤ, ◌==◌, pos, neg_ℤ, nat_le, int_lt, int_le, Bool, false, ◌||◌}
 use Rattle.mix_bits.specs.declared.size.Size.{Size}
 use Rattle.mix_bits.specs.declared.size.Size.TheVariants.{Zero, One, Two, Four}
 use Rattle.m68_isa.specs.declared.registers.Ccr.{Ccr}

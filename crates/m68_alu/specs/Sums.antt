@@ -2,7 +2,7 @@
 -- (M68000 Family Programmer's Reference Manual, ADD, ADDX, SUB, SUBX and CMP in section 4).
 use Rattle.std.specs.Prelude.{ℕ, ℤ, ◌+◌, ◌-◌, ◌%◌, ◌==◌, ◌&&◌, pos, ◌+ℤ◌, ◌-ℤ◌, nat_le, nat_lt, Bool}
 use Rattle.std.specs.Int.{from_bool}
-use Rattle.mix_bits.specs.Sizes.{modulus, signed_of, truncated}
+use Rattle.mix_bits.specs.Sizes.{modulus, signed_of}
 use Rattle.mix_bits.specs.declared.size.Size.{Size}
 use Rattle.m68_isa.specs.declared.registers.Ccr.{Ccr}
 use Rattle.m68_alu.specs.declared.sums.Out.{Out}

@@ -1,4 +1,6 @@
-use crate::{Out, Quotient, ShiftOp, abcd, add, addx, cmp, div, mul, sbcd, shift, sub, subx};
+use crate::{
+    LogicOp, Out, Quotient, ShiftOp, abcd, add, addx, cmp, div, logic, mul, sbcd, shift, sub, subx,
+};
 use m68_isa::Ccr;
 use mix_bits::Size;
 
@@ -34,6 +36,18 @@ fn sums(rt: HostRuntime) {
     assert_eq!(rt; addx(Size::Two, 0, 0, none()), out(0, 0b00000));
     assert_eq!(rt; cmp(Size::Two, 1, 2, none()), out(0xFFFF, 0b01001));
     assert_eq!(rt; cmp(Size::Two, 2, 2, xz), out(0, 0b10100));
+}
+
+#[test]
+fn bitwise_operations(rt: HostRuntime) {
+    // N and Z by the result, V and C cleared, X as it was.
+    let all = Ccr::from_bits(0b11111);
+    let byte = logic(LogicOp::And, Size::One, 0x1F0, 0x3C, none());
+    assert_eq!(rt; byte, out(0x30, 0b00000));
+    let word = logic(LogicOp::Or, Size::Two, 0x8001, 0x0110, all);
+    assert_eq!(rt; word, out(0x8111, 0b11000));
+    let long = logic(LogicOp::Eor, Size::Four, 0x1234_5678, 0x1234_5678, all);
+    assert_eq!(rt; long, out(0, 0b10100));
 }
 
 #[test]
