@@ -5,7 +5,7 @@ ghost use Rattle.mixed_machine.specs.Machine.{IsWhole};
 
 use super::load::load;
 use mix_bits::{Fault, FaultKind};
-use mix_engine::{Machine, Stop, run};
+use mix_engine::{Machine, Stop, Turn, run, run_m68, run_ppc};
 use mix_io::{MemSink, MemSource};
 use ppc_isa::RegsPpc;
 use std::alloc::Global;
@@ -105,5 +105,63 @@ fn a_callee_does_not_end_the_program(rt: HostRuntime) -> Result<(), Fail> {
     };
     assert_eq!(rt; stop, Stop::Fault(fault));
     assert_eq!(rt; trace.held(), CALL_LINE.as_bytes());
+    Ok(())
+}
+
+#[test]
+fn an_interpreter_comes_back_or_stops(rt: HostRuntime) -> Result<(), Fail> {
+    let alloc = rt.alloc();
+    // The callee's three steps, of which the last one returns; and one step too few.
+    for (allowed, back) in [(3, true), (4, true), (2, false)] {
+        let mut m = machine(alloc)?;
+        let mut input = MemSource::new(Vec::new(alloc), Vec::new(alloc));
+        let mut out = MemSink::new(alloc, 64, Vec::new(alloc))?;
+        let mut trace = MemSink::new(alloc, 256, Vec::new(alloc))?;
+        let stop = run(&mut m, &mut input, &mut out, &mut trace, 3);
+        assert_eq!(rt; stop, Stop::Limit);
+        if let Active::Ppc(regs) = m.active {
+            let mut steps = allowed;
+            let turn = run_ppc(
+                &mut m.body,
+                regs,
+                &mut input,
+                &mut out,
+                &mut trace,
+                &mut steps,
+            );
+            assert_eq!(rt; matches!(turn, Turn::Back(Active::M68(_))), back);
+            assert_eq!(rt;
+                matches!(turn, Turn::Stop(Active::Ppc(_), Stop::Limit)),
+                !back
+            );
+            assert_eq!(rt; steps, u32::from(allowed == 4));
+        }
+    }
+    Ok(())
+}
+
+#[test]
+fn an_interpreter_without_a_caller_stops(rt: HostRuntime) -> Result<(), Fail> {
+    let alloc = rt.alloc();
+    let mut m = machine(alloc)?;
+    let mut input = MemSource::new(Vec::new(alloc), Vec::new(alloc));
+    let mut out = MemSink::new(alloc, 64, Vec::new(alloc))?;
+    let mut trace = MemSink::new(alloc, 256, Vec::new(alloc))?;
+    if let Active::M68(regs) = m.active {
+        let mut steps = 100;
+        let turn = run_m68(
+            &mut m.body,
+            regs,
+            &mut input,
+            &mut out,
+            &mut trace,
+            &mut steps,
+        );
+        assert_eq!(rt;
+            matches!(turn, Turn::Stop(Active::M68(_), Stop::Exit(66))),
+            true
+        );
+        assert_eq!(rt; steps, 92);
+    }
     Ok(())
 }
