@@ -1,5 +1,5 @@
 ghost use Rattle.std.specs.Prelude.{◌≡◌};
-ghost use Rattle.switch_frame.specs.Sets.{caller_isa, frame_size, kind_at, kind_code};
+ghost use Rattle.switch_frame.specs.Sets.{callee_isa, caller_isa, frame_size, kind_at, kind_code};
 
 use mix_bits::Isa;
 
@@ -13,12 +13,22 @@ pub enum Kind {
 
 impl Kind {
     /// The instruction set of the caller.
-    pub(crate) fn caller(self) -> Isa
+    pub fn caller(self) -> Isa
         ensures { result ≡ caller_isa self }
     {
         match self {
             Kind::M68ToPpc => Isa::M68,
             Kind::PpcToM68 | Kind::PpcToPpc => Isa::Ppc,
+        }
+    }
+
+    /// The instruction set of the callee.
+    pub fn callee(self) -> Isa
+        ensures { result ≡ callee_isa self }
+    {
+        match self {
+            Kind::PpcToM68 => Isa::M68,
+            Kind::M68ToPpc | Kind::PpcToPpc => Isa::Ppc,
         }
     }
 

@@ -24,4 +24,4 @@ pub use held::Held;
 pub use kind::Kind;
 pub use laws::chain_laws;
 pub use program::Program;
-pub use rooms::room;
+pub use rooms::{MOST_FRAMES, room};

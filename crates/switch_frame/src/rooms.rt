@@ -9,7 +9,7 @@ use crate::{Full, Kind};
 use big_memory::Ram;
 
 /// At most so many frames are live.
-const MOST_FRAMES: u32 = 256;
+pub const MOST_FRAMES: u32 = 256;
 
 /// Where the frame of a caller with the stack pointer `sp` begins and ends, for a callee whose stack
 /// pointer is `below` bytes below the frame.

@@ -304,6 +304,20 @@ fn fill(ram: &mut Ram, innermost: &mut u32, count: u32) -> Result<(), Full>
 }
 
 #[test]
+fn a_kind_names_the_sets_of_caller_and_callee(rt: HostRuntime) -> Result<(), Fail> {
+    let kinds = [
+        (Kind::M68ToPpc, Isa::M68, Isa::Ppc),
+        (Kind::PpcToM68, Isa::Ppc, Isa::M68),
+        (Kind::PpcToPpc, Isa::Ppc, Isa::Ppc),
+    ];
+    for (kind, caller, callee) in kinds {
+        assert_eq!(rt; kind.caller(), caller);
+        assert_eq!(rt; kind.callee(), callee);
+    }
+    Ok(())
+}
+
+#[test]
 fn after_256_frames_there_is_no_room(rt: HostRuntime) -> Result<(), Fail> {
     let mut ram = memory(&rt, 0x10_0000)?;
     let mut innermost = 0;
