@@ -29,6 +29,10 @@ output held faults = record { held = held; faults = faults }
 abbrev pub sinks : Option (List ℕ) → ℕ → Option (List ℕ) → ℕ → Sinks
 sinks out_held out_faults trace_held trace_faults = record { out = output out_held out_faults; trace = output trace_held trace_faults }
 
+-- the same with the output as it is
+abbrev pub beside : Output → Option (List ℕ) → ℕ → Sinks
+beside out trace_held trace_faults = record { out = out; trace = output trace_held trace_faults }
+
 -- the registers after a step, where `now` are those of the set that was active
 abbrev pub file_after : Did → Active → Active
 file_after Next now = now

@@ -1,33 +1,10 @@
 // The registers of the active set.
 ghost use Rattle.std.specs.Prelude.{◌≡◌};
 ghost use Rattle.mixed_machine.specs.State.{pc_of, sp_of};
-ghost use Rattle.routine_desc.specs.Choice.{is_isa};
-ghost use Rattle.switch_frame.specs.Sets.{callee_isa};
 ghost use Rattle.switch_frame.specs.Records.{isa_of};
 
 use mix_bits::Isa;
-use switch_frame::{Active, Kind};
-
-/// Whether two sets are one.
-pub fn is_set(first: Isa, second: Isa) -> bool
-    ensures { result ≡ is_isa first second }
-{
-    match first {
-        Isa::M68 => matches!(second, Isa::M68),
-        Isa::Ppc => matches!(second, Isa::Ppc),
-    }
-}
-
-/// The set of the callee of a call.
-pub fn callee_set(kind: Kind) -> Isa
-    ensures { result ≡ callee_isa kind }
-{
-    match kind {
-        Kind::M68ToPpc => Isa::Ppc,
-        Kind::PpcToM68 => Isa::M68,
-        Kind::PpcToPpc => Isa::Ppc,
-    }
-}
+use switch_frame::Active;
 
 /// The set of a register file.
 pub fn isa(active: &Active) -> Isa

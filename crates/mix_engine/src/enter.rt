@@ -13,7 +13,7 @@ ghost use Rattle.mixed_machine.specs.Handed.{below_ppc as below_ppc_of, hands_ov
 ghost use Rattle.mixed_machine.specs.Enter.{crosses, enters, enters_by, enters_with, passed as passed_values, takes_records};
 ghost use Rattle.mixed_machine.specs.Machine.{HasChain, IsWhole, callers_of, flat};
 ghost use Rattle.mix_engine.specs.Passing.{Passes, passed_of};
-ghost use Rattle.mix_engine.specs.Turns.{Does, output};
+ghost use Rattle.mix_engine.specs.Turns.{Does, beside};
 
 use crate::did::Did;
 use crate::faults::{access_fault, fault, full_fault};
@@ -52,7 +52,7 @@ pub struct Passed {
 pub fn cross<T: Sink>(body: &mut Body, regs: &mut Regs68, trace: &mut T) -> Did
     requires { IsWhole body.old set_m68 }
     ensures { (out : Output) → Does (crosses (flat body.old (M68 regs.old)) regs.old) result body.old body.new (M68 regs.old) (M68 regs.new)
-        (record { out = out; trace = output (T.held trace.old) (T.faults trace.old) }) (record { out = out; trace = output (T.held trace.new) (T.faults trace.new) }) }
+        (beside out (T.held trace.old) (T.faults trace.old)) (beside out (T.held trace.new) (T.faults trace.new)) }
 {
     match descriptor(body, regs.pc) {
         Ok(desc) => take(body, regs, &desc, trace),
@@ -65,7 +65,7 @@ fn take<T: Sink>(body: &mut Body, regs: &mut Regs68, desc: &Desc, trace: &mut T)
     requires whole { IsWhole body.old set_m68 }
     requires few { desc.now.count ≤ 64 }
     ensures { (out : Output) → Does (takes_records (flat body.old (M68 regs.old)) regs.old (Ok (records_of desc.now))) result body.old body.new (M68 regs.old) (M68 regs.new)
-        (record { out = out; trace = output (T.held trace.old) (T.faults trace.old) }) (record { out = out; trace = output (T.held trace.new) (T.faults trace.new) }) }
+        (beside out (T.held trace.old) (T.faults trace.old)) (beside out (T.held trace.new) (T.faults trace.new)) }
 {
     if !hand_over(&desc.recs[..desc.count as usize]) {
         return fault(regs.pc, FaultKind::BadDesc, regs.pc, BAD_INFO);
@@ -91,7 +91,7 @@ fn enter<T: Sink>(body: &mut Body, regs: &mut Regs68, rec: Rec, trace: &mut T) -
     requires whole { IsWhole body.old set_m68 }
     requires handed { hands_over_of rec.info ≡ true }
     ensures { (out : Output) → Does (enters (flat body.old (M68 regs.old)) regs.old rec) result body.old body.new (M68 regs.old) (M68 regs.new)
-        (record { out = out; trace = output (T.held trace.old) (T.faults trace.old) }) (record { out = out; trace = output (T.held trace.new) (T.faults trace.new) }) }
+        (beside out (T.held trace.old) (T.faults trace.old)) (beside out (T.held trace.new) (T.faults trace.new)) }
 {
     match read(rec.info) {
         Ok(sig) => enter_by(body, regs, rec, &sig, trace),
@@ -104,7 +104,7 @@ fn enter_by<T: Sink>(body: &mut Body, regs: &mut Regs68, rec: Rec, sig: &Sig, tr
     requires whole { IsWhole body.old set_m68 }
     requires handed { hands_over_of rec.info ≡ true }
     ensures { (out : Output) → Does (enters_by (flat body.old (M68 regs.old)) regs.old rec (Ok (signature sig.now))) result body.old body.new (M68 regs.old) (M68 regs.new)
-        (record { out = out; trace = output (T.held trace.old) (T.faults trace.old) }) (record { out = out; trace = output (T.held trace.new) (T.faults trace.new) }) }
+        (beside out (T.held trace.old) (T.faults trace.old)) (beside out (T.held trace.new) (T.faults trace.new)) }
 {
     let sp = regs.a[7];
     let count = sig.params().len();
@@ -156,7 +156,7 @@ fn enter_with<T: Sink>(
     requires count { passed.now.count ≡ length (params_of sig.now) }
     requires floor { floor_of body.old.ram + below_ppc_of passed.now.count ≤ range.0 }
     ensures { (out : Output) → Does (enters_with (flat body.old (M68 regs.old)) regs.old rec (signature sig.now) range (Ok (passed_of passed.now))) result body.old body.new (M68 regs.old) (M68 regs.new)
-        (record { out = out; trace = output (T.held trace.old) (T.faults trace.old) }) (record { out = out; trace = output (T.held trace.new) (T.faults trace.new) }) }
+        (beside out (T.held trace.old) (T.faults trace.old)) (beside out (T.held trace.new) (T.faults trace.new)) }
 {
     let words = &passed.words[..passed.count];
     let held = Held {

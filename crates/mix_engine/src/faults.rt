@@ -9,7 +9,7 @@ use crate::memory::floor;
 use big_memory::Access;
 use mix_bits::{Fault, FaultKind};
 use mixed_machine::Body;
-use switch_frame::Full;
+use switch_frame::{Full, MOST_FRAMES};
 
 /// The instruction at `pc` can't be done.
 pub fn fault(pc: u32, kind: FaultKind, detail: u32, also: u32) -> Did
@@ -40,7 +40,7 @@ pub fn full_fault(body: &Body, pc: u32, sp: u32, full: Full) -> Did
     ensures { result ≡ full_did (seen_of body.now) pc sp full }
 {
     match full {
-        Full::Frames => fault(pc, FaultKind::FramesFull, 256, 0),
+        Full::Frames => fault(pc, FaultKind::FramesFull, MOST_FRAMES, 0),
         Full::Outside(found) => fault(pc, FaultKind::StackOutside, found, floor(body)),
         Full::Crossed(lo) => fault(pc, FaultKind::StackCrossed, sp, lo),
         Full::Stack(callee) => fault(pc, FaultKind::StackFull, callee, floor(body)),

@@ -4,11 +4,22 @@ ghost use Rattle.mixed_machine.specs.Map.{exit_gate as exit_gate_of, in_gate_pag
 
 use mix_bits::Isa;
 
+const EXIT_GATE_68K: u32 = 0x1000;
+
+const RETURN_GATE_68K: u32 = 0x1008;
+
+const EXIT_GATE_PPC: u32 = 0x1010;
+
+const RETURN_GATE_PPC: u32 = 0x1018;
+
 /// Whether one of the four gates is at this address.
 pub fn is_gate(pc: u32) -> bool
     ensures { result ≡ is_gate_of pc }
 {
-    matches!(pc, 0x1000 | 0x1008 | 0x1010 | 0x1018)
+    matches!(
+        pc,
+        EXIT_GATE_68K | RETURN_GATE_68K | EXIT_GATE_PPC | RETURN_GATE_PPC
+    )
 }
 
 /// Whether the gate page has this address.
@@ -23,8 +34,8 @@ pub fn exit_gate(set: Isa) -> u32
     ensures { result ≡ exit_gate_of set }
 {
     match set {
-        Isa::M68 => 0x1000,
-        Isa::Ppc => 0x1010,
+        Isa::M68 => EXIT_GATE_68K,
+        Isa::Ppc => EXIT_GATE_PPC,
     }
 }
 
@@ -33,7 +44,7 @@ pub fn return_gate(set: Isa) -> u32
     ensures { result ≡ return_gate_of set }
 {
     match set {
-        Isa::M68 => 0x1008,
-        Isa::Ppc => 0x1018,
+        Isa::M68 => RETURN_GATE_68K,
+        Isa::Ppc => RETURN_GATE_PPC,
     }
 }

@@ -6,14 +6,12 @@ ghost use Rattle.big_memory.specs.Lists.{put};
 ghost use Rattle.proc_info.specs.Views.{signature};
 ghost use Rattle.mixed_machine.specs.Handed.{below_ppc as below_ppc_of, fresh_ppc as fresh_ppc_of, hands_over as hands_over_of, is_four, is_handed_over as is_handed_over_of, result_ppc as result_ppc_of, with_result as with_result_of};
 
+use crate::gates::return_gate;
 use m68_isa::Regs68;
-use mix_bits::{Size, trunc, with_low};
+use mix_bits::{Isa, Size, trunc, with_low};
 use ppc_isa::RegsPpc;
 use proc_info::{Conv, Param, Sig, read};
 use routine_desc::Rec;
-
-/// Where PowerPC code returns to its caller.
-const RETURN_GATE: u32 = 0x1018;
 
 /// Whether each record has a procInfo that is handed over.
 pub fn hand_over(recs: &[Rec]) -> bool
@@ -38,8 +36,8 @@ fn is_handed_over(sig: &Sig) -> bool
     ensures { result ≡ is_handed_over_of (signature sig.now) }
 {
     matches!(sig.conv, Conv::C)
-        & matches!(sig.result, Size::Zero | Size::Four)
-        & are_longs(sig.params())
+        && matches!(sig.result, Size::Zero | Size::Four)
+        && are_longs(sig.params())
 }
 
 /// Whether each parameter has four bytes.
@@ -66,7 +64,7 @@ pub fn fresh_ppc(sp: u32, code: u32, toc: u32, words: &[u32]) -> RegsPpc
     write_words(&mut regs.gpr, &words[..words.len().min(8)]);
     regs.gpr[1] = sp;
     regs.gpr[2] = toc;
-    regs.lr = RETURN_GATE;
+    regs.lr = return_gate(Isa::Ppc);
     regs.pc = code;
     regs
 }

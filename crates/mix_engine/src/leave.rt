@@ -9,9 +9,9 @@ ghost use Rattle.proc_info.specs.Signature.{signature_of};
 ghost use Rattle.mixed_machine.specs.State.{pc_of, sp_of};
 ghost use Rattle.mixed_machine.specs.Handed.{hands_over};
 ghost use Rattle.mix_engine.specs.Faults.{kind_did};
-ghost use Rattle.mix_engine.specs.Turns.{Delivers, Does, output};
+ghost use Rattle.mix_engine.specs.Turns.{Delivers, Does, beside, output};
 
-use crate::active::{callee_set, is_set, isa, pc, sp};
+use crate::active::{isa, pc, sp};
 use crate::did::Did;
 use crate::faults::fault;
 use crate::gates::{exit_gate, return_gate};
@@ -31,7 +31,7 @@ use switch_frame::{Active, Held};
 pub fn leave<T: Sink>(body: &mut Body, active: &Active, trace: &mut T) -> Did
     requires { IsWhole body.old (isa_of active.now) }
     ensures { (out : Output) → Does (at_gate (flat body.old active.now)) result body.old body.new active.now active.now
-        (record { out = out; trace = output (T.held trace.old) (T.faults trace.old) }) (record { out = out; trace = output (T.held trace.new) (T.faults trace.new) }) }
+        (beside out (T.held trace.old) (T.faults trace.old)) (beside out (T.held trace.new) (T.faults trace.new)) }
 {
     match innermost(body) {
         Some(held) => {
@@ -56,9 +56,7 @@ fn is_return(active: &Active, held: &Held) -> bool
     ensures { result ≡ is_return_of active.now (record_of held.now) }
 {
     let set = isa(active);
-    (pc(active) == return_gate(set))
-        & is_set(callee_set(held.kind), set)
-        & (sp(active) == held.want_sp)
+    pc(active) == return_gate(set) && held.kind.callee() == set && sp(active) == held.want_sp
 }
 
 /// Whether the main program is at its exit gate, with the stack pointer that is expected of it.
@@ -66,7 +64,7 @@ fn is_exit(body: &Body, active: &Active) -> bool
     ensures { result ≡ is_exit_of body.now.main body.now.start_sp active.now }
 {
     let set = isa(active);
-    (pc(active) == exit_gate(set)) & is_set(body.main, set) & (sp(active) == body.start_sp)
+    pc(active) == exit_gate(set) && body.main == set && sp(active) == body.start_sp
 }
 
 /// Another stack pointer or set than the one expected.
@@ -81,7 +79,7 @@ fn return_to_caller<T: Sink>(body: &mut Body, active: &Active, trace: &mut T) ->
     requires whole { IsWhole body.old (isa_of active.now) }
     requires live { 0 < length (callers_of body.old) }
     ensures { (out : Output) → Does (returns (flat body.old active.now) (callers_of body.old)) result body.old body.new active.now active.now
-        (record { out = out; trace = output (T.held trace.old) (T.faults trace.old) }) (record { out = out; trace = output (T.held trace.new) (T.faults trace.new) }) }
+        (beside out (T.held trace.old) (T.faults trace.old)) (beside out (T.held trace.new) (T.faults trace.new)) }
 {
     match active {
         Active::M68(_) => unreachable!(),

@@ -16,10 +16,16 @@ use std::alloc::Global;
 use switch_frame::{Active, Program};
 
 /// The machine between two steps.
+///
+/// It is whole, as `start` and `run` leave it, if its frames are a chain in RAM that ends at the main
+/// program, the set of its registers is that of the innermost callee, or the main program's without one,
+/// the gate page stands as it was loaded, and `start_sp` is that of the main program's set. So far at most
+/// one caller is suspended.
 #[derive(Drop)]
 pub struct Machine {
     /// The registers of the active set.
     pub active: Active,
+    /// All that the machine keeps beside them.
     pub body: Body,
 }
 

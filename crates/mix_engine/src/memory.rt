@@ -65,7 +65,7 @@ pub fn descriptor(body: &Body, a: u32) -> Result<Desc, BadDesc>
     read_desc(&body.ram, a)
 }
 
-/// How many bytes of memory there are, and where the stack begins.
+/// The lowest address of the stack.
 pub fn floor(body: &Body) -> u32
     requires { HasChain body.now }
     ensures { result ≡ floor_of (seen_of body.now) }

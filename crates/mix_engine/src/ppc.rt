@@ -8,7 +8,7 @@ ghost use Rattle.mixed_machine.specs.Step.{step_ppc as step_ppc_of};
 ghost use Rattle.mixed_machine.specs.StepPpc.{added, runs_row};
 ghost use Rattle.mixed_machine.specs.Machine.{IsWhole, flat};
 ghost use Rattle.mix_engine.specs.Passing.{HasRowPpc};
-ghost use Rattle.mix_engine.specs.Turns.{Does, output};
+ghost use Rattle.mix_engine.specs.Turns.{Does, beside};
 
 use crate::did::Did;
 use crate::faults::{access_fault, fault};
@@ -27,7 +27,7 @@ use switch_frame::Active;
 pub fn step_ppc<T: Sink>(body: &mut Body, regs: &mut RegsPpc, trace: &mut T) -> Did
     requires { IsWhole body.old set_ppc }
     ensures { (out : Output) → Does (step_ppc_of (flat body.old (Ppc regs.old)) regs.old) result body.old body.new (Ppc regs.old) (Ppc regs.new)
-        (record { out = out; trace = output (T.held trace.old) (T.faults trace.old) }) (record { out = out; trace = output (T.held trace.new) (T.faults trace.new) }) }
+        (beside out (T.held trace.old) (T.faults trace.old)) (beside out (T.held trace.new) (T.faults trace.new)) }
 {
     let pc = regs.pc;
     if pc % 4 != 0 {

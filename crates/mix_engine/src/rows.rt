@@ -124,7 +124,7 @@ fn return_row(register: BranchRegister, bo: u8, bi: u8, lk: bool) -> RowPpc
 {
     match register {
         BranchRegister::Link => {
-            if (bo == 20) & (bi == 0) & !lk {
+            if bo == 20 && bi == 0 && !lk {
                 RowPpc::BranchToLink
             } else {
                 RowPpc::Unbuilt
