@@ -33,7 +33,7 @@ pub fn disjunction_and_division(f: First, words: &[u16]) -> Found
     let size = size_of(f.size);
     let data = in_class(Class::Data, f.mode, f.lower);
     let either = is_either_way(f, data);
-    if (f.size < 3) & either {
+    if f.size < 3 && either {
         let operand = operand_at(words, 1, size, f.mode, f.lower);
         with(
             Instr68::Or {
@@ -44,7 +44,7 @@ pub fn disjunction_and_division(f: First, words: &[u16]) -> Found
             },
             operand,
         )
-    } else if (f.size == 3) & data {
+    } else if f.size == 3 && data {
         let by = operand_at(words, 1, Size::Two, f.mode, f.lower);
         with(
             Instr68::Div {
@@ -54,7 +54,7 @@ pub fn disjunction_and_division(f: First, words: &[u16]) -> Found
             },
             by,
         )
-    } else if (f.bit8 == 1) & (f.size == 0) & (f.mode < 2) {
+    } else if f.bit8 == 1 && f.size == 0 && f.mode < 2 {
         alone(Instr68::Sbcd {
             memory: f.mode == 1,
             from: f.lower,
@@ -76,7 +76,7 @@ pub fn subtraction(f: First, words: &[u16]) -> Found
     let size = size_of(f.size);
     let any = is_source(Class::Any, size, f.mode, f.lower);
     let either = is_either_way(f, any);
-    if (f.size < 3) & either {
+    if f.size < 3 && either {
         let operand = operand_at(words, 1, size, f.mode, f.lower);
         with(
             Instr68::Sub {
@@ -87,7 +87,7 @@ pub fn subtraction(f: First, words: &[u16]) -> Found
             },
             operand,
         )
-    } else if (f.size == 3) & any {
+    } else if f.size == 3 && any {
         let size = long_or_word(f.bit8);
         let from = operand_at(words, 1, size, f.mode, f.lower);
         with(
@@ -98,7 +98,7 @@ pub fn subtraction(f: First, words: &[u16]) -> Found
             },
             from,
         )
-    } else if (f.bit8 == 1) & (f.size < 3) & (f.mode < 2) {
+    } else if f.bit8 == 1 && f.size < 3 && f.mode < 2 {
         alone(Instr68::Subx {
             size,
             memory: f.mode == 1,
@@ -123,14 +123,14 @@ pub fn comparison(f: First, words: &[u16]) -> Found
     let alterable = in_class(Class::DataAlterable, f.mode, f.lower);
     let operand = operand_at(words, 1, size, f.mode, f.lower);
     let register = f.upper;
-    if (f.bit8 == 0) & (f.size < 3) & any {
+    if f.bit8 == 0 && f.size < 3 && any {
         let with_register = Instr68::Cmp {
             size,
             with: operand.ea,
             register,
         };
         with(with_register, operand)
-    } else if (f.size == 3) & any {
+    } else if f.size == 3 && any {
         let size = long_or_word(f.bit8);
         let operand = operand_at(words, 1, size, f.mode, f.lower);
         let with_address = Instr68::Cmpa {
@@ -139,10 +139,10 @@ pub fn comparison(f: First, words: &[u16]) -> Found
             register,
         };
         with(with_address, operand)
-    } else if (f.bit8 == 1) & (f.size < 3) & alterable {
+    } else if f.bit8 == 1 && f.size < 3 && alterable {
         let to = operand.ea;
         with(Instr68::Eor { size, register, to }, operand)
-    } else if (f.bit8 == 1) & (f.size < 3) & (f.mode == 1) {
+    } else if f.bit8 == 1 && f.size < 3 && f.mode == 1 {
         alone(Instr68::Cmpm {
             size,
             from: f.lower,
@@ -157,9 +157,9 @@ pub fn comparison(f: First, words: &[u16]) -> Found
 fn is_exchange(f: First) -> bool
     ensures { result ≡ is_exchange f }
 {
-    let same = (f.size == 1) & (f.mode < 2);
-    let both = (f.size == 2) & (f.mode == 1);
-    (f.bit8 == 1) & (same | both)
+    let same = f.size == 1 && f.mode < 2;
+    let both = f.size == 2 && f.mode == 1;
+    f.bit8 == 1 && (same || both)
 }
 
 /// Which registers such a word exchanges.
@@ -187,7 +187,7 @@ pub fn conjunction_and_multiplication(f: First, words: &[u16]) -> Found
     let data = in_class(Class::Data, f.mode, f.lower);
     let either = is_either_way(f, data);
     let exchanges = is_exchange(f);
-    if (f.size < 3) & either {
+    if f.size < 3 && either {
         let operand = operand_at(words, 1, size, f.mode, f.lower);
         with(
             Instr68::And {
@@ -198,7 +198,7 @@ pub fn conjunction_and_multiplication(f: First, words: &[u16]) -> Found
             },
             operand,
         )
-    } else if (f.size == 3) & data {
+    } else if f.size == 3 && data {
         let by = operand_at(words, 1, Size::Two, f.mode, f.lower);
         with(
             Instr68::Mul {
@@ -208,7 +208,7 @@ pub fn conjunction_and_multiplication(f: First, words: &[u16]) -> Found
             },
             by,
         )
-    } else if (f.bit8 == 1) & (f.size == 0) & (f.mode < 2) {
+    } else if f.bit8 == 1 && f.size == 0 && f.mode < 2 {
         alone(Instr68::Abcd {
             memory: f.mode == 1,
             from: f.lower,
@@ -236,7 +236,7 @@ pub fn addition(f: First, words: &[u16]) -> Found
     let size = size_of(f.size);
     let any = is_source(Class::Any, size, f.mode, f.lower);
     let either = is_either_way(f, any);
-    if (f.size < 3) & either {
+    if f.size < 3 && either {
         let operand = operand_at(words, 1, size, f.mode, f.lower);
         with(
             Instr68::Add {
@@ -247,7 +247,7 @@ pub fn addition(f: First, words: &[u16]) -> Found
             },
             operand,
         )
-    } else if (f.size == 3) & any {
+    } else if f.size == 3 && any {
         let size = long_or_word(f.bit8);
         let from = operand_at(words, 1, size, f.mode, f.lower);
         with(
@@ -258,7 +258,7 @@ pub fn addition(f: First, words: &[u16]) -> Found
             },
             from,
         )
-    } else if (f.bit8 == 1) & (f.size < 3) & (f.mode < 2) {
+    } else if f.bit8 == 1 && f.size < 3 && f.mode < 2 {
         alone(Instr68::Addx {
             size,
             memory: f.mode == 1,

@@ -28,7 +28,7 @@ pub fn quick_and_conditions(f: First, words: &[u16]) -> Found
     let alterable = is_source(Class::Alterable, size, f.mode, f.lower);
     let data = in_class(Class::DataAlterable, f.mode, f.lower);
     let to = operand_at(words, 1, size, f.mode, f.lower);
-    if (f.bit8 == 0) & (f.size < 3) & alterable {
+    if f.bit8 == 0 && f.size < 3 && alterable {
         with(
             Instr68::Addq {
                 size,
@@ -37,7 +37,7 @@ pub fn quick_and_conditions(f: First, words: &[u16]) -> Found
             },
             to,
         )
-    } else if (f.bit8 == 1) & (f.size < 3) & alterable {
+    } else if f.bit8 == 1 && f.size < 3 && alterable {
         with(
             Instr68::Subq {
                 size,
@@ -46,7 +46,7 @@ pub fn quick_and_conditions(f: First, words: &[u16]) -> Found
             },
             to,
         )
-    } else if (f.size == 3) & data {
+    } else if f.size == 3 && data {
         let to = operand_at(words, 1, Size::One, f.mode, f.lower);
         with(
             Instr68::Scc {
@@ -55,7 +55,7 @@ pub fn quick_and_conditions(f: First, words: &[u16]) -> Found
             },
             to,
         )
-    } else if (f.size == 3) & (f.mode == 1) {
+    } else if f.size == 3 && f.mode == 1 {
         pair(Instr68::Dbcc {
             condition,
             register: f.lower,

@@ -24,7 +24,7 @@ pub enum Class {
 fn up_to(count: u8, mode: u8, register: u8) -> bool
     ensures { result ≡ up_to count mode register }
 {
-    (mode < 7) | (register < count)
+    mode < 7 || register < count
 }
 
 /// Whether a mode is in a class.
@@ -33,12 +33,12 @@ pub fn in_class(class: Class, mode: u8, register: u8) -> bool
 {
     match class {
         Class::Any => up_to(5, mode, register),
-        Class::Data => (mode != 1) & up_to(5, mode, register),
+        Class::Data => mode != 1 && up_to(5, mode, register),
         Class::Alterable => up_to(2, mode, register),
-        Class::DataAlterable => (mode != 1) & up_to(2, mode, register),
-        Class::MemoryAlterable => (mode > 1) & up_to(2, mode, register),
-        Class::Control => ((mode == 2) | (mode > 4)) & up_to(4, mode, register),
-        Class::ControlAlterable => ((mode == 2) | (mode > 4)) & up_to(2, mode, register),
+        Class::DataAlterable => mode != 1 && up_to(2, mode, register),
+        Class::MemoryAlterable => mode > 1 && up_to(2, mode, register),
+        Class::Control => (mode == 2 || mode > 4) && up_to(4, mode, register),
+        Class::ControlAlterable => (mode == 2 || mode > 4) && up_to(2, mode, register),
     }
 }
 
@@ -47,7 +47,7 @@ pub fn is_source(class: Class, size: Size, mode: u8, register: u8) -> bool
     ensures { result ≡ is_source class size mode register }
 {
     let byte = is_byte(size);
-    in_class(class, mode, register) & !(byte & (mode == 1))
+    in_class(class, mode, register) && !(byte && mode == 1)
 }
 
 fn is_byte(size: Size) -> bool

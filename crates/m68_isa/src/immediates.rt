@@ -30,7 +30,7 @@ fn immediate_op(upper: u8) -> ImmediateOp
 fn has_immediate(upper: u8) -> bool
     ensures { result ≡ has_immediate upper }
 {
-    (upper != 4) & (upper < 7)
+    upper != 4 && upper < 7
 }
 
 fn logic_op(upper: u8) -> LogicOp
@@ -46,7 +46,7 @@ fn logic_op(upper: u8) -> LogicOp
 fn has_logic(upper: u8) -> bool
     ensures { result ≡ has_logic upper }
 {
-    (upper < 2) | (upper == 5)
+    upper < 2 || upper == 5
 }
 
 fn bit_op(bits: u8) -> BitOp
@@ -74,7 +74,7 @@ fn bit_class(bits: u8) -> Class
 fn is_immediate(f: First) -> bool
     ensures { result ≡ is_immediate f }
 {
-    (f.mode == 7) & (f.lower == 4)
+    f.mode == 7 && f.lower == 4
 }
 
 /// Words 0000 xxx0.
@@ -90,17 +90,17 @@ pub fn immediates(f: First, words: &[u16]) -> Found
     let arithmetic = has_immediate(f.upper);
     let logic = has_logic(f.upper);
     let class = in_class(bit_class(f.size), f.mode, f.lower);
-    if arithmetic & (f.size < 3) & alterable {
+    if arithmetic && f.size < 3 && alterable {
         immediate(f, words)
-    } else if logic & (f.size == 0) & status {
+    } else if logic && f.size == 0 && status {
         let value = immediate_at(words, 1, Size::One);
         pair(Instr68::ImmediateToCcr {
             op: logic_op(f.upper),
             value,
         })
-    } else if logic & (f.size == 1) & status {
+    } else if logic && f.size == 1 && status {
         Found::Privileged
-    } else if (f.upper == 4) & class & !status {
+    } else if f.upper == 4 && class && !status {
         let to = operand_at(words, 2, Size::One, f.mode, f.lower);
         let bit = word_at(words, 1) % 0x100;
         with(

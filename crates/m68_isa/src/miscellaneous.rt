@@ -24,22 +24,22 @@ pub fn one_operand(f: First, words: &[u16]) -> Found
     let alterable = in_class(Class::DataAlterable, f.mode, f.lower);
     let data = in_class(Class::Data, f.mode, f.lower);
     let size = size_of(f.size);
-    let sized = (f.size < 3) & alterable;
+    let sized = f.size < 3 && alterable;
     let from = operand_at(words, 1, Size::Two, f.mode, f.lower);
     let to = operand_at(words, 1, size, f.mode, f.lower);
-    if (f.upper == 0) & sized {
+    if f.upper == 0 && sized {
         with(Instr68::Negx { size, to: to.ea }, to)
-    } else if (f.upper == 1) & sized {
+    } else if f.upper == 1 && sized {
         with(Instr68::Clr { size, to: to.ea }, to)
-    } else if (f.upper == 2) & sized {
+    } else if f.upper == 2 && sized {
         with(Instr68::Neg { size, to: to.ea }, to)
-    } else if (f.upper == 3) & sized {
+    } else if f.upper == 3 && sized {
         with(Instr68::Not { size, to: to.ea }, to)
-    } else if (f.upper == 0) & (f.size == 3) & alterable {
+    } else if f.upper == 0 && f.size == 3 && alterable {
         with(Instr68::MoveFromSr { to: from.ea }, from)
-    } else if (f.upper == 2) & (f.size == 3) & data {
+    } else if f.upper == 2 && f.size == 3 && data {
         with(Instr68::MoveToCcr { from: from.ea }, from)
-    } else if (f.upper == 3) & (f.size == 3) & data {
+    } else if f.upper == 3 && f.size == 3 && data {
         Found::Privileged
     } else {
         Found::Illegal
@@ -56,22 +56,22 @@ pub fn registers_and_bytes(f: First, words: &[u16]) -> Found
 {
     let alterable = in_class(Class::DataAlterable, f.mode, f.lower);
     let control = in_class(Class::Control, f.mode, f.lower);
-    let saved = in_class(Class::ControlAlterable, f.mode, f.lower) | (f.mode == 4);
+    let saved = in_class(Class::ControlAlterable, f.mode, f.lower) || f.mode == 4;
     let size = long_or_word(f.size % 2);
-    if (f.size == 0) & alterable {
+    if f.size == 0 && alterable {
         let to = operand_at(words, 1, Size::One, f.mode, f.lower);
         with(Instr68::Nbcd { to: to.ea }, to)
-    } else if (f.size == 1) & (f.mode == 0) {
+    } else if f.size == 1 && f.mode == 0 {
         alone(Instr68::Swap { register: f.lower })
-    } else if (f.size == 1) & control {
+    } else if f.size == 1 && control {
         let from = operand_at(words, 1, Size::Four, f.mode, f.lower);
         with(Instr68::Pea { from: from.ea }, from)
-    } else if (f.size > 1) & (f.mode == 0) {
+    } else if f.size > 1 && f.mode == 0 {
         alone(Instr68::Ext {
             size,
             register: f.lower,
         })
-    } else if (f.size > 1) & saved {
+    } else if f.size > 1 && saved {
         let mask = word_at(words, 1);
         let to = operand_at(words, 2, size, f.mode, f.lower);
         with(
@@ -96,17 +96,17 @@ pub fn tests_and_loads(f: First, words: &[u16]) -> Found
     ensures places { HasPlacesFound result }
 {
     let alterable = in_class(Class::DataAlterable, f.mode, f.lower);
-    let loaded = in_class(Class::Control, f.mode, f.lower) | (f.mode == 3);
-    if (f.upper == 5) & (f.size < 3) & alterable {
+    let loaded = in_class(Class::Control, f.mode, f.lower) || f.mode == 3;
+    if f.upper == 5 && f.size < 3 && alterable {
         let size = size_of(f.size);
         let of = operand_at(words, 1, size, f.mode, f.lower);
         with(Instr68::Tst { size, of: of.ea }, of)
-    } else if (f.upper == 5) & (f.size == 3) & alterable {
+    } else if f.upper == 5 && f.size == 3 && alterable {
         let to = operand_at(words, 1, Size::One, f.mode, f.lower);
         with(Instr68::Tas { to: to.ea }, to)
-    } else if (f.upper == 5) & (f.size == 3) & (f.mode == 7) & (f.lower == 4) {
+    } else if f.upper == 5 && f.size == 3 && f.mode == 7 && f.lower == 4 {
         Found::Illegal
-    } else if (f.upper == 6) & (f.size > 1) & loaded {
+    } else if f.upper == 6 && f.size > 1 && loaded {
         let size = long_or_word(f.size % 2);
         let mask = word_at(words, 1);
         let from = operand_at(words, 2, size, f.mode, f.lower);
@@ -143,17 +143,17 @@ pub fn control(f: First, words: &[u16]) -> Found
         })
     } else if f.mode == 3 {
         alone(Instr68::Unlk { register: f.lower })
-    } else if (f.mode == 4) | (f.mode == 5) {
+    } else if f.mode == 4 || f.mode == 5 {
         Found::Privileged
-    } else if last & ((f.lower == 0) | (f.lower == 2) | (f.lower == 3)) {
+    } else if last && matches!(f.lower, 0 | 2 | 3) {
         Found::Privileged
-    } else if last & (f.lower == 1) {
+    } else if last && f.lower == 1 {
         alone(Instr68::Nop)
-    } else if last & (f.lower == 5) {
+    } else if last && f.lower == 5 {
         alone(Instr68::Rts)
-    } else if last & (f.lower == 6) {
+    } else if last && f.lower == 6 {
         alone(Instr68::Trapv)
-    } else if last & (f.lower == 7) {
+    } else if last && f.lower == 7 {
         alone(Instr68::Rtr)
     } else {
         Found::Illegal
@@ -170,9 +170,9 @@ pub fn jumps(f: First, words: &[u16]) -> Found
 {
     let control = in_class(Class::Control, f.mode, f.lower);
     let to = operand_at(words, 1, Size::Four, f.mode, f.lower);
-    if (f.size == 2) & control {
+    if f.size == 2 && control {
         with(Instr68::Jsr { to: to.ea }, to)
-    } else if (f.size == 3) & control {
+    } else if f.size == 3 && control {
         with(Instr68::Jmp { to: to.ea }, to)
     } else {
         Found::Illegal
@@ -189,7 +189,7 @@ pub fn checks_and_addresses(f: First, words: &[u16]) -> Found
 {
     let data = in_class(Class::Data, f.mode, f.lower);
     let control = in_class(Class::Control, f.mode, f.lower);
-    if (f.size == 2) & data {
+    if f.size == 2 && data {
         let bound = operand_at(words, 1, Size::Two, f.mode, f.lower);
         with(
             Instr68::Chk {
@@ -198,7 +198,7 @@ pub fn checks_and_addresses(f: First, words: &[u16]) -> Found
             },
             bound,
         )
-    } else if (f.size == 3) & control {
+    } else if f.size == 3 && control {
         let from = operand_at(words, 1, Size::Four, f.mode, f.lower);
         with(
             Instr68::Lea {

@@ -45,7 +45,7 @@ pub fn moves(f: First, words: &[u16]) -> Found
     let source = is_source(Class::Any, size, f.mode, f.lower);
     let alterable = in_class(Class::DataAlterable, mode, f.upper);
     let from = operand_at(words, 1, size, f.mode, f.lower);
-    if source & alterable {
+    if source && alterable {
         let to = operand_at(words, from.next, size, mode, f.upper);
         Found::Made {
             instruction: Instr68::Move {
@@ -54,9 +54,9 @@ pub fn moves(f: First, words: &[u16]) -> Found
                 to: to.ea,
             },
             used: to.next,
-            good: from.good & to.good,
+            good: from.good && to.good,
         }
-    } else if (f.line > 1) & (mode == 1) & source {
+    } else if f.line > 1 && mode == 1 && source {
         with(
             Instr68::Movea {
                 size,

@@ -55,7 +55,7 @@ pub fn shifts(f: First, words: &[u16]) -> Found
             count: shift_count(f),
             register: f.lower,
         })
-    } else if (f.size == 3) & (f.upper < 4) & memory {
+    } else if f.size == 3 && f.upper < 4 && memory {
         let to = operand_at(words, 1, Size::Two, f.mode, f.lower);
         with(
             Instr68::ShiftMemory {

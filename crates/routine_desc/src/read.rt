@@ -56,7 +56,7 @@ fn broken_header(ram: &Ram, a: u32) -> Option<BadDesc>
         Some(BadDesc::Magic)
     } else if number(ram, a + 2, Size::One) != 7 {
         Some(BadDesc::Version)
-    } else if !((number(ram, a + 4, Size::Four) == 0) & (number(ram, a + 8, Size::One) == 0)) {
+    } else if number(ram, a + 4, Size::Four) != 0 || number(ram, a + 8, Size::One) != 0 {
         Some(BadDesc::Reserved)
     } else if number(ram, a + 10, Size::Two) > 63 {
         Some(BadDesc::Count)
@@ -73,7 +73,7 @@ fn broken_record(ram: &Ram, p: u32) -> Option<BadDesc>
     let _len = ram.len();
     if !has(ram, p, 20) {
         Some(BadDesc::Access)
-    } else if !((number(ram, p + 4, Size::One) == 0) & (number(ram, p + 12, Size::Four) == 0)) {
+    } else if number(ram, p + 4, Size::One) != 0 || number(ram, p + 12, Size::Four) != 0 {
         Some(BadDesc::Reserved)
     } else if number(ram, p + 5, Size::One) > 1 {
         Some(BadDesc::Isa)
@@ -136,7 +136,7 @@ fn target(a: u32, flags: u32, proc: u32) -> u32
 fn have_meaning(flags: u32) -> bool
     ensures { result ≡ are_good_flags flags }
 {
-    (flags < 0x20) & !(flags / 2 % 2 == 1)
+    flags < 0x20 && flags / 2 % 2 != 1
 }
 
 /// Fills the list with the records of a descriptor, from the first one on.
