@@ -29,12 +29,16 @@ pub enum BitOp {
     Bset,
 }
 
-/// The kinds of shifts: arithmetic, logical, rotation with extend, rotation.
+/// The kinds of shifts.
 #[derive(Clone, Copy, PartialEq)]
 pub enum ShiftOp {
+    /// Arithmetic: the sign comes in from the left, zeros from the right.
     As,
+    /// Logical: zeros come in.
     Ls,
+    /// Rotation through X.
     Rox,
+    /// Rotation.
     Ro,
 }
 
