@@ -1,2 +1,4 @@
 pub mod Powers
+pub mod Replaced
 pub mod Every
+pub mod Decimals

@@ -2,6 +2,7 @@ ghost use Rattle.std.specs.Prelude.{◌≡◌, ◌+◌, ◌^◌, ◌<◌, ◌≤
 ghost use Rattle.mix_bits.specs.Digits.{digit_of, digit_replaced};
 
 /// The power `2 ^ n`.
+#[inline(always)]
 pub fn power(n: u32) -> u64
     requires { n ≤ 32 }
     ensures { result ≡ 2 ^ n }
@@ -10,6 +11,7 @@ pub fn power(n: u32) -> u64
 }
 
 /// The `width` bits of `v` from bit `at` on, counted from the least significant bit.
+#[inline(always)]
 pub fn digit(v: u32, at: u32, width: u32) -> u32
     requires { at + width ≤ 32 }
     ensures { result ≡ digit_of v at width }

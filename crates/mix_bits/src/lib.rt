@@ -1,17 +1,22 @@
-//! Words that every crate of the host shares: instruction sets, sizes of values, faults, digits of
-//! numbers and lines of text.
+//! Words that every crate of the host shares: instruction sets, sizes of values, faults, addresses,
+//! digits of numbers and lines of text.
 #![tactic(auto)]
 
+mod addresses;
+mod appends;
 mod digits;
 mod fault;
 mod isa;
+mod laws;
 mod line;
 mod size;
 #[cfg(test)]
 mod tests;
 
+pub use addresses::{aligned, onward};
 pub use digits::{digit, power, with_digit};
 pub use fault::{Fault, FaultKind};
 pub use isa::Isa;
+pub use laws::digit_laws;
 pub use line::Line;
 pub use size::{Size, sext, trunc, with_low};

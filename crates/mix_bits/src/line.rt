@@ -1,7 +1,6 @@
 ghost use Rattle.std.specs.Prelude.{◌≡◌, ◌⊎◌, ◌/◌, ◌%◌, ◌^◌, ◌<◌, ℕ, List, [], decimal, true};
 ghost use Rattle.std.specs.Fmt.{digit_glyph};
-ghost use Rattle.mix_bits.specs.Text.{AppendsWithin, hexadecimal};
-ghost use Rattle.mix_bits.specs.declared.line.TheConstants.{LINE_BYTES};
+ghost use Rattle.mix_bits.specs.Text.{AppendsWithin, hexadecimal, most_bytes};
 
 use super::digits::digit;
 use arrayvec::ArrayVec;
@@ -41,7 +40,7 @@ impl Line {
 
     /// Appends a text, or answers false where the line would get too long.
     pub fn text(&mut self, t: &str) -> bool
-        ensures { AppendsWithin LINE_BYTES self.old self.new t.now result }
+        ensures { AppendsWithin most_bytes self.old self.new t.now result }
     {
         self.kept.try_extend_from_slice(t.as_bytes()).is_ok()
     }
@@ -49,7 +48,7 @@ impl Line {
     /// Appends the lowest 2, 4 or 8 hexadecimal digits of `v`, in upper case.
     pub fn hex(&mut self, v: u32, digits: u32) -> bool
         requires { (digits ≡ 2) ⊎ (digits ≡ 4) ⊎ (digits ≡ 8) }
-        ensures { AppendsWithin LINE_BYTES self.old self.new (hexadecimal digits v) result }
+        ensures { AppendsWithin most_bytes self.old self.new (hexadecimal digits v) result }
     {
         let text = glyphs(v);
         self.kept
@@ -59,7 +58,7 @@ impl Line {
 
     /// Appends `v` in decimal.
     pub fn dec(&mut self, v: u32) -> bool
-        ensures { AppendsWithin LINE_BYTES self.old self.new (decimal v) result }
+        ensures { AppendsWithin most_bytes self.old self.new (decimal v) result }
     {
         let mut buffer = Buffer::new();
         self.kept

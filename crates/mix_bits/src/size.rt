@@ -1,5 +1,5 @@
 ghost use Rattle.std.specs.Prelude.{◌≡◌};
-ghost use Rattle.mix_bits.specs.Sizes.{truncated, sign_extended, low_replaced};
+ghost use Rattle.mix_bits.specs.Sizes.{bytes_of, truncated, sign_extended, low_replaced};
 
 /// How many bytes a value has.
 #[derive(Clone, Copy, Debug, PartialEq, Eq)]
@@ -14,7 +14,23 @@ pub enum Size {
     Four,
 }
 
+impl Size {
+    /// How many bytes a value of this size has.
+    #[inline(always)]
+    pub fn bytes(self) -> u32
+        ensures { result ≡ bytes_of self }
+    {
+        match self {
+            Size::Zero => 0,
+            Size::One => 1,
+            Size::Two => 2,
+            Size::Four => 4,
+        }
+    }
+}
+
 /// The low bytes of `v`, with zeros above them.
+#[inline(always)]
 pub fn trunc(v: u32, s: Size) -> u32
     ensures { result ≡ truncated v s }
 {
@@ -27,6 +43,7 @@ pub fn trunc(v: u32, s: Size) -> u32
 }
 
 /// The low bytes of `v`, with their top bit repeated above them.
+#[inline(always)]
 pub fn sext(v: u32, s: Size) -> u32
     ensures { result ≡ sign_extended v s }
 {
@@ -45,6 +62,7 @@ pub fn sext(v: u32, s: Size) -> u32
 }
 
 /// `old` with its low bytes replaced by those of `v`.
+#[inline(always)]
 pub fn with_low(old: u32, v: u32, s: Size) -> u32
     ensures { result ≡ low_replaced old v s }
 {

@@ -1,0 +1,10 @@
+-- Addresses of 32 bits, whose sums wrap.
+use Rattle.std.specs.Prelude.{ℕ, ◌+◌, ◌*◌, ◌/◌, ◌%◌, ◌^◌}
+
+-- the address n bytes after another one
+abbrev pub onward : ℕ → ℕ → ℕ
+onward a n = (a + n) % 2 ^ 32
+
+-- an address without its two low bits
+abbrev pub aligned : ℕ → ℕ
+aligned a = a / 4 * 4

@@ -1,0 +1,13 @@
+-- Laws of digits.
+use Rattle.std.specs.Prelude.{◌≡◌, ◌⊎◌, ℕ, ◌+◌, ◌^◌, ◌<◌, ◌≤◌}
+use Rattle.mix_bits.specs.Digits.{digit_of, digit_replaced}
+
+-- a digit that was replaced reads back
+abbrev pub ReadsReplaced : Type 0
+ReadsReplaced = (v at width d : ℕ) → d < 2 ^ width → digit_of (digit_replaced v at width d) at width ≡ d
+
+-- a digit that lies below or above the replaced one stays
+abbrev pub OthersStay : Type 0
+OthersStay =
+    (v at width d place size : ℕ) → d < 2 ^ width → (place + size ≤ at) ⊎ (at + width ≤ place)
+    → digit_of (digit_replaced v at width d) place size ≡ digit_of v place size
