@@ -1,5 +1,5 @@
 -- Laws of refusals, and of what a store leaves.
-use Rattle.std.proofs.Common.{◌≡◌, inl, inr, ℕ, zero, suc, ◌+◌, ◌-◌, ◌*◌, ◌/◌, ◌<◌, ◌≤◌, Bool, true, false, List, ◌++◌, length, drop, get_or, slice_range, None, Ok, arith, ◌∙◌, ap, refl}
+use Rattle.std.proofs.Common.{◌≡◌, inl, inr, ℕ, zero, suc, ◌+◌, ◌-◌, ◌*◌, ◌/◌, ◌%◌, ◌<◌, ◌≤◌, Bool, true, false, List, ◌++◌, length, drop, get_or, slice_range, None, Ok, arith, ◌∙◌, ap, refl}
 use Rattle.std.specs.List.{list_any}
 use Rattle.std.proofs.lemmas.Bool.{cases_Bool}
 use Rattle.std.proofs.lemmas.Bool.Decides.{nat_tests}
@@ -50,6 +50,14 @@ passes_within m a n b (suc k) ram none from to =
     let gate : meets_gate b (suc k) ≡ false = grind (arith, nat_tests, all.gate) in
     let guard : meets_guard m b (suc k) ≡ false = test_from_free m b (suc k) ram.units (omega arith) (omega (arith, all.within)) (λ unit low high. free unit (omega arith) (omega arith)) in
     refusal-none m b (suc k) (omega arith) (record { within = omega (arith, all.within); gate = gate; guard = guard })
+
+-- bytes of one unit that is not guarded, above the gate page
+pub open_unit : (m : Memory) (a n : ℕ) → length m.bytes ≡ 16 * length m.marks → 0 < n → a % 16 + n ≤ 16 → 0x2000 ≤ a → a + n ≤ length m.bytes → get_or m.marks (a / 16) false ≡ false → refusal m a n ≡ None
+open_unit m a n units some one above within clear =
+    let gate : meets_gate a n ≡ false = grind (arith, nat_tests) in
+    let guard : meets_guard m a n ≡ false =
+    test_from_free m a n units some within (λ unit low high. let same : unit ≡ a / 16 = omega (arith, low, high) in ap (λ k. get_or m.marks k false) same ∙ clear) in
+    refusal-none m a n some (record { within = within; gate = gate; guard = guard })
 
 pub keeps_refusals : KeepsRefusals
 keeps_refusals m at ys a n within = rw (length-put at ys m.bytes within) refl

@@ -7,22 +7,24 @@ use Rattle.mix_bits.specs.Sizes.{bytes_of}
 use Rattle.big_memory.specs.declared.refusals.Access.{Access}
 use Rattle.big_memory.specs.declared.refusals.Access.TheVariants.{Outside, Gate, Frame}
 use Rattle.big_memory.specs.Lists.{part, put}
+use Rattle.big_memory.specs.Map.{gate_page, gate_page_end}
 
 -- the bytes from address 0 on, and for each unit of 16 bytes whether it is guarded
 pub record Memory : Type 0 where
   pub bytes : List ℕ
   pub marks : List Bool
 
--- what every memory of the machine meets: whole KiB, 128 to 16384 of them
+-- the lowest address of the stack: a quarter of memory lies above it
+abbrev pub floor_of : Memory → ℕ
+floor_of m = length m.bytes - length m.bytes / 4
+
+-- what every memory of the machine meets: whole KiB, 128 to 16384 of them, and a guard of the stack alone
 pub record IsRam (m : Memory) : Type 0 where
   pub units : length m.bytes ≡ 16 * length m.marks
   pub least : 131072 ≤ length m.bytes
   pub most : length m.bytes ≤ 16777216
   pub whole : length m.bytes % 1024 ≡ 0
-
--- the lowest address of the stack: a quarter of memory lies above it
-abbrev pub floor_of : Memory → ℕ
-floor_of m = length m.bytes - length m.bytes / 4
+  pub clear : (unit : ℕ) → 16 * unit < floor_of m → slice_index_or m.marks unit false ≡ false
 
 -- memory of so many zeros, with nothing guarded
 abbrev pub zeroed : ℕ → Memory
@@ -41,7 +43,7 @@ in_memory m a n = n == 0 || nat_le (a + n) (length m.bytes)
 
 -- whether one of the n bytes at a lies in the gate page
 abbrev pub meets_gate : ℕ → ℕ → Bool
-meets_gate a n = nat_lt a 0x2000 && nat_lt 0x1000 (a + n)
+meets_gate a n = nat_lt a gate_page_end && nat_lt gate_page (a + n)
 
 -- whether one of the n bytes at a, at least one, lies in a guarded unit
 abbrev pub meets_guard : Memory → ℕ → ℕ → Bool

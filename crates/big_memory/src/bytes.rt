@@ -1,28 +1,18 @@
 // Numbers and pieces in a list of bytes.
-ghost use Rattle.std.specs.Prelude.{◌≡◌, ◌+◌, ◌≤◌, length, drop, replicate};
+ghost use Rattle.std.specs.Prelude.{◌≡◌, ◌+◌, ◌<◌, ◌≤◌, length, drop, replicate};
 ghost use Rattle.byteorder.specs.Endian.{big_number, big_bytes};
-ghost use Rattle.mix_bits.specs.Sizes.{bytes_of};
+ghost use Rattle.mix_bits.specs.Sizes.{bytes_of, modulus};
 ghost use Rattle.big_memory.specs.Lists.{part, put};
 
 use byteorder::{BigEndian, ByteOrder};
 use mix_bits::Size;
 
-/// How many bytes a value of this size has.
-pub fn count(s: Size) -> u32
-    ensures { result ≡ bytes_of s }
-{
-    match s {
-        Size::Zero => 0,
-        Size::One => 1,
-        Size::Two => 2,
-        Size::Four => 4,
-    }
-}
-
 /// The number in the bytes from `at` on, the most significant byte first.
+#[inline(always)]
 pub fn read_number(bytes: &[u8], at: usize, s: Size) -> u32
     requires { at + bytes_of s ≤ length bytes.now }
-    ensures { result ≡ big_number (bytes_of s) (drop at bytes.now) }
+    ensures is { result ≡ big_number (bytes_of s) (drop at bytes.now) }
+    ensures fits { result < modulus s }
 {
     match s {
         Size::Zero => 0,
@@ -33,6 +23,7 @@ pub fn read_number(bytes: &[u8], at: usize, s: Size) -> u32
 }
 
 /// Writes the low bytes of `v` from `at` on, the most significant byte first.
+#[inline(always)]
 pub fn write_number(bytes: &mut [u8], at: usize, s: Size, v: u32)
     requires { at + bytes_of s ≤ length bytes.old }
     ensures { bytes.new ≡ put at (big_bytes (bytes_of s) v) bytes.old }

@@ -39,7 +39,9 @@ pub fn mark(guard: &mut [u8], from: usize, to: usize, on: bool)
     }
 }
 
-fn is_marked(guard: &[u8], unit: usize) -> bool
+/// Whether a unit is marked.
+#[inline(always)]
+pub fn is_marked(guard: &[u8], unit: usize) -> bool
     requires { unit < length (marks_of guard.now) }
     ensures { result ≡ slice_index_or (marks_of guard.now) unit false }
 {

@@ -1,22 +1,19 @@
-ghost use Rattle.std.specs.Prelude.{◌≡◌, ◌+◌, ◌-◌, ◌/◌, ◌%◌, ◌≤◌, ◌<◌, true, false, length, replicate, IfOk, MatchOption, MatchResult};
-ghost use Rattle.mix_bits.specs.Sizes.{bytes_of};
+ghost use Rattle.std.specs.Prelude.{◌≡◌, ◌+◌, ◌-◌, ◌/◌, ◌%◌, ◌≤◌, ◌<◌, ◌^◌, true, false, length, replicate, None, IsTrue, IfOk, MatchOption, MatchResult};
+ghost use Rattle.mix_bits.specs.Sizes.{bytes_of, modulus};
+ghost use Rattle.mix_bits.specs.declared.size.Size.TheVariants.{One, Two, Four};
 ghost use Rattle.big_memory.specs.Lists.{part};
 ghost use Rattle.big_memory.specs.Memory.{IsRam, IsDoneUnless, IsDoneUnlessRefused, copied, copy_refusal, filled, floor_of, in_memory, loaded, meets_gate, meets_guard, refusal, stored, with_bytes, with_marks, zeroed};
+ghost use Rattle.big_memory.specs.Stores.{Stores, longs_refusal, stored_long, stored_longs, stored_value, with_longs};
 
+use super::map::{GATE_PAGE, GATE_PAGE_END};
 use super::refusals::{Access, NoMemory};
 use super::{bytes, marks};
-use mix_bits::Size;
+use mix_bits::{Size, onward};
 use std::alloc::Global;
 use std::marker::Model;
 
 /// How many bytes one mark of the guard covers.
 const UNIT: usize = 16;
-
-/// Where the gate page begins.
-const GATE_PAGE: u32 = 0x1000;
-
-/// Where the gate page ends.
-const GATE_PAGE_END: u32 = 0x2000;
 
 /// The machine's memory, big endian, with a guard of one bit for each unit of 16 bytes.
 ///
@@ -70,10 +67,12 @@ impl Ram {
     }
 
     /// The number in the bytes at `a`.
+    #[inline(always)]
     pub fn load(&self, a: u32, s: Size) -> Result<u32, Access>
-        ensures { result ≡ loaded self.now a s }
+        ensures is { result ≡ loaded self.now a s }
+        ensures fits { IfOk result (λ v. v < modulus s) }
     {
-        let count = bytes::count(s);
+        let count = s.bytes();
         if count == 0 {
             Ok(0)
         } else if self.has(a, count) {
@@ -83,15 +82,99 @@ impl Ram {
         }
     }
 
+    /// The byte at `a`.
+    #[inline(always)]
+    pub fn load_byte(&self, a: u32) -> Result<u32, Access>
+        ensures is { result ≡ loaded self.now a One }
+        ensures fits { IfOk result (λ v. v < 2 ^ 8) }
+    {
+        self.load(a, Size::One)
+    }
+
+    /// The number in the two bytes at `a`.
+    #[inline(always)]
+    pub fn load_word(&self, a: u32) -> Result<u32, Access>
+        ensures is { result ≡ loaded self.now a Two }
+        ensures fits { IfOk result (λ v. v < 2 ^ 16) }
+    {
+        self.load(a, Size::Two)
+    }
+
+    /// The number in the four bytes at `a`.
+    #[inline(always)]
+    pub fn load_long(&self, a: u32) -> Result<u32, Access>
+        ensures { result ≡ loaded self.now a Four }
+    {
+        self.load(a, Size::Four)
+    }
+
     /// Stores the low bytes of `v` at `a`.
+    #[inline(always)]
     pub fn store(&mut self, a: u32, s: Size, v: u32) -> Result<(), Access>
         ensures { IsDoneUnlessRefused self.old a (bytes_of s) (stored self.old a s v) self.new result (record {}) }
     {
-        let count = bytes::count(s);
+        if self.is_open(a, s.bytes()) {
+            bytes::write_number(&mut self.bytes, a as usize, s, v);
+            Ok(())
+        } else {
+            self.store_probed(a, s, v)
+        }
+    }
+
+    /// The same, for bytes that may meet two units, the gate page, the guard or the end of memory.
+    #[inline(never)]
+    fn store_probed(&mut self, a: u32, s: Size, v: u32) -> Result<(), Access>
+        ensures { IsDoneUnlessRefused self.old a (bytes_of s) (stored self.old a s v) self.new result (record {}) }
+    {
+        let count = s.bytes();
         self.probe(a, count)?;
         if count > 0 {
             bytes::write_number(&mut self.bytes, a as usize, s, v);
         }
+        Ok(())
+    }
+
+    /// Stores the low bytes of `v` at `a`: it is done, or refused with nothing changed.
+    #[inline(always)]
+    pub fn store_value(&mut self, a: u32, s: Size, v: u32) -> Result<(), Access>
+        ensures { Stores result (stored_value self.old a s v) self.old self.new }
+    {
+        self.meets_invariant();
+        self.store(a, s, v)
+    }
+
+    /// Stores the low byte of `v` at `a`, as [`Ram::store_value`] does.
+    #[inline(always)]
+    pub fn store_byte(&mut self, a: u32, v: u32) -> Result<(), Access>
+        ensures { Stores result (stored_value self.old a One v) self.old self.new }
+    {
+        self.store_value(a, Size::One, v)
+    }
+
+    /// Stores the low two bytes of `v` at `a`, as [`Ram::store_value`] does.
+    #[inline(always)]
+    pub fn store_word(&mut self, a: u32, v: u32) -> Result<(), Access>
+        ensures { Stores result (stored_value self.old a Two v) self.old self.new }
+    {
+        self.store_value(a, Size::Two, v)
+    }
+
+    /// Stores `v` in the four bytes at `a`, as [`Ram::store_value`] does.
+    #[inline(always)]
+    pub fn store_long(&mut self, a: u32, v: u32) -> Result<(), Access>
+        ensures { Stores result (stored_long self.old a v) self.old self.new }
+    {
+        self.store_value(a, Size::Four, v)
+    }
+
+    /// Stores longs one after another from `a` on, all of them, or none where one is refused. The
+    /// addresses go on modulo 2^32.
+    pub fn store_longs(&mut self, a: u32, values: &[u32]) -> Result<(), Access>
+        ensures { Stores result (stored_longs self.old a values.now) self.old self.new }
+    {
+        self.meets_invariant();
+        self.probe_longs(a, values.len())?;
+        self.put_longs(a, values);
         Ok(())
     }
 
@@ -186,12 +269,69 @@ impl Ram {
         marks::mark(&mut self.guard, from, to, false);
     }
 
+    /// What every memory meets. It does nothing: the clause is its point.
+    #[inline(always)]
+    fn meets_invariant(&self)
+        ensures { IsRam self.now }
+    {
+        let _ = &self.bytes;
+    }
+
+    /// What a store of `count` longs one after another from `a` on would answer.
+    fn probe_longs(&self, a: u32, count: usize) -> Result<(), Access>
+        ensures { MatchOption (longs_refusal self.now a count) (result ≡ Ok (record {})) (λ e. result ≡ Err e) }
+    {
+        let mut at = a;
+        for _k in 0..count {
+            self.probe(at, 4)?;
+            at = onward(at, 4);
+        }
+        Ok(())
+    }
+
+    /// Stores longs one after another from `a` on, none of which is refused.
+    fn put_longs(&mut self, a: u32, values: &[u32])
+        requires { longs_refusal self.old a (length values.now) ≡ None }
+        ensures { self.new ≡ with_longs a values.now self.old }
+    {
+        let mut at = a;
+        for value in values {
+            self.put_long(at, *value);
+            at = onward(at, 4);
+        }
+    }
+
+    /// Stores a long that is not refused.
+    fn put_long(&mut self, a: u32, value: u32)
+        requires { refusal self.old a 4 ≡ None }
+        ensures { self.new ≡ stored self.old a Four value }
+    {
+        bytes::write_number(&mut self.bytes, a as usize, Size::Four, value);
+    }
+
     /// Whether `n` bytes at `a`, at least one, lie in memory.
+    #[inline(always)]
     fn has(&self, a: u32, n: u32) -> bool
         requires { 0 < n }
         ensures { result ≡ in_memory self.now a n }
     {
         u64::from(a) + u64::from(n) <= self.bytes.len() as u64
+    }
+
+    /// Whether `n` bytes at `a`, at least one, plainly may be stored into: they lie in memory above the
+    /// gate page, in one unit, which is not guarded. Others may be stored into as well.
+    #[inline(always)]
+    #[tactic(auto, using(crate::proofs::Guarded::open_unit))]
+    fn is_open(&self, a: u32, n: u32) -> bool
+        ensures open { IsTrue result → refusal self.now a n ≡ None }
+        ensures within { IsTrue result → a + n ≤ length self.now.bytes }
+        ensures some { IsTrue result → 0 < n }
+    {
+        n > 0
+            && a >= GATE_PAGE_END
+            && self.has(a, n)
+            && a as usize % UNIT + n as usize <= UNIT
+            && !marks::is_marked(&self.guard, a as usize / UNIT)
     }
 
     /// Whether one of `n` bytes at `a`, at least one and all in memory, lies in a guarded unit.

@@ -1,4 +1,8 @@
 // Why a call on memory is refused.
+ghost use Rattle.std.specs.Prelude.{◌≡◌};
+ghost use Rattle.big_memory.specs.Faults.{fault_of};
+
+use mix_bits::{Fault, FaultKind};
 use std::alloc::AllocError;
 
 /// An access that memory refuses, each with its first byte's address.
@@ -10,6 +14,25 @@ pub enum Access {
     Gate(u32),
     /// A byte of it lies in a guarded unit.
     Frame(u32),
+}
+
+impl Access {
+    /// The fault of the instruction at `pc`, which was refused this access.
+    pub fn fault(self, pc: u32) -> Fault
+        ensures { result ≡ fault_of pc self }
+    {
+        let (kind, detail) = match self {
+            Access::Outside(a) => (FaultKind::Outside, a),
+            Access::Gate(a) => (FaultKind::GateStore, a),
+            Access::Frame(a) => (FaultKind::FrameStore, a),
+        };
+        Fault {
+            kind,
+            pc,
+            detail,
+            also: 0,
+        }
+    }
 }
 
 /// There was no memory for what was asked, and nothing was made.

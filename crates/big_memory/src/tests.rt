@@ -1,7 +1,7 @@
 ghost use Rattle.std.specs.Prelude.{◌≡◌, ◌%◌, ◌^◌, ◌<◌, ◌≤◌, length};
 
-use crate::{Access, NoMemory, Ram};
-use mix_bits::Size;
+use crate::{Access, Did, NoMemory, Ram, leave, refuse, stop};
+use mix_bits::{Fault, FaultKind, Size};
 use std::process::Abort;
 use std::test::Fail;
 
@@ -159,4 +159,52 @@ fn a_copy_goes_over_an_overlap_both_ways(rt: HostRuntime) -> Result<(), Fail> {
     assert_eq!(rt; ram.copy(0x4002, 0x4001, 6), Ok(()));
     assert!(rt; holds(&ram, 0x4000, b"aabcdeff"));
     Ok(())
+}
+
+#[test]
+fn longs_are_stored_all_or_none(rt: HostRuntime) -> Result<(), Fail> {
+    let mut ram = memory(&rt, 0x2_0000)?;
+    assert_eq!(rt;
+        ram.store_longs(0x4000, &[0x0102_0304, 0x0506_0708]),
+        Ok(())
+    );
+    assert!(rt; holds(&ram, 0x4000, b"\x01\x02\x03\x04\x05\x06\x07\x08"));
+    assert_eq!(rt;
+        ram.store_longs(0xFF8, &[1, 2, 3]),
+        Err(Access::Gate(0x1000))
+    );
+    assert_eq!(rt; ram.load_long(0xFF8), Ok(0));
+    assert_eq!(rt;
+        ram.store_longs(0xFFFF_FFFC, &[1, 2]),
+        Err(Access::Outside(0xFFFF_FFFC))
+    );
+    assert_eq!(rt; ram.store_longs(0xFFFF_FFFC, &[]), Ok(()));
+    assert_eq!(rt; ram.store_word(0x4001, 0xAABB_CCDD), Ok(()));
+    assert_eq!(rt; ram.store_byte(0x4004, 0xEEFF), Ok(()));
+    assert_eq!(rt; ram.load_word(0x4000), Ok(0x01CC));
+    assert_eq!(rt; ram.load_byte(0x4004), Ok(0xFF));
+    assert_eq!(rt; ram.store_long(0x1FFF, 1), Err(Access::Gate(0x1FFF)));
+    Ok(())
+}
+
+#[test]
+fn what_a_step_answers_stands_in_its_cell(rt: HostRuntime) {
+    let mut cell = Fault {
+        kind: FaultKind::Odd,
+        pc: 0,
+        detail: 0,
+        also: 9,
+    };
+    assert!(rt; stop::<u32>(&mut cell, FaultKind::Illegal, 0x2000, 0x4AFC) == Did::Stop);
+    assert_eq!(rt;
+        (cell.kind, cell.pc, cell.detail, cell.also),
+        (FaultKind::Illegal, 0x2000, 0x4AFC, 0)
+    );
+    assert!(rt; refuse::<u32>(&mut cell, 0x2002, Access::Frame(0xC_0000)) == Did::Stop);
+    assert_eq!(rt;
+        (cell.kind, cell.pc, cell.detail),
+        (FaultKind::FrameStore, 0x2002, 0xC_0000)
+    );
+    assert!(rt; leave::<u32>(&mut cell, 0xA9F4) == Did::Leave);
+    assert_eq!(rt; cell.detail, 0xA9F4);
 }

@@ -148,7 +148,13 @@ is-start ram before r len lo hi file ram_is empty r_is lo_is hi_is large small w
     record {
       state = ap (λ (m : Memory). start_of (program_with m r len lo hi)) memory ∙ ap (λ x. start_of (program_with (record { bytes = start_memory len file; marks = replicate (len / 16) false }) x len lo hi)) r_is;
       program = record {
-        ram = record { units = omega (arith, bytes_is, marks_is, whole); least = omega (arith, bytes_is, large); most = omega (arith, bytes_is, small); whole = ap (λ n. n % 1024) bytes_is ∙ whole };
+        ram = record {
+          units = omega (arith, bytes_is, marks_is, whole);
+          least = omega (arith, bytes_is, large);
+          most = omega (arith, bytes_is, small);
+          whole = ap (λ n. n % 1024) bytes_is ∙ whole;
+          clear = λ unit low. ap (λ (m : Memory). slice_index_or m.marks unit false) memory ∙ none-marked (len / 16) unit;
+        };
         unguarded = λ unit. ap (λ (m : Memory). slice_index_or m.marks unit false) memory ∙ none-marked (len / 16) unit;
         page = subst (λ (m : Memory). HasGatePage 0 m.bytes) (sym memory) (start-page len file large room);
         set = refl;

@@ -103,7 +103,13 @@ with-longs_none at m = ap (λ bytes. record m { bytes = bytes }) (sym (put-nil a
 pub ram-kept : (m : Memory) (at : ℕ) (ys : List ℕ) → at + length ys ≤ length m.bytes → IsRam m → IsRam (with_bytes at ys m)
 ram-kept m at ys within ram =
     let same : length (put at ys m.bytes) ≡ length m.bytes = length-put at ys m.bytes within in
-    record { units = same ∙ ram.units; least = omega (arith, ram.least); most = omega (arith, ram.most); whole = ap (λ n. n % 1024) same ∙ ram.whole }
+    record {
+      units = same ∙ ram.units;
+      least = omega (arith, ram.least);
+      most = omega (arith, ram.most);
+      whole = ap (λ n. n % 1024) same ∙ ram.whole;
+      clear = λ unit low. ram.clear unit (omega (arith, same, low));
+    }
 
 pub length-with_longs : (at : ℕ) (xs : List ℕ) (m : Memory) → at + 4 * length xs ≤ length m.bytes → length (with_bytes at (bytes_of_longs xs) m).bytes ≡ length m.bytes
 length-with_longs at xs m within = length-put at (bytes_of_longs xs) m.bytes (omega (arith, length-bytes xs))

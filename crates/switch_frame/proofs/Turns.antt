@@ -43,18 +43,28 @@ cond-false false x none = refl
 in-low : (lo hi unit : ℕ) → in_range lo hi unit ≡ true → 16 * unit < hi
 in-low lo hi unit e = grind (arith, nat_tests)
 
--- memory with the marks of a record's units replaced
-marks-kept : (m : Memory) (r : Record) (on : Bool) → IsUnits r → r.hi ≤ length m.bytes → IsRam m → IsRam (with_marks (r.lo / 16) (replicate ((r.hi - r.lo) / 16) on) m)
-marks-kept m r on units within ram =
-    let count : length (replicate ((r.hi - r.lo) / 16) on) ≡ (r.hi - r.lo) / 16 = length-replicate ((r.hi - r.lo) / 16) on in
-    let same : length (put (r.lo / 16) (replicate ((r.hi - r.lo) / 16) on) m.marks) ≡ length m.marks
-    = length-put (r.lo / 16) (replicate ((r.hi - r.lo) / 16) on) m.marks (omega (arith, ram.units, units.lo, units.hi, units.order)) in
-    record { units = ram.units ∙ ap (λ n. 16 * n) (sym same); least = ram.least; most = ram.most; whole = ram.whole }
+below-range : (lo hi unit : ℕ) → 16 * unit < lo → in_range lo hi unit ≡ false
+below-range lo hi unit low = grind (arith, nat_tests)
 
+-- memory with the marks of a record's units replaced
 mark-at : (m : Memory) (r : Record) (on : Bool) (unit : ℕ) → IsUnits r → r.hi ≤ length m.bytes → IsRam m → get_or (put (r.lo / 16) (replicate ((r.hi - r.lo) / 16) on) m.marks) unit false ≡ cond (in_range r.lo r.hi unit) on (get_or m.marks unit false)
 mark-at m r on unit units within ram =
     get_or-put_replicate (r.lo / 16) ((r.hi - r.lo) / 16) unit on false m.marks (omega (arith, ram.units, units.lo, units.hi, units.order))
     ∙ ap (λ b. cond b on (get_or m.marks unit false)) (range-units r.lo r.hi unit units.lo units.hi units.order)
+
+marks-kept : (m : Memory) (r : Record) (on : Bool) → IsUnits r → floor_of m ≤ r.lo → r.hi ≤ length m.bytes → IsRam m → IsRam (with_marks (r.lo / 16) (replicate ((r.hi - r.lo) / 16) on) m)
+marks-kept m r on units stack within ram =
+    let count : length (replicate ((r.hi - r.lo) / 16) on) ≡ (r.hi - r.lo) / 16 = length-replicate ((r.hi - r.lo) / 16) on in
+    let same : length (put (r.lo / 16) (replicate ((r.hi - r.lo) / 16) on) m.marks) ≡ length m.marks
+    = length-put (r.lo / 16) (replicate ((r.hi - r.lo) / 16) on) m.marks (omega (arith, ram.units, units.lo, units.hi, units.order)) in
+    record {
+      units = ram.units ∙ ap (λ n. 16 * n) (sym same);
+      least = ram.least;
+      most = ram.most;
+      whole = ram.whole;
+      clear = λ unit low.
+          mark-at m r on unit units within ram ∙ ap (λ b. cond b on (get_or m.marks unit false)) (below-range r.lo r.hi unit (omega (arith, stack, low))) ∙ ram.clear unit low;
+    }
 
 -- memory after a push, and after a pop
 abbrev pub pushed : Memory → Record → List Record → Memory
@@ -87,9 +97,10 @@ pushed-chain m top rs r chain few fits =
     let kept : Frames (length m.bytes) (put r.lo held m.bytes) rs = frames-kept len r.lo held m.bytes rs ok within apart links.frames in
     let whole : Frames (length m.bytes) (put r.lo held m.bytes) (r ∷ rs) = (part-put_same r.lo (r.hi - r.lo) held m.bytes size (omega (arith, range.some, range.end)), fits, kept) in
     let end : r.hi ≤ length (put r.lo held m.bytes) = omega (arith, range.end, same) in
+    let stack : floor_of (with_bytes r.lo held m) ≤ r.lo = omega (arith, same, fits.stack) in
     record {
       links = record {
-        ram = marks-kept (with_bytes r.lo held m) r true units end ram;
+        ram = marks-kept (with_bytes r.lo held m) r true units stack end ram;
         first = refl;
         few = omega (arith, few);
         frames = subst (λ n. Frames n (put r.lo held m.bytes) (r ∷ rs)) (sym same) whole;
@@ -113,10 +124,11 @@ popped-chain m top rs r chain =
     let apart : Apart r.lo (length none) rs = outside-apart len m.bytes r rs (length none) ok fits links.frames.2 size in
     let kept : Frames (length m.bytes) (put r.lo none m.bytes) rs = frames-kept len r.lo none m.bytes rs ok within apart links.frames.2 in
     let end : r.hi ≤ length (put r.lo none m.bytes) = omega (arith, range.end, same) in
+    let stack : floor_of (with_bytes r.lo none m) ≤ r.lo = omega (arith, same, fits.stack) in
     let above : Above r.hi rs = frames-above len m.bytes r rs ok fits.inside links.frames.2 in
     record {
       links = record {
-        ram = marks-kept (with_bytes r.lo none m) r false units end ram;
+        ram = marks-kept (with_bytes r.lo none m) r false units stack end ram;
         first = refl;
         few = omega (arith, links.few);
         frames = subst (λ n. Frames n (put r.lo none m.bytes) rs) (sym same) kept;

@@ -1,4 +1,5 @@
-use Rattle.std.proofs.Common.{◌≡◌, ◌%◌, ◌/◌, ◌*◌, ℕ, false, List, replicate, arith, ap, ◌∙◌, refl}
+use Rattle.std.proofs.Common.{◌≡◌, ◌%◌, ◌/◌, ◌*◌, ℕ, false, List, replicate, get_or, arith, ap, ◌∙◌, refl}
+use Rattle.std.proofs.lemmas.List.{places}
 use Rattle.big_memory.specs.Marks.{marks_of}
 use Rattle.big_memory.specs.Memory.{Memory, zeroed}
 use Rattle.big_memory.proofs.Packed.{length-marks, marks-zeros}
@@ -11,10 +12,16 @@ zeros n bytes guard whole all clear =
     let marks : marks_of guard ≡ replicate (n / 16) false = ap marks_of clear ∙ marks-zeros (n / 16 / 8) ∙ ap (λ k. replicate k false) units in
     rw (all, marks) refl
 
+none-marked : (n unit : ℕ) → get_or (replicate n false) unit false ≡ false
+none-marked n unit = grind (arith, places)
+
 pub invariant_of-result : goal.invariant_of-result
 invariant_of-result c =
     let bytes = c.in_ok-vec.ensures.len in let guard = c.in_ok-vec-2.ensures.len in
+    let marks : marks_of c.in_ok-vec-2.field-0.items ≡ replicate (8 * (c.args.bytes / 16 / 8)) false =
+    ap marks_of (c.in_ok-vec-2.ensures.items_if_clones_equal (λ y same. same)) ∙ marks-zeros (c.args.bytes / 16 / 8) in
     record {
+      clear = λ unit low. ap (λ ms. get_or ms unit false) marks ∙ none-marked (8 * (c.args.bytes / 16 / 8)) unit;
       units = omega (arith, bytes, guard, c.requires.whole, length-marks c.in_ok-vec-2.field-0.items);
       least = omega (arith, bytes);
       most = omega (arith, bytes);

@@ -1,0 +1,28 @@
+-- What a step of one instruction set answers, for any set's registers.
+use Rattle.std.specs.Prelude.{◌≡◌, ℕ, Result, Ok, Err}
+use Rattle.mix_bits.specs.declared.fault.Fault.{Fault}
+use Rattle.big_memory.specs.declared.refusals.Access.{Access}
+use Rattle.big_memory.specs.declared.steps.Did.{Did}
+use Rattle.big_memory.specs.declared.steps.Did.TheVariants.{Next, Leave, Stop}
+use Rattle.big_memory.specs.Memory.{Memory}
+use Rattle.big_memory.specs.Faults.{fault_of}
+use Rattle.big_memory.specs.Stores.{OnlyFree}
+
+-- a step goes on with registers and memory; or it leaves the set's code, for the host, by a number; or
+-- it stops at a fault. Only a step that goes on changes anything
+pub data After (R : Type 0) : Type 0 where
+  Goes : (next : R) (memory : Memory) → After R
+  Leaves : (number : ℕ) → After R
+  Stops : (fault : Fault) → After R
+
+-- the step of the instruction at pc, once what it stores is stored or refused
+abbrev pub after_store : {R : Type 0} → ℕ → R → Result Memory Access → After R
+after_store pc next (Ok m) = Goes next m
+after_store pc next (Err e) = Stops (fault_of pc e)
+
+-- a call that does the step, from registers r and memory m to registers next and memory n. The fault,
+-- or the number as its detail, stands in a cell beside them
+abbrev pub Does : {R : Type 0} → After R → Did → Fault → R → R → Memory → Memory → Type 0
+Does step Next cell r next m n = (step ≡ Goes next n) × OnlyFree m n
+Does step Leave cell r next m n = (step ≡ Leaves cell.detail) × (next ≡ r) × (n ≡ m)
+Does step Stop cell r next m n = (step ≡ Stops cell) × (next ≡ r) × (n ≡ m)
