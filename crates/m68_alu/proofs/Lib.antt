@@ -1,1 +1,4 @@
 pub mod Repeats
+pub mod Zeros
+pub mod Signs
+pub mod Overflows

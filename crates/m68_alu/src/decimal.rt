@@ -8,7 +8,8 @@ use m68_isa::Ccr;
 
 /// ABCD.
 pub fn abcd(dst: u32, src: u32, old: Ccr) -> Out
-    ensures { result ≡ decimal_added dst src old }
+    ensures value { result ≡ decimal_added dst src old }
+    ensures below { result.value < 256 }
 {
     let total = high_digit(dst) + high_digit(src) + low_sum(dst, src, old.x);
     if total > 0x9F {
@@ -20,7 +21,8 @@ pub fn abcd(dst: u32, src: u32, old: Ccr) -> Out
 
 /// SBCD.
 pub fn sbcd(dst: u32, src: u32, old: Ccr) -> Out
-    ensures { result ≡ decimal_subtracted dst src old }
+    ensures value { result ≡ decimal_subtracted dst src old }
+    ensures below { result.value < 256 }
 {
     let total = difference(dst, src, old.x);
     if total < 0 {

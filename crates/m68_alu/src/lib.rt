@@ -17,4 +17,5 @@ pub use m68_isa::{LogicOp, ShiftOp};
 pub use products::mul;
 pub use quotients::{Quotient, div};
 pub use shifts::shift;
+pub use sizes::result_flags;
 pub use sums::{Out, add, addx, cmp, sub, subx};

@@ -1,6 +1,6 @@
 // AND, OR and EOR.
-ghost use Rattle.std.specs.Prelude.{◌≡◌, ◌≢◌};
-ghost use Rattle.mix_bits.specs.Sizes.{truncated};
+ghost use Rattle.std.specs.Prelude.{◌≡◌, ◌≢◌, ◌<◌};
+ghost use Rattle.mix_bits.specs.Sizes.{modulus, truncated};
 ghost use Rattle.mix_bits.specs.declared.size.Size.TheVariants.{Zero};
 ghost use Rattle.m68_alu.specs.Logical.{combined};
 
@@ -10,9 +10,11 @@ use m68_isa::{Ccr, LogicOp};
 use mix_bits::{Size, trunc};
 
 /// AND, OR or EOR: N and Z by the result, V and C cleared, X as it was.
+#[inline]
 pub fn logic(op: LogicOp, s: Size, dst: u32, src: u32, old: Ccr) -> Out
     requires { s ≢ Zero }
-    ensures { result ≡ combined op s (truncated dst s) (truncated src s) old }
+    ensures value { result ≡ combined op s (truncated dst s) (truncated src s) old }
+    ensures below { result.value < modulus s }
 {
     let d = trunc(dst, s);
     let r = trunc(src, s);

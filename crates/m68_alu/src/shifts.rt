@@ -1,13 +1,14 @@
-// Shifts and rotates, one bit after the other.
-ghost use Rattle.std.specs.Prelude.{◌≡◌, ◌≢◌, ◌<◌};
-ghost use Rattle.mix_bits.specs.Sizes.{modulus as modulus_lem};
+// Shifts and rotates: shifts at once, rotates one bit after the other.
+ghost use Rattle.std.specs.Prelude.{◌≡◌, ◌≢◌, ◌<◌, ◌*◌, ◌^◌, ◌==◌, ◌-◌, ◌≤◌, ◌/◌, ◌%◌, ◌&&◌, not, nat_lt, if◌then◌else◌, true, false};
+ghost use Rattle.mix_bits.specs.Sizes.{modulus as modulus_lem, truncated};
 ghost use Rattle.mix_bits.specs.declared.size.Size.TheVariants.{Zero};
+ghost use Rattle.m68_alu.specs.Sizes.{half as half_lem};
 ghost use Rattle.m68_alu.specs.Shifts.{begun, bit_in as bit_in_lem, bit_out as bit_out_lem, changes as changes_lem, ended, extend_after as extend_after_lem, moved as moved_lem, once as once_lem, shifted};
 
 use super::sizes::{half, is_negative, modulus};
 use super::sums::Out;
 use m68_isa::{Ccr, ShiftOp};
-use mix_bits::{Size, trunc};
+use mix_bits::{Size, power, trunc};
 
 /// A value on its way: the bit that went out last, X, and whether the sign changed.
 #[derive(Clone, Copy)]
@@ -22,13 +23,183 @@ pub struct Shifting {
 pub fn shift(op: ShiftOp, left: bool, s: Size, v: u32, count: u32, old: Ccr) -> Out
     requires size { s ≢ Zero }
     requires count { count < 64 }
-    ensures { result ≡ shifted op left s v count old }
+    ensures value { result ≡ shifted op left s v count old }
+    ensures below { result.value < modulus_lem s }
+{
+    match op {
+        ShiftOp::Ls if left => zeros_left(s, v, count, old),
+        ShiftOp::Ls => zeros_right(s, v, count, old),
+        ShiftOp::As if left => sign_left(s, v, count, old),
+        ShiftOp::As => sign_right(s, v, count, old),
+        ShiftOp::Rox | ShiftOp::Ro => one_by_one(op, left, s, v, count, old),
+    }
+}
+
+/// The same, one single shift after another.
+fn one_by_one(op: ShiftOp, left: bool, s: Size, v: u32, count: u32, old: Ccr) -> Out
+    requires size { s ≢ Zero }
+    requires count { count < 64 }
+    ensures value { result ≡ shifted op left s v count old }
+    ensures below { result.value < modulus_lem s }
 {
     let mut state = begin(op, s, v, old);
     for _i in 0..count {
         state = once(op, left, s, state);
     }
     end(s, state)
+}
+
+/// `count` shifts to the right that zeros follow, at once.
+#[inline]
+fn zeros_right(s: Size, v: u32, count: u32, old: Ccr) -> Out
+    requires size { s ≢ Zero }
+    requires count { count < 64 }
+    ensures value { result ≡ shifted ShiftOp.Ls false s v count old }
+    ensures below { result.value < modulus_lem s }
+{
+    let from = u64::from(trunc(v, s));
+    let out = (2 * from >> count) % 2 == 1;
+    let state = Shifting {
+        value: (from >> count) as u32,
+        out,
+        x: extend_behind(count, out, old.x),
+        changed: false,
+    };
+    end(s, state)
+}
+
+/// `count` shifts to the right that the sign follows, at once.
+#[inline]
+fn sign_right(s: Size, v: u32, count: u32, old: Ccr) -> Out
+    requires size { s ≢ Zero }
+    requires count { count < 64 }
+    ensures value { result ≡ shifted ShiftOp.As false s v count old }
+    ensures below { result.value < modulus_lem s }
+{
+    let from = trunc(v, s);
+    if is_negative(s, from) {
+        negative_right(s, v, count, old)
+    } else {
+        zeros_right(s, v, count, old)
+    }
+}
+
+/// The same of a negative value, whose ones complement zeros follow.
+#[inline]
+fn negative_right(s: Size, v: u32, count: u32, old: Ccr) -> Out
+    requires size { s ≢ Zero }
+    requires negative { half_lem s ≤ truncated v s }
+    requires count { count < 64 }
+    ensures value { result ≡ shifted ShiftOp.As false s v count old }
+    ensures below { result.value < modulus_lem s }
+{
+    let zeros = complement(s, v);
+    let out = complement_out(zeros, count);
+    let state = Shifting {
+        value: (modulus(s) - 1 - (zeros >> count)) as u32,
+        out,
+        x: extend_behind(count, out, old.x),
+        changed: false,
+    };
+    end(s, state)
+}
+
+/// The bit that goes out last of a negative value, by its ones complement.
+#[inline]
+fn complement_out(zeros: u64, count: u32) -> bool
+    requires zeros { zeros < 2 ^ 32 }
+    requires count { count < 64 }
+    ensures { result ≡ (not (count == 0) && (2 * zeros / 2 ^ count % 2 == 0)) }
+{
+    count != 0 && (2 * zeros >> count) % 2 == 0
+}
+
+/// The ones complement of the low bytes of a value.
+#[inline]
+fn complement(s: Size, v: u32) -> u64
+    ensures value { result ≡ modulus_lem s - 1 - truncated v s }
+    ensures below { result < modulus_lem s }
+    ensures long { result < 2 ^ 32 }
+{
+    modulus(s) - 1 - u64::from(trunc(v, s))
+}
+
+/// `count` shifts to the left that zeros follow, at once.
+#[inline]
+fn zeros_left(s: Size, v: u32, count: u32, old: Ccr) -> Out
+    requires size { s ≢ Zero }
+    requires count { count < 64 }
+    ensures value { result ≡ shifted ShiftOp.Ls true s v count old }
+    ensures below { result.value < modulus_lem s }
+{
+    let wide = moved_far(trunc(v, s), count);
+    let out = wide / modulus(s) % 2 == 1;
+    let state = Shifting {
+        value: (wide % modulus(s)) as u32,
+        out,
+        x: extend_behind(count, out, old.x),
+        changed: false,
+    };
+    end(s, state)
+}
+
+/// X behind so many shifts, of which the last one put a bit out.
+#[inline]
+fn extend_behind(count: u32, out: bool, old: bool) -> bool
+    ensures { result ≡ (if count == 0 then old else out) }
+{
+    if count == 0 { old } else { out }
+}
+
+/// `count` arithmetic shifts to the left, at once.
+#[inline]
+fn sign_left(s: Size, v: u32, count: u32, old: Ccr) -> Out
+    requires size { s ≢ Zero }
+    requires count { count < 64 }
+    ensures value { result ≡ shifted ShiftOp.As true s v count old }
+    ensures below { result.value < modulus_lem s }
+{
+    let from = trunc(v, s);
+    let out = zeros_left(s, v, count, old);
+    let changed = if is_negative(s, from) {
+        has_left((modulus(s) - u64::from(from)) as u32, count, half(s))
+    } else {
+        has_left(from, count, half(s) - 1)
+    };
+    Out {
+        value: out.value,
+        ccr: Ccr {
+            v: changed,
+            ..out.ccr
+        },
+    }
+}
+
+/// Whether a value that is moved to the left gets greater than the greatest one of a size.
+#[inline]
+fn has_left(v: u32, count: u32, most: u32) -> bool
+    requires { count < 64 }
+    ensures { result ≡ nat_lt most (v * 2 ^ count) }
+{
+    if count > 32 {
+        v > 0
+    } else {
+        u64::from(v) * power(count) > u64::from(most)
+    }
+}
+
+/// A value moved to the left in a number of twice the bits, 0 where all its bits have left a long.
+#[inline]
+fn moved_far(v: u32, count: u32) -> u64
+    requires { count < 64 }
+    ensures near { count < 33 → result ≡ v * 2 ^ count }
+    ensures far { 32 < count → result ≡ 0 }
+{
+    if count > 32 {
+        0
+    } else {
+        u64::from(v) * power(count)
+    }
 }
 
 /// The result after the last shift.

@@ -61,7 +61,8 @@ pub fn leaves(s: Size, number: i64) -> bool
     number < -half || number >= half
 }
 
-/// N and Z by a result, V and C cleared, X as it was.
+/// The condition codes of a value that is moved: N and Z by the value, V and C cleared, X as it was.
+#[inline]
 pub fn result_flags(s: Size, value: u32, old: Ccr) -> Ccr
     ensures { result ≡ result_flags_lem s value old }
 {

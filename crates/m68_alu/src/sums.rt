@@ -18,43 +18,53 @@ pub struct Out {
 }
 
 /// ADD.
+#[inline]
 pub fn add(s: Size, dst: u32, src: u32, old: Ccr) -> Out
     requires { s ≢ Zero }
-    ensures { result ≡ sum_of s (truncated dst s) (truncated src s) false }
+    ensures value { result ≡ sum_of s (truncated dst s) (truncated src s) false }
+    ensures below { result.value < modulus_lem s }
 {
     let _ = old;
     sum(s, trunc(dst, s), trunc(src, s), false)
 }
 
 /// ADDX: with X, and Z is only cleared.
+#[inline]
 pub fn addx(s: Size, dst: u32, src: u32, old: Ccr) -> Out
     requires { s ≢ Zero }
-    ensures { result ≡ with_old_zero (sum_of s (truncated dst s) (truncated src s) old.x) old }
+    ensures value { result ≡ with_old_zero (sum_of s (truncated dst s) (truncated src s) old.x) old }
+    ensures below { result.value < modulus_lem s }
 {
     keep_zero(sum(s, trunc(dst, s), trunc(src, s), old.x), old)
 }
 
 /// SUB.
+#[inline]
 pub fn sub(s: Size, dst: u32, src: u32, old: Ccr) -> Out
     requires { s ≢ Zero }
-    ensures { result ≡ difference_of s (truncated dst s) (truncated src s) false }
+    ensures value { result ≡ difference_of s (truncated dst s) (truncated src s) false }
+    ensures below { result.value < modulus_lem s }
 {
     let _ = old;
     difference(s, trunc(dst, s), trunc(src, s), false)
 }
 
 /// SUBX: with X, and Z is only cleared.
+#[inline]
 pub fn subx(s: Size, dst: u32, src: u32, old: Ccr) -> Out
     requires { s ≢ Zero }
-    ensures { result ≡ with_old_zero (difference_of s (truncated dst s) (truncated src s) old.x) old }
+    ensures value { result ≡ with_old_zero (difference_of s (truncated dst s) (truncated src s) old.x) old }
+    ensures below { result.value < modulus_lem s }
 {
     keep_zero(difference(s, trunc(dst, s), trunc(src, s), old.x), old)
 }
 
 /// CMP: a difference that leaves X as it was.
+#[inline]
 pub fn cmp(s: Size, dst: u32, src: u32, old: Ccr) -> Out
     requires { s ≢ Zero }
-    ensures { result ≡ with_old_extend (difference_of s (truncated dst s) (truncated src s) false) old }
+    ensures value { result ≡ with_old_extend (difference_of s (truncated dst s) (truncated src s) false) old }
+    ensures below { result.value < modulus_lem s }
 {
     let out = difference(s, trunc(dst, s), trunc(src, s), false);
     Out {
@@ -68,7 +78,8 @@ pub fn cmp(s: Size, dst: u32, src: u32, old: Ccr) -> Out
 
 /// The result with Z only cleared.
 fn keep_zero(out: Out, old: Ccr) -> Out
-    ensures { result ≡ with_old_zero out old }
+    ensures value { result ≡ with_old_zero out old }
+    ensures same { result.value ≡ out.value }
 {
     Out {
         value: out.value,
@@ -83,7 +94,8 @@ fn keep_zero(out: Out, old: Ccr) -> Out
 fn sum(s: Size, d: u32, r: u32, carry: bool) -> Out
     requires d { d < modulus_lem s }
     requires r { r < modulus_lem s }
-    ensures { result ≡ sum_of s d r carry }
+    ensures value { result ≡ sum_of s d r carry }
+    ensures below { result.value < modulus_lem s }
 {
     let total = u64::from(d) + (u64::from(r) + u64::from(carry));
     let value = (total % modulus(s)) as u32;
@@ -104,7 +116,8 @@ fn sum(s: Size, d: u32, r: u32, carry: bool) -> Out
 fn difference(s: Size, d: u32, r: u32, borrow: bool) -> Out
     requires d { d < modulus_lem s }
     requires r { r < modulus_lem s }
-    ensures { result ≡ difference_of s d r borrow }
+    ensures value { result ≡ difference_of s d r borrow }
+    ensures below { result.value < modulus_lem s }
 {
     let taken = u64::from(r) + u64::from(borrow);
     let value = ((u64::from(d) + modulus(s) - taken) % modulus(s)) as u32;

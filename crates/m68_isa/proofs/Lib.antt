@@ -1,3 +1,5 @@
 pub mod Extensions
 mod Table
 mod Counts
+pub mod Bits
+mod Opposites

@@ -3,13 +3,13 @@ use Rattle.std.specs.Prelude.{ℕ, ◌≡◌}
 use Rattle.mix_bits.specs.Sizes.{sign_extended}
 use Rattle.mix_bits.specs.declared.size.Size.TheVariants.{One, Two}
 use Rattle.m68_isa.specs.declared.ea.Ea.{Ea}
-use Rattle.m68_isa.specs.declared.ea.Ea.TheVariants.{Disp, Indexed, AbsWord, PcDisp, PcIndexed}
+use Rattle.m68_isa.specs.declared.ea.Ea.TheVariants.{Dn, An, Ind, Post, Pre, Disp, Indexed, AbsWord, AbsLong, PcDisp, PcIndexed, Imm}
 use Rattle.m68_isa.specs.declared.instructions.Instr68.{Instr68}
-use Rattle.m68_isa.specs.declared.instructions.Instr68.TheVariants.{Immediate, BitByRegister, BitByNumber, Movep, Move, Movea, Negx, Clr, Neg, Not, MoveFromSr, MoveToCcr, Nbcd, Pea, MovemToMemory, MovemFromMemory, Tst, Tas, Link, Jsr, Jmp, Chk, Lea, Addq, Subq, Scc, Dbcc, Bcc, Moveq, Or, Div, Sub, Suba, Cmp, Cmpa, Eor, And, Mul, Add, Adda, ShiftMemory}
+use Rattle.m68_isa.specs.declared.instructions.Instr68.TheVariants.{Immediate, ImmediateToCcr, BitByRegister, BitByNumber, Movep, Move, Movea, Negx, Clr, Neg, Not, MoveFromSr, MoveToCcr, Nbcd, Swap, Pea, Ext, MovemToMemory, MovemFromMemory, Tst, Tas, Trap, Link, Unlk, Nop, Rts, Trapv, Rtr, Jsr, Jmp, Chk, Lea, Addq, Subq, Scc, Dbcc, Bcc, Moveq, Or, Div, Sbcd, Sub, Suba, Subx, Cmp, Cmpa, Eor, Cmpm, And, Mul, Abcd, Exg, Add, Adda, Addx, Shift, ShiftMemory}
 use Rattle.m68_isa.specs.declared.instructions.Decoded68.{Decoded68}
-use Rattle.m68_isa.specs.declared.instructions.Decoded68.TheVariants.{Op}
+use Rattle.m68_isa.specs.declared.instructions.Decoded68.TheVariants.{Op, LineA, LineF, Privileged, Illegal, Short}
 use Rattle.m68_isa.specs.declared.found.Found.{Found}
-use Rattle.m68_isa.specs.declared.found.Found.TheVariants.{Made}
+use Rattle.m68_isa.specs.declared.found.Found.TheVariants.{Made, Privileged as RowPrivileged, Illegal as RowIllegal}
 
 -- a word with its sign repeated above it
 abbrev pub IsWord : ℕ → Type 0
@@ -25,7 +25,13 @@ IsExtendedEa (Indexed n i) = IsByte i.disp
 IsExtendedEa (AbsWord a) = IsWord a
 IsExtendedEa (PcDisp at d) = IsWord d
 IsExtendedEa (PcIndexed at i) = IsByte i.disp
-IsExtendedEa _ = Unit {0}
+IsExtendedEa (Dn n) = Unit {0}
+IsExtendedEa (An n) = Unit {0}
+IsExtendedEa (Ind n) = Unit {0}
+IsExtendedEa (Post n) = Unit {0}
+IsExtendedEa (Pre n) = Unit {0}
+IsExtendedEa (AbsLong a) = Unit {0}
+IsExtendedEa (Imm v) = Unit {0}
 
 -- each displacement, short address and quick value of an instruction is sign extended
 abbrev pub IsExtended : Instr68 → Type 0
@@ -70,12 +76,32 @@ IsExtended (Mul signed by register) = IsExtendedEa by
 IsExtended (Add size to_memory register operand) = IsExtendedEa operand
 IsExtended (Adda size from to) = IsExtendedEa from
 IsExtended (ShiftMemory op left to) = IsExtendedEa to
-IsExtended _ = Unit {0}
+IsExtended (ImmediateToCcr op value) = Unit {0}
+IsExtended (Swap register) = Unit {0}
+IsExtended (Ext size register) = Unit {0}
+IsExtended (Trap number) = Unit {0}
+IsExtended (Unlk register) = Unit {0}
+IsExtended Nop = Unit {0}
+IsExtended Rts = Unit {0}
+IsExtended Trapv = Unit {0}
+IsExtended Rtr = Unit {0}
+IsExtended (Sbcd memory from to) = Unit {0}
+IsExtended (Subx size memory from to) = Unit {0}
+IsExtended (Cmpm size from to) = Unit {0}
+IsExtended (Abcd memory from to) = Unit {0}
+IsExtended (Exg kind upper lower) = Unit {0}
+IsExtended (Addx size memory from to) = Unit {0}
+IsExtended (Shift op left size count register) = Unit {0}
 
 abbrev pub IsExtendedFound : Found → Type 0
 IsExtendedFound (Made i used good) = IsExtended i
-IsExtendedFound _ = Unit {0}
+IsExtendedFound RowPrivileged = Unit {0}
+IsExtendedFound RowIllegal = Unit {0}
 
 abbrev pub IsExtendedDecoded : Decoded68 → Type 0
 IsExtendedDecoded (Op i used) = IsExtended i
-IsExtendedDecoded _ = Unit {0}
+IsExtendedDecoded (LineA word) = Unit {0}
+IsExtendedDecoded LineF = Unit {0}
+IsExtendedDecoded Privileged = Unit {0}
+IsExtendedDecoded Illegal = Unit {0}
+IsExtendedDecoded Short = Unit {0}

@@ -1,5 +1,6 @@
 -- The ranges of an instruction's fields.
-use Rattle.std.specs.Prelude.{ℕ, ◌<◌, ◌≤◌, ◌≢◌}
+use Rattle.std.specs.Prelude.{ℕ, ◌<◌, ◌≤◌, ◌^◌, ◌≢◌}
+use Rattle.mix_bits.specs.Sizes.{modulus}
 use Rattle.mix_bits.specs.declared.size.Size.TheVariants.{Zero}
 use Rattle.m68_isa.specs.declared.ea.Ea.{Ea}
 use Rattle.m68_isa.specs.declared.ea.Ea.TheVariants.{Dn, An, Ind, Post, Pre, Disp, Indexed, AbsWord, AbsLong, PcDisp, PcIndexed, Imm}
@@ -29,16 +30,16 @@ HasRegisters (Imm v) = Unit {0}
 
 -- a number from 1 to 8 or a register
 abbrev pub HasCount : ShiftCount → Type 0
-HasCount (Number n) = n < 9
+HasCount (Number n) = (0 < n) × (n < 9)
 HasCount (Register n) = n < 8
 
 -- each register of an instruction is one of the eight, each size is that of a value, and
--- numbers and conditions are in their ranges
+-- numbers, values, masks and conditions are in their ranges
 abbrev pub HasFields : Instr68 → Type 0
-HasFields (Immediate op size value to) = (size ≢ Zero) × (HasRegisters to)
-HasFields (ImmediateToCcr op value) = Unit {0}
+HasFields (Immediate op size value to) = (size ≢ Zero) × (value < modulus size) × (HasRegisters to)
+HasFields (ImmediateToCcr op value) = value < 256
 HasFields (BitByRegister op register to) = (register < 8) × (HasRegisters to)
-HasFields (BitByNumber op bit to) = HasRegisters to
+HasFields (BitByNumber op bit to) = (bit < 256) × (HasRegisters to)
 HasFields (Movep size to_memory register base disp) = (size ≢ Zero) × (register < 8) × (base < 8)
 HasFields (Move size from to) = (size ≢ Zero) × (HasRegisters from) × (HasRegisters to)
 HasFields (Movea size from to) = (size ≢ Zero) × (HasRegisters from) × (to < 8)
@@ -52,8 +53,8 @@ HasFields (Nbcd to) = HasRegisters to
 HasFields (Swap register) = register < 8
 HasFields (Pea from) = HasRegisters from
 HasFields (Ext size register) = (size ≢ Zero) × (register < 8)
-HasFields (MovemToMemory size mask to) = (size ≢ Zero) × (HasRegisters to)
-HasFields (MovemFromMemory size mask from) = (size ≢ Zero) × (HasRegisters from)
+HasFields (MovemToMemory size mask to) = (size ≢ Zero) × (mask < 2 ^ 16) × (HasRegisters to)
+HasFields (MovemFromMemory size mask from) = (size ≢ Zero) × (mask < 2 ^ 16) × (HasRegisters from)
 HasFields (Tst size of) = (size ≢ Zero) × (HasRegisters of)
 HasFields (Tas to) = HasRegisters to
 HasFields (Trap number) = number < 16
@@ -67,8 +68,8 @@ HasFields (Jsr to) = HasRegisters to
 HasFields (Jmp to) = HasRegisters to
 HasFields (Chk bound register) = (HasRegisters bound) × (register < 8)
 HasFields (Lea from to) = (HasRegisters from) × (to < 8)
-HasFields (Addq size number to) = (size ≢ Zero) × (number < 9) × (HasRegisters to)
-HasFields (Subq size number to) = (size ≢ Zero) × (number < 9) × (HasRegisters to)
+HasFields (Addq size number to) = (size ≢ Zero) × (0 < number) × (number < 9) × (HasRegisters to)
+HasFields (Subq size number to) = (size ≢ Zero) × (0 < number) × (number < 9) × (HasRegisters to)
 HasFields (Scc condition to) = (condition < 16) × (HasRegisters to)
 HasFields (Dbcc condition register disp) = (condition < 16) × (register < 8)
 HasFields (Bcc condition disp) = condition < 16

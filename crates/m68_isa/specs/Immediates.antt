@@ -50,12 +50,15 @@ bit_class bits = if bits == 0 then Data else DataAlterable
 abbrev pub is_immediate : First → Bool
 is_immediate f = (f.mode == 7) && (f.lower == 4)
 
--- the immediate's words come first, then those of the destination
-abbrev pub immediate : First → List ℕ → Found
-immediate f ws =
+-- an operation with an immediate, whose words come first, then those of the destination
+abbrev pub immediate_with : ImmediateOp → First → List ℕ → Found
+immediate_with op f ws =
     let s = size_of f.size in
     let to = operand_at ws (1 + immediate_words s) s f.mode f.lower in
-    taken (Immediate (immediate_op f.upper) s (immediate_at ws 1 s) to.ea) to
+    taken (Immediate op s (immediate_at ws 1 s) to.ea) to
+
+abbrev pub immediate : First → List ℕ → Found
+immediate f ws = immediate_with (immediate_op f.upper) f ws
 
 -- the number's word, then those of the destination
 abbrev pub bit_by_number : First → List ℕ → Found

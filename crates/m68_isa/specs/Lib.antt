@@ -1,4 +1,5 @@
 pub mod Registers
+pub mod Conditions
 pub mod First
 pub mod Classes
 pub mod Operands

@@ -20,13 +20,15 @@ move_size line = if line == 1 then One else if line == 2 then Four else Two
 abbrev pub move_mode : First → ℕ
 move_mode f = f.bit8 * 4 + f.size
 
--- the source's words, then the destination's
-abbrev pub moved : First → List ℕ → Found
-moved f ws =
-    let s = move_size f.line in
+-- a move of this size: the source's words, then the destination's
+abbrev pub moved_of : Size → First → List ℕ → Found
+moved_of s f ws =
     let from = operand_at ws 1 s f.mode f.lower in
     let to = operand_at ws from.next s (move_mode f) f.upper in
     Made (Move s from.ea to.ea) to.next (from.good && to.good)
+
+abbrev pub moved : First → List ℕ → Found
+moved f ws = moved_of (move_size f.line) f ws
 
 abbrev pub moved_to_address : First → List ℕ → Found
 moved_to_address f ws =

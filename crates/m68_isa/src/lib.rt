@@ -4,6 +4,7 @@
 mod arithmetic;
 mod branches;
 mod classes;
+mod conditions;
 mod decode;
 mod ea;
 mod first;
@@ -19,6 +20,7 @@ mod shifts;
 #[cfg(test)]
 mod tests;
 
+pub use conditions::{condition_law, holds};
 pub use decode::decode68;
 pub use ea::{Ea, Index};
 pub use instructions::{

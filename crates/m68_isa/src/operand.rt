@@ -1,5 +1,6 @@
 ghost use Rattle.std.specs.Prelude.{◌≡◌, ◌+◌, ◌<◌, ◌≤◌, ◌^◌, slice_index, true};
 ghost use Rattle.m68_isa.specs.Operands.{extended_word, long_at, index_of, is_index, immediate_words, immediate_at, operand_at, special_at, plain};
+ghost use Rattle.mix_bits.specs.Sizes.{modulus};
 ghost use Rattle.m68_isa.specs.Fields.{HasRegisters};
 ghost use Rattle.m68_isa.specs.Classes.{up_to, in_class};
 ghost use Rattle.m68_isa.specs.declared.classes.Class.{Class};
@@ -89,7 +90,8 @@ pub fn immediate_words(size: Size) -> u32
 /// The immediate that begins with this word; a byte is the low one of its word.
 pub fn immediate_at(words: &[u16], at: u32, size: Size) -> u32
     requires { at < 50 }
-    ensures { result ≡ immediate_at words.now at size }
+    ensures value { result ≡ immediate_at words.now at size }
+    ensures below { result < modulus size }
 {
     match size {
         Size::Zero => 0,

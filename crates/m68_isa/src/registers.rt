@@ -1,4 +1,4 @@
-ghost use Rattle.std.specs.Prelude.{◌≡◌, ◌<◌, ◌^◌};
+ghost use Rattle.std.specs.Prelude.{◌≡◌, ◌<◌, ◌%◌, ◌^◌};
 ghost use Rattle.m68_isa.specs.Registers.{cleared_registers, ccr_bits, ccr_of};
 
 /// The condition codes: extend, negative, zero, overflow and carry.
@@ -27,8 +27,10 @@ impl Ccr {
     }
 
     /// The condition codes in the five low bits of a word.
+    #[tactic(auto, using(crate::proofs::Bits::read_back))]
     pub fn from_bits(bits: u32) -> Ccr
-        ensures { result ≡ ccr_of bits }
+        ensures value { result ≡ ccr_of bits }
+        ensures back { ccr_bits result ≡ bits % 32 }
     {
         Ccr {
             x: bits / 16 % 2 == 1,
