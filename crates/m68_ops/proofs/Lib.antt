@@ -1,0 +1,5 @@
+pub mod MovesBySize
+pub mod Absent
+mod Words
+mod Used
+mod Whole

@@ -1,0 +1,98 @@
+/// What a first word asks for, without the fields of the word: one operation for each row of the
+/// manual's table, some of them split by direction, by condition or, for `move`, by size
+/// (M68000 Family Programmer's Reference Manual, section 8).
+#[derive(Clone, Copy)]
+pub enum Op68 {
+    Ori,
+    Andi,
+    Subi,
+    Addi,
+    Eori,
+    Cmpi,
+    /// ori, andi, eori to CCR, by bits 11 to 9.
+    LogicToCcr,
+    /// btst, bchg, bclr, bset by bits 7 and 6, the bit's number in the extension word.
+    BitByNumber,
+    /// The same, the bit's number in a data register.
+    BitByRegister,
+    Movep,
+    MoveByte,
+    MoveWord,
+    MoveLong,
+    MoveaWord,
+    MoveaLong,
+    Negx,
+    Clr,
+    Neg,
+    Not,
+    MoveFromSr,
+    MoveToCcr,
+    Nbcd,
+    Swap,
+    Pea,
+    Ext,
+    MovemToMemory,
+    MovemFromMemory,
+    Tst,
+    Tas,
+    Trap,
+    Link,
+    Unlk,
+    Nop,
+    Rts,
+    Trapv,
+    Rtr,
+    Jsr,
+    Jmp,
+    Chk,
+    Lea,
+    Addq,
+    Subq,
+    Scc,
+    Dbcc,
+    /// bra with its displacement in the low byte.
+    BraByte,
+    /// bra with its displacement in the extension word.
+    BraWord,
+    BsrByte,
+    BsrWord,
+    /// bcc at a condition from 2 on.
+    BccByte,
+    BccWord,
+    Moveq,
+    OrToRegister,
+    OrToMemory,
+    Divu,
+    Divs,
+    Sbcd,
+    SubToRegister,
+    SubToMemory,
+    Suba,
+    Subx,
+    Cmp,
+    Cmpa,
+    Eor,
+    Cmpm,
+    AndToRegister,
+    AndToMemory,
+    Mulu,
+    Muls,
+    Abcd,
+    Exg,
+    AddToRegister,
+    AddToMemory,
+    Adda,
+    Addx,
+    /// asr, asl, lsr, lsl, roxr, roxl, ror, rol of a data register.
+    Shift,
+    /// The same of a word in memory, by one.
+    ShiftMemory,
+    /// No instruction of the 68000.
+    Illegal,
+    /// An instruction of the supervisor.
+    Privileged,
+    /// A word from $A000 to $AFFF.
+    LineA,
+    /// A word from $F000 to $FFFF.
+    LineF,
+}

@@ -1,0 +1,102 @@
+ghost use Rattle.std.specs.Prelude.{◌≡◌};
+ghost use Rattle.m68_isa.specs.First.{first_of};
+ghost use Rattle.m68_ops.specs.Ops.{Fits, Reads};
+
+use super::arithmetic::{line_8, line_9, line_b, line_c, line_d};
+use super::fields::{bit8_of, condition_of, has_byte, line_of, mode_of, upper_of};
+use super::immediates::line_0;
+use super::miscellaneous::line_4;
+use super::moves::{line_1, line_2, line_3};
+use super::op::Op68;
+use super::places::{is_alterable_sized, is_data_alterable, is_memory_alterable, is_odd, is_sized};
+
+/// The operation of a first word: that of its row in the manual's table, or why it has none.
+#[inline(always)]
+pub fn op_of(word: u32) -> Op68
+    ensures reads { Reads result word }
+    ensures fits { Fits result word }
+{
+    match line_of(word) {
+        0 => line_0(word),
+        1 => line_1(word),
+        2 => line_2(word),
+        3 => line_3(word),
+        4 => line_4(word),
+        5 => line_5(word),
+        6 => line_6(word),
+        7 => line_7(word),
+        8 => line_8(word),
+        9 => line_9(word),
+        10 => Op68::LineA,
+        11 => line_b(word),
+        12 => line_c(word),
+        13 => line_d(word),
+        14 => line_e(word),
+        _ => Op68::LineF,
+    }
+}
+
+/// Words 0101: quick numbers and conditions.
+fn line_5(word: u32) -> Op68
+    requires { (first_of word).line ≡ 5 }
+    ensures reads { Reads result word }
+    ensures fits { Fits result word }
+{
+    if !is_sized(word) {
+        if is_data_alterable(word) {
+            Op68::Scc
+        } else if mode_of(word) == 1 {
+            Op68::Dbcc
+        } else {
+            Op68::Illegal
+        }
+    } else if !is_alterable_sized(word) {
+        Op68::Illegal
+    } else if !is_odd(word) {
+        Op68::Addq
+    } else {
+        Op68::Subq
+    }
+}
+
+/// Words 0110: branches.
+fn line_6(word: u32) -> Op68
+    requires { (first_of word).line ≡ 6 }
+    ensures reads { Reads result word }
+    ensures fits { Fits result word }
+{
+    let byte = has_byte(word);
+    match condition_of(word) {
+        0 => if byte { Op68::BraByte } else { Op68::BraWord },
+        1 => if byte { Op68::BsrByte } else { Op68::BsrWord },
+        _ => if byte { Op68::BccByte } else { Op68::BccWord },
+    }
+}
+
+/// Words 0111: moveq.
+fn line_7(word: u32) -> Op68
+    requires { (first_of word).line ≡ 7 }
+    ensures reads { Reads result word }
+    ensures fits { Fits result word }
+{
+    if bit8_of(word) == 0 {
+        Op68::Moveq
+    } else {
+        Op68::Illegal
+    }
+}
+
+/// Words 1110: shifts.
+fn line_e(word: u32) -> Op68
+    requires { (first_of word).line ≡ 14 }
+    ensures reads { Reads result word }
+    ensures fits { Fits result word }
+{
+    if is_sized(word) {
+        Op68::Shift
+    } else if upper_of(word) < 4 && is_memory_alterable(word) {
+        Op68::ShiftMemory
+    } else {
+        Op68::Illegal
+    }
+}
