@@ -1,0 +1,5 @@
+pub mod Places
+pub mod Accesses
+pub mod Words
+pub mod Operands
+pub mod Finds

@@ -1,0 +1,19 @@
+//! Operands of 68000 instructions: the addressing modes, and reading and writing what they name.
+//!
+//! [`place`], [`read_at`] and [`write_at`] work on a decoded operand. The other calls read an operand from
+//! the words of an instruction, each word as it is used; a fault is left in a cell, and has changed nothing.
+#![tactic(auto)]
+
+mod accesses;
+mod operands;
+mod places;
+mod stack;
+mod words;
+
+pub use accesses::{load, read_at, store, write_at};
+pub use operands::{Target, control, find, put, source, value};
+pub use places::{Bad, Place68, backward, place};
+pub use stack::{pop, push};
+pub use words::{
+    extended_word, extension_words, immediate_at, immediate_words, is_second_good, word_at,
+};

@@ -1,0 +1,203 @@
+ghost use Rattle.std.specs.Prelude.{◌≡◌, ℕ, ◌+◌, ◌<◌, ◌^◌, List, slice_index};
+ghost use Rattle.big_memory.specs.Memory.{loaded};
+ghost use Rattle.mix_bits.specs.declared.size.Size.TheVariants.{Two};
+ghost use Rattle.mix_bits.specs.declared.size.Size.{Size};
+ghost use Rattle.m68_isa.specs.Operands.{extended_word as extended_word_of, immediate_at as immediate_at_of, immediate_words as immediate_words_of, index_of as index_of_word, is_index as is_index_word, long_at as long_at_of, operand_at, special_at};
+ghost use Rattle.m68_ea.specs.Words.{or_zero, words_at};
+
+use big_memory::Ram;
+use m68_isa::Index;
+use mix_bits::{Size, sext};
+
+/// The word with this number of the instruction at `pc`, whose first word is 0. Behind the first one that
+/// doesn't lie in memory each is 0.
+#[inline(always)]
+pub fn word_at(ram: &Ram, pc: u32, at: u32) -> u32
+    requires { at < 5 }
+    ensures value { result ≡ slice_index (words_at ram.now pc) at }
+    ensures below { result < 2 ^ 16 }
+{
+    let _len = ram.len();
+    match pc.checked_add(2 * at) {
+        Some(address) => word_or_zero(ram, address),
+        None => 0,
+    }
+}
+
+/// The word at an address, 0 where it doesn't lie in memory.
+#[inline(always)]
+fn word_or_zero(ram: &Ram, address: u32) -> u32
+    ensures value { result ≡ or_zero (loaded ram.now address Two) }
+    ensures below { result < 2 ^ 16 }
+{
+    match ram.load_word(address) {
+        Ok(word) => word,
+        Err(_) => 0,
+    }
+}
+
+/// The word with this number, its sign repeated above it.
+#[inline(always)]
+pub fn extended_word(ram: &Ram, pc: u32, at: u32) -> u32
+    requires { at < 5 }
+    ensures { result ≡ extended_word_of (words_at ram.now pc) at }
+{
+    sext(word_at(ram, pc, at), Size::Two)
+}
+
+/// The long that begins with this word.
+#[inline(always)]
+pub fn long_at(ram: &Ram, pc: u32, at: u32) -> u32
+    requires { at < 4 }
+    ensures { result ≡ long_at_of (words_at ram.now pc) at }
+{
+    word_at(ram, pc, at) * 0x1_0000 + word_at(ram, pc, at + 1)
+}
+
+/// The immediate value that begins with this word; a byte is the low one of its word.
+#[inline(always)]
+pub fn immediate_at(ram: &Ram, pc: u32, at: u32, size: Size) -> u32
+    requires { at < 4 }
+    ensures { result ≡ immediate_at_of (words_at ram.now pc) at size }
+{
+    match size {
+        Size::Zero => 0,
+        Size::One => word_at(ram, pc, at) % 0x100,
+        Size::Two => word_at(ram, pc, at),
+        Size::Four => long_at(ram, pc, at),
+    }
+}
+
+/// How many words an immediate value has.
+#[inline(always)]
+pub fn immediate_words(size: Size) -> u32
+    ensures value { result ≡ immediate_words_of size }
+    ensures most { result < 3 }
+{
+    match size {
+        Size::Zero => 0,
+        Size::One => 1,
+        Size::Two => 1,
+        Size::Four => 2,
+    }
+}
+
+/// Whether a word is an index word of the 68000: the scale and the full format came later.
+#[inline(always)]
+pub fn is_index(word: u32) -> bool
+    ensures { result ≡ is_index_word word }
+{
+    word / 0x100 % 8 == 0
+}
+
+/// The fields of an index word.
+#[inline(always)]
+pub fn index_of(word: u32) -> Index
+    requires { word < 2 ^ 16 }
+    ensures value { result ≡ index_of_word word }
+    ensures register { result.reg < 8 }
+{
+    Index {
+        reg: (word / 0x1000 % 8) as u8,
+        address: word / 0x8000 % 2 == 1,
+        long: word / 0x800 % 2 == 1,
+        disp: sext(word, Size::One),
+    }
+}
+
+/// Whether the index word of a second operand, if it has one, is one of the 68000. The first operand's
+/// words begin with word 1 of the instruction, and the second one's stand behind them.
+#[inline(always)]
+pub fn is_second_good(
+    ram: &Ram,
+    pc: u32,
+    size: Size,
+    first: (u32, usize),
+    second: (u32, usize),
+) -> bool
+    ensures { let ws = words_at ram.now pc in
+        result ≡ (operand_at ws (operand_at ws 1 size first.0 first.1).next size second.0 second.1).good }
+{
+    match second.0 {
+        0 => true,
+        1 => true,
+        2 => true,
+        3 => true,
+        4 => true,
+        5 => true,
+        _ => is_good(
+            ram,
+            pc,
+            1 + extension_words(size, first.0, first.1),
+            second.0,
+            second.1,
+        ),
+    }
+}
+
+/// Whether an operand's index word, if it has one, is one of the 68000. Its extension words begin with
+/// word `at`.
+#[inline(always)]
+fn is_good(ram: &Ram, pc: u32, at: u32, mode: u32, lower: usize) -> bool
+    requires { at < 5 }
+    ensures { (s : Size) → result ≡ (operand_at (words_at ram.now pc) at s mode lower).good }
+{
+    match mode {
+        0 => true,
+        1 => true,
+        2 => true,
+        3 => true,
+        4 => true,
+        5 => true,
+        6 => is_index(word_at(ram, pc, at)),
+        _ => is_special_good(ram, pc, at, lower),
+    }
+}
+
+/// The same of an operand of mode 7.
+#[inline(always)]
+fn is_special_good(ram: &Ram, pc: u32, at: u32, lower: usize) -> bool
+    requires { at < 5 }
+    ensures { (s : Size) → result ≡ (special_at (words_at ram.now pc) at s lower).good }
+{
+    match lower {
+        0 => true,
+        1 => true,
+        2 => true,
+        3 => is_index(word_at(ram, pc, at)),
+        _ => true,
+    }
+}
+
+/// How many extension words an operand has.
+#[inline(always)]
+pub fn extension_words(size: Size, mode: u32, lower: usize) -> u32
+    ensures count { (ws : List ℕ) (at : ℕ) → (operand_at ws at size mode lower).next ≡ at + result }
+    ensures most { result < 3 }
+{
+    match mode {
+        0 => 0,
+        1 => 0,
+        2 => 0,
+        3 => 0,
+        4 => 0,
+        5 => 1,
+        6 => 1,
+        _ => special_words(size, lower),
+    }
+}
+
+/// How many extension words an operand of mode 7 has.
+#[inline(always)]
+fn special_words(size: Size, lower: usize) -> u32
+    ensures count { (ws : List ℕ) (at : ℕ) → (special_at ws at size lower).next ≡ at + result }
+    ensures most { result < 3 }
+{
+    match lower {
+        0 => 1,
+        1 => 2,
+        2 => 1,
+        3 => 1,
+        _ => immediate_words(size),
+    }
+}

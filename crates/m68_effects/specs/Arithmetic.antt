@@ -1,0 +1,169 @@
+-- Integer arithmetic (M68000 Family Programmer's Reference Manual, section 4: ADD, ADDA, ADDI, ADDQ, ADDX,
+-- SUB, SUBA, SUBI, SUBQ, SUBX, CMP, CMPA, CMPI, CMPM, NEG, NEGX, EXT, MULS, MULU, DIVS, DIVU, CHK, TST, TAS).
+use Rattle.std.specs.Prelude.{ℕ, ◌||◌, bit_or, pos, int_lt, Bool, false, if◌then◌else◌, slice_index, Err}
+use Rattle.mix_bits.specs.declared.size.Size.{Size}
+use Rattle.mix_bits.specs.declared.size.Size.TheVariants.{Zero, One, Two, Four}
+use Rattle.mix_bits.specs.Sizes.{signed_of, sign_extended, truncated}
+use Rattle.mix_bits.specs.Results.{◌>>=◌}
+use Rattle.m68_isa.specs.declared.registers.Ccr.{Ccr}
+use Rattle.m68_isa.specs.declared.registers.Regs68.{Regs68}
+use Rattle.m68_isa.specs.declared.ea.Ea.{Ea}
+use Rattle.m68_isa.specs.declared.ea.Ea.TheVariants.{An, Post}
+use Rattle.m68_alu.specs.declared.sums.Out.{Out}
+use Rattle.m68_alu.specs.declared.quotients.Quotient.{Quotient}
+use Rattle.m68_alu.specs.declared.quotients.Quotient.TheVariants.{ByZero, Overflow, Done}
+use Rattle.m68_alu.specs.Sizes.{result_flags}
+use Rattle.m68_alu.specs.Sums.{sum_of, difference_of, with_old_zero, with_old_extend}
+use Rattle.m68_alu.specs.Products.{multiplied, divided}
+use Rattle.big_memory.specs.Memory.{Memory}
+use Rattle.m68_ea.specs.Places.{backward, with_data, with_address}
+use Rattle.m68_ea.specs.Operands.{sourced}
+use Rattle.mix_bits.specs.Addresses.{onward}
+use Rattle.m68_effects.specs.Parts.{Effect, goes_on, vector, with_ccr, with_result, changed, either_way, pairwise}
+
+-- destination + source, and with X
+abbrev pub sum : Size → ℕ → ℕ → Out
+sum size d s = sum_of size (truncated d size) (truncated s size) false
+
+abbrev pub sum_with_x : Size → Ccr → ℕ → ℕ → Out
+sum_with_x size old d s = with_old_zero (sum_of size (truncated d size) (truncated s size) old.x) old
+
+-- destination - source, with X, and in a comparison, which leaves X
+abbrev pub difference : Size → ℕ → ℕ → Out
+difference size d s = difference_of size (truncated d size) (truncated s size) false
+
+abbrev pub difference_with_x : Size → Ccr → ℕ → ℕ → Out
+difference_with_x size old d s = with_old_zero (difference_of size (truncated d size) (truncated s size) old.x) old
+
+abbrev pub comparison : Size → Ccr → ℕ → ℕ → Ccr
+comparison size old d s = (with_old_extend (difference size d s) old).ccr
+
+-- ADD, SUB: source + Dn → Dn, or Dn + destination → destination
+abbrev pub add : Regs68 → Memory → ℕ → Size → Bool → ℕ → Ea → Effect
+add r m next size to_memory n operand = either_way r m next size to_memory n operand (sum size)
+
+abbrev pub sub : Regs68 → Memory → ℕ → Size → Bool → ℕ → Ea → Effect
+sub r m next size to_memory n operand = either_way r m next size to_memory n operand (difference size)
+
+-- ADDA, SUBA: An ± source → An, whole, a word with its sign; no flags
+abbrev pub adda : Regs68 → Memory → ℕ → Size → Ea → ℕ → Effect
+adda r m next size from n =
+    sourced r m size from >>= λ (q, s).
+    goes_on next (with_address q n (onward (slice_index q.a n) (sign_extended s size))) m
+
+abbrev pub suba : Regs68 → Memory → ℕ → Size → Ea → ℕ → Effect
+suba r m next size from n =
+    sourced r m size from >>= λ (q, s).
+    goes_on next (with_address q n (backward (slice_index q.a n) (sign_extended s size))) m
+
+-- ADDI, SUBI: destination ± immediate data → destination
+abbrev pub addi : Regs68 → Memory → ℕ → Size → ℕ → Ea → Effect
+addi r m next size value to = changed r m next size to (λ d. sum size d value)
+
+abbrev pub subi : Regs68 → Memory → ℕ → Size → ℕ → Ea → Effect
+subi r m next size value to = changed r m next size to (λ d. difference size d value)
+
+-- ADDQ, SUBQ: the same by 1 to 8; an address register whole, without flags
+abbrev pub addq : Regs68 → Memory → ℕ → Size → ℕ → Ea → Effect
+addq r m next size number (An n) = goes_on next (with_address r n (onward (slice_index r.a n) number)) m
+addq r m next size number to = addi r m next size number to
+
+abbrev pub subq : Regs68 → Memory → ℕ → Size → ℕ → Ea → Effect
+subq r m next size number (An n) = goes_on next (with_address r n (backward (slice_index r.a n) number)) m
+subq r m next size number to = subi r m next size number to
+
+-- ADDX, SUBX: destination ± source ± X → destination
+abbrev pub addx : Regs68 → Memory → ℕ → Size → Bool → ℕ → ℕ → Effect
+addx r m next size memory from to = pairwise r m next size memory from to (sum_with_x size r.ccr)
+
+abbrev pub subx : Regs68 → Memory → ℕ → Size → Bool → ℕ → ℕ → Effect
+subx r m next size memory from to = pairwise r m next size memory from to (difference_with_x size r.ccr)
+
+-- NEG, NEGX: 0 - destination → destination, and with X
+abbrev pub neg : Regs68 → Memory → ℕ → Size → Ea → Effect
+neg r m next size to = changed r m next size to (λ d. difference size 0 d)
+
+abbrev pub negx : Regs68 → Memory → ℕ → Size → Ea → Effect
+negx r m next size to = changed r m next size to (λ d. difference_with_x size r.ccr 0 d)
+
+-- CMP: Dn - source
+abbrev pub cmp : Regs68 → Memory → ℕ → Size → Ea → ℕ → Effect
+cmp r m next size with n =
+    sourced r m size with >>= λ (q, s).
+    goes_on next (with_ccr q (comparison size r.ccr (slice_index q.d n) s)) m
+
+-- CMPA: An - source, as longs, a word with its sign
+abbrev pub cmpa : Regs68 → Memory → ℕ → Size → Ea → ℕ → Effect
+cmpa r m next size with n =
+    sourced r m size with >>= λ (q, s).
+    goes_on next (with_ccr q (comparison Four r.ccr (slice_index q.a n) (sign_extended s size))) m
+
+-- CMPI: destination - immediate data
+abbrev pub cmpi : Regs68 → Memory → ℕ → Size → ℕ → Ea → Effect
+cmpi r m next size value to =
+    sourced r m size to >>= λ (q, d).
+    goes_on next (with_ccr q (comparison size r.ccr d value)) m
+
+-- CMPM: (Ay)+ - (Ax)+, the source first
+abbrev pub cmpm : Regs68 → Memory → ℕ → Size → ℕ → ℕ → Effect
+cmpm r m next size from to =
+    sourced r m size (Post from) >>= λ (q, s).
+    sourced q m size (Post to) >>= λ (t, d).
+    goes_on next (with_ccr t (comparison size r.ccr d s)) m
+
+-- EXT: a byte to a word, or a word to a long
+abbrev pub half_of : Size → Size
+half_of Zero = Zero
+half_of One = One
+half_of Two = One
+half_of Four = Two
+
+abbrev pub extension : Size → Ccr → ℕ → Out
+extension size old v =
+    let extended = truncated (sign_extended v (half_of size)) size in
+    record { value = extended; ccr = result_flags size extended old }
+
+abbrev pub ext : Regs68 → Memory → ℕ → Size → ℕ → Effect
+ext r m next size n = goes_on next (with_result r n size (extension size r.ccr (slice_index r.d n))) m
+
+-- a whole data register and the condition codes take a result
+abbrev pub with_long : Regs68 → ℕ → Out → Regs68
+with_long r n out = with_ccr (with_data r n out.value) out.ccr
+
+-- MULS, MULU: source * Dn → Dn, words to a long
+abbrev pub mul : Regs68 → Memory → ℕ → Bool → Ea → ℕ → Effect
+mul r m next signed by n =
+    sourced r m Two by >>= λ (q, s).
+    goes_on next (with_long q n (multiplied signed (slice_index q.d n) s r.ccr)) m
+
+-- DIVS, DIVU: Dn / source → Dn, a long by a word; by zero is vector 5, and Dn stays where the quotient is no word
+abbrev pub quotient_into : Regs68 → Memory → ℕ → ℕ → Quotient → Effect
+quotient_into q m next n ByZero = Err (vector q 5)
+quotient_into q m next n (Overflow ccr) = goes_on next (with_ccr q ccr) m
+quotient_into q m next n (Done out) = goes_on next (with_long q n out) m
+
+abbrev pub div : Regs68 → Memory → ℕ → Bool → Ea → ℕ → Effect
+div r m next signed by n =
+    sourced r m Two by >>= λ (q, s).
+    quotient_into q m next n (divided signed (slice_index q.d n) s r.ccr)
+
+-- CHK: vector 6 where the word in Dn is negative or greater than the bound; that Z, V and C are cleared
+-- and N stays is this project's own
+abbrev pub is_out : ℕ → ℕ → Bool
+is_out v bound = int_lt (signed_of v Two) (pos 0) || int_lt (signed_of bound Two) (signed_of v Two)
+
+abbrev pub chk : Regs68 → Memory → ℕ → Ea → ℕ → Effect
+chk r m next bound n =
+    sourced r m Two bound >>= λ (q, s).
+    (if is_out (slice_index q.d n) s then Err (vector q 6)
+    else goes_on next (with_ccr q (record r.ccr { z = false; v = false; c = false })) m)
+
+-- TST: destination - 0
+abbrev pub tst : Regs68 → Memory → ℕ → Size → Ea → Effect
+tst r m next size of =
+    sourced r m size of >>= λ (q, v).
+    goes_on next (with_ccr q (result_flags size v r.ccr)) m
+
+-- TAS: the flags tell of the byte before 1 → its bit 7
+abbrev pub tas : Regs68 → Memory → ℕ → Ea → Effect
+tas r m next to = changed r m next One to (λ d. record { value = bit_or d 0x80; ccr = result_flags One d r.ccr })

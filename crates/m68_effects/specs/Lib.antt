@@ -1,0 +1,12 @@
+pub mod Parts
+pub mod Movement
+pub mod Multiple
+pub mod Arithmetic
+pub mod Decimal
+pub mod Logic
+pub mod Shifts
+pub mod Bits
+pub mod Control
+pub mod Rows
+pub mod Step
+pub mod Ops
