@@ -1,0 +1,5 @@
+pub mod Pairs
+pub mod Sizes
+pub mod Stores
+pub mod Masks
+pub mod Bases

@@ -1,0 +1,80 @@
+// Addresses into registers and onto the stack, and the frames of procedures.
+ghost use Rattle.big_memory.specs.Steps.{Does};
+ghost use Rattle.m68_effects.specs.Ops.{by_op};
+ghost use Rattle.m68_ops.specs.Ops.{Fits};
+
+use super::parts::go_on;
+use big_memory::{Did, Ram};
+use m68_ea::{backward, control, extended_word, pop, push, store};
+use m68_isa::Regs68;
+use m68_ops::{Op68, lower_of, mode_of, upper_of};
+use mix_bits::{Fault, Size, onward};
+
+/// lea: the address of an operand into an address register.
+#[inline(never)]
+pub fn do_lea(regs: &mut Regs68, ram: &Ram, fault: &mut Fault, word: u32) -> Did
+    requires { Fits Op68.Lea word }
+    ensures { Does (by_op Op68.Lea regs.old ram.now word) result fault.new regs.old regs.new ram.now ram.now }
+{
+    let (mode, lower) = (mode_of(word), lower_of(word));
+    let mut next = 1;
+    let Some(at) = control(regs, ram, fault, word, &mut next, mode, lower) else {
+        return Did::Stop;
+    };
+    regs.a[upper_of(word)] = at;
+    go_on(regs, next)
+}
+
+/// pea: the address of an operand onto the stack.
+#[inline(never)]
+pub fn do_pea(regs: &mut Regs68, ram: &mut Ram, fault: &mut Fault, word: u32) -> Did
+    requires { Fits Op68.Pea word }
+    ensures { Does (by_op Op68.Pea regs.old ram.old word) result fault.new regs.old regs.new ram.old ram.new }
+{
+    let (mode, lower) = (mode_of(word), lower_of(word));
+    let mut next = 1;
+    let Some(at) = control(regs, ram, fault, word, &mut next, mode, lower) else {
+        return Did::Stop;
+    };
+    if push(regs, ram, fault, at) {
+        go_on(regs, next)
+    } else {
+        Did::Stop
+    }
+}
+
+/// link: an address register onto the stack, then the stack pointer into it, and a displacement onto the
+/// stack pointer. Of A7 the value below the stack is pushed.
+#[inline(never)]
+pub fn do_link(regs: &mut Regs68, ram: &mut Ram, fault: &mut Fault, word: u32) -> Did
+    ensures { Does (by_op Op68.Link regs.old ram.old word) result fault.new regs.old regs.new ram.old ram.new }
+{
+    let register = lower_of(word);
+    let displacement = extended_word(ram, regs.pc, 1);
+    let before = regs.a[7];
+    let frame = backward(before, 4);
+    regs.a[7] = frame;
+    if !store(ram, fault, regs.pc, frame, Size::Four, regs.a[register]) {
+        regs.a[7] = before;
+        return Did::Stop;
+    }
+    regs.a[register] = frame;
+    regs.a[7] = onward(frame, displacement);
+    go_on(regs, 2)
+}
+
+/// unlk: the stack pointer from an address register, which takes the long that is popped.
+#[inline(never)]
+pub fn do_unlk(regs: &mut Regs68, ram: &Ram, fault: &mut Fault, word: u32) -> Did
+    ensures { Does (by_op Op68.Unlk regs.old ram.now word) result fault.new regs.old regs.new ram.now ram.now }
+{
+    let register = lower_of(word);
+    let before = regs.a[7];
+    regs.a[7] = regs.a[register];
+    let Some(value) = pop(regs, ram, fault, Size::Four) else {
+        regs.a[7] = before;
+        return Did::Stop;
+    };
+    regs.a[register] = value;
+    go_on(regs, 1)
+}

@@ -1,0 +1,177 @@
+// movem: several registers to memory or from it.
+ghost use Rattle.std.specs.Prelude.{◌≡◌, ◌≢◌, ◌-◌, ◌*◌, ◌<◌, ◌≤◌, length, map, if◌then◌else◌};
+ghost use Rattle.mix_bits.specs.Addresses.{onward as onward_of};
+ghost use Rattle.mix_bits.specs.declared.size.Size.TheVariants.{Zero};
+ghost use Rattle.big_memory.specs.Steps.{Does};
+ghost use Rattle.m68_effects.specs.Multiple.{listed, movem_before, movem_onto, register_of, with_register};
+ghost use Rattle.m68_effects.specs.Ops.{by_op};
+ghost use Rattle.m68_effects.specs.Parts.{after};
+ghost use Rattle.m68_ops.specs.Ops.{Fits};
+ghost use Rattle.m68_movement.specs.Along.{Loads};
+
+use super::along::{store_along, store_down};
+use super::parts::go_on;
+use arrayvec::ArrayVec;
+use big_memory::{Did, Ram};
+use m68_ea::{backward, control, load, word_at};
+use m68_isa::Regs68;
+use m68_ops::{Op68, lower_of, mode_of, transfer_size_of};
+use mix_bits::{Fault, Size, digit, onward, sext};
+
+/// movem to memory: upwards from D0 to A7, or before an address register downwards from A7 to D0.
+#[inline(never)]
+pub fn do_movem_to_memory(regs: &mut Regs68, ram: &mut Ram, fault: &mut Fault, word: u32) -> Did
+    requires { Fits Op68.MovemToMemory word }
+    ensures { Does (by_op Op68.MovemToMemory regs.old ram.old word) result fault.new regs.old regs.new ram.old ram.new }
+{
+    let (mode, lower) = (mode_of(word), lower_of(word));
+    let size = transfer_size_of(word);
+    let mask = word_at(ram, regs.pc, 1);
+    if mode == 4 {
+        return store_before(regs, ram, fault, size, mask, lower);
+    }
+    let mut next = 2;
+    let Some(at) = control(regs, ram, fault, word, &mut next, mode, lower) else {
+        return Did::Stop;
+    };
+    store_onto(regs, ram, fault, size, mask, at, next)
+}
+
+/// The registers of a mask before an address register, which ends where the last one is stored.
+fn store_before(
+    regs: &mut Regs68,
+    ram: &mut Ram,
+    fault: &mut Fault,
+    size: Size,
+    mask: u32,
+    register: usize,
+) -> Did
+    requires number { register < 8 }
+    requires size { size ≢ Zero }
+    ensures { Does (after (movem_before regs.old ram.old (onward_of regs.old.pc 4) size mask register)) result fault.new regs.old regs.new ram.old ram.new }
+{
+    let base = regs.a[register];
+    let values = values_of(regs, mask, true);
+    if !store_down(ram, fault, regs.pc, base, size, &values) {
+        return Did::Stop;
+    }
+    regs.a[register] = backward(base, size.bytes() * values.len() as u32);
+    go_on(regs, 2)
+}
+
+/// The registers of a mask at an address, by an instruction of so many words.
+fn store_onto(
+    regs: &mut Regs68,
+    ram: &mut Ram,
+    fault: &mut Fault,
+    size: Size,
+    mask: u32,
+    at: u32,
+    words: u32,
+) -> Did
+    requires { words ≤ 5 }
+    ensures { Does (after (movem_onto regs.old ram.old (onward_of regs.old.pc (2 * words)) size mask at)) result fault.new regs.old regs.new ram.old ram.new }
+{
+    let values = values_of(regs, mask, false);
+    if store_along(ram, fault, regs.pc, at, size.bytes(), size, &values) {
+        go_on(regs, words)
+    } else {
+        Did::Stop
+    }
+}
+
+/// movem from memory: upwards from D0 to A7, words with their sign. An address register that counts up
+/// ends behind the last value, also where it was loaded.
+#[inline(never)]
+pub fn do_movem_from_memory(regs: &mut Regs68, ram: &Ram, fault: &mut Fault, word: u32) -> Did
+    requires { Fits Op68.MovemFromMemory word }
+    ensures { Does (by_op Op68.MovemFromMemory regs.old ram.now word) result fault.new regs.old regs.new ram.now ram.now }
+{
+    let (mode, lower) = (mode_of(word), lower_of(word));
+    let size = transfer_size_of(word);
+    let mask = word_at(ram, regs.pc, 1);
+    if mode == 3 {
+        let base = regs.a[lower];
+        let Some(count) = load_along(regs, ram, fault, base, size, mask) else {
+            return Did::Stop;
+        };
+        regs.a[lower] = onward(base, size.bytes() * count);
+        return go_on(regs, 2);
+    }
+    let mut next = 2;
+    let Some(at) = control(regs, ram, fault, word, &mut next, mode, lower) else {
+        return Did::Stop;
+    };
+    let Some(_) = load_along(regs, ram, fault, at, size, mask) else {
+        return Did::Stop;
+    };
+    go_on(regs, next)
+}
+
+/// The values of the registers that a mask names, from bit 0 on; downwards bit 0 is A7.
+#[tactic(auto, using(crate::proofs::Masks::all_listed, crate::proofs::Masks::more_has, crate::proofs::Masks::more_lacks))]
+fn values_of(regs: &Regs68, mask: u32, down: bool) -> ArrayVec<u32, 16>
+    ensures is { result.items ≡ map (λ k. register_of regs.now (if down then 15 - k else k)) (listed mask) }
+    ensures most { length result.items ≤ 16 }
+{
+    let mut values = ArrayVec::new();
+    for k in 0..16 {
+        if digit(mask, k, 1) == 1 {
+            let number = if down { 15 - k } else { k };
+            values.push(register(regs, number as usize));
+        }
+    }
+    values
+}
+
+/// Loads the registers that a mask names from an address on, and tells how many; or none, and the fault is
+/// in the cell.
+#[tactic(auto, using(crate::proofs::Masks::all_listed, crate::proofs::Masks::none_loaded))]
+fn load_along(
+    regs: &mut Regs68,
+    ram: &Ram,
+    fault: &mut Fault,
+    a: u32,
+    size: Size,
+    mask: u32,
+) -> Option<u32>
+    ensures is { Loads regs.old ram.now a size mask result fault.new regs.new }
+{
+    let before = *regs;
+    let mut at = a;
+    let mut count = 0;
+    for k in 0..16 {
+        if digit(mask, k, 1) == 1 {
+            let Some(value) = load(ram, fault, before.pc, at, size) else {
+                *regs = before;
+                return None;
+            };
+            set_register(regs, k as usize, sext(value, size));
+            at = onward(at, size.bytes());
+            count += 1;
+        }
+    }
+    Some(count)
+}
+
+/// One of the sixteen registers: D0 to D7, then A0 to A7.
+#[inline(always)]
+fn register(regs: &Regs68, k: usize) -> u32
+    requires { k < 16 }
+    ensures { result ≡ register_of regs.now k }
+{
+    if k < 8 { regs.d[k] } else { regs.a[k - 8] }
+}
+
+/// Puts a value into one of the sixteen registers.
+#[inline(always)]
+fn set_register(regs: &mut Regs68, k: usize, value: u32)
+    requires { k < 16 }
+    ensures { regs.new ≡ with_register regs.old k value }
+{
+    if k < 8 {
+        regs.d[k] = value;
+    } else {
+        regs.a[k - 8] = value;
+    }
+}

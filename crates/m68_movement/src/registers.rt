@@ -1,0 +1,108 @@
+// Instructions on registers alone.
+ghost use Rattle.std.specs.Prelude.{◌≡◌, ◌<◌, ◌*◌};
+ghost use Rattle.m68_isa.specs.declared.instructions.Instr68.TheVariants.{Ext};
+ghost use Rattle.m68_isa.specs.Rows.{words};
+ghost use Rattle.big_memory.specs.Steps.{Does};
+ghost use Rattle.m68_effects.specs.Arithmetic.{half_of as half_of_size};
+ghost use Rattle.m68_effects.specs.Movement.{halves_swapped};
+ghost use Rattle.m68_effects.specs.Ops.{by_op, runs_made};
+
+use super::parts::go_on;
+use big_memory::{Did, Ram};
+use m68_alu::result_flags;
+use m68_isa::{Exchange, Regs68};
+use m68_ops::{Op68, byte_of, exchange_of, lower_of, size_bits_of, upper_of};
+use mix_bits::{Fault, Size, sext, trunc, with_low};
+
+/// moveq: the low byte of the word, with its sign, into a data register.
+#[inline(always)]
+pub fn do_moveq(regs: &mut Regs68, ram: &Ram, fault: &mut Fault, word: u32) -> Did
+    ensures { Does (by_op Op68.Moveq regs.old ram.now word) result fault.new regs.old regs.new ram.now ram.now }
+{
+    let value = byte_of(word);
+    regs.d[upper_of(word)] = value;
+    regs.ccr = result_flags(Size::Four, value, regs.ccr);
+    go_on(regs, 1)
+}
+
+/// swap: the halves of a data register.
+#[inline(always)]
+pub fn do_swap(regs: &mut Regs68, ram: &Ram, fault: &mut Fault, word: u32) -> Did
+    ensures { Does (by_op Op68.Swap regs.old ram.now word) result fault.new regs.old regs.new ram.now ram.now }
+{
+    let value = swapped(regs.d[lower_of(word)]);
+    regs.d[lower_of(word)] = value;
+    regs.ccr = result_flags(Size::Four, value, regs.ccr);
+    go_on(regs, 1)
+}
+
+/// A long with its halves exchanged.
+#[inline(always)]
+fn swapped(value: u32) -> u32
+    ensures { result ≡ halves_swapped value }
+{
+    value % 0x1_0000 * 0x1_0000 + value / 0x1_0000
+}
+
+/// exg: two data registers, two address registers, or one of each.
+#[inline(never)]
+pub fn do_exg(regs: &mut Regs68, ram: &Ram, fault: &mut Fault, word: u32) -> Did
+    ensures { Does (by_op Op68.Exg regs.old ram.now word) result fault.new regs.old regs.new ram.now ram.now }
+{
+    let (upper, lower) = (upper_of(word), lower_of(word));
+    match exchange_of(word) {
+        Exchange::Data => {
+            let value = regs.d[upper];
+            regs.d[upper] = regs.d[lower];
+            regs.d[lower] = value;
+        }
+        Exchange::Address => {
+            let value = regs.a[upper];
+            regs.a[upper] = regs.a[lower];
+            regs.a[lower] = value;
+        }
+        Exchange::DataAddress => {
+            let value = regs.d[upper];
+            regs.d[upper] = regs.a[lower];
+            regs.a[lower] = value;
+        }
+    }
+    go_on(regs, 1)
+}
+
+/// ext: the sign of a byte through a word, or of a word through a long.
+#[inline(never)]
+pub fn do_ext(regs: &mut Regs68, ram: &Ram, fault: &mut Fault, word: u32) -> Did
+    ensures { Does (by_op Op68.Ext regs.old ram.now word) result fault.new regs.old regs.new ram.now ram.now }
+{
+    if size_bits_of(word) % 2 == 0 {
+        extend(regs, ram, fault, word, Size::Two, lower_of(word))
+    } else {
+        extend(regs, ram, fault, word, Size::Four, lower_of(word))
+    }
+}
+
+/// The sign of a data register's low half of this size through all of the size.
+#[inline(always)]
+fn extend(regs: &mut Regs68, ram: &Ram, fault: &mut Fault, word: u32, size: Size, n: usize) -> Did
+    requires { n < 8 }
+    ensures { Does (runs_made regs.old ram.now word (words 1 (Ext size n))) result fault.new regs.old regs.new ram.now ram.now }
+{
+    let value = trunc(sext(regs.d[n], half_of(size)), size);
+    regs.d[n] = with_low(regs.d[n], value, size);
+    regs.ccr = result_flags(size, value, regs.ccr);
+    go_on(regs, 1)
+}
+
+/// The size that is half as large; a byte has no half.
+#[inline(always)]
+fn half_of(size: Size) -> Size
+    ensures { result ≡ half_of_size size }
+{
+    match size {
+        Size::Zero => Size::Zero,
+        Size::One => Size::One,
+        Size::Two => Size::One,
+        Size::Four => Size::Two,
+    }
+}

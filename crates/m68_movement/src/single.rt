@@ -1,0 +1,137 @@
+// Instructions of one operand.
+ghost use Rattle.std.specs.Prelude.{◌≡◌, ◌<◌};
+ghost use Rattle.m68_isa.specs.declared.instructions.Instr68.TheVariants.{Clr, Tst};
+ghost use Rattle.m68_isa.specs.Operands.{operand_at};
+ghost use Rattle.m68_isa.specs.Rows.{taken};
+ghost use Rattle.big_memory.specs.Steps.{Does};
+ghost use Rattle.m68_ea.specs.Words.{words_at};
+ghost use Rattle.m68_effects.specs.Ops.{by_op, runs_made};
+
+use super::parts::{go_on, write};
+use big_memory::{Did, Ram};
+use m68_alu::result_flags;
+use m68_ea::{find, put, source, value};
+use m68_isa::{Regs68, holds};
+use m68_ops::{Op68, condition_of, lower_of, mode_of, size_bits_of};
+use mix_bits::{Fault, Size};
+
+/// clr: zeros into an operand.
+#[inline(never)]
+pub fn do_clr(regs: &mut Regs68, ram: &mut Ram, fault: &mut Fault, word: u32) -> Did
+    ensures { Does (by_op Op68.Clr regs.old ram.old word) result fault.new regs.old regs.new ram.old ram.new }
+{
+    let (mode, lower) = (mode_of(word), lower_of(word));
+    match size_bits_of(word) {
+        0 => clear(regs, ram, fault, word, Size::One, mode, lower),
+        1 => clear(regs, ram, fault, word, Size::Two, mode, lower),
+        _ => clear(regs, ram, fault, word, Size::Four, mode, lower),
+    }
+}
+
+/// Zeros of this size into an operand.
+#[inline(always)]
+fn clear(
+    regs: &mut Regs68,
+    ram: &mut Ram,
+    fault: &mut Fault,
+    word: u32,
+    size: Size,
+    mode: u32,
+    lower: usize,
+) -> Did
+    requires { lower < 8 }
+    ensures { let to = operand_at (words_at ram.old regs.old.pc) 1 size mode lower in
+        Does (runs_made regs.old ram.old word (taken (Clr size to.ea) to)) result fault.new regs.old regs.new ram.old ram.new }
+{
+    let mut next = 1;
+    if !write(regs, ram, fault, word, &mut next, size, mode, lower, 0) {
+        return Did::Stop;
+    }
+    regs.ccr = result_flags(size, 0, regs.ccr);
+    go_on(regs, next)
+}
+
+/// tst: the flags of an operand.
+#[inline(never)]
+pub fn do_tst(regs: &mut Regs68, ram: &Ram, fault: &mut Fault, word: u32) -> Did
+    ensures { Does (by_op Op68.Tst regs.old ram.now word) result fault.new regs.old regs.new ram.now ram.now }
+{
+    let (mode, lower) = (mode_of(word), lower_of(word));
+    match size_bits_of(word) {
+        0 => test(regs, ram, fault, word, Size::One, mode, lower),
+        1 => test(regs, ram, fault, word, Size::Two, mode, lower),
+        _ => test(regs, ram, fault, word, Size::Four, mode, lower),
+    }
+}
+
+/// The flags of an operand of this size.
+#[inline(always)]
+fn test(
+    regs: &mut Regs68,
+    ram: &Ram,
+    fault: &mut Fault,
+    word: u32,
+    size: Size,
+    mode: u32,
+    lower: usize,
+) -> Did
+    requires { lower < 8 }
+    ensures { let of = operand_at (words_at ram.now regs.old.pc) 1 size mode lower in
+        Does (runs_made regs.old ram.now word (taken (Tst size of.ea) of)) result fault.new regs.old regs.new ram.now ram.now }
+{
+    let mut next = 1;
+    let Some(value) = source(regs, ram, fault, word, &mut next, size, mode, lower) else {
+        return Did::Stop;
+    };
+    regs.ccr = result_flags(size, value, regs.ccr);
+    go_on(regs, next)
+}
+
+/// tas: the flags of a byte, whose top bit is then set.
+#[inline(never)]
+pub fn do_tas(regs: &mut Regs68, ram: &mut Ram, fault: &mut Fault, word: u32) -> Did
+    ensures { Does (by_op Op68.Tas regs.old ram.old word) result fault.new regs.old regs.new ram.old ram.new }
+{
+    let (mode, lower) = (mode_of(word), lower_of(word));
+    let mut next = 1;
+    let Some(target) = find(regs, ram, fault, word, &mut next, Size::One, mode, lower) else {
+        return Did::Stop;
+    };
+    let Some(old) = value(regs, ram, fault, target, Size::One) else {
+        return Did::Stop;
+    };
+    if !put(regs, ram, fault, target, Size::One, old | 0x80) {
+        return Did::Stop;
+    }
+    regs.ccr = result_flags(Size::One, old, regs.ccr);
+    go_on(regs, next)
+}
+
+/// scc: a byte of ones where the condition holds, else of zeros.
+#[inline(never)]
+pub fn do_scc(regs: &mut Regs68, ram: &mut Ram, fault: &mut Fault, word: u32) -> Did
+    ensures { Does (by_op Op68.Scc regs.old ram.old word) result fault.new regs.old regs.new ram.old ram.new }
+{
+    let (mode, lower) = (mode_of(word), lower_of(word));
+    let ones = if holds(condition_of(word), regs.ccr) {
+        0xFF
+    } else {
+        0
+    };
+    let mut next = 1;
+    if write(
+        regs,
+        ram,
+        fault,
+        word,
+        &mut next,
+        Size::One,
+        mode,
+        lower,
+        ones,
+    ) {
+        go_on(regs, next)
+    } else {
+        Did::Stop
+    }
+}
