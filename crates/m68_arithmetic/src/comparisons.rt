@@ -1,0 +1,187 @@
+// Comparisons: a difference whose flags alone are kept, but for X.
+ghost use Rattle.std.specs.Prelude.{◌≡◌, ◌≢◌, ◌+◌, ◌<◌, ◌≤◌};
+ghost use Rattle.mix_bits.specs.Addresses.{onward};
+ghost use Rattle.mix_bits.specs.declared.size.Size.TheVariants.{Zero};
+ghost use Rattle.m68_isa.specs.First.{first_of, size_of as size_of_bits};
+ghost use Rattle.m68_isa.specs.Operands.{immediate_at as immediate_at_of, immediate_words as immediate_words_of, operand_at};
+ghost use Rattle.big_memory.specs.Steps.{Does};
+ghost use Rattle.m68_ea.specs.Words.{words_at};
+ghost use Rattle.m68_effects.specs.Arithmetic.{cmp, cmpa, cmpi, cmpm, comparison};
+ghost use Rattle.m68_effects.specs.Ops.{by_op};
+ghost use Rattle.m68_effects.specs.Parts.{after};
+ghost use Rattle.m68_arithmetic.specs.Parts.{runs_with};
+
+use super::parts::go_on;
+use big_memory::{Did, Ram};
+use m68_alu::cmp;
+use m68_ea::{immediate_at, immediate_words, source};
+use m68_isa::{Ccr, Regs68};
+use m68_ops::{Op68, bit8_of, lower_of, mode_of, size_bits_of, upper_of};
+use mix_bits::{Fault, Size, sext};
+
+/// The flags of a destination less a source, X as it was.
+#[inline(always)]
+fn compare(size: Size, destination: u32, source: u32, old: Ccr) -> Ccr
+    requires { size ≢ Zero }
+    ensures { result ≡ comparison size old destination source }
+{
+    cmp(size, destination, source, old).ccr
+}
+
+/// cmp: a data register less an operand.
+#[inline(never)]
+pub fn do_cmp(regs: &mut Regs68, ram: &Ram, fault: &mut Fault, word: u32) -> Did
+    ensures { Does (by_op Op68.Cmp regs.old ram.now word) result fault.new regs.old regs.new ram.now ram.now }
+{
+    let (mode, lower, upper) = (mode_of(word), lower_of(word), upper_of(word));
+    match size_bits_of(word) {
+        0 => with_register(regs, ram, fault, word, Size::One, mode, lower, upper),
+        1 => with_register(regs, ram, fault, word, Size::Two, mode, lower, upper),
+        _ => with_register(regs, ram, fault, word, Size::Four, mode, lower, upper),
+    }
+}
+
+/// A data register less an operand of this size.
+#[inline(always)]
+fn with_register(
+    regs: &mut Regs68,
+    ram: &Ram,
+    fault: &mut Fault,
+    word: u32,
+    size: Size,
+    mode: u32,
+    lower: usize,
+    upper: usize,
+) -> Did
+    requires some { size ≢ Zero }
+    requires from { lower < 8 }
+    requires to { upper < 8 }
+    ensures { let from = operand_at (words_at ram.now regs.old.pc) 1 size mode lower in
+        Does (runs_with regs.old word from (λ next. cmp regs.old ram.now next size from.ea upper)) result fault.new regs.old regs.new ram.now ram.now }
+{
+    let mut next = 1;
+    let Some(value) = source(regs, ram, fault, word, &mut next, size, mode, lower) else {
+        return Did::Stop;
+    };
+    regs.ccr = compare(size, regs.d[upper], value, regs.ccr);
+    go_on(regs, next)
+}
+
+/// cmpa: an address register less an operand, as longs.
+#[inline(never)]
+pub fn do_cmpa(regs: &mut Regs68, ram: &Ram, fault: &mut Fault, word: u32) -> Did
+    ensures { Does (by_op Op68.Cmpa regs.old ram.now word) result fault.new regs.old regs.new ram.now ram.now }
+{
+    let (mode, lower, upper) = (mode_of(word), lower_of(word), upper_of(word));
+    if bit8_of(word) == 0 {
+        with_address(regs, ram, fault, word, Size::Two, mode, lower, upper)
+    } else {
+        with_address(regs, ram, fault, word, Size::Four, mode, lower, upper)
+    }
+}
+
+/// An address register less an operand of this size.
+#[inline(always)]
+fn with_address(
+    regs: &mut Regs68,
+    ram: &Ram,
+    fault: &mut Fault,
+    word: u32,
+    size: Size,
+    mode: u32,
+    lower: usize,
+    upper: usize,
+) -> Did
+    requires from { lower < 8 }
+    requires to { upper < 8 }
+    ensures { let from = operand_at (words_at ram.now regs.old.pc) 1 size mode lower in
+        Does (runs_with regs.old word from (λ next. cmpa regs.old ram.now next size from.ea upper)) result fault.new regs.old regs.new ram.now ram.now }
+{
+    let mut next = 1;
+    let Some(value) = source(regs, ram, fault, word, &mut next, size, mode, lower) else {
+        return Did::Stop;
+    };
+    regs.ccr = compare(Size::Four, regs.a[upper], sext(value, size), regs.ccr);
+    go_on(regs, next)
+}
+
+/// cmpi: an operand less immediate data.
+#[inline(never)]
+pub fn do_cmpi(regs: &mut Regs68, ram: &Ram, fault: &mut Fault, word: u32) -> Did
+    ensures { Does (by_op Op68.Cmpi regs.old ram.now word) result fault.new regs.old regs.new ram.now ram.now }
+{
+    let (mode, lower) = (mode_of(word), lower_of(word));
+    match size_bits_of(word) {
+        0 => with_immediate(regs, ram, fault, word, Size::One, mode, lower),
+        1 => with_immediate(regs, ram, fault, word, Size::Two, mode, lower),
+        _ => with_immediate(regs, ram, fault, word, Size::Four, mode, lower),
+    }
+}
+
+/// An operand less immediate data of this size.
+#[inline(always)]
+fn with_immediate(
+    regs: &mut Regs68,
+    ram: &Ram,
+    fault: &mut Fault,
+    word: u32,
+    size: Size,
+    mode: u32,
+    lower: usize,
+) -> Did
+    requires some { size ≢ Zero }
+    requires from { lower < 8 }
+    ensures { let ws = words_at ram.now regs.old.pc in
+        let from = operand_at ws (1 + immediate_words_of size) size mode lower in
+        Does (runs_with regs.old word from (λ next. cmpi regs.old ram.now next size (immediate_at_of ws 1 size) from.ea)) result fault.new regs.old regs.new ram.now ram.now }
+{
+    let data = immediate_at(ram, regs.pc, 1, size);
+    let mut next = 1 + immediate_words(size);
+    let Some(value) = source(regs, ram, fault, word, &mut next, size, mode, lower) else {
+        return Did::Stop;
+    };
+    regs.ccr = compare(size, value, data, regs.ccr);
+    go_on(regs, next)
+}
+
+/// cmpm: memory at one address register less that at another, both of which grow; the source is read first.
+#[inline(never)]
+pub fn do_cmpm(regs: &mut Regs68, ram: &Ram, fault: &mut Fault, word: u32) -> Did
+    ensures { Does (by_op Op68.Cmpm regs.old ram.now word) result fault.new regs.old regs.new ram.now ram.now }
+{
+    let (lower, upper) = (lower_of(word), upper_of(word));
+    match size_bits_of(word) {
+        0 => in_memory(regs, ram, fault, word, Size::One, lower, upper),
+        1 => in_memory(regs, ram, fault, word, Size::Two, lower, upper),
+        _ => in_memory(regs, ram, fault, word, Size::Four, lower, upper),
+    }
+}
+
+/// The same at this size.
+#[inline(always)]
+fn in_memory(
+    regs: &mut Regs68,
+    ram: &Ram,
+    fault: &mut Fault,
+    word: u32,
+    size: Size,
+    from: usize,
+    to: usize,
+) -> Did
+    requires some { size ≢ Zero }
+    requires from { from < 8 }
+    requires to { to < 8 }
+    ensures { Does (after (cmpm regs.old ram.now (onward regs.old.pc 2) size from to)) result fault.new regs.old regs.new ram.now ram.now }
+{
+    let before = regs.a[from];
+    let mut next = 1;
+    let Some(subtrahend) = source(regs, ram, fault, word, &mut next, size, 3, from) else {
+        return Did::Stop;
+    };
+    let Some(value) = source(regs, ram, fault, word, &mut next, size, 3, to) else {
+        regs.a[from] = before;
+        return Did::Stop;
+    };
+    regs.ccr = compare(size, value, subtrahend, regs.ccr);
+    go_on(regs, 1)
+}

@@ -1,0 +1,62 @@
+ghost use Rattle.std.specs.Prelude.{◌≡◌, ◌≢◌, ◌+◌, ◌*◌, ◌<◌, ◌≤◌};
+ghost use Rattle.mix_bits.specs.declared.size.Size.TheVariants.{Zero};
+ghost use Rattle.mix_bits.specs.Addresses.{onward as onward_of};
+ghost use Rattle.m68_isa.specs.Operands.{operand_at};
+ghost use Rattle.big_memory.specs.Steps.{Does};
+ghost use Rattle.m68_ea.specs.Words.{words_at};
+ghost use Rattle.m68_effects.specs.Parts.{changed};
+ghost use Rattle.m68_arithmetic.specs.Parts.{result_of, runs_with};
+
+use super::operation::{Operation, apply};
+use big_memory::{Did, Ram};
+use m68_ea::{find, put, value};
+use m68_isa::Regs68;
+use mix_bits::{Fault, Size, onward};
+
+/// Lets the program go on behind the `words` words of its instruction.
+#[inline(always)]
+pub fn go_on(regs: &mut Regs68, words: u32) -> Did
+    requires { words ≤ 5 }
+    ensures next { result ≡ Did.Next }
+    ensures registers { regs.new ≡ record regs.old { pc = onward_of regs.old.pc (2 * words) } }
+{
+    regs.pc = onward(regs.pc, 2 * words);
+    Did::Next
+}
+
+/// An operand that is changed by an operation with a source. Its extension words begin with word `first`.
+#[inline(always)]
+pub fn change(
+    regs: &mut Regs68,
+    ram: &mut Ram,
+    fault: &mut Fault,
+    word: u32,
+    first: u32,
+    size: Size,
+    mode: u32,
+    lower: usize,
+    op: Operation,
+    by: u32,
+) -> Did
+    requires some { size ≢ Zero }
+    requires number { lower < 8 }
+    requires first { first < 4 }
+    ensures { let to = operand_at (words_at ram.old regs.old.pc) first size mode lower in
+        Does (runs_with regs.old word to (λ next. changed regs.old ram.old next size to.ea (λ d. result_of op size regs.old.ccr d by))) result fault.new regs.old regs.new ram.old ram.new }
+{
+    let mut next = first;
+    let Some(target) = find(regs, ram, fault, word, &mut next, size, mode, lower) else {
+        return Did::Stop;
+    };
+    let Some(old) = value(regs, ram, fault, target, size) else {
+        return Did::Stop;
+    };
+    let out = apply(op, size, old, by, regs.ccr);
+    let behind = onward(regs.pc, 2 * next);
+    if !put(regs, ram, fault, target, size, out.value) {
+        return Did::Stop;
+    }
+    regs.ccr = out.ccr;
+    regs.pc = behind;
+    Did::Next
+}

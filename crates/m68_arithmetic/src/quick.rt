@@ -1,0 +1,68 @@
+// An operand by a number from 1 to 8: an address register as a whole and without flags.
+ghost use Rattle.std.specs.Prelude.{◌≡◌};
+ghost use Rattle.mix_bits.specs.Addresses.{onward as onward_of};
+ghost use Rattle.m68_isa.specs.First.{first_of, one_to_eight, size_of as size_of_bits};
+ghost use Rattle.m68_isa.specs.Operands.{operand_at};
+ghost use Rattle.big_memory.specs.Steps.{Does};
+ghost use Rattle.m68_ea.specs.Words.{words_at};
+ghost use Rattle.m68_effects.specs.Ops.{by_op};
+ghost use Rattle.m68_effects.specs.Parts.{after, changed, goes_on};
+ghost use Rattle.m68_arithmetic.specs.Parts.{result_of, runs_with, with_away};
+
+use super::operation::{Operation, Way, away};
+use super::parts::{change, go_on};
+use big_memory::{Did, Ram};
+use m68_isa::Regs68;
+use m68_ops::{Op68, lower_of, mode_of, quick_of, size_bits_of};
+use mix_bits::{Fault, Size};
+
+/// addq: a number from 1 to 8 to an operand.
+#[inline(never)]
+pub fn do_addq(regs: &mut Regs68, ram: &mut Ram, fault: &mut Fault, word: u32) -> Did
+    ensures { Does (by_op Op68.Addq regs.old ram.old word) result fault.new regs.old regs.new ram.old ram.new }
+{
+    if mode_of(word) == 1 {
+        move_address(regs, ram, fault, word, Way::Onward)
+    } else {
+        by_number(regs, ram, fault, word, Operation::Add)
+    }
+}
+
+/// subq: a number from 1 to 8 from an operand.
+#[inline(never)]
+pub fn do_subq(regs: &mut Regs68, ram: &mut Ram, fault: &mut Fault, word: u32) -> Did
+    ensures { Does (by_op Op68.Subq regs.old ram.old word) result fault.new regs.old regs.new ram.old ram.new }
+{
+    if mode_of(word) == 1 {
+        move_address(regs, ram, fault, word, Way::Backward)
+    } else {
+        by_number(regs, ram, fault, word, Operation::Sub)
+    }
+}
+
+/// An address register goes one way by the number.
+#[inline(always)]
+fn move_address(regs: &mut Regs68, ram: &Ram, fault: &mut Fault, word: u32, way: Way) -> Did
+    ensures { let f = first_of word in
+        Does (after (goes_on (onward_of regs.old.pc 2) (with_away way regs.old f.lower (one_to_eight f.upper)) ram.now)) result fault.new regs.old regs.new ram.now ram.now }
+{
+    let lower = lower_of(word);
+    regs.a[lower] = away(way, regs.a[lower], quick_of(word));
+    go_on(regs, 1)
+}
+
+/// An operation on an operand of the size in bits 7 and 6 and the number.
+#[inline(always)]
+fn by_number(regs: &mut Regs68, ram: &mut Ram, fault: &mut Fault, word: u32, op: Operation) -> Did
+    ensures { let f = first_of word in
+        let size = size_of_bits f.size in
+        let to = operand_at (words_at ram.old regs.old.pc) 1 size f.mode f.lower in
+        Does (runs_with regs.old word to (λ next. changed regs.old ram.old next size to.ea (λ d. result_of op size regs.old.ccr d (one_to_eight f.upper)))) result fault.new regs.old regs.new ram.old ram.new }
+{
+    let (mode, lower, by) = (mode_of(word), lower_of(word), quick_of(word));
+    match size_bits_of(word) {
+        0 => change(regs, ram, fault, word, 1, Size::One, mode, lower, op, by),
+        1 => change(regs, ram, fault, word, 1, Size::Two, mode, lower, op, by),
+        _ => change(regs, ram, fault, word, 1, Size::Four, mode, lower, op, by),
+    }
+}
