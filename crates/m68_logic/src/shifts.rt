@@ -1,0 +1,64 @@
+// Shifts and rotates.
+ghost use Rattle.std.specs.Prelude.{◌≡◌, ◌<◌};
+ghost use Rattle.m68_isa.specs.First.{first_of};
+ghost use Rattle.m68_isa.specs.Shifts.{shift_count};
+ghost use Rattle.big_memory.specs.Steps.{Does};
+ghost use Rattle.m68_effects.specs.Ops.{by_op};
+ghost use Rattle.m68_effects.specs.Shifts.{count_of as count_in};
+
+use super::parts::go_on;
+use big_memory::{Did, Ram};
+use m68_alu::shift;
+use m68_ea::{find, put, value};
+use m68_isa::{Regs68, ShiftCount};
+use m68_ops::{
+    Op68, is_left, lower_of, memory_shift_of, mode_of, register_shift_of, shift_count_of, size_of,
+};
+use mix_bits::{Fault, Size, with_low};
+
+/// asl, asr, lsl, lsr, roxl, roxr, rol and ror: a data register by a count.
+#[inline(never)]
+pub fn do_shift(regs: &mut Regs68, ram: &Ram, fault: &mut Fault, word: u32) -> Did
+    ensures { Does (by_op Op68.Shift regs.old ram.now word) result fault.new regs.old regs.new ram.now ram.now }
+{
+    let n = lower_of(word);
+    let (op, left, size) = (register_shift_of(word), is_left(word), size_of(word));
+    let out = shift(op, left, size, regs.d[n], count_of(regs, word), regs.ccr);
+    regs.d[n] = with_low(regs.d[n], out.value, size);
+    regs.ccr = out.ccr;
+    go_on(regs, 1)
+}
+
+/// How far a register is shifted: by 1 to 8, or by a data register modulo 64.
+#[inline(always)]
+fn count_of(regs: &Regs68, word: u32) -> u32
+    ensures is { result ≡ count_in regs.now (shift_count (first_of word)) }
+    ensures below { result < 64 }
+{
+    match shift_count_of(word) {
+        ShiftCount::Number(n) => u32::from(n),
+        ShiftCount::Register(n) => regs.d[n as usize] % 64,
+    }
+}
+
+/// The same of a word in memory, by one.
+#[inline(never)]
+pub fn do_shift_memory(regs: &mut Regs68, ram: &mut Ram, fault: &mut Fault, word: u32) -> Did
+    ensures { Does (by_op Op68.ShiftMemory regs.old ram.old word) result fault.new regs.old regs.new ram.old ram.new }
+{
+    let (mode, lower) = (mode_of(word), lower_of(word));
+    let mut next = 1;
+    let Some(to) = find(regs, ram, fault, word, &mut next, Size::Two, mode, lower) else {
+        return Did::Stop;
+    };
+    let Some(old) = value(regs, ram, fault, to, Size::Two) else {
+        return Did::Stop;
+    };
+    let (op, left) = (memory_shift_of(word), is_left(word));
+    let out = shift(op, left, Size::Two, old, 1, regs.ccr);
+    if !put(regs, ram, fault, to, Size::Two, out.value) {
+        return Did::Stop;
+    }
+    regs.ccr = out.ccr;
+    go_on(regs, next)
+}
