@@ -1,0 +1,73 @@
+-- A step leaves the code of this set at a word of line A alone, and by that word.
+use Rattle.std.proofs.Common.{◌≡◌, ℕ, ◌<◌, ◌^◌, ◌∙◌, Bool, true, false, List, [], ◌∷◌, length, slice_index, Ok, Err, sym, subst, if◌then◌else◌}
+use Rattle.mix_bits.specs.declared.fault.Fault.{Fault}
+use Rattle.m68_isa.specs.declared.registers.Regs68.{Regs68}
+use Rattle.m68_isa.specs.declared.instructions.Decoded68.{Decoded68}
+use Rattle.m68_isa.specs.declared.instructions.Decoded68.TheVariants.{Op, LineA, LineF, Privileged, Illegal, Short}
+use Rattle.m68_isa.specs.declared.found.Found.{Found}
+use Rattle.m68_isa.specs.declared.found.Found.TheVariants.{Made, Privileged as NotAllowed, Illegal as NoInstruction}
+use Rattle.m68_isa.specs.First.{first_of}
+use Rattle.m68_isa.specs.Rows.{chosen}
+use Rattle.m68_isa.specs.Decode.{ended, decoded, rows_of}
+use Rattle.big_memory.specs.declared.steps.Did.{Did}
+use Rattle.big_memory.specs.declared.steps.Did.TheVariants.{Leave}
+use Rattle.big_memory.specs.Memory.{Memory}
+use Rattle.big_memory.specs.Steps.{After, Does}
+use Rattle.big_memory.specs.Steps.After.{Leaves, Stops}
+use Rattle.m68_ea.specs.Words.{words_at}
+use Rattle.m68_effects.specs.Parts.{Effect, after}
+use Rattle.m68_effects.specs.Step.{runs_decoded, stepped}
+
+after-stays : (x : Effect) (n : ℕ) → after x ≡ Leaves n → ⊥
+after-stays (Ok (r, m)) n is = cc
+after-stays (Err fault) n is = cc
+
+runs-leaves : (r : Regs68) (m : Memory) (ws : List ℕ) (d : Decoded68) (n : ℕ) → runs_decoded r m ws d ≡ Leaves n → d ≡ LineA n
+runs-leaves r m ws (Op i used) n is = absurd (after-stays _ n is)
+runs-leaves r m ws (LineA w) n is = cc
+runs-leaves r m ws LineF n is = cc
+runs-leaves r m ws Privileged n is = cc
+runs-leaves r m ws Illegal n is = cc
+runs-leaves r m ws Short n is = cc
+
+short-or : (short good : Bool) (d : Decoded68) (n : ℕ) → (d ≡ LineA n → ⊥) → (if short then Short else if good then d else Illegal) ≡ LineA n → ⊥
+short-or true good d n other is = cc
+short-or false true d n other is = other is
+short-or false false d n other is = cc
+
+ended-stays : (found : Found) (count n : ℕ) → ended found count ≡ LineA n → ⊥
+ended-stays (Made i used good) count n is = short-or _ good (Op i used) n (λ e. cc) is
+ended-stays NotAllowed count n is = cc
+ended-stays NoInstruction count n is = cc
+
+by-line : (ten fifteen : Bool) (w n : ℕ) (d : Decoded68) → (d ≡ LineA n → ⊥) → (if ten then LineA w else if fifteen then LineF else d) ≡ LineA n → n ≡ w
+by-line true fifteen w n d other is = cc
+by-line false true w n d other is = cc
+by-line false false w n d other is = absurd (other is)
+
+decoded-leaves : (ws : List ℕ) (n : ℕ) → decoded ws ≡ LineA n → n ≡ slice_index ws 0
+decoded-leaves [] n is = cc
+decoded-leaves (w ∷ ws) n is = by-line _ _ w n _ (ended-stays (chosen (rows_of (first_of w)) (first_of w) (w ∷ ws)) (length (w ∷ ws)) n) is
+
+odd-or : (odd : Bool) (fault : Fault) (x : After Regs68) (n : ℕ) → (if odd then Stops fault else x) ≡ Leaves n → x ≡ Leaves n
+odd-or true fault x n is = cc
+odd-or false fault x n is = is
+
+-- the number is the first word
+pub step_leaves : (r : Regs68) (m : Memory) (n : ℕ) → stepped r m ≡ Leaves n → n ≡ slice_index (words_at m r.pc) 0
+unfolding stepped
+step_leaves r m n is = decoded-leaves (words_at m r.pc) n (runs-leaves r m (words_at m r.pc) _ n (odd-or _ _ _ n is))
+
+pub line_below : (r q : Regs68) (m n : Memory) (word : ℕ) (did : Did) (fault : Fault) → word < 2 ^ 16 → word ≡ slice_index (words_at m r.pc) 0 → Does (stepped r m) did fault r q m n
+    → did ≡ Leave → fault.detail < 2 ^ 16
+line_below r q m n word did fault below first does leaves =
+    let left : Does (stepped r m) Leave fault r q m n = subst (λ d. Does (stepped r m) d fault r q m n) leaves does in
+    let is : fault.detail ≡ slice_index (words_at m r.pc) 0 = step_leaves r m fault.detail left.0 in
+    subst (λ v. v < 2 ^ 16) (first ∙ sym is) below
+
+-- a step that stops doesn't leave
+pub stop_stays : (r q : Regs68) (m n : Memory) (did : Did) (why fault : Fault) → Does (Stops why) did fault r q m n → did ≡ Leave → fault.detail < 2 ^ 16
+stop_stays r q m n did why fault does leaves =
+    let left : Does (Stops why) Leave fault r q m n = subst (λ d. Does (Stops why) d fault r q m n) leaves does in
+    let is : Stops why ≡ Leaves fault.detail = left.0 in
+    cc

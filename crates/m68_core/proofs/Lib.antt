@@ -1,0 +1,4 @@
+pub mod Reading
+pub mod Whole
+pub mod ByOp
+pub mod Leaving

@@ -1,0 +1,144 @@
+// Branches, whose displacements count from the address behind the first word.
+ghost use Rattle.std.specs.Prelude.{◌≡◌, ◌*◌, ◌<◌, ◌≤◌};
+ghost use Rattle.mix_bits.specs.Addresses.{onward as onward_of};
+ghost use Rattle.big_memory.specs.Steps.{Does};
+ghost use Rattle.m68_effects.specs.Control.{called, counted as counted_of};
+ghost use Rattle.m68_effects.specs.Parts.{after};
+ghost use Rattle.m68_effects.specs.Ops.{by_op};
+ghost use Rattle.m68_ops.specs.Ops.{Fits};
+
+use big_memory::{Did, Ram};
+use m68_ea::{extended_word, push};
+use m68_isa::{Regs68, holds};
+use m68_ops::{Op68, byte_of, condition_of, lower_of};
+use mix_bits::{Fault, Size, onward, with_low};
+
+/// bra, its displacement in the low byte of the word.
+#[inline(always)]
+pub fn do_bra_byte(regs: &mut Regs68, ram: &Ram, fault: &mut Fault, word: u32) -> Did
+    ensures { Does (by_op Op68.BraByte regs.old ram.now word) result fault.new regs.old regs.new ram.now ram.now }
+{
+    branch(regs, byte_of(word))
+}
+
+/// bra, its displacement in the extension word.
+#[inline(always)]
+pub fn do_bra_word(regs: &mut Regs68, ram: &Ram, fault: &mut Fault, word: u32) -> Did
+    ensures { Does (by_op Op68.BraWord regs.old ram.now word) result fault.new regs.old regs.new ram.now ram.now }
+{
+    branch(regs, extended_word(ram, regs.pc, 1))
+}
+
+/// bsr, its displacement in the low byte of the word.
+#[inline(never)]
+pub fn do_bsr_byte(regs: &mut Regs68, ram: &mut Ram, fault: &mut Fault, word: u32) -> Did
+    ensures { Does (by_op Op68.BsrByte regs.old ram.old word) result fault.new regs.old regs.new ram.old ram.new }
+{
+    let target = target_of(regs.pc, byte_of(word));
+    call(regs, ram, fault, onward(regs.pc, 2), target)
+}
+
+/// bsr, its displacement in the extension word.
+#[inline(never)]
+pub fn do_bsr_word(regs: &mut Regs68, ram: &mut Ram, fault: &mut Fault, word: u32) -> Did
+    ensures { Does (by_op Op68.BsrWord regs.old ram.old word) result fault.new regs.old regs.new ram.old ram.new }
+{
+    let target = target_of(regs.pc, extended_word(ram, regs.pc, 1));
+    call(regs, ram, fault, onward(regs.pc, 4), target)
+}
+
+/// bcc, its displacement in the low byte of the word.
+#[inline(always)]
+pub fn do_bcc_byte(regs: &mut Regs68, ram: &Ram, fault: &mut Fault, word: u32) -> Did
+    requires { Fits Op68.BccByte word }
+    ensures { Does (by_op Op68.BccByte regs.old ram.now word) result fault.new regs.old regs.new ram.now ram.now }
+{
+    if holds(condition_of(word), regs.ccr) {
+        branch(regs, byte_of(word))
+    } else {
+        go_on(regs, 1)
+    }
+}
+
+/// bcc, its displacement in the extension word.
+#[inline(always)]
+pub fn do_bcc_word(regs: &mut Regs68, ram: &Ram, fault: &mut Fault, word: u32) -> Did
+    requires { Fits Op68.BccWord word }
+    ensures { Does (by_op Op68.BccWord regs.old ram.now word) result fault.new regs.old regs.new ram.now ram.now }
+{
+    if holds(condition_of(word), regs.ccr) {
+        branch(regs, extended_word(ram, regs.pc, 1))
+    } else {
+        go_on(regs, 2)
+    }
+}
+
+/// dbcc: unless the condition holds, the low word of a data register is counted down, and the program
+/// branches unless it is then -1.
+#[inline(never)]
+pub fn do_dbcc(regs: &mut Regs68, ram: &Ram, fault: &mut Fault, word: u32) -> Did
+    ensures { Does (by_op Op68.Dbcc regs.old ram.now word) result fault.new regs.old regs.new ram.now ram.now }
+{
+    if holds(condition_of(word), regs.ccr) {
+        return go_on(regs, 2);
+    }
+    let register = lower_of(word);
+    let count = counted(regs, register);
+    regs.d[register] = with_low(regs.d[register], count, Size::Two);
+    if count == 0xFFFF {
+        go_on(regs, 2)
+    } else {
+        branch(regs, extended_word(ram, regs.pc, 1))
+    }
+}
+
+/// The low word of a data register less one.
+#[inline(always)]
+fn counted(regs: &Regs68, register: usize) -> u32
+    requires { register < 8 }
+    ensures { result ≡ counted_of regs.now register }
+{
+    ((u64::from(regs.d[register]) + 0xFFFF) % 0x1_0000) as u32
+}
+
+/// The address that a displacement gives.
+#[inline(always)]
+fn target_of(pc: u32, displacement: u32) -> u32
+    ensures { result ≡ onward_of (onward_of pc 2) displacement }
+{
+    onward(onward(pc, 2), displacement)
+}
+
+/// Lets the program go on at the address that a displacement gives.
+#[inline(always)]
+fn branch(regs: &mut Regs68, displacement: u32) -> Did
+    ensures next { result ≡ Did.Next }
+    ensures registers { regs.new ≡ record regs.old { pc = onward_of (onward_of regs.old.pc 2) displacement } }
+{
+    regs.pc = target_of(regs.pc, displacement);
+    Did::Next
+}
+
+/// Pushes the address of the next instruction, and lets the program go on elsewhere.
+#[inline(always)]
+pub fn call(regs: &mut Regs68, ram: &mut Ram, fault: &mut Fault, next: u32, target: u32) -> Did
+    ensures { Does (after (called regs.old ram.old next target)) result fault.new regs.old regs.new ram.old ram.new }
+{
+    if push(regs, ram, fault, next) {
+        regs.pc = target;
+        Did::Next
+    } else {
+        Did::Stop
+    }
+}
+
+/// Lets the program go on behind the `words` words of its instruction.
+#[inline(always)]
+pub fn go_on(regs: &mut Regs68, words: u32) -> Did
+    requires { words ≤ 5 }
+    ensures next { result ≡ Did.Next }
+    ensures registers { regs.new ≡ record regs.old { pc = onward_of regs.old.pc (2 * words) } }
+{
+    regs.pc = onward(regs.pc, 2 * words);
+    Did::Next
+}

@@ -1,0 +1,14 @@
+//! A step of 68K code: every user-mode instruction of the 68000 over guarded memory
+//! (M68000 Family Programmer's Reference Manual, section 4). Program control stands here; the other
+//! instructions in the crates below.
+#![tactic(auto)]
+
+mod branches;
+mod dispatch;
+mod jumps;
+mod laws;
+mod step;
+mod traps;
+mod words;
+
+pub use step::{Out68, run, step68};
