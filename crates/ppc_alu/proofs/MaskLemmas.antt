@@ -4,7 +4,7 @@ use Rattle.std.proofs.lemmas.Nat.{div-mul-add, mod-mul-add, mul-add-lt}
 use Rattle.std.proofs.lemmas.Bool.{eqb-true}
 use Rattle.mix_bits.specs.Ranges.{every}
 use Rattle.mix_bits.proofs.Every.{every_at}
-use Rattle.ppc_alu.specs.Masks.{mask_of}
+use Rattle.ppc_alu.specs.Masks.{field_mask_of, mask_of}
 
 -- the two halves of the mask, joined
 by_shifts : ℕ → ℕ → ℕ
@@ -42,3 +42,20 @@ mask-straight mb me begin end order = sym (when-true (nat_le mb me) _ _ order) �
 pub mask-round : (mb me : ℕ) → mb < 32 → me < 32 → nat_le mb me ≡ false → bit_or (4294967295 / 2 ^ mb) (4294967295 * 2 ^ (31 - me) % 4294967296) ≡ mask_of mb me
 unfolding by_shifts
 mask-round mb me begin end order = sym (when-false (nat_le mb me) _ _ order) ∙ mask-is mb me begin end
+
+-- the fields' places as digits to the base 16
+by_digits : ℕ → ℕ
+by_digits n =
+    (((n / 128 % 2 * 16 + n / 64 % 2) * 256 + n / 32 % 2 * 16 + n / 16 % 2) * 65536
+    + ((n / 8 % 2 * 16 + n / 4 % 2) * 256 + n / 2 % 2 * 16 + n % 2)) * 15
+
+all-fields-agree : every 9 0 (λ n. by_digits n == field_mask_of n) ≡ true
+unfolding by_digits
+all-fields-agree = refl
+
+pub fields_are : (n : ℕ) → n < 512 →
+    (((n / 128 % 2 * 16 + n / 64 % 2) * 256 + n / 32 % 2 * 16 + n / 16 % 2) * 65536
+    + ((n / 8 % 2 * 16 + n / 4 % 2) * 256 + n / 2 % 2 * 16 + n % 2)) * 15 ≡ field_mask_of n
+unfolding by_digits
+fields_are n below =
+    eqb-true (by_digits n) (field_mask_of n) (every_at 9 (λ k. by_digits k == field_mask_of k) n all-fields-agree (omega (arith, below)))

@@ -49,3 +49,10 @@ shifted v n = record {
   ca = is_negative v && not (v % 2 ^ n == 0);
   ov = false;
 }
+
+-- a shift of a word by `n` places, where what leaves the word is lost
+abbrev pub shifted_left : ℕ → ℕ → ℕ
+shifted_left v n = v * 2 ^ n % 2 ^ 32
+
+abbrev pub shifted_right : ℕ → ℕ → ℕ
+shifted_right v n = v / 2 ^ n

@@ -1,5 +1,6 @@
 // Comparisons and the condition register.
 ghost use Rattle.std.specs.Prelude.{◌≡◌, ◌<◌};
+ghost use Rattle.ppc_alu.specs.Traps.{traps_on};
 ghost use Rattle.ppc_alu.specs.Condition.{bit_of, combined, compared, field_of, is_less as is_less_lem, with_bit, with_field};
 
 use mix_bits::{digit, with_digit};
@@ -20,8 +21,10 @@ pub enum CrOp {
 }
 
 /// The four bits LT, GT, EQ and SO of a comparison, LT most significant.
+#[inline(always)]
 pub fn compare(signed: bool, a: u32, b: u32, so: bool) -> u32
-    ensures { result ≡ compared signed a b so }
+    ensures is { result ≡ compared signed a b so }
+    ensures below { result < 16 }
 {
     let less = is_less(signed, a, b);
     let greater = is_less(signed, b, a);
@@ -86,4 +89,24 @@ pub fn with_cr_field(cr: u32, field: u32, bits: u32) -> u32
     ensures { result ≡ with_field cr field bits }
 {
     with_digit(cr, 28 - 4 * field, 4, bits)
+}
+
+/// The condition register with its first field replaced.
+#[inline(always)]
+pub fn with_cr0(cr: u32, bits: u32) -> u32
+    requires { bits < 16 }
+    ensures { result ≡ with_field cr 0 bits }
+{
+    bits * 0x1000_0000 + cr % 0x1000_0000
+}
+
+/// Whether a trap instruction traps: one of the conditions that TO picks holds.
+pub fn traps(to: u32, a: u32, b: u32) -> bool
+    ensures { result ≡ traps_on to a b }
+{
+    to / 16 % 2 == 1 && is_less(true, a, b)
+        || to / 8 % 2 == 1 && is_less(true, b, a)
+        || to / 4 % 2 == 1 && a == b
+        || to / 2 % 2 == 1 && is_less(false, a, b)
+        || to % 2 == 1 && is_less(false, b, a)
 }

@@ -9,9 +9,16 @@ mod shift;
 mod signed;
 #[cfg(test)]
 mod tests;
+mod xer;
 
 pub use arith::{Arith, add3, mul_high, mul_low};
-pub use condition::{CrOp, compare, cr_bit, cr_field, cr_logic, with_cr_bit, with_cr_field};
-pub use mask::rotate_mask;
+pub use condition::{
+    CrOp, compare, cr_bit, cr_field, cr_logic, traps, with_cr_bit, with_cr_field, with_cr0,
+};
+pub use mask::{field_mask, insert, rotate_mask};
 pub use quotients::divide;
-pub use shift::shift_right;
+pub use shift::{shift_left, shift_right, shift_right_logical};
+pub use xer::{
+    xer_ca, xer_kept, xer_so, xer_string_length, xer_top, xer_with_ca, xer_with_overflow,
+    xer_without_top,
+};

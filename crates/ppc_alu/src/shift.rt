@@ -1,6 +1,6 @@
 // Arithmetic shifts.
-ghost use Rattle.std.specs.Prelude.{◌≡◌};
-ghost use Rattle.ppc_alu.specs.Results.{shifted};
+ghost use Rattle.std.specs.Prelude.{◌≡◌, ◌<◌};
+ghost use Rattle.ppc_alu.specs.Results.{shifted, shifted_left, shifted_right};
 
 use super::arith::Arith;
 use super::signed::is_negative;
@@ -29,4 +29,22 @@ pub fn shift_right(v: u32, n: u32) -> Arith
             ov: false,
         }
     }
+}
+
+/// `v` shifted left by `n` places; all bits are shifted out where `n` is 32 or more.
+#[inline(always)]
+pub fn shift_left(v: u32, n: u32) -> u32
+    requires { n < 64 }
+    ensures { result ≡ shifted_left v n }
+{
+    ((u64::from(v) << n) % 0x1_0000_0000) as u32
+}
+
+/// `v` shifted right by `n` places, with zeros from above.
+#[inline(always)]
+pub fn shift_right_logical(v: u32, n: u32) -> u32
+    requires { n < 64 }
+    ensures { result ≡ shifted_right v n }
+{
+    (u64::from(v) >> n) as u32
 }

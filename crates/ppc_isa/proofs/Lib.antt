@@ -1,3 +1,3 @@
-pub mod Strings
+pub mod Filled
 pub mod Forms
 pub mod Laws

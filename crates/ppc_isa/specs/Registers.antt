@@ -1,5 +1,5 @@
 -- The registers of a PowerPC integer program.
-use Rattle.std.specs.Prelude.{ℕ, replicate}
+use Rattle.std.specs.Prelude.{replicate}
 use Rattle.ppc_isa.specs.declared.registers.RegsPpc.{RegsPpc}
 
 -- a register file with 0 in every register

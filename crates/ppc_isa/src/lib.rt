@@ -14,6 +14,7 @@ mod memory;
 mod registers;
 mod rotate;
 mod special;
+mod strings;
 #[cfg(test)]
 mod tests;
 mod validity;
@@ -24,3 +25,4 @@ pub use instruction::{
     ReversedKind, ShiftOp, SpecialRegister, StoreKind, UnaryOp,
 };
 pub use registers::RegsPpc;
+pub use strings::is_filled;

@@ -1,8 +1,8 @@
 ghost use Rattle.std.specs.Prelude.{◌≡◌, ◌<◌, ◌==◌, ◌&&◌, not};
-ghost use Rattle.std.specs.List.{list_any};
-ghost use Rattle.ppc_isa.specs.Valid.{InRange, is_base, is_valid, registers_from, string_registers};
+ghost use Rattle.ppc_isa.specs.Valid.{InRange, is_base, is_valid, string_registers};
 
 use super::instruction::{BranchRegister, InstrPpc};
+use super::strings::is_filled;
 
 /// Whether an instruction is none of the manual's invalid forms.
 pub fn is_valid(i: InstrPpc) -> bool
@@ -33,7 +33,9 @@ pub fn is_valid(i: InstrPpc) -> bool
             ..
         } => a != 0,
         InstrPpc::LoadMultiple { d, a, .. } => a < d,
-        InstrPpc::LoadStringImmediate { d, a, nb } => !is_loaded(a, d, nb),
+        InstrPpc::LoadStringImmediate { d, a, nb } => {
+            !is_filled(usize::from(a), usize::from(d), string_registers(nb))
+        },
         InstrPpc::BranchConditionalToRegister {
             register: BranchRegister::Count,
             bo,
@@ -50,22 +52,11 @@ fn is_load_base(a: u8, d: u8) -> bool
     a != 0 && a != d
 }
 
-/// Whether register `a` is among those that a string of `nb` bytes fills from register `d` on.
-#[tactic(auto, using(crate::proofs::Strings::filled_by_distance))]
-fn is_loaded(a: u8, d: u8, nb: u8) -> bool
-    requires a_in { a < 32 }
-    requires d_in { d < 32 }
-    requires nb_in { nb < 32 }
-    ensures { result ≡ list_any (λ r. r == a) (registers_from d (string_registers nb)) }
-{
-    (a + 32 - d) % 32 < string_registers(nb)
-}
-
 /// How many registers a string of `nb` bytes fills.
-fn string_registers(nb: u8) -> u8
+fn string_registers(nb: u8) -> usize
     requires { nb < 32 }
     ensures { result ≡ string_registers nb }
 {
     let bytes = if nb == 0 { 32 } else { nb };
-    (bytes + 3) / 4
+    usize::from((bytes + 3) / 4)
 }

@@ -1,0 +1,15 @@
+ghost use Rattle.std.specs.Prelude.{◌≡◌, ◌<◌, ◌==◌};
+ghost use Rattle.std.specs.List.{list_any};
+ghost use Rattle.ppc_isa.specs.Valid.{registers_from};
+
+/// Whether a register is among the `count` registers that a string fills from register `first` on,
+/// where register 0 follows on register 31.
+#[inline(always)]
+#[tactic(auto, using(crate::proofs::Filled::filled_by_distance))]
+pub fn is_filled(register: usize, first: usize, count: usize) -> bool
+    requires register_in { register < 32 }
+    requires first_in { first < 32 }
+    ensures { result ≡ list_any (λ r. r == register) (registers_from first count) }
+{
+    (register + 32 - first) % 32 < count
+}
