@@ -1,0 +1,10 @@
+pub mod File
+pub mod Arithmetic
+pub mod Logical
+pub mod Rotate
+pub mod Conditions
+pub mod Special
+pub mod Branches
+pub mod Storage
+pub mod Strings
+pub mod Effects

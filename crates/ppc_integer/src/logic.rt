@@ -1,0 +1,106 @@
+// Logic of words.
+ghost use Rattle.std.specs.Prelude.{◌≡◌, ◌/◌, ◌%◌, ◌==◌, ◌^◌, ◌<◌};
+ghost use Rattle.mix_bits.specs.declared.fault.Fault.{Fault};
+ghost use Rattle.big_memory.specs.Memory.{Memory};
+ghost use Rattle.big_memory.specs.Steps.{Does};
+ghost use Rattle.ppc_isa.specs.Fields.{fields_of};
+ghost use Rattle.ppc_effects.specs.Logical.{combined_immediate, combined_words, records as records_of, unary_of};
+ghost use Rattle.ppc_isa.specs.declared.instruction.InstrPpc.TheVariants.{Logical, LogicalImmediate, Unary};
+ghost use Rattle.ppc_effects.specs.Effects.{runs};
+
+use super::ending::finish;
+use big_memory::Did;
+use mix_bits::{Size, sext};
+use ppc_effects::put_result;
+use ppc_isa::{ImmediateOp, LogicalOp, RegsPpc, UnaryOp};
+use ppc_ops::{a_of, b_of, d_of, is_last, low_of};
+
+/// ori, oris, xori, xoris, andi. and andis.
+#[inline(always)]
+pub fn logical_immediate(regs: &mut RegsPpc, word: u32, op: ImmediateOp) -> Did
+    ensures { (why : Fault) (m : Memory) → let f = fields_of word in Does (runs regs.old m word (LogicalImmediate op f.a f.d f.low)) result why regs.old regs.new m m }
+{
+    let value = combine_immediate(op, regs.gpr[d_of(word)], low_of(word));
+    put_result(regs, a_of(word), records(op), value);
+    finish(regs)
+}
+
+/// and, or, xor, nand, nor, eqv, andc and orc.
+#[inline(always)]
+pub fn logical(regs: &mut RegsPpc, word: u32, op: LogicalOp) -> Did
+    ensures { (why : Fault) (m : Memory) → let f = fields_of word in Does (runs regs.old m word (Logical op f.a f.d f.b f.last)) result why regs.old regs.new m m }
+{
+    let value = combine(op, regs.gpr[d_of(word)], regs.gpr[b_of(word)]);
+    put_result(regs, a_of(word), is_last(word), value);
+    finish(regs)
+}
+
+/// extsb, extsh and cntlzw.
+#[inline(always)]
+pub fn unary(regs: &mut RegsPpc, word: u32, op: UnaryOp) -> Did
+    ensures { (why : Fault) (m : Memory) → let f = fields_of word in Does (runs regs.old m word (Unary op f.a f.d f.last)) result why regs.old regs.new m m }
+{
+    let value = change(op, regs.gpr[d_of(word)]);
+    put_result(regs, a_of(word), is_last(word), value);
+    finish(regs)
+}
+
+/// A word combined with sixteen bits, or with these as the upper half of a word.
+#[inline(always)]
+fn combine_immediate(op: ImmediateOp, s: u32, immediate: u32) -> u32
+    requires { immediate < 2 ^ 16 }
+    ensures { result ≡ combined_immediate op s immediate }
+{
+    match op {
+        ImmediateOp::Or => s | immediate,
+        ImmediateOp::OrShifted => s | (immediate * 0x1_0000),
+        ImmediateOp::Xor => s ^ immediate,
+        ImmediateOp::XorShifted => s ^ (immediate * 0x1_0000),
+        ImmediateOp::And => s & immediate,
+        ImmediateOp::AndShifted => s & (immediate * 0x1_0000),
+    }
+}
+
+/// Whether an operation with sixteen bits records its result.
+#[inline(always)]
+fn records(op: ImmediateOp) -> bool
+    ensures { result ≡ records_of op }
+{
+    match op {
+        ImmediateOp::Or => false,
+        ImmediateOp::OrShifted => false,
+        ImmediateOp::Xor => false,
+        ImmediateOp::XorShifted => false,
+        ImmediateOp::And => true,
+        ImmediateOp::AndShifted => true,
+    }
+}
+
+/// Two words combined bit by bit.
+#[inline(always)]
+fn combine(op: LogicalOp, s: u32, b: u32) -> u32
+    ensures { result ≡ combined_words op s b }
+{
+    match op {
+        LogicalOp::And => s & b,
+        LogicalOp::Or => s | b,
+        LogicalOp::Xor => s ^ b,
+        LogicalOp::Nand => !(s & b),
+        LogicalOp::Nor => !(s | b),
+        LogicalOp::Equivalent => !(s ^ b),
+        LogicalOp::AndComplement => s & !b,
+        LogicalOp::OrComplement => s | !b,
+    }
+}
+
+/// A word extended by its sign, or how many zeros it begins with.
+#[inline(always)]
+fn change(op: UnaryOp, s: u32) -> u32
+    ensures { result ≡ unary_of op s }
+{
+    match op {
+        UnaryOp::ExtendSignByte => sext(s, Size::One),
+        UnaryOp::ExtendSignHalf => sext(s, Size::Two),
+        UnaryOp::CountLeadingZeros => s.leading_zeros(),
+    }
+}

@@ -1,0 +1,91 @@
+// Rotations under a mask, and shifts.
+ghost use Rattle.std.specs.Prelude.{◌≡◌, ◌/◌, ◌%◌, ◌==◌};
+ghost use Rattle.mix_bits.specs.declared.fault.Fault.{Fault};
+ghost use Rattle.big_memory.specs.Memory.{Memory};
+ghost use Rattle.big_memory.specs.Steps.{Does};
+ghost use Rattle.ppc_isa.specs.Fields.{fields_of};
+ghost use Rattle.ppc_isa.specs.declared.instruction.ShiftOp.TheVariants.{Left, Right, RightAlgebraic};
+ghost use Rattle.ppc_isa.specs.declared.instruction.InstrPpc.TheVariants.{RotateLeft, RotateLeftImmediate, Shift, ShiftRightAlgebraicImmediate};
+ghost use Rattle.ppc_effects.specs.Effects.{runs};
+
+use super::ending::finish;
+use big_memory::Did;
+use ppc_alu::{insert, rotate_mask, shift_left, shift_right, shift_right_logical};
+use ppc_effects::{put_arith, put_result};
+use ppc_isa::{MaskUse, RegsPpc};
+use ppc_ops::{a_of, b_of, d_of, is_last, mask_begin_of, mask_end_of, shift_of};
+
+/// rlwimi and rlwinm.
+#[inline(always)]
+pub fn rotate_left_immediate(regs: &mut RegsPpc, word: u32, outside: MaskUse) -> Did
+    ensures { (why : Fault) (m : Memory) → let f = fields_of word in Does (runs regs.old m word (RotateLeftImmediate outside f.a f.d f.b (f.xo / 32) (f.xo % 32) f.last)) result why regs.old regs.new m m }
+{
+    let (rotated, mask) = rotate_mask(
+        regs.gpr[d_of(word)],
+        shift_of(word),
+        mask_begin_of(word),
+        mask_end_of(word),
+    );
+    let value = match outside {
+        MaskUse::Insert => insert(mask, rotated, regs.gpr[a_of(word)]),
+        MaskUse::Clear => rotated & mask,
+    };
+    put_result(regs, a_of(word), is_last(word), value);
+    finish(regs)
+}
+
+/// rlwnm.
+#[inline(always)]
+pub fn rotate_left(regs: &mut RegsPpc, word: u32) -> Did
+    ensures { (why : Fault) (m : Memory) → let f = fields_of word in Does (runs regs.old m word (RotateLeft f.a f.d f.b (f.xo / 32) (f.xo % 32) f.last)) result why regs.old regs.new m m }
+{
+    let count = regs.gpr[b_of(word)] % 32;
+    let (rotated, mask) = rotate_mask(
+        regs.gpr[d_of(word)],
+        count,
+        mask_begin_of(word),
+        mask_end_of(word),
+    );
+    put_result(regs, a_of(word), is_last(word), rotated & mask);
+    finish(regs)
+}
+
+/// slw.
+#[inline(always)]
+pub fn shift_word_left(regs: &mut RegsPpc, word: u32) -> Did
+    ensures { (why : Fault) (m : Memory) → let f = fields_of word in Does (runs regs.old m word (Shift Left f.a f.d f.b f.last)) result why regs.old regs.new m m }
+{
+    let value = shift_left(regs.gpr[d_of(word)], regs.gpr[b_of(word)] % 64);
+    put_result(regs, a_of(word), is_last(word), value);
+    finish(regs)
+}
+
+/// srw.
+#[inline(always)]
+pub fn shift_word_right(regs: &mut RegsPpc, word: u32) -> Did
+    ensures { (why : Fault) (m : Memory) → let f = fields_of word in Does (runs regs.old m word (Shift Right f.a f.d f.b f.last)) result why regs.old regs.new m m }
+{
+    let value = shift_right_logical(regs.gpr[d_of(word)], regs.gpr[b_of(word)] % 64);
+    put_result(regs, a_of(word), is_last(word), value);
+    finish(regs)
+}
+
+/// sraw.
+#[inline(always)]
+pub fn shift_word_right_algebraic(regs: &mut RegsPpc, word: u32) -> Did
+    ensures { (why : Fault) (m : Memory) → let f = fields_of word in Does (runs regs.old m word (Shift RightAlgebraic f.a f.d f.b f.last)) result why regs.old regs.new m m }
+{
+    let outcome = shift_right(regs.gpr[d_of(word)], regs.gpr[b_of(word)] % 64);
+    put_arith(regs, a_of(word), true, false, is_last(word), outcome);
+    finish(regs)
+}
+
+/// srawi.
+#[inline(always)]
+pub fn shift_right_algebraic_immediate(regs: &mut RegsPpc, word: u32) -> Did
+    ensures { (why : Fault) (m : Memory) → let f = fields_of word in Does (runs regs.old m word (ShiftRightAlgebraicImmediate f.a f.d f.b f.last)) result why regs.old regs.new m m }
+{
+    let outcome = shift_right(regs.gpr[d_of(word)], shift_of(word));
+    put_arith(regs, a_of(word), true, false, is_last(word), outcome);
+    finish(regs)
+}

@@ -1,0 +1,99 @@
+// Loads.
+ghost use Rattle.std.specs.Prelude.{◌≡◌};
+ghost use Rattle.big_memory.specs.Steps.{Does};
+ghost use Rattle.ppc_isa.specs.Fields.{fields_of};
+ghost use Rattle.ppc_effects.specs.Effects.{runs};
+ghost use Rattle.ppc_effects.specs.Storage.{load as load_of, load_size, load_value as load_value_of};
+ghost use Rattle.ppc_isa.specs.declared.instruction.InstrPpc.TheVariants.{Load, LoadIndexed};
+ghost use Rattle.big_memory.specs.Memory.{loaded};
+
+use big_memory::{Access, Did, Ram, refuse};
+use mix_bits::{Fault, Size, sext};
+use ppc_effects::{advance, index_address, offset_address};
+use ppc_isa::{LoadKind, RegsPpc};
+use ppc_ops::{a_of, d_of};
+
+/// lwz, lbz, lhz and lha, and with `update` lwzu, lbzu, lhzu and lhau.
+#[inline(always)]
+pub fn load(
+    regs: &mut RegsPpc,
+    ram: &Ram,
+    fault: &mut Fault,
+    word: u32,
+    kind: LoadKind,
+    update: bool,
+) -> Did
+    ensures { let f = fields_of word in Does (runs regs.old ram.now word (Load kind update f.d f.a f.low)) result fault.new regs.old regs.new ram.now ram.now }
+{
+    let at = offset_address(regs, word);
+    load_at(regs, ram, fault, word, kind, update, at)
+}
+
+/// lwzx, lbzx, lhzx and lhax, and with `update` lwzux, lbzux, lhzux and lhaux.
+#[inline(always)]
+pub fn load_indexed(
+    regs: &mut RegsPpc,
+    ram: &Ram,
+    fault: &mut Fault,
+    word: u32,
+    kind: LoadKind,
+    update: bool,
+) -> Did
+    ensures { let f = fields_of word in Does (runs regs.old ram.now word (LoadIndexed kind update f.d f.a f.b)) result fault.new regs.old regs.new ram.now ram.now }
+{
+    let at = index_address(regs, word);
+    load_at(regs, ram, fault, word, kind, update, at)
+}
+
+/// Loads from an address into register D.
+#[inline(always)]
+#[tactic(auto, using(big_memory::proofs::Free::nothing_free))]
+fn load_at(
+    regs: &mut RegsPpc,
+    ram: &Ram,
+    fault: &mut Fault,
+    word: u32,
+    kind: LoadKind,
+    update: bool,
+    at: u32,
+) -> Did
+    ensures { Does (load_of regs.old ram.now kind update (fields_of word).d (fields_of word).a at) result fault.new regs.old regs.new ram.now ram.now }
+{
+    match read(ram, at, kind) {
+        Ok(v) => {
+            if update {
+                regs.gpr[a_of(word)] = at;
+            }
+            regs.gpr[d_of(word)] = load_value(kind, v);
+            advance(regs);
+            Did::Next
+        }
+        Err(access) => refuse::<RegsPpc>(fault, regs.pc, access),
+    }
+}
+
+/// The number in memory.
+#[inline(always)]
+fn read(ram: &Ram, at: u32, kind: LoadKind) -> Result<u32, Access>
+    ensures { result ≡ loaded ram.now at (load_size kind) }
+{
+    match kind {
+        LoadKind::Word => ram.load_long(at),
+        LoadKind::Byte => ram.load_byte(at),
+        LoadKind::Half => ram.load_word(at),
+        LoadKind::HalfAlgebraic => ram.load_word(at),
+    }
+}
+
+/// The word that a loaded number gives.
+#[inline(always)]
+fn load_value(kind: LoadKind, v: u32) -> u32
+    ensures { result ≡ load_value_of kind v }
+{
+    match kind {
+        LoadKind::Word => v,
+        LoadKind::Byte => v,
+        LoadKind::Half => v,
+        LoadKind::HalfAlgebraic => sext(v, Size::Two),
+    }
+}

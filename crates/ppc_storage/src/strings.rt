@@ -1,0 +1,205 @@
+// Strings.
+ghost use Rattle.std.specs.Prelude.{◌≡◌, ◌+◌, ◌-◌, ◌*◌, ◌/◌, ◌%◌, ◌^◌, ◌<◌, ◌≤◌, Ok, if◌then◌else◌};
+ghost use Rattle.big_memory.specs.Steps.{Does};
+ghost use Rattle.ppc_isa.specs.Fields.{fields_of};
+ghost use Rattle.ppc_effects.specs.Effects.{runs};
+ghost use Rattle.mix_bits.specs.Digits.{digit_of, digit_replaced};
+ghost use Rattle.big_memory.specs.Memory.{IsRam};
+ghost use Rattle.big_memory.specs.Stores.{OnlyFree};
+ghost use Rattle.ppc_isa.specs.Valid.{registers_from};
+ghost use Rattle.ppc_effects.specs.Strings.{fills as fills_lem, in_order, length_of as length_of_lem, load_byte, load_string as load_string_of, store_byte, store_string as store_string_of, string_byte as string_byte_of, string_place, string_register, with_string_byte};
+ghost use Rattle.ppc_isa.specs.declared.instruction.InstrPpc.TheVariants.{LoadStringImmediate, LoadStringIndexed, StoreStringImmediate, StoreStringIndexed};
+ghost use Rattle.ppc_storage.specs.Tested.{BytesOpen, BytesTested, BytesThere, OpenTested};
+
+use big_memory::{Access, Did, Ram, refuse, stop};
+use mix_bits::{Fault, FaultKind, digit, onward, with_digit};
+use ppc_alu::xer_string_length;
+use ppc_effects::{advance, base, index_address};
+use ppc_isa::{RegsPpc, is_filled};
+use ppc_ops::{a_of, b_of, d_of, shift_of};
+
+/// lswi.
+pub fn load_string_immediate(regs: &mut RegsPpc, ram: &Ram, fault: &mut Fault, word: u32) -> Did
+    ensures { let f = fields_of word in Does (runs regs.old ram.now word (LoadStringImmediate f.d f.a f.b)) result fault.new regs.old regs.new ram.now ram.now }
+{
+    let at = base(regs, a_of(word));
+    load_string(regs, ram, fault, d_of(word), at, length_of(shift_of(word)))
+}
+
+/// stswi.
+pub fn store_string_immediate(
+    regs: &mut RegsPpc,
+    ram: &mut Ram,
+    fault: &mut Fault,
+    word: u32,
+) -> Did
+    ensures { let f = fields_of word in Does (runs regs.old ram.old word (StoreStringImmediate f.d f.a f.b)) result fault.new regs.old regs.new ram.old ram.new }
+{
+    let at = base(regs, a_of(word));
+    store_string(regs, ram, fault, d_of(word), at, length_of(shift_of(word)))
+}
+
+/// lswx.
+pub fn load_string_indexed(regs: &mut RegsPpc, ram: &Ram, fault: &mut Fault, word: u32) -> Did
+    ensures { let f = fields_of word in Does (runs regs.old ram.now word (LoadStringIndexed f.d f.a f.b)) result fault.new regs.old regs.new ram.now ram.now }
+{
+    let (first, length) = (d_of(word), xer_string_length(regs.xer));
+    if fills(a_of(word), first, length) || fills(b_of(word), first, length) {
+        stop::<RegsPpc>(fault, FaultKind::BadInstr, regs.pc, word)
+    } else {
+        let at = index_address(regs, word);
+        load_string(regs, ram, fault, first, at, length)
+    }
+}
+
+/// stswx.
+pub fn store_string_indexed(regs: &mut RegsPpc, ram: &mut Ram, fault: &mut Fault, word: u32) -> Did
+    ensures { let f = fields_of word in Does (runs regs.old ram.old word (StoreStringIndexed f.d f.a f.b)) result fault.new regs.old regs.new ram.old ram.new }
+{
+    let at = index_address(regs, word);
+    let length = xer_string_length(regs.xer);
+    store_string(regs, ram, fault, d_of(word), at, length)
+}
+
+/// How many bytes a string of NB bytes has.
+fn length_of(nb: u32) -> u32
+    requires { nb < 32 }
+    ensures is { result ≡ length_of_lem nb }
+    ensures below { result < 128 }
+{
+    if nb == 0 { 32 } else { nb }
+}
+
+/// Whether a string of `length` bytes fills a register.
+fn fills(register: usize, first: usize, length: u32) -> bool
+    requires register_in { register < 32 }
+    requires first_in { first < 32 }
+    requires length_in { length < 128 }
+    ensures { result ≡ fills_lem register first length }
+{
+    is_filled(register, first, (length as usize + 3) / 4)
+}
+
+/// Loads a string into the registers from `first` on.
+#[tactic(auto, using(big_memory::proofs::Free::nothing_free))]
+fn load_string(
+    regs: &mut RegsPpc,
+    ram: &Ram,
+    fault: &mut Fault,
+    first: usize,
+    at: u32,
+    length: u32,
+) -> Did
+    requires register { first < 32 }
+    requires short { length < 128 }
+    ensures { Does (load_string_of regs.old ram.now first at length) result fault.new regs.old regs.new ram.now ram.now }
+{
+    match test_bytes(ram, at, length) {
+        Ok(()) => {
+            load_bytes(ram, at, first, length, &mut regs.gpr);
+            advance(regs);
+            Did::Next
+        }
+        Err(access) => refuse::<RegsPpc>(fault, regs.pc, access),
+    }
+}
+
+/// Stores a string from the registers from `first` on.
+fn store_string(
+    regs: &mut RegsPpc,
+    ram: &mut Ram,
+    fault: &mut Fault,
+    first: usize,
+    at: u32,
+    length: u32,
+) -> Did
+    requires register { first < 32 }
+    requires short { length < 128 }
+    ensures { Does (store_string_of regs.old ram.old first at length) result fault.new regs.old regs.new ram.old ram.new }
+{
+    meets_invariant(ram);
+    match test_open(ram, at, length) {
+        Ok(()) => {
+            store_bytes(ram, at, first, length, &regs.gpr);
+            advance(regs);
+            Did::Next
+        }
+        Err(access) => refuse::<RegsPpc>(fault, regs.pc, access),
+    }
+}
+
+/// Whether bytes one after another can be loaded, or the first refusal.
+fn test_bytes(ram: &Ram, at: u32, length: u32) -> Result<(), Access>
+    ensures { BytesTested ram.now at length result }
+{
+    for k in 0..length {
+        ram.load_byte(onward(at, k))?;
+    }
+    Ok(())
+}
+
+/// Whether bytes one after another may be stored into, or the first refusal.
+fn test_open(ram: &Ram, at: u32, length: u32) -> Result<(), Access>
+    ensures { OpenTested ram.now at length result }
+{
+    for k in 0..length {
+        ram.probe(onward(at, k), 1)?;
+    }
+    Ok(())
+}
+
+/// Loads bytes one after another into the registers from `first` on.
+fn load_bytes(ram: &Ram, at: u32, first: usize, length: u32, gpr: &mut [u32; 32])
+    requires register { first < 32 }
+    requires short { length < 128 }
+    requires there { BytesThere ram.now at length }
+    ensures { in_order (load_byte ram.now at first) gpr.old length ≡ Ok gpr.new }
+{
+    for k in 0..length {
+        if let Ok(byte) = ram.load_byte(onward(at, k)) {
+            put_string_byte(gpr, first, k, byte);
+        }
+    }
+}
+
+/// Stores bytes one after another from the registers from `first` on.
+fn store_bytes(ram: &mut Ram, at: u32, first: usize, length: u32, gpr: &[u32; 32])
+    requires register { first < 32 }
+    requires short { length < 128 }
+    requires stores { BytesOpen ram.old at length }
+    ensures is { in_order (store_byte gpr.now first at) ram.old length ≡ Ok ram.new }
+    ensures free { OnlyFree ram.old ram.new }
+{
+    for k in 0..length {
+        let _ = ram.store_byte(onward(at, k), string_byte(gpr, first, k));
+    }
+}
+
+/// Puts byte `k` of a string into its register, which is cleared before its first byte.
+fn put_string_byte(gpr: &mut [u32; 32], first: usize, k: u32, byte: u32)
+    requires register { first < 32 }
+    requires short { k < 128 }
+    requires byte { byte < 2 ^ 8 }
+    ensures { gpr.new ≡ with_string_byte gpr.old first k byte }
+{
+    let register = (first + k as usize / 4) % 32;
+    let old = if k % 4 == 0 { 0 } else { gpr[register] };
+    gpr[register] = with_digit(old, 24 - 8 * (k % 4), 8, byte);
+}
+
+/// Byte `k` of a string in the registers from `first` on.
+fn string_byte(gpr: &[u32; 32], first: usize, k: u32) -> u32
+    requires register { first < 32 }
+    requires short { k < 128 }
+    ensures { result ≡ string_byte_of gpr.now first k }
+{
+    digit(gpr[(first + k as usize / 4) % 32], 24 - 8 * (k % 4), 8)
+}
+
+/// What every memory meets. It does nothing: the clause is its point.
+#[inline(always)]
+fn meets_invariant(ram: &Ram)
+    ensures { IsRam ram.now }
+{
+    let _ = ram.len();
+}
