@@ -4,3 +4,4 @@ pub mod Signature
 pub mod Rules
 pub mod Views
 pub mod Filling
+pub mod Cut

@@ -26,13 +26,14 @@ pub struct Sig {
 }
 
 impl Sig {
-    ghost use Rattle.std.specs.Prelude.{◌≡◌};
+    ghost use Rattle.std.specs.Prelude.{◌≡◌, length};
     ghost use Rattle.proc_info.specs.Rules.{KeepsRules};
     ghost use Rattle.proc_info.specs.Views.{params_of, signature};
 
     /// The parameters, the first one first.
     pub fn params(&self) -> &[Param]
         ensures list { result.now ≡ params_of self.now }
+        ensures count { length result.now ≡ self.now.count }
         ensures rules { KeepsRules (signature self.now) }
     {
         let _sig = *self;

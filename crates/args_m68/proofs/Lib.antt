@@ -1,0 +1,4 @@
+pub mod Chains
+pub mod Stacks
+pub mod Files
+pub mod Back

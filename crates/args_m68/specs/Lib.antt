@@ -1,0 +1,6 @@
+pub mod Places
+pub mod Values
+pub mod Gather
+pub mod Deliver
+pub mod Results
+pub mod Laws

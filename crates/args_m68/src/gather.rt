@@ -1,0 +1,69 @@
+// What a caller passes.
+ghost use Rattle.std.specs.Prelude.{◌≡◌, ◌+◌, ◌-◌, ◌*◌, ◌≤◌, true, IfOk, length, drop, replicate};
+ghost use Rattle.proc_info.specs.Codes.{is_dispatched};
+ghost use Rattle.proc_info.specs.Views.{signature};
+ghost use Rattle.args_m68.specs.Gather.{Appends, answered, gathered, selector_in, values_at};
+
+use super::places::{
+    Route, next_base, place_for, route_for, selector_place, selector_width, widths,
+};
+use super::values::value_at;
+use super::words::Words;
+use arrayvec::ArrayVec;
+use big_memory::{Access, Ram};
+use m68_isa::Regs68;
+use proc_info::{Param, Sig};
+
+/// The selector that a caller passes, cut to its size, or the refusal of its bytes. A7 is at the return
+/// address.
+pub fn select68(sig: &Sig, regs: &Regs68, ram: &Ram) -> Result<u32, Access>
+    requires { is_dispatched sig.now.conv ≡ true }
+    ensures { result ≡ selector_in (signature sig.now) regs.now ram.now }
+{
+    value_at(regs, ram, selector_place(sig.conv), sig.selector)
+}
+
+/// The arguments that a caller passes, each cut to its size, or the first refusal in the parameters' order.
+/// A7 is at the return address, and a selector on the stack stands above it.
+pub fn gather68(sig: &Sig, regs: &Regs68, ram: &Ram) -> Result<Words, Access>
+    ensures values { answered result ≡ gathered (signature sig.now) regs.now ram.now }
+    ensures count { IfOk result (λ words. words.count ≡ sig.now.count) }
+    ensures rest { IfOk result (λ words. drop words.count words.value ≡ replicate (13 - words.count) 0) }
+{
+    let base = 4 + selector_width(sig.conv, sig.selector);
+    let mut values = ArrayVec::new();
+    append_values(
+        &mut values,
+        regs,
+        ram,
+        route_for(sig.conv),
+        base,
+        sig.params(),
+    )?;
+    Ok(Words::of(&values))
+}
+
+/// Appends the values of parameters whose lowest begins `base` bytes above A7.
+#[tactic(auto, using(crate::proofs::Chains::behind_front, crate::proofs::Chains::behind_none))]
+fn append_values(
+    values: &mut ArrayVec<u32, 13>,
+    regs: &Regs68,
+    ram: &Ram,
+    route: Route,
+    base: u32,
+    params: &[Param],
+) -> Result<(), Access>
+    requires room { length values.old.items + length params.now ≤ 13 }
+    requires near { base + 4 * length params.now ≤ 1000 }
+    ensures values { Appends result values.old.items values.new.items (values_at regs.now ram.now route base params.now) }
+    ensures count { IfOk result (λ done. length values.new.items ≡ length values.old.items + length params.now) }
+{
+    match params {
+        [] => Ok(()),
+        [first, rest @ ..] => {
+            let place = place_for(route, base, first, widths(rest));
+            values.push(value_at(regs, ram, place, first.size)?);
+            append_values(values, regs, ram, route, next_base(route, base), rest)
+        }
+    }
+}

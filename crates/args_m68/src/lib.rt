@@ -1,0 +1,18 @@
+//! The arguments and results of calls in 68K code: where each convention of the Mixed Mode Manager has
+//! them, how they are read, and how they are handed over (Inside Macintosh: PowerPC System Software,
+//! chapter 2).
+#![tactic(auto)]
+
+mod deliver;
+mod gather;
+mod laws;
+mod places;
+mod results;
+mod values;
+mod words;
+
+pub use deliver::{below68, deliver68};
+pub use gather::{gather68, select68};
+pub use laws::args68_laws;
+pub use results::{popped, put_result68, removed68, result68};
+pub use words::Words;

@@ -1,0 +1,4 @@
+pub mod Words
+pub mod Deliver
+pub mod Results
+pub mod Laws

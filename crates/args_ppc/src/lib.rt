@@ -1,0 +1,15 @@
+//! The arguments and results of calls in PowerPC code: where they are, how they are read, and how they are
+//! handed over (Inside Macintosh: PowerPC System Software, chapters 1 and 2).
+#![tactic(auto)]
+
+mod deliver;
+mod gather;
+mod laws;
+mod results;
+mod words;
+
+pub use deliver::{below_ppc, deliver_ppc};
+pub use gather::{gather_ppc, select_ppc};
+pub use laws::args_ppc_laws;
+pub use results::{put_result_ppc, result_ppc};
+pub use words::PpcWords;
