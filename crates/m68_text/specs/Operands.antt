@@ -1,0 +1,174 @@
+-- The kinds of operands, each with its text, and the operands of each instruction, the source
+-- first (M68000 Family Programmer's Reference Manual, sections 2 and 4).
+use Rattle.std.specs.Prelude.{ℕ, ◌+◌, ◌%◌, ◌^◌, List, [], ◌∷◌, ◌++◌, codes, decimal, map, slice_index, Bool, if◌then◌else◌}
+use Rattle.std.specs.List.{join_with_byte}
+use Rattle.mix_bits.specs.Text.{hexadecimal}
+use Rattle.mix_bits.specs.declared.size.Size.{Size}
+use Rattle.mix_bits.specs.declared.size.Size.TheVariants.{One, Two, Four}
+use Rattle.m68_isa.specs.declared.ea.Ea.{Ea}
+use Rattle.m68_isa.specs.declared.ea.Ea.TheVariants.{Dn, An, Ind, Post, Pre, Disp, Indexed as EaIndexed, AbsWord, AbsLong, PcDisp, PcIndexed as EaPcIndexed, Imm}
+use Rattle.m68_isa.specs.declared.ea.Index.{Index}
+use Rattle.m68_isa.specs.declared.instructions.ShiftCount.{ShiftCount}
+use Rattle.m68_isa.specs.declared.instructions.ShiftCount.TheVariants.{Number as CountNumber, Register as CountRegister}
+use Rattle.m68_isa.specs.declared.instructions.Exchange.{Exchange}
+use Rattle.m68_isa.specs.declared.instructions.Exchange.TheVariants.{Data as ExchangeData, Address as ExchangeAddress, DataAddress}
+use Rattle.m68_isa.specs.declared.instructions.Instr68.{Instr68}
+use Rattle.m68_isa.specs.declared.instructions.Instr68.TheVariants.{Immediate, ImmediateToCcr, BitByRegister, BitByNumber, Movep, Move, Movea, Negx, Clr, Neg, Not, MoveFromSr, MoveToCcr, Nbcd, Swap, Pea, Ext, MovemToMemory, MovemFromMemory, Tst, Tas, Trap, Link, Unlk, Nop, Rts, Trapv, Rtr, Jsr, Jmp, Chk, Lea, Addq, Subq, Scc, Dbcc, Bcc, Moveq, Or, Div, Sbcd, Sub, Suba, Subx, Cmp, Cmpa, Eor, Cmpm, And, Mul, Abcd, Exg, Add, Adda, Addx, Shift, ShiftMemory}
+use Rattle.m68_isa.specs.Operands.{long_at}
+use Rattle.m68_text.specs.declared.operand.Operand.{Operand}
+use Rattle.m68_text.specs.declared.operand.Operands.{Operands}
+use Rattle.m68_text.specs.declared.operand.Operands.TheVariants.{None as NoOperand, One as OneOperand, Two as TwoOperands}
+use Rattle.m68_text.specs.declared.operand.Operand.TheVariants.{Data, Address, Indirect, PostIncrement, PreDecrement, Displaced, Indexed, ShortAddress, LongAddress, PcDisplaced, PcIndexed, Byte, Word, Long, Number, ConditionCodes, StatusRegister, Target}
+
+abbrev pub data_register : ℕ → List ℕ
+data_register n = codes "d" ++ decimal n
+
+abbrev pub address_register : ℕ → List ℕ
+address_register n = codes "a" ++ decimal n
+
+abbrev pub indirect : ℕ → List ℕ
+indirect n = codes "(" ++ address_register n ++ codes ")"
+
+-- the lowest digits of a number, in full width
+abbrev pub hex : ℕ → ℕ → List ℕ
+hex digits v = codes "$" ++ hexadecimal digits v
+
+-- the index register, and how much of it counts
+abbrev pub index_text : Index → List ℕ
+index_text i = (if i.address then address_register i.reg else data_register i.reg) ++ (if i.long then codes ".l" else codes ".w")
+
+abbrev pub operand_text : Operand → List ℕ
+operand_text (Data n) = data_register n
+operand_text (Address n) = address_register n
+operand_text (Indirect n) = indirect n
+operand_text (PostIncrement n) = indirect n ++ codes "+"
+operand_text (PreDecrement n) = codes "-" ++ indirect n
+operand_text (Displaced n d) = hex 4 d ++ indirect n
+operand_text (Indexed n i) = hex 2 i.disp ++ codes "(" ++ address_register n ++ codes "," ++ index_text i ++ codes ")"
+operand_text (ShortAddress a) = hex 4 a ++ codes ".w"
+operand_text (LongAddress a) = hex 8 a ++ codes ".l"
+operand_text (PcDisplaced d) = hex 4 d ++ codes "(pc)"
+operand_text (PcIndexed i) = hex 2 i.disp ++ codes "(pc," ++ index_text i ++ codes ")"
+operand_text (Byte v) = codes "#" ++ hex 2 v
+operand_text (Word v) = codes "#" ++ hex 4 v
+operand_text (Long v) = codes "#" ++ hex 8 v
+operand_text (Number n) = codes "#" ++ decimal n
+operand_text ConditionCodes = codes "ccr"
+operand_text StatusRegister = codes "sr"
+operand_text (Target a) = hex 8 a
+
+-- the operands that an instruction has, at most two
+abbrev pub listed : Operands → List Operand
+listed NoOperand = []
+listed (OneOperand o) = o ∷ []
+listed (TwoOperands o p) = o ∷ p ∷ []
+
+-- with commas between them
+abbrev pub joined : List Operand → List ℕ
+joined os = join_with_byte 44 (map operand_text os)
+
+-- after a space, where there are any
+abbrev pub operands_text : List Operand → List ℕ
+operands_text [] = []
+operands_text (o ∷ os) = codes " " ++ joined (o ∷ os)
+
+-- the extension words of an immediate, which stand behind the first word, whole
+abbrev pub immediate : Size → List ℕ → Operand
+immediate Four ws = Long (long_at ws 1)
+immediate _ ws = Word (slice_index ws 1)
+
+-- an effective address, or an immediate of this size in the place of one
+abbrev pub place : Size → List ℕ → Ea → Operand
+place s ws (Dn n) = Data n
+place s ws (An n) = Address n
+place s ws (Ind n) = Indirect n
+place s ws (Post n) = PostIncrement n
+place s ws (Pre n) = PreDecrement n
+place s ws (Disp n d) = Displaced n d
+place s ws (EaIndexed n i) = Indexed n i
+place s ws (AbsWord a) = ShortAddress a
+place s ws (AbsLong a) = LongAddress a
+place s ws (PcDisp from d) = PcDisplaced d
+place s ws (EaPcIndexed from i) = PcIndexed i
+place s ws (Imm v) = immediate s ws
+
+-- a register and an operand, which is the destination where the instruction says so
+abbrev pub directed : Bool → ℕ → Operand → List Operand
+directed to_memory register operand = if to_memory then Data register ∷ operand ∷ [] else operand ∷ Data register ∷ []
+
+-- two data registers, or the bytes before two addresses
+abbrev pub paired : Bool → ℕ → ℕ → List Operand
+paired memory from to = if memory then PreDecrement from ∷ PreDecrement to ∷ [] else Data from ∷ Data to ∷ []
+
+abbrev pub exchanged : Exchange → ℕ → ℕ → List Operand
+exchanged ExchangeData upper lower = Data upper ∷ Data lower ∷ []
+exchanged ExchangeAddress upper lower = Address upper ∷ Address lower ∷ []
+exchanged DataAddress upper lower = Data upper ∷ Address lower ∷ []
+
+abbrev pub counted : ShiftCount → Operand
+counted (CountNumber n) = Number n
+counted (CountRegister n) = Data n
+
+-- where a branch goes: its displacement counts from behind the first word
+abbrev pub target : ℕ → ℕ → Operand
+target at disp = Target ((at + 2 + disp) % 2 ^ 32)
+
+-- the operands of an instruction with these words at an address
+abbrev pub operands : Instr68 → List ℕ → ℕ → List Operand
+operands (Immediate op size value to) ws at = immediate size ws ∷ place size ws to ∷ []
+operands (ImmediateToCcr op value) ws at = immediate One ws ∷ ConditionCodes ∷ []
+operands (BitByRegister op register to) ws at = Data register ∷ place One ws to ∷ []
+operands (BitByNumber op bit to) ws at = immediate One ws ∷ place One ws to ∷ []
+operands (Movep size to_memory register base disp) ws at = directed to_memory register (Displaced base disp)
+operands (Move size from to) ws at = place size ws from ∷ place size ws to ∷ []
+operands (Movea size from to) ws at = place size ws from ∷ Address to ∷ []
+operands (Negx size to) ws at = place size ws to ∷ []
+operands (Clr size to) ws at = place size ws to ∷ []
+operands (Neg size to) ws at = place size ws to ∷ []
+operands (Not size to) ws at = place size ws to ∷ []
+operands (MoveFromSr to) ws at = StatusRegister ∷ place Two ws to ∷ []
+operands (MoveToCcr from) ws at = place Two ws from ∷ ConditionCodes ∷ []
+operands (Nbcd to) ws at = place One ws to ∷ []
+operands (Swap register) ws at = Data register ∷ []
+operands (Pea from) ws at = place Four ws from ∷ []
+operands (Ext size register) ws at = Data register ∷ []
+operands (MovemToMemory size mask to) ws at = Word mask ∷ place size ws to ∷ []
+operands (MovemFromMemory size mask from) ws at = place size ws from ∷ Word mask ∷ []
+operands (Tst size of) ws at = place size ws of ∷ []
+operands (Tas to) ws at = place One ws to ∷ []
+operands (Trap number) ws at = Number number ∷ []
+operands (Link register disp) ws at = Address register ∷ Word disp ∷ []
+operands (Unlk register) ws at = Address register ∷ []
+operands Nop ws at = []
+operands Rts ws at = []
+operands Trapv ws at = []
+operands Rtr ws at = []
+operands (Jsr to) ws at = place Four ws to ∷ []
+operands (Jmp to) ws at = place Four ws to ∷ []
+operands (Chk bound register) ws at = place Two ws bound ∷ Data register ∷ []
+operands (Lea from to) ws at = place Four ws from ∷ Address to ∷ []
+operands (Addq size number to) ws at = Number number ∷ place size ws to ∷ []
+operands (Subq size number to) ws at = Number number ∷ place size ws to ∷ []
+operands (Scc condition to) ws at = place One ws to ∷ []
+operands (Dbcc condition register disp) ws at = Data register ∷ target at disp ∷ []
+operands (Bcc condition disp) ws at = target at disp ∷ []
+operands (Moveq value to) ws at = Byte value ∷ Data to ∷ []
+operands (Or size to_memory register operand) ws at = directed to_memory register (place size ws operand)
+operands (Div signed by register) ws at = place Two ws by ∷ Data register ∷ []
+operands (Sbcd memory from to) ws at = paired memory from to
+operands (Sub size to_memory register operand) ws at = directed to_memory register (place size ws operand)
+operands (Suba size from to) ws at = place size ws from ∷ Address to ∷ []
+operands (Subx size memory from to) ws at = paired memory from to
+operands (Cmp size with register) ws at = place size ws with ∷ Data register ∷ []
+operands (Cmpa size with register) ws at = place size ws with ∷ Address register ∷ []
+operands (Eor size register to) ws at = Data register ∷ place size ws to ∷ []
+operands (Cmpm size from to) ws at = PostIncrement from ∷ PostIncrement to ∷ []
+operands (And size to_memory register operand) ws at = directed to_memory register (place size ws operand)
+operands (Mul signed by register) ws at = place Two ws by ∷ Data register ∷ []
+operands (Abcd memory from to) ws at = paired memory from to
+operands (Exg kind upper lower) ws at = exchanged kind upper lower
+operands (Add size to_memory register operand) ws at = directed to_memory register (place size ws operand)
+operands (Adda size from to) ws at = place size ws from ∷ Address to ∷ []
+operands (Addx size memory from to) ws at = paired memory from to
+operands (Shift op left size count register) ws at = counted count ∷ Data register ∷ []
+operands (ShiftMemory op left to) ws at = place Two ws to ∷ []

@@ -1,0 +1,204 @@
+ghost use Rattle.std.specs.Prelude.{◌≡◌, ◌+◌, ◌≤◌, ◌⊎◌, ◌++◌, codes, length};
+ghost use Rattle.m68_text.specs.Operands.{address_register, data_register, hex, index_text, indirect, listed, operand_text, operands_text};
+
+use super::append::{add, add_hex, add_number};
+use m68_isa::Index;
+use mix_bits::Line;
+
+/// An operand as it is written. Of displacements, short addresses and immediates the low digits
+/// are, as many as the words have.
+#[derive(Clone, Copy)]
+pub enum Operand {
+    /// A data register.
+    Data(u8),
+    /// An address register.
+    Address(u8),
+    /// Memory at an address register.
+    Indirect(u8),
+    /// The same with postincrement.
+    PostIncrement(u8),
+    /// The same with predecrement.
+    PreDecrement(u8),
+    /// The same with displacement.
+    Displaced(u8, u32),
+    /// The same with index.
+    Indexed(u8, Index),
+    /// Memory at an address of one word.
+    ShortAddress(u32),
+    /// Memory at an address of two words.
+    LongAddress(u32),
+    /// Memory at the program counter with displacement.
+    PcDisplaced(u32),
+    /// Memory at the program counter with index.
+    PcIndexed(Index),
+    /// An immediate byte in the first word.
+    Byte(u32),
+    /// An immediate of one extension word.
+    Word(u32),
+    /// An immediate of two extension words.
+    Long(u32),
+    /// A small number in the first word.
+    Number(u8),
+    /// The condition codes.
+    ConditionCodes,
+    /// The status register.
+    StatusRegister,
+    /// The address that a branch goes to.
+    Target(u32),
+}
+
+/// The operands of an instruction.
+#[derive(Clone, Copy)]
+pub enum Operands {
+    None,
+    One(Operand),
+    Two(Operand, Operand),
+}
+
+fn add_data_register(line: &mut Line, n: u8)
+    requires { length line.old + 4 ≤ 160 }
+    ensures text { line.new ≡ line.old ++ data_register n }
+    ensures grows { length line.new ≤ length line.old + 4 }
+{
+    add(line, "d");
+    add_number(line, n);
+}
+
+fn add_address_register(line: &mut Line, n: u8)
+    requires { length line.old + 4 ≤ 160 }
+    ensures text { line.new ≡ line.old ++ address_register n }
+    ensures grows { length line.new ≤ length line.old + 4 }
+{
+    add(line, "a");
+    add_number(line, n);
+}
+
+/// Appends an address register in parentheses.
+fn add_indirect(line: &mut Line, n: u8)
+    requires { length line.old + 6 ≤ 160 }
+    ensures text { line.new ≡ line.old ++ indirect n }
+    ensures grows { length line.new ≤ length line.old + 6 }
+{
+    add(line, "(");
+    add_address_register(line, n);
+    add(line, ")");
+}
+
+/// Appends an index register, with how much of it counts.
+fn add_index(line: &mut Line, index: Index)
+    requires { length line.old + 6 ≤ 160 }
+    ensures text { line.new ≡ line.old ++ index_text index }
+    ensures grows { length line.new ≤ length line.old + 6 }
+{
+    if index.address {
+        add_address_register(line, index.reg);
+    } else {
+        add_data_register(line, index.reg);
+    }
+    add(line, if index.long { ".l" } else { ".w" });
+}
+
+/// Appends an absolute address of 4 or 8 digits, with its size.
+fn add_absolute(line: &mut Line, address: u32, digits: u32, suffix: &str)
+    requires digits { (digits ≡ 4) ⊎ (digits ≡ 8) }
+    requires suffix { length suffix.now ≡ 2 }
+    requires room { length line.old + 11 ≤ 160 }
+    ensures text { line.new ≡ line.old ++ (hex digits address ++ suffix.now) }
+    ensures grows { length line.new ≤ length line.old + 11 }
+{
+    add_hex(line, address, digits);
+    add(line, suffix);
+}
+
+/// Appends an immediate of 2, 4 or 8 digits.
+fn add_immediate(line: &mut Line, value: u32, digits: u32)
+    requires digits { (digits ≡ 2) ⊎ (digits ≡ 4) ⊎ (digits ≡ 8) }
+    requires room { length line.old + 10 ≤ 160 }
+    ensures text { line.new ≡ line.old ++ (codes "#" ++ hex digits value) }
+    ensures grows { length line.new ≤ length line.old + 10 }
+{
+    add(line, "#");
+    add_hex(line, value, digits);
+}
+
+/// Appends a base in `(` with its displacement before it, and an index behind it.
+fn add_indexed(line: &mut Line, n: u8, index: Index)
+    requires { length line.old + 16 ≤ 160 }
+    ensures text { line.new ≡ line.old ++ (hex 2 index.disp ++ (codes "(" ++ (address_register n ++ (codes "," ++ (index_text index ++ codes ")"))))) }
+    ensures grows { length line.new ≤ length line.old + 16 }
+{
+    add_hex(line, index.disp, 2);
+    add(line, "(");
+    add_address_register(line, n);
+    add(line, ",");
+    add_index(line, index);
+    add(line, ")");
+}
+
+fn add_operand(line: &mut Line, operand: Operand)
+    requires { length line.old + 16 ≤ 160 }
+    ensures text { line.new ≡ line.old ++ operand_text operand }
+    ensures grows { length line.new ≤ length line.old + 16 }
+{
+    match operand {
+        Operand::Data(n) => add_data_register(line, n),
+        Operand::Address(n) => add_address_register(line, n),
+        Operand::Indirect(n) => add_indirect(line, n),
+        Operand::PostIncrement(n) => {
+            add_indirect(line, n);
+            add(line, "+");
+        }
+        Operand::PreDecrement(n) => {
+            add(line, "-");
+            add_indirect(line, n);
+        }
+        Operand::Displaced(n, disp) => {
+            add_hex(line, disp, 4);
+            add_indirect(line, n);
+        }
+        Operand::Indexed(n, index) => add_indexed(line, n, index),
+        Operand::ShortAddress(address) => add_absolute(line, address, 4, ".w"),
+        Operand::LongAddress(address) => add_absolute(line, address, 8, ".l"),
+        Operand::PcDisplaced(disp) => {
+            add_hex(line, disp, 4);
+            add(line, "(pc)");
+        }
+        Operand::PcIndexed(index) => {
+            add_hex(line, index.disp, 2);
+            add(line, "(pc,");
+            add_index(line, index);
+            add(line, ")");
+        }
+        Operand::Byte(value) => add_immediate(line, value, 2),
+        Operand::Word(value) => add_immediate(line, value, 4),
+        Operand::Long(value) => add_immediate(line, value, 8),
+        Operand::Number(n) => {
+            add(line, "#");
+            add_number(line, n);
+        }
+        Operand::ConditionCodes => add(line, "ccr"),
+        Operand::StatusRegister => add(line, "sr"),
+        Operand::Target(address) => add_hex(line, address, 8),
+    }
+}
+
+/// Appends a space and the operands with a comma between two.
+pub fn add_operands(line: &mut Line, operands: Operands)
+    requires { length line.old ≤ 8 }
+    ensures text { line.new ≡ line.old ++ operands_text (listed operands) }
+    ensures grows { length line.new ≤ length line.old + 34 }
+{
+    match operands {
+        Operands::None => {}
+        Operands::One(operand) => {
+            add(line, " ");
+            add_operand(line, operand);
+        }
+        Operands::Two(first, second) => {
+            add(line, " ");
+            add_operand(line, first);
+            add(line, ",");
+            add_operand(line, second);
+        }
+    }
+}

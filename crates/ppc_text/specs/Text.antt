@@ -1,0 +1,15 @@
+-- The text of a word at an address.
+use Rattle.std.specs.Prelude.{ℕ, List, ◌++◌, codes, Option, None, Some}
+use Rattle.mix_bits.specs.Text.{hexadecimal}
+use Rattle.ppc_isa.specs.declared.instruction.InstrPpc.{InstrPpc}
+use Rattle.ppc_isa.specs.Rows.{decoded}
+use Rattle.ppc_text.specs.Names.{name}
+use Rattle.ppc_text.specs.Operands.{operands, operands_text}
+
+-- the name and the operands, or the word itself where it stands for no instruction
+abbrev pub text_of : Option InstrPpc → ℕ → ℕ → List ℕ
+text_of (Some i) word at = name i ++ operands_text (operands i at)
+text_of None word at = codes ".long $" ++ hexadecimal 8 word
+
+abbrev pub word_text : ℕ → ℕ → List ℕ
+word_text word at = text_of (decoded word) word at

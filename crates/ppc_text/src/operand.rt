@@ -1,0 +1,95 @@
+ghost use Rattle.std.specs.Prelude.{◌≡◌, ◌+◌, ◌*◌, ◌≤◌, ◌++◌, length};
+ghost use Rattle.ppc_text.specs.Operands.{joined, operand_text, operands_text, register_text, signed_text};
+
+use super::append::{add, add_long, add_number};
+use mix_bits::Line;
+
+/// An operand as it is written.
+#[derive(Clone, Copy)]
+pub enum Operand {
+    /// A general purpose register.
+    Register(u8),
+    /// A field of the word.
+    Number(u16),
+    /// Sixteen bits as a signed number.
+    Signed(u16),
+    /// The same, counted from a base register.
+    Displaced(u16, u8),
+    /// The address that a branch goes to.
+    Target(u32),
+}
+
+fn add_register(line: &mut Line, n: u8)
+    requires { length line.old + 6 ≤ 160 }
+    ensures text { line.new ≡ line.old ++ register_text n }
+    ensures grows { length line.new ≤ length line.old + 6 }
+{
+    add(line, "r");
+    add_number(line, u16::from(n));
+}
+
+/// Appends sixteen bits as a signed number.
+#[tactic(auto, using(crate::proofs::Decimals::text_positive, crate::proofs::Decimals::text_negative))]
+fn add_signed(line: &mut Line, bits: u16)
+    requires { length line.old + 6 ≤ 160 }
+    ensures text { line.new ≡ line.old ++ signed_text bits }
+    ensures grows { length line.new ≤ length line.old + 6 }
+{
+    if bits < 0x8000 {
+        add_number(line, bits);
+    } else {
+        add(line, "-");
+        add_number(line, u16::MAX - bits + 1);
+    }
+}
+
+fn add_operand(line: &mut Line, operand: Operand)
+    requires { length line.old + 14 ≤ 160 }
+    ensures text { line.new ≡ line.old ++ operand_text operand }
+    ensures grows { length line.new ≤ length line.old + 14 }
+{
+    match operand {
+        Operand::Register(n) => add_register(line, n),
+        Operand::Number(n) => add_number(line, n),
+        Operand::Signed(bits) => add_signed(line, bits),
+        Operand::Displaced(offset, base) => {
+            add_signed(line, offset);
+            add(line, "(");
+            add_register(line, base);
+            add(line, ")");
+        }
+        Operand::Target(address) => {
+            add(line, "$");
+            add_long(line, address);
+        }
+    }
+}
+
+/// Appends operands with commas between them.
+fn add_joined(line: &mut Line, operands: &[Operand])
+    requires { length line.old + 15 * length operands.now ≤ 160 }
+    ensures text { line.new ≡ line.old ++ joined operands.now }
+    ensures grows { length line.new ≤ length line.old + 15 * length operands.now }
+{
+    match operands {
+        [] => {}
+        [last] => add_operand(line, *last),
+        [first, rest @ ..] => {
+            add_operand(line, *first);
+            add(line, ",");
+            add_joined(line, rest);
+        }
+    }
+}
+
+/// Appends a space and the operands.
+pub fn add_list(line: &mut Line, operands: &[Operand])
+    requires { length line.old + 15 * length operands.now + 1 ≤ 160 }
+    ensures text { line.new ≡ line.old ++ operands_text operands.now }
+    ensures grows { length line.new ≤ length line.old + 15 * length operands.now + 1 }
+{
+    if !operands.is_empty() {
+        add(line, " ");
+        add_joined(line, operands);
+    }
+}
