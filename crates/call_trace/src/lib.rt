@@ -1,0 +1,14 @@
+//! The lines of the trace: the calls from one instruction set into another, their returns, the asks of
+//! devices, and the end of a run. Each is put as one piece, and a sink that fails keeps at most a part of
+//! it. The text of the lines is this project's own.
+#![tactic(auto)]
+
+mod end;
+mod lines;
+mod names;
+mod puts;
+#[cfg(test)]
+mod tests;
+
+pub use end::End;
+pub use puts::{put_ask, put_call, put_end, put_ret};
