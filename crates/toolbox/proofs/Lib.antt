@@ -1,0 +1,5 @@
+pub mod Named
+pub mod Free
+pub mod Carried
+pub mod Devices
+pub mod Settled

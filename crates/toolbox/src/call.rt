@@ -1,0 +1,60 @@
+ghost use Rattle.std.specs.Prelude.{◌≡◌, ◌<◌};
+ghost use Rattle.big_memory.specs.Stores.{OnlyFree};
+ghost use Rattle.dev_rack.specs.Accounts.{Accounts};
+ghost use Rattle.toolbox.specs.Calls.{Blames, HeapLies, Hosts, KeepsBounds, outside, place};
+
+use crate::HostOut;
+use crate::function::Function;
+use crate::laws::laws;
+use crate::outcome::Outcome;
+use crate::perform::perform;
+use crate::registers::{operands_of, pc_of, settle};
+use crate::results::of_ask;
+use big_memory::Ram;
+use dev_rack::Devices;
+use host_heap::Heap;
+use mix_io::{Sink, Source};
+use switch_frame::Active;
+
+/// Calls the function with this number for code of the active set: CallUniversalProc is for PowerPC code,
+/// and UnloadSeg for 68K code. It takes no memory.
+pub fn host_call<I: Source, O: Sink, D: Devices>(
+    index: u32,
+    active: &mut Active,
+    ram: &mut Ram,
+    heap: &mut Heap,
+    rack: &mut D,
+    input: &mut I,
+    out: &mut O,
+) -> HostOut
+    requires index { index < 16 }
+    requires heap { HeapLies heap.old ram.old }
+    ensures does { Hosts index result active.old active.new
+        (place ram.old heap.old (outside (I.left input.old) (I.faults input.old) (D.state rack.old) (O.held out.old) (O.faults out.old)))
+        (place ram.new heap.new (outside (I.left input.new) (I.faults input.new) (D.state rack.new) (O.held out.new) (O.faults out.new))) }
+    ensures blames { Blames result
+        (outside (I.left input.old) (I.faults input.old) (D.state rack.old) (O.held out.old) (O.faults out.old))
+        (outside (I.left input.new) (I.faults input.new) (D.state rack.new) (O.held out.new) (O.faults out.new)) }
+    ensures devices { Accounts (D.state rack.old) (D.state rack.new) }
+    ensures bounds { KeepsBounds heap.old heap.new }
+    ensures free { OnlyFree ram.old ram.new }
+{
+    laws();
+    let function = Function::at(index);
+    let operands = operands_of(function, active);
+    match perform(function, operands, ram, heap, rack, input, out) {
+        Outcome::Given(results) => {
+            settle(function, active, results);
+            HostOut::Done
+        }
+        Outcome::Asked { slot, word, answer } => {
+            settle(function, active, of_ask(answer));
+            HostOut::Asked { slot, word, answer }
+        }
+        Outcome::Crossed { pointer, info } => HostOut::Cross { pointer, info },
+        Outcome::Left(code) => HostOut::Exit(code),
+        Outcome::Refused(access) => HostOut::Stop(access.fault(pc_of(active))),
+        Outcome::ReadFault => HostOut::ReadFault,
+        Outcome::OutFault => HostOut::OutFault,
+    }
+}

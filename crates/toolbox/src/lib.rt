@@ -1,0 +1,22 @@
+//! The functions that the host has for programs: 68K code reaches them by trap words, PowerPC code by
+//! imports. `docs/machine.md` has their table, which `specs/Effects` and `specs/Registers` state row by row.
+#![tactic(auto)]
+
+mod blocks;
+mod call;
+mod function;
+mod imports;
+mod laws;
+mod out;
+mod outcome;
+mod perform;
+mod registers;
+mod results;
+mod streams;
+mod traps;
+mod values;
+
+pub use call::host_call;
+pub use imports::import_index;
+pub use out::HostOut;
+pub use traps::trap_index;

@@ -1,0 +1,13 @@
+//! Host calls one by one, for code of both sets, with all that each leaves.
+#![tactic(auto)]
+
+#[cfg(test)]
+mod bench;
+#[cfg(test)]
+mod blocks;
+#[cfg(test)]
+mod devices;
+#[cfg(test)]
+mod names;
+#[cfg(test)]
+mod streams;
