@@ -1,0 +1,9 @@
+//! Tests of the loader, with files made by hand.
+#![tactic(auto)]
+
+#[cfg(test)]
+mod container;
+#[cfg(test)]
+mod flat;
+#[cfg(test)]
+mod fork;

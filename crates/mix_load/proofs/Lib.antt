@@ -1,0 +1,14 @@
+pub mod Searches
+pub mod Ends
+pub mod Placing
+pub mod Numbered
+pub mod Images
+pub mod Relocated
+pub mod Wholes
+pub mod Starts
+pub mod Containers
+pub mod Loads
+pub mod Forks
+pub mod Placed
+pub mod Vectors
+pub mod HostNames

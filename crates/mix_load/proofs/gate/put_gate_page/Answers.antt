@@ -1,0 +1,16 @@
+-- One long after the other.
+use Rattle.std.proofs.Common.{ℕ, ap, ◌∙◌}
+use Rattle.byteorder.specs.Endian.{big_bytes}
+use Rattle.big_memory.specs.Memory.{Memory, with_bytes}
+use Rattle.mix_load.specs.Map.{told}
+use Rattle.mix_load.proofs.gate.put_gate_page.Goals as goal
+
+abbrev longed : ℕ → ℕ → Memory → Memory
+longed a v m = with_bytes a (big_bytes 4 v) m
+
+pub returns-clause-memory : goal.returns-clause-memory
+unfolding told
+returns-clause-memory c =
+    c.put_long-4.ensures.is ∙ ap (longed 0x102C c.args.len) (c.put_long-3.ensures.is
+    ∙ ap (longed 0x1028 c.args.a5) (c.put_long-2.ensures.is ∙ ap (longed 0x1024 c.args.vector) (c.put_long.ensures.is
+    ∙ ap (longed 0x1020 c.args.entry) c.put_vectors.ensures.memory)))

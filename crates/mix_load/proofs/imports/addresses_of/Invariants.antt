@@ -1,0 +1,11 @@
+use Rattle.std.proofs.Common.{◌≡◌, length, None}
+use Rattle.pef_head.specs.Search.{least}
+use Rattle.mix_load.specs.Sections.{import_addresses, is_missing}
+use Rattle.mix_load.proofs.imports.addresses_of.Given as goal
+
+abbrev pub invariant-loop-i : goal.invariant-loop-i
+invariant-loop-i l = record {
+  passed : least (is_missing l.pef) l.i ≡ None;
+  items : l.addresses.items ≡ import_addresses l.pef l.i;
+  len : length l.addresses.items ≡ l.i;
+}

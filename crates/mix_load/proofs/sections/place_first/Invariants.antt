@@ -1,0 +1,10 @@
+use Rattle.std.proofs.Common.{◌≡◌}
+use Rattle.mix_load.specs.Sections.{bases, sections_end, totals}
+use Rattle.mix_load.proofs.sections.place_first.Given as goal
+
+abbrev pub invariant-loop-k : goal.invariant-loop-k
+invariant-loop-k l = record {
+  end : l.end ≡ sections_end l.pef l.start l.k;
+  bases : l.bases.items ≡ bases l.pef l.start l.k;
+  totals : l.totals.items ≡ totals l.pef l.k;
+}

@@ -1,0 +1,13 @@
+use Rattle.std.proofs.Common.{◌≡◌, ℕ, ◌<◌, length, None}
+use Rattle.mix_load.specs.Pieces.{with_pieces}
+use Rattle.mix_load.specs.Sections.{contents_at, first_refusal, patterns_refusal, section_pieces, sections_end, total_at}
+use Rattle.mix_load.proofs.sections.put_first.Given as goal
+
+abbrev pub invariant-loop-k : goal.invariant-loop-k
+invariant-loop-k l = record {
+  end : l.end ≡ sections_end l.pef l.start l.k;
+  passed : first_refusal (patterns_refusal l.pef) l.k ≡ None;
+  sizes : (j : ℕ) → j < l.k → length (contents_at l.pef j) ≡ total_at l.pef j;
+  memory : l.ram ≡ with_pieces (section_pieces l.pef l.start l.k) l.initial.ram;
+  len : length l.ram.bytes ≡ length l.initial.ram.bytes;
+}

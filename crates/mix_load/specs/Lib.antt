@@ -1,0 +1,11 @@
+pub mod Pieces
+pub mod Map
+pub mod HostTable
+pub mod Outcome
+pub mod Segments
+pub mod ForkImage
+pub mod Sections
+pub mod ContainerImage
+pub mod Start
+pub mod Load
+pub mod Loaded

@@ -1,0 +1,45 @@
+//! The bytes of a section before it is relocated.
+ghost use Rattle.std.specs.Prelude.{◌≡◌, ◌≤◌, ◌++◌, length, drop, replicate, option_map, IfOk, OnOk};
+ghost use Rattle.std.specs.Result.{result_err};
+ghost use Rattle.pef_head.specs.Parts.{IsLoadable, parts};
+ghost use Rattle.mix_load.specs.Outcome.{Finds};
+ghost use Rattle.mix_load.specs.Sections.{contents, pattern_refusal, unpacked_bytes};
+
+use crate::error::LoadError;
+use pef_head::Section;
+use pef_reloc::{RelocError, unpack};
+use std::alloc::Global;
+
+/// The kind of sections whose bytes are pattern data.
+const PATTERN: u8 = 2;
+
+/// Writes the bytes that a section has from the file.
+fn write_unpacked(section: Section, to: &mut [u8]) -> Result<(), RelocError>
+    requires loadable { IsLoadable (parts section) }
+    requires room { length to.old ≡ section.unpacked }
+    ensures refusal { result_err result ≡ pattern_refusal (parts section.entry) }
+    ensures written { OnOk result (to.new ≡ unpacked_bytes (parts section.entry)) }
+{
+    if section.kind == PATTERN {
+        return unpack(section.bytes, to);
+    }
+    to.copy_from_slice(section.bytes);
+    Ok(())
+}
+
+/// The bytes that a section has from the file, and zeros behind them.
+pub fn contents(alloc: Global, section: Section) -> Result<Vec<u8>, LoadError>
+    requires { IsLoadable (parts section) }
+    ensures refusal { Finds result (option_map (λ e. LoadError.Reloc e) (pattern_refusal (parts section.entry))) }
+    ensures is { IfOk result (λ room. room.items ≡ contents (parts section.entry)) }
+    ensures len { IfOk result (λ room. length room.items ≡ section.entry.total) }
+{
+    let mut room = vec![in alloc; 0; section.unpacked as usize]?;
+    match write_unpacked(section, &mut room) {
+        Ok(()) => {
+            room.resize(section.total as usize, 0)?;
+            Ok(room)
+        }
+        Err(e) => Err(LoadError::Reloc(e)),
+    }
+}

@@ -1,0 +1,71 @@
+//! The imports of a container: transition vectors of the host's functions.
+ghost use Rattle.std.specs.Prelude.{◌≡◌, ◌+◌, ◌*◌, ◌^◌, ◌<◌, ◌≤◌, length, option_map, IfOk, IfSome};
+ghost use Rattle.pef_head.specs.Parts.{import_count, import_of, names};
+ghost use Rattle.pef_head.specs.Search.{least};
+ghost use Rattle.mix_load.specs.ContainerImage.{imports_refusal};
+ghost use Rattle.mix_load.specs.HostTable.{import_index};
+ghost use Rattle.mix_load.specs.Outcome.{Finds};
+ghost use Rattle.mix_load.specs.Sections.{import_address, import_addresses, is_missing};
+
+use crate::error::LoadError;
+use pef_head::{Import, Pef};
+use std::alloc::Global;
+use toolbox::import_index;
+
+/// Where the transition vectors of the host's functions stand, 8 bytes each.
+pub const HOST_VECTORS: u32 = 0x1400;
+
+/// The number of the host function of this library and name.
+#[tactic(auto, using(crate::proofs::HostNames::index_is, crate::proofs::HostNames::index_below))]
+fn function_index(library: &[u8], name: &[u8]) -> Option<u32>
+    ensures is { result ≡ import_index library.now name.now }
+    ensures below { IfSome result (λ k. k < 15) }
+{
+    import_index(library, name)
+}
+
+/// An import's address, 0 where it may be missing and is; None where it may not.
+fn address_of(import: Import) -> Option<u32>
+    ensures { result ≡ import_address (names import.entry) }
+{
+    match function_index(import.library, import.name) {
+        Some(k) => Some(HOST_VECTORS + 8 * k),
+        None if import.weak => Some(0),
+        None => None,
+    }
+}
+
+/// The address of the import with this number.
+fn import_at(pef: &Pef, i: u32) -> Option<u32>
+    requires { i < import_count pef.now }
+    ensures { result ≡ import_address (import_of pef.now i) }
+{
+    address_of(pef.import(i))
+}
+
+/// The addresses of the first imports.
+#[tactic(auto, using(crate::proofs::Searches::least_at))]
+fn addresses_of(alloc: Global, pef: &Pef, count: u32) -> Result<Vec<u32>, LoadError>
+    requires { count ≤ import_count pef.now }
+    ensures refusal { Finds result (option_map (λ i. LoadError.Unresolved i) (least (is_missing pef.now) count)) }
+    ensures is { IfOk result (λ addresses. addresses.items ≡ import_addresses pef.now count) }
+    ensures len { IfOk result (λ addresses. length addresses.items ≡ count) }
+{
+    let mut addresses = Vec::new(alloc);
+    for i in 0..count {
+        match import_at(pef, i) {
+            Some(address) => addresses.push(address)?,
+            None => return Err(LoadError::Unresolved(i)),
+        }
+    }
+    Ok(addresses)
+}
+
+/// The addresses of all imports.
+pub fn import_addresses(alloc: Global, pef: &Pef) -> Result<Vec<u32>, LoadError>
+    ensures refusal { Finds result (imports_refusal pef.now) }
+    ensures is { IfOk result (λ addresses. addresses.items ≡ import_addresses pef.now (import_count pef.now)) }
+    ensures few { IfOk result (λ addresses. length addresses.items < 2 ^ 32) }
+{
+    addresses_of(alloc, pef, pef.imports())
+}

@@ -1,0 +1,31 @@
+//! Loads the programs of the mixed machine: flat files, resource forks with CODE segments (More Macintosh
+//! Toolbox; Inside Macintosh: Processes), and PEF containers (Inside Macintosh: PowerPC System Software),
+//! alone or beside a fork.
+//!
+//! [`load`] gives the program as it starts. Where things are placed, and which refusal comes first, is this
+//! project's own.
+#![tactic(auto)]
+
+mod container;
+mod contents;
+mod error;
+mod fields;
+mod files;
+mod flat;
+mod fork;
+mod gate;
+mod header;
+mod image;
+mod imports;
+mod loader;
+mod program;
+mod relocations;
+mod sections;
+mod segments;
+mod table;
+mod vector;
+
+pub use error::{File, LoadError};
+pub use files::{FileBytes, Files};
+pub use loader::load;
+pub use switch_frame::Program;

@@ -1,0 +1,132 @@
+//! Programs as they start.
+ghost use Rattle.std.specs.Prelude.{◌≡◌, ◌+◌, ◌^◌, ◌≤◌, length};
+ghost use Rattle.mix_load.specs.Loaded.{IsImage, IsProgram};
+ghost use Rattle.mix_load.specs.Pieces.{with_pieces};
+ghost use Rattle.mix_load.specs.Start.{long_in, program_of, stack_pieces, start_file, start_m68, start_ppc, start_sp_of};
+
+use crate::gate::put_gate_page;
+use crate::image::{Image, PROGRAM_START, put_long, round_up};
+use big_memory::Ram;
+use m68_isa::Regs68;
+use mix_bits::{Isa, Size};
+use ppc_isa::RegsPpc;
+use switch_frame::{Active, Program};
+
+/// Where 68K code that ends goes on.
+const EXIT_GATE_68K: u32 = 0x1000;
+
+/// Where PowerPC code that ends goes on.
+const EXIT_GATE_PPC: u32 = 0x1010;
+
+/// How many bytes below the end of RAM the stack pointer of PowerPC code starts.
+const PPC_STACK: u32 = 64;
+
+/// The long at an address.
+fn long_in(ram: &Ram, a: u32) -> u32
+    requires { a + 4 ≤ length ram.now.bytes }
+    ensures { result ≡ long_in ram.now a }
+{
+    match ram.load(a, Size::Four) {
+        Ok(long) => long,
+        Err(_) => unreachable!(),
+    }
+}
+
+/// The registers in which 68K code starts.
+fn start_m68(image: &Image, len: u32) -> Regs68
+    requires { 131072 ≤ len }
+    ensures { result ≡ start_m68 image.now len }
+{
+    let mut regs = Regs68::cleared();
+    regs.a[5] = image.a5;
+    regs.a[7] = len - 4;
+    regs.pc = image.entry;
+    regs
+}
+
+/// The registers in which PowerPC code starts.
+fn start_ppc(image: &Image, len: u32) -> RegsPpc
+    requires large { 131072 ≤ len }
+    requires vector { image.now.vector + 8 ≤ length image.now.ram.bytes }
+    requires small { length image.now.ram.bytes ≤ 2 ^ 24 }
+    ensures { result ≡ start_ppc image.now len }
+{
+    let mut regs = RegsPpc::cleared();
+    let (code, toc) = if image.vector == 0 {
+        (PROGRAM_START, 0)
+    } else {
+        let vector = image.vector;
+        (long_in(&image.ram, vector), long_in(&image.ram, vector + 4))
+    };
+    regs.gpr[1] = len - PPC_STACK;
+    regs.gpr[2] = toc;
+    regs.lr = EXIT_GATE_PPC;
+    regs.pc = code;
+    regs
+}
+
+/// The register file in which a program starts.
+fn start_file(main: Isa, image: &Image, len: u32) -> Active
+    requires large { 131072 ≤ len }
+    requires vector { image.now.vector + 8 ≤ length image.now.ram.bytes }
+    requires small { length image.now.ram.bytes ≤ 2 ^ 24 }
+    ensures { result ≡ start_file main image.now len }
+{
+    match main {
+        Isa::M68 => Active::M68(start_m68(image, len)),
+        Isa::Ppc => Active::Ppc(start_ppc(image, len)),
+    }
+}
+
+/// Puts what stands on the stack at the start.
+fn put_stack(ram: &mut Ram, main: Isa, len: u32)
+    requires large { 131072 ≤ len }
+    requires whole { length ram.old.bytes ≡ len }
+    ensures memory { ram.new ≡ with_pieces (stack_pieces main len) ram.old }
+    ensures len { length ram.new.bytes ≡ length ram.old.bytes }
+{
+    match main {
+        Isa::M68 => put_long(ram, len - 4, EXIT_GATE_68K),
+        Isa::Ppc => {}
+    }
+}
+
+fn start_sp_of(main: Isa, len: u32) -> u32
+    requires { 131072 ≤ len }
+    ensures { result ≡ start_sp_of main len }
+{
+    match main {
+        Isa::M68 => len,
+        Isa::Ppc => len - PPC_STACK,
+    }
+}
+
+/// The program of what is loaded.
+pub fn program(main: Isa, mut image: Image) -> Program
+    requires { IsImage image }
+    ensures is { result ≡ program_of main image }
+    ensures loaded { IsProgram result }
+{
+    let len = image.ram.len();
+    let active = start_file(main, &image, len);
+    let (lo, hi) = (round_up(image.end as u64) as u32, image.ram.floor());
+    put_gate_page(&mut image.ram, image.entry, image.vector, image.a5, len);
+    put_stack(&mut image.ram, main, len);
+    let whole = image.ram.len();
+    let Image {
+        ram,
+        a5,
+        end: _,
+        entry: _,
+        vector: _,
+    } = image;
+    Program {
+        ram,
+        active,
+        a5,
+        main,
+        start_sp: start_sp_of(main, whole),
+        heap_lo: lo,
+        heap_hi: hi,
+    }
+}

@@ -1,0 +1,175 @@
+//! The segments of a fork: its CODEs above 0.
+ghost use Rattle.std.specs.Prelude.{◌≡◌, ◌+◌, ◌*◌, ◌^◌, ◌≤◌, ◌<◌, [], length, option_map, IfSome, IfOk};
+ghost use Rattle.std.specs.Result.{result_err};
+ghost use Rattle.pef_head.specs.Search.{any_below, least};
+ghost use Rattle.mix_load.specs.ForkImage.{segments_refusal};
+ghost use Rattle.mix_load.specs.Pieces.{rounded_up, with_pieces};
+ghost use Rattle.mix_load.specs.Segments.{added_segment, code_at, is_far, is_segment, is_short, segment_at, segment_pieces, segment_places, segments_end, with_segment};
+
+use crate::error::LoadError;
+use crate::fields::word_at;
+use crate::image::round_up;
+use big_memory::Ram;
+use rsrc_fork::Fork;
+use std::alloc::{AllocError, Global};
+
+/// 'CODE'.
+const CODE: u32 = 0x434F_4445;
+
+/// The CODE with this id.
+pub fn code_at<'a>(fork: &Fork<'a>, id: u16) -> Option<&'a [u8]>
+    requires { id < 32768 }
+    ensures is { option_map (λ code. code.now) result ≡ code_at fork.now id }
+    ensures small { IfSome result (λ code. length code.now ≤ 2 ^ 24) }
+{
+    fork.get(CODE, id as i16)
+}
+
+/// The segment with this number, a word that is read as a signed id.
+pub fn segment_at<'a>(fork: &Fork<'a>, id: u16) -> Option<&'a [u8]>
+    ensures is { option_map (λ code. code.now) result ≡ segment_at fork.now id }
+    ensures small { IfSome result (λ code. length code.now ≤ 2 ^ 24) }
+{
+    if id == 0 || 32768 <= id {
+        return None;
+    }
+    code_at(fork, id)
+}
+
+fn is_segment(fork: &Fork, id: u16) -> bool
+    ensures { result ≡ is_segment fork.now id }
+{
+    segment_at(fork, id).is_some()
+}
+
+/// Whether the segment is of the far model.
+fn is_far(fork: &Fork, id: u16) -> bool
+    ensures { result ≡ is_far fork.now id }
+{
+    match segment_at(fork, id) {
+        Some(code) => 4 <= code.len() && word_at(code, 0) == 0xFFFF,
+        None => false,
+    }
+}
+
+/// Whether the segment lacks a whole header.
+fn is_short(fork: &Fork, id: u16) -> bool
+    ensures { result ≡ is_short fork.now id }
+{
+    match segment_at(fork, id) {
+        Some(code) => code.len() < 4,
+        None => false,
+    }
+}
+
+/// Whether there is a segment.
+#[tactic(auto, using(crate::proofs::Searches::any_at))]
+fn has_segment(fork: &Fork, ids: u16) -> bool
+    ensures { result ≡ any_below (is_segment fork.now) ids }
+{
+    for id in 0..ids {
+        if is_segment(fork, id) {
+            return true;
+        }
+    }
+    false
+}
+
+/// The first segment of the far model.
+#[tactic(auto, using(crate::proofs::Searches::least_at))]
+fn far_segment(fork: &Fork, ids: u16) -> Option<u16>
+    ensures is { result ≡ least (is_far fork.now) ids }
+    ensures below { IfSome result (λ id. id < ids) }
+{
+    for id in 0..ids {
+        if is_far(fork, id) {
+            return Some(id);
+        }
+    }
+    None
+}
+
+/// Whether a segment lacks a whole header.
+#[tactic(auto, using(crate::proofs::Searches::any_at))]
+fn has_short(fork: &Fork, ids: u16) -> bool
+    ensures { result ≡ any_below (is_short fork.now) ids }
+{
+    for id in 0..ids {
+        if is_short(fork, id) {
+            return true;
+        }
+    }
+    false
+}
+
+/// Tests the segments below a count of ids.
+pub fn test_segments(fork: &Fork, ids: u16) -> Result<(), LoadError>
+    requires { ids ≤ 32768 }
+    ensures { result_err result ≡ segments_refusal ids fork.now }
+{
+    if !has_segment(fork, ids) {
+        return Err(LoadError::NoCode(1));
+    }
+    if let Some(id) = far_segment(fork, ids) {
+        return Err(LoadError::Far(id as i16));
+    }
+    if has_short(fork, ids) {
+        return Err(LoadError::JumpTable(0));
+    }
+    Ok(())
+}
+
+/// Where the segments end that begin behind `start`.
+pub fn segments_end(fork: &Fork, start: u64, ids: u16) -> u64
+    requires { start ≤ 2 ^ 34 }
+    ensures is { result ≡ segments_end fork.now start ids }
+    ensures few { result ≤ 2 ^ 42 }
+{
+    let mut end = start;
+    for id in 0..ids {
+        if let Some(code) = segment_at(fork, id) {
+            end = round_up(end) + code.len() as u64;
+        }
+    }
+    end
+}
+
+/// Puts a segment, if there is one, behind an end, and gives the end behind it.
+fn put_segment(ram: &mut Ram, end: u64, segment: Option<&[u8]>) -> u64
+    requires fits { with_segment end (option_map (λ code. code.now) segment) ≤ length ram.old.bytes }
+    requires small { length ram.old.bytes ≤ 2 ^ 24 }
+    ensures end { result ≡ with_segment end (option_map (λ code. code.now) segment.entry) }
+    ensures memory { ram.new ≡ with_pieces (added_segment (rounded_up end) (option_map (λ code. code.now) segment.entry) []) ram.old }
+    ensures len { length ram.new.bytes ≡ length ram.old.bytes }
+{
+    let Some(code) = segment else {
+        return end;
+    };
+    let place = round_up(end);
+    ram.fix(place as u32, code);
+    place + code.len() as u64
+}
+
+/// Puts the segments behind `start`, and says for each id where its segment stands.
+pub fn put_segments(
+    alloc: Global,
+    ram: &mut Ram,
+    fork: &Fork,
+    start: u64,
+    ids: u16,
+) -> Result<Vec<u32>, AllocError>
+    requires fits { rounded_up (segments_end fork.now start ids) ≤ length ram.old.bytes }
+    requires small { length ram.old.bytes ≤ 2 ^ 24 }
+    ensures places { IfOk result (λ places. places.items ≡ segment_places fork.now start ids) }
+    ensures memory { IfOk result (λ _. ram.new ≡ with_pieces (segment_pieces fork.now start ids) ram.old) }
+    ensures len { length ram.new.bytes ≡ length ram.old.bytes }
+{
+    let mut places = Vec::new(alloc);
+    let mut end = start;
+    for id in 0..ids {
+        let place = round_up(end) as u32;
+        places.push(place)?;
+        end = put_segment(ram, end, segment_at(fork, id));
+    }
+    Ok(places)
+}
