@@ -1,0 +1,42 @@
+use crate::area::Area;
+use mix_bits::{Fault, FaultKind};
+use std::alloc::{AllocError, Global};
+
+/// The text of an answer that is a fault, with what it has changed all the same: nothing, if all is
+/// well.
+pub fn told(
+    alloc: Global,
+    fault: &Fault,
+    is_same: bool,
+    before: &Area,
+    after: &Area,
+) -> Result<String, AllocError> {
+    let name = name_of(fault.kind);
+    let (pc, detail, also) = (fault.pc, fault.detail, fault.also);
+    let registers = kept(is_same);
+    let mut text = format!(in alloc; " fault {name} {pc:08X} {detail:08X} {also:08X}{registers}")?;
+    before.tell(after, &mut text)?;
+    Ok(text)
+}
+
+/// What is said of a register file that is to be as before.
+pub fn kept(is_same: bool) -> &'static str {
+    if is_same { "" } else { " registers changed" }
+}
+
+/// The names of the faults that an instruction can have.
+fn name_of(kind: FaultKind) -> &'static str {
+    match kind {
+        FaultKind::Illegal => "illegal",
+        FaultKind::Privileged => "privileged",
+        FaultKind::Odd => "odd",
+        FaultKind::Outside => "outside",
+        FaultKind::GateStore => "gatestore",
+        FaultKind::FrameStore => "framestore",
+        FaultKind::GateFetch => "gatefetch",
+        FaultKind::Vector => "vector",
+        FaultKind::BadInstr => "badinstr",
+        FaultKind::Trap => "trap",
+        _ => "other",
+    }
+}
