@@ -9,6 +9,7 @@ use Rattle.mix_bits.specs.Sizes.{bytes_of, truncated}
 use Rattle.byteorder.specs.Endian.{big_number, big_bytes}
 use Rattle.big_memory.specs.Lists.{put}
 use Rattle.big_memory.specs.Memory.{Memory, IsFree, meets_gate, meets_guard, refusal, in_memory, loaded, stored}
+pub use Rattle.big_memory.specs.Laws.{Passes}
 use Rattle.big_memory.specs.Laws.{PassesWithin, KeepsRefusals, LoadsBack}
 use Rattle.big_memory.proofs.Lists.{length-put, drop-put}
 use Rattle.big_memory.proofs.Packed.{any_none, any_found}
@@ -31,11 +32,6 @@ test_from_free m a n units some within free =
     any_none m.marks (a / 16) ((a + n - 1) / 16 + 1) (omega arith) (λ unit after before. free unit (omega arith) (omega arith))
 
 -- what it says that no store is refused
-pub record Passes (m : Memory) (a n : ℕ) : Type 0 where
-  pub within : a + n ≤ length m.bytes
-  pub gate : meets_gate a n ≡ false
-  pub guard : meets_guard m a n ≡ false
-
 pub passes : (m : Memory) (a n : ℕ) → 0 < n → refusal m a n ≡ None → Passes m a n
 passes m a n some none = record { within = grind (arith, nat_tests); gate = grind (arith, nat_tests); guard = grind (arith, nat_tests) }
 

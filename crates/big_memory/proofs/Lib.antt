@@ -1,5 +1,6 @@
 pub mod Lists
 pub mod Packed
 pub mod Guarded
+pub mod Rams
 pub mod Free
 pub mod Longs

@@ -21,6 +21,10 @@ drop-put at ys xs within = drop_at (take at xs) _ at (length-take-le at xs withi
 pub part-put_same : {X : Type 0} (at n : ℕ) (ys xs : List X) → length ys ≡ n → at + n ≤ length xs → part at n (put at ys xs) ≡ ys
 part-put_same at n ys xs whole within = same_lists _ _ (grind (arith, places)) (λ k d w. grind (arith, places))
 
+-- a part of that piece too
+pub part-put_inside : {X : Type 0} (at k n : ℕ) (ys xs : List X) → k + n ≤ length ys → at + length ys ≤ length xs → part (at + k) n (put at ys xs) ≡ part k n ys
+part-put_inside at k n ys xs inside within = same_lists _ _ (grind (arith, places)) (λ i d w. grind (arith, places))
+
 -- a piece elsewhere stays
 pub part-put_apart : {X : Type 0} (at n to : ℕ) (ys xs : List X) → to + length ys ≤ length xs → (at + n ≤ to) ⊎ (to + length ys ≤ at) → part at n (put to ys xs) ≡ part at n xs
 part-put_apart at n to ys xs within apart = same_lists _ _ (grind (arith, places)) (λ k d w. grind (arith, places))
@@ -32,6 +36,10 @@ put-part at n xs within = same_lists _ _ (grind (arith, places)) (λ k d w. grin
 -- of two pieces at one place the later one stays
 pub put-put_same : {X : Type 0} (at : ℕ) (ys zs xs : List X) → length ys ≡ length zs → at + length ys ≤ length xs → put at zs (put at ys xs) ≡ put at zs xs
 put-put_same at ys zs xs same within = same_lists _ _ (grind (arith, places)) (λ k d w. grind (arith, places))
+
+-- a piece put inside of another is put into that one
+pub put-put_inside : {X : Type 0} (at k : ℕ) (zs ys xs : List X) → k + length zs ≤ length ys → at + length ys ≤ length xs → put (at + k) zs (put at ys xs) ≡ put at (put k zs ys) xs
+put-put_inside at k zs ys xs inside within = same_lists _ _ (grind (arith, places)) (λ i d w. grind (arith, places))
 
 -- two pieces apart go in either order
 pub put-put_apart : {X : Type 0} (at to : ℕ) (ys zs xs : List X) → at + length ys ≤ to → to + length zs ≤ length xs → put to zs (put at ys xs) ≡ put at ys (put to zs xs)

@@ -1,10 +1,11 @@
 -- Laws of memory.
-use Rattle.std.specs.Prelude.{◌≡◌, ℕ, ◌+◌, ◌≤◌, List, length, None, Result, Ok, true}
+use Rattle.std.specs.Prelude.{◌≡◌, ℕ, ◌+◌, ◌*◌, ◌<◌, ◌≤◌, nat_le, nat_lt, Bool, ◌&&◌, if◌then◌else◌, List, length, replicate, slice_index_or, None, Result, Ok, true, false}
+use Rattle.byteorder.specs.Endian.{big_number}
 use Rattle.mix_bits.specs.declared.size.Size.{Size}
 use Rattle.mix_bits.specs.Sizes.{bytes_of, truncated}
 use Rattle.big_memory.specs.declared.refusals.Access.{Access}
 use Rattle.big_memory.specs.Lists.{part}
-use Rattle.big_memory.specs.Memory.{Memory, IsRam, IsDoneUnless, IsDoneUnlessRefused, copied, copy_refusal, refusal, in_memory, loaded, stored, with_bytes}
+use Rattle.big_memory.specs.Memory.{Memory, IsRam, IsFree, IsDoneUnless, IsDoneUnlessRefused, copied, copy_refusal, floor_of, meets_gate, meets_guard, refusal, in_memory, loaded, stored, with_bytes, with_marks}
 use Rattle.big_memory.specs.Stores.{OnlyFree}
 
 -- what may be stored into as a whole may be stored into in parts
@@ -18,6 +19,51 @@ KeepsRefusals = (m : Memory) (at : ℕ) (ys : List ℕ) (a n : ℕ) → at + len
 -- a load gives what was stored there
 abbrev pub LoadsBack : Type 0
 LoadsBack = (m : Memory) (a : ℕ) (s : Size) (v : ℕ) → in_memory m a (bytes_of s) ≡ true → loaded (stored m a s v) a s ≡ Ok (truncated v s)
+
+-- a load is the number in its part of the bytes
+abbrev pub LoadsPart : Type 0
+LoadsPart = (m : Memory) (a : ℕ) (s : Size) → in_memory m a (bytes_of s) ≡ true → loaded m a s ≡ Ok (big_number (bytes_of s) (part a (bytes_of s) m.bytes))
+
+-- what lies inside bytes that are in memory is in memory
+abbrev pub InMemoryWithin : Type 0
+InMemoryWithin = (m : Memory) (a n b k : ℕ) → in_memory m a n ≡ true → a ≤ b → b + k ≤ a + n → in_memory m b k ≡ true
+
+-- bytes put where they fit, and marks put from the floor of the stack up, keep what every memory meets
+abbrev pub BytesKeepRam : Type 0
+BytesKeepRam = (m : Memory) (at : ℕ) (ys : List ℕ) → at + length ys ≤ length m.bytes → IsRam m → IsRam (with_bytes at ys m)
+
+abbrev pub MarksKeepRam : Type 0
+MarksKeepRam = (m : Memory) (unit : ℕ) (ys : List Bool) → floor_of m ≤ 16 * unit → unit + length ys ≤ length m.marks → IsRam m → IsRam (with_marks unit ys m)
+
+-- the mark of a unit, after the marks of n units from `first` on are set or cleared
+abbrev pub MarksOfRange : Type 0
+MarksOfRange =
+    (m : Memory) (first n unit : ℕ) (on : Bool) → first + n ≤ length m.marks
+    → slice_index_or (with_marks first (replicate n on) m).marks unit false ≡ (if nat_le first unit && nat_lt unit (first + n) then on else slice_index_or m.marks unit false)
+
+-- bytes that lie in memory and meet neither the gate page nor a guarded unit
+pub record Passes (m : Memory) (a n : ℕ) : Type 0 where
+  pub within : a + n ≤ length m.bytes
+  pub gate : meets_gate a n ≡ false
+  pub guard : meets_guard m a n ≡ false
+
+-- a store is not refused exactly where its bytes are such
+abbrev pub OpenPasses : Type 0
+OpenPasses = (m : Memory) (a n : ℕ) → 0 < n → refusal m a n ≡ None → Passes m a n
+
+abbrev pub PassesOpen : Type 0
+PassesOpen = (m : Memory) (a n : ℕ) → 0 < n → Passes m a n → refusal m a n ≡ None
+
+-- the test of the units that bytes touch fails exactly where none of them is guarded
+abbrev pub TestsFree : Type 0
+TestsFree = (m : Memory) (a n : ℕ) → length m.bytes ≡ 16 * length m.marks → 0 < n → a + n ≤ length m.bytes → meets_guard m a n ≡ false → IsFree m a n
+
+abbrev pub FreeTests : Type 0
+FreeTests = (m : Memory) (a n : ℕ) → length m.bytes ≡ 16 * length m.marks → 0 < n → a + n ≤ length m.bytes → IsFree m a n → meets_guard m a n ≡ false
+
+-- no store between the gate page and the floor of the stack is refused
+abbrev pub OpenBelowFloor : Type 0
+OpenBelowFloor = (m : Memory) (a n : ℕ) → IsRam m → 0x2000 ≤ a → a + n ≤ floor_of m → refusal m a n ≡ None
 
 -- no change, and one such change after another, changes only what a store may change
 abbrev pub NothingIsFree : Type 0

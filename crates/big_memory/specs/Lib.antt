@@ -1,4 +1,5 @@
 pub mod Lists
+pub mod PutLaws
 pub mod Marks
 pub mod Map
 pub mod Memory

@@ -1,10 +1,21 @@
-ghost use Rattle.big_memory.specs.Laws.{CopiesAreFree, DoneIsFree, FreeJoins, FreeKeepsPage, FreeKeepsRam, FreeKeepsRefusals, KeepsRefusals, LoadsBack, NothingIsFree, PassesWithin, StoresAreFree};
+ghost use Rattle.big_memory.specs.Laws.{BytesKeepRam, CopiesAreFree, DoneIsFree, FreeJoins, FreeKeepsPage, FreeKeepsRam, FreeKeepsRefusals, FreeTests, InMemoryWithin, KeepsRefusals, LoadsBack, LoadsPart, MarksKeepRam, MarksOfRange, NothingIsFree, OpenBelowFloor, OpenPasses, PassesOpen, PassesWithin, StoresAreFree, TestsFree};
+ghost use Rattle.big_memory.specs.PutLaws.{PutApart, PutFrom, PutInside, PutJoins, PutKeepsLength, PutNothing, PutOver, PutReadsBack, PutReadsBeside, PutReadsInside, PutRun, PutSame};
 
 /// What follows from the definitions of memory. It does nothing: the clauses are its point.
 pub fn memory_laws()
     ensures within { PassesWithin }
     ensures stays { KeepsRefusals }
     ensures reads_back { LoadsBack }
+    ensures loads { LoadsPart }
+    ensures inside { InMemoryWithin }
+    ensures bytes { BytesKeepRam }
+    ensures marks { MarksKeepRam }
+    ensures marked { MarksOfRange }
+    ensures passes { OpenPasses }
+    ensures passing { PassesOpen }
+    ensures tests { TestsFree }
+    ensures tested { FreeTests }
+    ensures below { OpenBelowFloor }
     ensures nothing { NothingIsFree }
     ensures joins { FreeJoins }
     ensures stores { StoresAreFree }
@@ -13,4 +24,21 @@ pub fn memory_laws()
     ensures ram { FreeKeepsRam }
     ensures refusals { FreeKeepsRefusals }
     ensures page { FreeKeepsPage }
+{}
+
+/// What follows from the definition of bytes with a piece replaced. It does nothing: the clauses are
+/// its point.
+pub fn put_laws()
+    ensures length { PutKeepsLength }
+    ensures nothing { PutNothing }
+    ensures reads_back { PutReadsBack }
+    ensures reads_inside { PutReadsInside }
+    ensures reads_beside { PutReadsBeside }
+    ensures same { PutSame }
+    ensures over { PutOver }
+    ensures inside { PutInside }
+    ensures apart { PutApart }
+    ensures joins { PutJoins }
+    ensures from { PutFrom }
+    ensures run { PutRun }
 {}

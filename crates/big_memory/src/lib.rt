@@ -12,7 +12,7 @@ mod steps;
 #[cfg(test)]
 mod tests;
 
-pub use laws::memory_laws;
+pub use laws::{memory_laws, put_laws};
 pub use map::{
     GATE_PAGE, GATE_PAGE_END, HOST_FUNCTIONS, exit_gate, host_address, host_code, host_vector,
     in_gate_page, is_gate, return_gate,

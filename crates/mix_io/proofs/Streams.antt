@@ -1,21 +1,21 @@
 -- Puts one after the other.
-use Rattle.std.proofs.Common.{◌≡◌, ℕ, ◌≤◌, List, [], ◌++◌, length, take, Option, refl, sym, ap, ◌∙◌, subst, append_assoc, append-nil}
+use Rattle.std.proofs.Common.{◌++◌, take, refl, sym, ◌∙◌, subst, append_assoc}
 use Rattle.std.specs.Io.KnownBytes.{Appends}
 use Rattle.std.proofs.KnownBytes.{Appends-nil, Appends-trans}
 use Rattle.mix_io.specs.Counts.{Rose}
-use Rattle.mix_io.specs.Streams.{Output, Grows, Breaks}
+use Rattle.mix_io.specs.Streams.{NothingGrows, GrowsJoin, BreaksJoin}
 
 -- nothing was put yet
-pub grows-none : (a : Output) → Grows a a []
+pub grows-none : NothingGrows
 grows-none a = record { taken = Appends-nil a.held; calm = refl }
 
 -- more was put
-pub grows-more : (a b c : Output) (xs ys : List ℕ) → Grows a b xs → Grows b c ys → Grows a c (xs ++ ys)
+pub grows-more : GrowsJoin
 grows-more a b c xs ys first second =
     record { taken = Appends-trans a.held b.held c.held xs ys first.taken second.taken; calm = second.calm ∙ first.calm }
 
 -- a put failed after some
-pub breaks-after : (a b c : Output) (xs ys piece : List ℕ) → Grows a b xs → Breaks b c ys piece → Breaks a c (xs ++ ys) piece
+pub breaks-after : BreaksJoin
 breaks-after a b c xs ys piece first second =
     record {
       kept = second.kept;

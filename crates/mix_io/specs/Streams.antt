@@ -1,5 +1,5 @@
 -- What a sink holds after several puts: all that was put, or all until the put that failed.
-use Rattle.std.specs.Prelude.{◌≡◌, ℕ, ◌≤◌, List, ◌++◌, length, take, Option}
+use Rattle.std.specs.Prelude.{◌≡◌, ℕ, ◌≤◌, List, [], ◌++◌, length, take, Option}
 use Rattle.std.specs.Io.KnownBytes.{Appends}
 use Rattle.mix_io.specs.Counts.{Rose}
 
@@ -19,3 +19,13 @@ pub record Breaks (old new : Output) (bytes piece : List ℕ) : Type 0 where
   pub within : kept ≤ length piece
   pub taken : Appends old.held new.held (bytes ++ take kept piece)
   pub rose : Rose old.faults new.faults
+
+-- nothing that was put leaves a sink as it is; and bytes put after others, or before a put that failed, join these
+abbrev pub NothingGrows : Type 0
+NothingGrows = (a : Output) → Grows a a []
+
+abbrev pub GrowsJoin : Type 0
+GrowsJoin = (a b c : Output) (xs ys : List ℕ) → Grows a b xs → Grows b c ys → Grows a c (xs ++ ys)
+
+abbrev pub BreaksJoin : Type 0
+BreaksJoin = (a b c : Output) (xs ys piece : List ℕ) → Grows a b xs → Breaks b c ys piece → Breaks a c (xs ++ ys) piece

@@ -9,10 +9,10 @@ use Rattle.mixed_machine.specs.State.{State}
 use Rattle.mixed_machine.specs.Next.{Next}
 use Rattle.mixed_machine.specs.Next.Next.{Goes, Exits, Faults}
 use Rattle.mixed_machine.specs.Step.{step}
-use Rattle.mixed_machine.specs.Exec.{How, exec_to, goes_on, rests, is_back, Leads, GoesTo, Says, Tells, log, said_of, line_of}
+use Rattle.mixed_machine.specs.Exec.{How, exec_to, goes_on, rests, is_back, Leads, GoesTo, Says, Tells, Reads, log, said_of, line_of}
 use Rattle.mixed_machine.specs.Exec.How.{Limited, Exited, Faulted}
 use Rattle.mixed_machine.specs.Exec.End.{Back, Ended}
-use Rattle.mixed_machine.specs.Runs.{Sinks, Took, Going, Ran, CameBack, OutBroke, TraceBroke, Stops, Runs}
+use Rattle.mixed_machine.specs.Runs.{Sinks, Took, Going, Ran, CameBack, ReadBroke, OutBroke, TraceBroke, Stops}
 use Rattle.mixed_machine.proofs.Runs.{exec-continues, ends-reach, backs-continue, limits-last}
 use Rattle.mixed_machine.proofs.Logs.{leads-none, leads-more, leads-append, exec-back, exec-exits, exec-faults, log-continues, log-more, log-exits, log-none}
 
@@ -126,6 +126,21 @@ faults-now d n left s t u fault old now new some so_far faults same said traced 
       };
     }
 
+-- the input failed at the next step
+pub read-broke-now : (d n left : ℕ) (s t u : State) (old now new : Sinks) → 0 < left → Going d n left s t old now
+    → Reads (step t) → u ≡ t → Grows now.out new.out [] → Grows now.trace new.trace [] → Stops d n left s u old new ReadFault
+read-broke-now d n left s t u old now new some so_far reads same said traced =
+    subst (λ v. ReadBroke d n left s v old new) (sym same) (record {
+      some = some;
+      fewer = so_far.fewer;
+      leads = so_far.leads;
+      reads = reads;
+      took = record {
+        said = grows-silent old.out now.out new.out (log said_of (n - left) s) so_far.took.said said;
+        traced = grows-silent old.trace now.trace new.trace (log line_of (n - left) s) so_far.took.traced traced;
+      };
+    })
+
 -- the output failed at the next step
 pub out-broke-now : (d n left : ℕ) (s t u : State) (old now new : Sinks) → 0 < left → Going d n left s t old now
     → Says (step t) → u ≡ t → Breaks now.out new.out [] (said_of (step t)) → Grows now.trace new.trace [] → Stops d n left s u old new OutFault
@@ -185,6 +200,19 @@ ran-nested e d n left l s t v how old now new deeper so_far ran =
       took = subst (λ j. Took j s old new) (added-up n left l fewer less) (took-append d (n - left) (left - l) s t old now new so_far.leads so_far.took ran.took);
     }
 
+read-nested : (e d n left l : ℕ) (s t v : State) (old now new : Sinks) → d ≤ e → Going d n left s t old now → ReadBroke e left l t v now new → ReadBroke d n l s v old new
+read-nested e d n left l s t v old now new deeper so_far broke =
+    let fewer : left ≤ n = so_far.fewer in
+    let less : l ≤ left = broke.fewer in
+    let all = added-up n left l fewer less in
+    record {
+      some = broke.some;
+      fewer = omega (arith, fewer, less);
+      leads = subst (λ j. Leads d j s v) all (leads-append d (n - left) (left - l) s t v so_far.leads (ends-reach d e (left - l) 0 Limited t v deeper broke.leads));
+      reads = broke.reads;
+      took = subst (λ j. Took j s old new) all (took-append d (n - left) (left - l) s t old now new so_far.leads so_far.took broke.took);
+    }
+
 out-nested : (e d n left l : ℕ) (s t v : State) (old now new : Sinks) → d ≤ e → Going d n left s t old now → OutBroke e left l t v now new → OutBroke d n l s v old new
 out-nested e d n left l s t v old now new deeper so_far broke =
     let fewer : left ≤ n = so_far.fewer in
@@ -229,7 +257,7 @@ pub nested-stops : (e d n left l : ℕ) (s t v : State) (old now new : Sinks) (s
 nested-stops e d n left l s t v old now new (Exit code) deeper so_far stops = ran-nested e d n left l s t v (Exited code) old now new deeper so_far stops
 nested-stops e d n left l s t v old now new (FaultStop fault) deeper so_far stops = ran-nested e d n left l s t v (Faulted fault) old now new deeper so_far stops
 nested-stops e d n left l s t v old now new Limit deeper so_far stops = ran-nested e d n left l s t v Limited old now new deeper so_far stops
-nested-stops e d n left l s t v old now new ReadFault deeper so_far stops = stops
+nested-stops e d n left l s t v old now new ReadFault deeper so_far stops = read-nested e d n left l s t v old now new deeper so_far stops
 nested-stops e d n left l s t v old now new OutFault deeper so_far stops = out-nested e d n left l s t v old now new deeper so_far stops
 nested-stops e d n left l s t v old now new TraceFault deeper so_far stops = trace-nested e d n left l s t v old now new deeper so_far stops
 
@@ -249,7 +277,7 @@ short-step true x s t d n left same is rest ends =
     let here : s ≡ t = cc in
     let none : suc n ≡ left = cc in
     (0, omega (arith, none), ap (λ c. rests c s) (sym same) ∙ ap (λ u. Back u 0) here)
-short-step false (Goes u said line) s t d n left same is rest ends =
+short-step false (Goes u effects) s t d n left same is rest ends =
     let short = rest u ends in
     let sum : short.0 + left ≡ n = short.1 in
     (suc short.0, omega (arith, sum), ap (λ c. goes_on c (step s) s short.0 (exec_to d short.0)) (sym same) ∙ (ap (λ y. goes_on false y s short.0 (exec_to d short.0)) (sym is) ∙ short.2))
@@ -284,13 +312,13 @@ nested-back e d n left l s t v old now new deeper so_far came stays =
     }
 
 -- a run that was cut, and continued
-pub cuts-continue : (n m : ℕ) (s t u : State) (a b c : Sinks) (stop : Stop) → Runs n s t a b Limit → Runs m t u b c stop → Runs (n + m) s u a c stop
-cuts-continue n m s t u a b c stop first then =
-    let ran : Ran 0 n first.left s t Limited a b = first.stops in
-    let last : first.left ≡ 0 = limits-last 0 n first.left s t ran.ends in
-    let done : n - first.left ≡ (n + m) - m = omega (arith, last) in
+pub cut-stops : (n m left l : ℕ) (s t u : State) (a b c : Sinks) (stop : Stop) → Stops 0 n left s t a b Limit → Stops 0 m l t u b c stop → Stops 0 (n + m) l s u a c stop
+cut-stops n m left l s t u a b c stop first then =
+    let ran : Ran 0 n left s t Limited a b = first in
+    let last : left ≡ 0 = limits-last 0 n left s t ran.ends in
+    let done : n - left ≡ (n + m) - m = omega (arith, last) in
     let leads : Leads 0 n s t = subst (λ l. exec_to 0 n s ≡ Ended Limited t l) last ran.ends in
     let all : n ≡ (n + m) - m = omega arith in
     let so_far : Going 0 (n + m) m s t a b =
     record { fewer = omega arith; leads = subst (λ j. Leads 0 j s t) all leads; took = subst (λ j. Took j s a b) done ran.took } in
-    record { left = then.left; stops = nested-stops 0 0 (n + m) m then.left s t u a b c stop (omega arith) so_far then.stops }
+    nested-stops 0 0 (n + m) m l s t u a b c stop (omega arith) so_far then

@@ -1,3 +1,5 @@
 pub mod Runs
 pub mod Logs
 pub mod Events
+pub mod Over
+pub mod Machines

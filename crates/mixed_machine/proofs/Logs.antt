@@ -27,7 +27,7 @@ leads-stays d j s t leads =
 
 one-more : (b : Bool) (x : Next) (d m : ℕ) (t u : State) → b ≡ false → GoesTo x u → goes_on b x t m (exec_to d m) ≡ exec_to d m u
 one-more true x d m t u stays goes = cc
-one-more false (Goes v said line) d m t u stays goes = ap (exec_to d m) (sym goes)
+one-more false (Goes v effects) d m t u stays goes = ap (exec_to d m) (sym goes)
 one-more false (Exits code) d m t u stays goes = absurd goes
 one-more false (Faults fault) d m t u stays goes = absurd goes
 
@@ -68,8 +68,8 @@ log-step : (pick : Next → List ℕ) (b : Bool) (x : Next) (s t : State) (d i j
     → ((u : State) → Leads d i u t → log pick (i + j) u ≡ log pick i u ++ log pick j t)
     → goes_on b x s i (exec_to d i) ≡ Ended Limited t 0 → log_then pick x (log pick (i + j)) ≡ log_then pick x (log pick i) ++ log pick j t
 log-step pick true x s t d i j rest leads = cc
-log-step pick false (Goes u said line) s t d i j rest leads =
-    ap (λ xs. pick (Goes u said line) ++ xs) (rest u leads) ∙ sym (append_assoc (pick (Goes u said line)) (log pick i u) (log pick j t))
+log-step pick false (Goes u effects) s t d i j rest leads =
+    ap (λ xs. pick (Goes u effects) ++ xs) (rest u leads) ∙ sym (append_assoc (pick (Goes u effects)) (log pick i u) (log pick j t))
 log-step pick false (Exits code) s t d i j rest leads = cc
 log-step pick false (Faults fault) s t d i j rest leads = cc
 
@@ -82,7 +82,7 @@ log-continues pick d (suc i) j s t leads =
 
 once : (pick : Next → List ℕ) (x : Next) (u : State) → GoesTo x u → log_then pick x (log pick 0) ≡ pick x
 unfolding log
-once pick (Goes t said line) u goes = append-nil (pick (Goes t said line))
+once pick (Goes t effects) u goes = append-nil (pick (Goes t effects))
 once pick (Exits code) u goes = absurd goes
 once pick (Faults fault) u goes = absurd goes
 
@@ -92,7 +92,7 @@ unfolding log
 log-more pick d j s t u leads goes = log-continues pick d j 1 s t leads ∙ ap (λ xs. log pick j s ++ xs) (once pick (step t) u goes)
 
 ends-silent : (pick : Next → List ℕ) (x : Next) (code : ℕ) → pick (Exits code) ≡ [] → x ≡ Exits code → log_then pick x (log pick 0) ≡ []
-ends-silent pick (Goes t said line) code silent exits = cc
+ends-silent pick (Goes t effects) code silent exits = cc
 ends-silent pick (Exits c) code silent exits = ap pick exits ∙ silent
 ends-silent pick (Faults fault) code silent exits = cc
 

@@ -43,7 +43,7 @@ no-steps d s t leads = rests-here (is_back d s) s t leads
 continues-step : (b : Bool) (x : Next) (s t : State) (d n m : ℕ) → ((u : State) → Leads d n u t → exec_to d (n + m) u ≡ exec_to d m t)
     → goes_on b x s n (exec_to d n) ≡ Ended Limited t 0 → goes_on b x s (n + m) (exec_to d (n + m)) ≡ exec_to d m t
 continues-step true x s t d n m rest leads = cc
-continues-step false (Goes u said line) s t d n m rest leads = rest u leads
+continues-step false (Goes u effects) s t d n m rest leads = rest u leads
 continues-step false (Exits code) s t d n m rest leads = cc
 continues-step false (Faults fault) s t d n m rest leads = cc
 
@@ -59,7 +59,7 @@ stays-step : (b : Bool) (x : Next) (s t : State) (d n m left : ℕ) (how : How)
     → goes_on b x s n (exec_to d n) ≡ Ended how t left → goes_on b x s (n + m) (exec_to d (n + m)) ≡ Ended how t (left + m)
 unfolding with_more
 stays-step true x s t d n m left how rest ends = cc
-stays-step false (Goes u said line) s t d n m left how rest ends = rest u ends
+stays-step false (Goes u effects) s t d n m left how rest ends = rest u ends
 stays-step false (Exits code) s t d n m left how rest ends = ap (with_more m) ends
 stays-step false (Faults fault) s t d n m left how rest ends = ap (λ k. Ended (Faulted fault) s k) (sym (suc-more n m)) ∙ ap (with_more m) ends
 
@@ -94,7 +94,7 @@ backs-step : (b : Bool) (x : Next) (s t : State) (d n m left : ℕ)
     → goes_on b x s n (exec_to d n) ≡ Back t left → goes_on b x s (n + m) (exec_to d (n + m)) ≡ Back t (left + m)
 unfolding with_more
 backs-step true x s t d n m left rest ends = ap (λ k. Back s k) (sym (suc-more n m)) ∙ ap (with_more m) ends
-backs-step false (Goes u said line) s t d n m left rest ends = rest u ends
+backs-step false (Goes u effects) s t d n m left rest ends = rest u ends
 backs-step false (Exits code) s t d n m left rest ends = cc
 backs-step false (Faults fault) s t d n m left rest ends = cc
 
@@ -112,7 +112,7 @@ rests-last false s t left ends = sym (ap left_at ends)
 last-step : (b : Bool) (x : Next) (s t : State) (d n left : ℕ) → ((u : State) → exec_to d n u ≡ Ended Limited t left → left ≡ 0)
     → goes_on b x s n (exec_to d n) ≡ Ended Limited t left → left ≡ 0
 last-step true x s t d n left rest ends = cc
-last-step false (Goes u said line) s t d n left rest ends = rest u ends
+last-step false (Goes u effects) s t d n left rest ends = rest u ends
 last-step false (Exits code) s t d n left rest ends = cc
 last-step false (Faults fault) s t d n left rest ends = cc
 
@@ -135,8 +135,8 @@ reaches-step : (b : Bool) (x : Next) (e d n left : ℕ) (how : How) (s t : State
     → ((u : State) → exec_to d n u ≡ Ended how t left → exec_to e n u ≡ Ended how t left)
     → goes_on b x s n (exec_to d n) ≡ Ended how t left → goes_on (is_back e s) x s n (exec_to e n) ≡ Ended how t left
 reaches-step true x e d n left how s t fewer same rest ends = cc
-reaches-step false (Goes u said line) e d n left how s t fewer same rest ends =
-    ap (λ c. goes_on c (Goes u said line) s n (exec_to e n)) (not-back e d s fewer (sym same)) ∙ rest u ends
+reaches-step false (Goes u effects) e d n left how s t fewer same rest ends =
+    ap (λ c. goes_on c (Goes u effects) s n (exec_to e n)) (not-back e d s fewer (sym same)) ∙ rest u ends
 reaches-step false (Exits code) e d n left how s t fewer same rest ends =
     ap (λ c. goes_on c (Exits code) s n (exec_to e n)) (not-back e d s fewer (sym same)) ∙ ends
 reaches-step false (Faults fault) e d n left how s t fewer same rest ends =
@@ -160,7 +160,7 @@ backs-continue-step : (b : Bool) (x : Next) (e d n left : ℕ) (s t : State) →
 unfolding state_at left_at exec_to
 backs-continue-step true x e d n left s t fewer same is rest ends =
     ap (λ k. exec_to e k s) (ap left_at ends) ∙ ap (exec_to e left) (ap state_at ends)
-backs-continue-step false (Goes u said line) e d n left s t fewer same is rest ends =
+backs-continue-step false (Goes u effects) e d n left s t fewer same is rest ends =
     ap (λ c. goes_on c (step s) s n (exec_to e n)) (not-back e d s fewer (sym same))
     ∙ (ap (λ x. goes_on false x s n (exec_to e n)) (sym is) ∙ rest u ends)
 backs-continue-step false (Exits code) e d n left s t fewer same is rest ends = cc
@@ -180,7 +180,7 @@ never-rests false s t left same ends = cc
 never-step : (b : Bool) (x : Next) (s t : State) (n left : ℕ) → b ≡ is_back 0 s → ((u : State) → exec_to 0 n u ≢ Back t left)
     → goes_on b x s n (exec_to 0 n) ≢ Back t left
 never-step true x s t n left same rest ends = let never : is_back 0 s ≡ true = sym same in grind (arith, nat_tests, never)
-never-step false (Goes u said line) s t n left same rest ends = rest u ends
+never-step false (Goes u effects) s t n left same rest ends = rest u ends
 never-step false (Exits code) s t n left same rest ends = cc
 never-step false (Faults fault) s t n left same rest ends = cc
 

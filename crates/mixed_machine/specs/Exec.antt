@@ -29,7 +29,7 @@ rests false s = Ended Limited s 0
 -- with n + 1 steps left
 abbrev pub goes_on : Bool → Next → State → ℕ → (State → End) → End
 goes_on true x s n rest = Back s (suc n)
-goes_on false (Goes t said line) s n rest = rest t
+goes_on false (Goes t effects) s n rest = rest t
 goes_on false (Exits code) s n rest = Ended (Exited code) s n
 goes_on false (Faults fault) s n rest = Ended (Faulted fault) s (suc n)
 
@@ -48,17 +48,17 @@ Leads d j s t = exec_to d j s ≡ Ended Limited t 0
 
 -- what a step puts on the output, and what it puts on the trace
 abbrev pub said_of : Next → List ℕ
-said_of (Goes t said line) = said
+said_of (Goes t effects) = effects.said
 said_of (Exits code) = []
 said_of (Faults fault) = []
 
 abbrev pub line_of : Next → List ℕ
-line_of (Goes t said line) = line
+line_of (Goes t effects) = effects.line
 line_of (Exits code) = []
 line_of (Faults fault) = []
 
 abbrev pub log_then : (Next → List ℕ) → Next → (State → List ℕ) → List ℕ
-log_then pick (Goes t said line) rest = pick (Goes t said line) ++ rest t
+log_then pick (Goes t effects) rest = pick (Goes t effects) ++ rest t
 log_then pick (Exits code) rest = pick (Exits code)
 log_then pick (Faults fault) rest = []
 
@@ -69,7 +69,7 @@ log pick (suc n) s = log_then pick (step s) (log pick n)
 
 -- a step that goes on, to this state
 abbrev pub GoesTo : Next → State → Type 0
-GoesTo (Goes t said line) u = u ≡ t
+GoesTo (Goes t effects) u = u ≡ t
 GoesTo (Exits code) u = ⊥
 GoesTo (Faults fault) u = ⊥
 
@@ -79,3 +79,9 @@ Says x = 0 < length (said_of x)
 
 abbrev pub Tells : Next → Type 0
 Tells x = 0 < length (line_of x)
+
+-- and one that reads the input
+abbrev pub Reads : Next → Type 0
+Reads (Goes t effects) = effects.reads ≡ true
+Reads (Exits code) = ⊥
+Reads (Faults fault) = ⊥

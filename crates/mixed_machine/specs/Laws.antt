@@ -6,7 +6,9 @@ use Rattle.mixed_machine.specs.State.{State}
 use Rattle.mixed_machine.specs.Exec.{How, exec_to, Leads}
 use Rattle.mixed_machine.specs.Exec.How.{Limited}
 use Rattle.mixed_machine.specs.Exec.End.{Back, Ended}
-use Rattle.mixed_machine.specs.Runs.{Runs, Sinks}
+use Rattle.mixed_machine.specs.Outside.{At}
+use Rattle.mixed_machine.specs.Runs.{Runs}
+use Rattle.dev_rack.specs.Accounts.{Accounts}
 
 -- where n steps were done and no end was reached, a run of n + m steps is one of m steps from there
 abbrev pub RunsContinue : Type 0
@@ -34,6 +36,9 @@ EndsReach = (e d n left : ℕ) (how : How) (s t : State) → e ≤ d → exec_to
 abbrev pub NeverBack : Type 0
 NeverBack = (n left : ℕ) (s t : State) → exec_to 0 n s ≢ Back t left
 
--- a run that was cut at its step limit and continued is the uncut run, with its output and its trace
+-- a run that was cut at its step limit and continued is the uncut run, with its output, its trace, what it took from
+-- the input, and the answers of the devices in both
 abbrev pub CutsContinue : Type 0
-CutsContinue = (n m : ℕ) (s t u : State) (a b c : Sinks) (stop : Stop) → Runs n s t a b Limit → Runs m t u b c stop → Runs (n + m) s u a c stop
+CutsContinue =
+    (n m : ℕ) (a b c : At) (stop : Stop) → Accounts a.outside.rack b.outside.rack → Accounts b.outside.rack c.outside.rack
+    → Runs n a b Limit → Runs m b c stop → Runs (n + m) a c stop

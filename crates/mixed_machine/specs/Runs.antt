@@ -1,11 +1,12 @@
--- A run of a machine over an output and a trace, which may stop it.
+-- A run of the machine over an output and a trace. The input, the output or the trace may stop it.
 use Rattle.std.specs.Prelude.{◌≡◌, ℕ, suc, ◌-◌, ◌<◌, ◌≤◌}
 use Rattle.mix_io.specs.Streams.{Output, Grows, Breaks}
 use Rattle.mixed_machine.specs.declared.stop.Stop.{Stop}
 use Rattle.mixed_machine.specs.declared.stop.Stop.TheVariants.{Exit, Fault, Limit, ReadFault, OutFault, TraceFault}
 use Rattle.mixed_machine.specs.State.{State}
+use Rattle.mixed_machine.specs.Outside.{At, Over}
 use Rattle.mixed_machine.specs.Step.{step}
-use Rattle.mixed_machine.specs.Exec.{How, Leads, GoesTo, Says, Tells, exec_to, log, said_of, line_of}
+use Rattle.mixed_machine.specs.Exec.{How, Leads, GoesTo, Says, Tells, Reads, exec_to, log, said_of, line_of}
 use Rattle.mixed_machine.specs.Exec.How.{Limited, Exited, Faulted}
 use Rattle.mixed_machine.specs.Exec.End.{Back, Ended}
 
@@ -13,6 +14,9 @@ use Rattle.mixed_machine.specs.Exec.End.{Back, Ended}
 pub record Sinks : Type 0 where
   pub out : Output
   pub trace : Output
+
+abbrev pub sinks_of : At → Sinks
+sinks_of a = record { out = a.outside.out; trace = a.trace }
 
 -- both took what j steps from a state put
 pub record Took (j : ℕ) (s : State) (old new : Sinks) : Type 0 where
@@ -29,6 +33,14 @@ pub record Ran (d n left : ℕ) (s t : State) (how : How) (old new : Sinks) : Ty
 pub record CameBack (d n left : ℕ) (s t : State) (old new : Sinks) : Type 0 where
   pub fewer : left ≤ n
   pub ends : exec_to d n s ≡ Back t left
+  pub took : Took (n - left) s old new
+
+-- one that the input stopped: the next step is one of those allowed, and reads the input
+pub record ReadBroke (d n left : ℕ) (s t : State) (old new : Sinks) : Type 0 where
+  pub some : 0 < left
+  pub fewer : left ≤ n
+  pub leads : Leads d (n - left) s t
+  pub reads : Reads (step t)
   pub took : Took (n - left) s old new
 
 -- one that the output stopped: the next step is one of those allowed, and puts something, of which the output
@@ -51,19 +63,21 @@ pub record TraceBroke (d n left : ℕ) (s t : State) (old new : Sinks) : Type 0 
   pub said : Grows old.out new.out (log said_of (n - left) s)
   pub traced : Breaks old.trace new.trace (log line_of (n - suc left) s) (line_of (step last))
 
--- a run that stopped; the input is not read so far
+-- a run that stopped
 abbrev pub Stops : ℕ → ℕ → ℕ → State → State → Sinks → Sinks → Stop → Type 0
 Stops d n left s t old new (Exit code) = Ran d n left s t (Exited code) old new
 Stops d n left s t old new (Fault fault) = Ran d n left s t (Faulted fault) old new
 Stops d n left s t old new Limit = Ran d n left s t Limited old new
-Stops d n left s t old new ReadFault = ⊥
+Stops d n left s t old new ReadFault = ReadBroke d n left s t old new
 Stops d n left s t old new OutFault = OutBroke d n left s t old new
 Stops d n left s t old new TraceFault = TraceBroke d n left s t old new
 
--- a run of at most n steps from s to t
-pub record Runs (n : ℕ) (s t : State) (old new : Sinks) (stop : Stop) : Type 0 where
+-- a run of at most n steps of a machine in memory: some steps are left, and the states that the machine stands for
+-- are those of the definition's run
+pub record Runs (n : ℕ) (a b : At) (stop : Stop) : Type 0 where
   pub left : ℕ
-  pub stops : Stops 0 n left s t old new stop
+  pub fewer : left ≤ n
+  pub run : Over (λ s t. Stops 0 n left s t (sinks_of a) (sinks_of b) stop) a b
 
 -- a run on its way: n - left steps led from s to t
 pub record Going (d n left : ℕ) (s t : State) (old new : Sinks) : Type 0 where

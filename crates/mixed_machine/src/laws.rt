@@ -1,3 +1,4 @@
+ghost use Rattle.mixed_machine.specs.Events.{BeginsAt, CalleeCameBack, CalleeStopped, ComesBackAt, ExitsAt, FaultsAt, GoesOnAt, LimitAt, OutBreaksAt, ReadBreaksAt, TraceBreaksAt};
 ghost use Rattle.mixed_machine.specs.Laws.{BacksContinue, BacksStay, CutsContinue, EndsReach, EndsStay, LimitsAreLast, NeverBack, RunsContinue};
 
 /// Laws of runs. It does nothing: the clauses are its point.
@@ -5,7 +6,7 @@ ghost use Rattle.mixed_machine.specs.Laws.{BacksContinue, BacksStay, CutsContinu
 /// A run of `n + m` steps is a run of `n` steps and then one of `m`; an end stays where more steps are
 /// allowed. A run until fewer than `e` callers are suspended is a run until fewer than `d` are, for any
 /// greater `d`, and goes on where that one came back. A run that was cut at its step limit and continued
-/// is the uncut run, with what it put on the output and on the trace.
+/// is the uncut run, with what it put and took, and with the answers of the devices in both.
 pub fn run_laws()
     ensures continues { RunsContinue }
     ensures stays { EndsStay }
@@ -15,4 +16,22 @@ pub fn run_laws()
     ensures reaches { EndsReach }
     ensures never_back { NeverBack }
     ensures cuts { CutsContinue }
+{}
+
+/// Laws of a run of a machine in memory, one event at a time. It does nothing: the clauses are its point.
+///
+/// A run begins, goes on by a step, comes back, ends at the step limit, by an exit, a fault or a failure of
+/// the outside; and it goes on, or stops, as a callee's run did that was part of it.
+pub fn event_laws()
+    ensures begins { BeginsAt }
+    ensures goes_on { GoesOnAt }
+    ensures comes_back { ComesBackAt }
+    ensures limit { LimitAt }
+    ensures exits { ExitsAt }
+    ensures faults { FaultsAt }
+    ensures read_breaks { ReadBreaksAt }
+    ensures out_breaks { OutBreaksAt }
+    ensures trace_breaks { TraceBreaksAt }
+    ensures callee_back { CalleeCameBack }
+    ensures callee_stopped { CalleeStopped }
 {}

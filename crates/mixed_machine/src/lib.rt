@@ -4,13 +4,11 @@
 #![tactic(auto)]
 
 mod body;
+mod did;
 mod laws;
-mod load;
-mod rows;
 mod stop;
 
 pub use body::Body;
-pub use laws::run_laws;
-pub use load::LoadError;
-pub use rows::{Row68, RowPpc, Trap};
+pub use did::Did;
+pub use laws::{event_laws, run_laws};
 pub use stop::Stop;

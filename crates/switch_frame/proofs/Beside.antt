@@ -3,10 +3,10 @@ use Rattle.std.proofs.Common.{◌≡◌, ◌⊎◌, inl, inr, ℕ, suc, ◌+◌,
 use Rattle.big_memory.specs.Lists.{put}
 use Rattle.big_memory.proofs.Lists.{length-put, put-part, put-put_same, put-put_apart}
 use Rattle.switch_frame.specs.Records.{Record, image}
-use Rattle.switch_frame.specs.Chain.{Frames, outer_of, cleared, zeros, view}
+use Rattle.switch_frame.specs.Chain.{Apart, Frames, outer_of, cleared, zeros, view}
 use Rattle.switch_frame.specs.Laws.{ViewIsMemory}
 use Rattle.switch_frame.proofs.Pieces.{length-zeros}
-use Rattle.switch_frame.proofs.Linked.{IsLen, IsRange, Above, Apart, apart-above, frames-above, len-ram, length-cleared, length-image_fits, range-fits}
+use Rattle.switch_frame.proofs.Linked.{IsLen, IsRange, Above, apart-above, frames-above, len-ram, length-cleared, length-image_fits, range-fits}
 
 -- two writes apart go in either order
 puts-apart : (a b : ℕ) (ys zs xs : List ℕ) → a + length ys ≤ length xs → b + length zs ≤ length xs → (a + length ys ≤ b) ⊎ (b + length zs ≤ a) → put b zs (put a ys xs) ≡ put a ys (put b zs xs)

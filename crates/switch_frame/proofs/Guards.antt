@@ -10,10 +10,10 @@ use Rattle.mix_bits.specs.declared.isa.Isa.{Isa}
 use Rattle.mix_bits.specs.declared.isa.Isa.TheVariants.{M68, Ppc}
 use Rattle.switch_frame.specs.Sets.{frame_size}
 use Rattle.switch_frame.specs.Records.{Record, isa_of}
-use Rattle.switch_frame.specs.Chain.{Fits, Frames, Chain, covered, in_range, cleared}
+use Rattle.switch_frame.specs.Chain.{Apart, Fits, Frames, Chain, covered, in_range, cleared}
 use Rattle.switch_frame.specs.Laws.{IsStored, StoresBeside, GuardIsFrames, meets_frames}
 use Rattle.switch_frame.proofs.Pieces.{ram-kept}
-use Rattle.switch_frame.proofs.Linked.{IsLen, IsRange, Apart, frames-kept, len-ram, range-fits}
+use Rattle.switch_frame.proofs.Linked.{IsLen, IsRange, frames-kept, len-ram, range-fits}
 use Rattle.switch_frame.proofs.Beside.{cleared-put}
 
 cases_le : (a b : ℕ) → (a ≤ b) ⊎ (b < a)
@@ -80,7 +80,7 @@ beside-apart len a n bytes (r ∷ rs) ok frames apart unit low high =
     let first : in_range r.lo r.hi unit ≡ false = elim apart.0 [ inl below ↦ grind (arith, nat_tests, units.hi) | inr above ↦ grind (arith, nat_tests) ] in
     rw (first, rest) refl
 
-apart-meets : (a n : ℕ) (rs : List Record) → Apart a n rs → meets_frames a n rs ≡ false
+pub apart-meets : (a n : ℕ) (rs : List Record) → Apart a n rs → meets_frames a n rs ≡ false
 apart-meets a n [] apart = refl
 apart-meets a n (r ∷ rs) apart =
     let rest : meets_frames a n rs ≡ false = apart-meets a n rs apart.1 in
@@ -99,7 +99,7 @@ meets-range a n lo hi e =
       ]
     ]
 
-meets-apart : (a n : ℕ) (rs : List Record) → meets_frames a n rs ≡ false → Apart a n rs
+pub meets-apart : (a n : ℕ) (rs : List Record) → meets_frames a n rs ≡ false → Apart a n rs
 meets-apart a n [] none = tt
 meets-apart a n (r ∷ rs) none =
     let both : ((nat_lt a r.hi && nat_lt r.lo (a + n)) ≡ false) × (meets_frames a n rs ≡ false) = or-false (nat_lt a r.hi && nat_lt r.lo (a + n)) (meets_frames a n rs) none in
@@ -110,7 +110,7 @@ free-apart : (m : Memory) (top : ℕ) (rs : List Record) (a n : ℕ) → 0 < n �
 free-apart m top rs a n some chain free =
     apart-beside (length m.bytes) a n m.bytes rs some (len-ram m chain.links.ram) chain.links.frames (λ unit low high. sym (chain.guarded unit) ∙ free unit low high)
 
-apart-free : (m : Memory) (top : ℕ) (rs : List Record) (a n : ℕ) → Chain m top rs → Apart a n rs → IsFree m a n
+pub apart-free : (m : Memory) (top : ℕ) (rs : List Record) (a n : ℕ) → Chain m top rs → Apart a n rs → IsFree m a n
 apart-free m top rs a n chain apart unit low high =
     chain.guarded unit ∙ beside-apart (length m.bytes) a n m.bytes rs (len-ram m chain.links.ram) chain.links.frames apart unit low high
 

@@ -3,4 +3,7 @@ pub mod Images
 pub mod Linked
 pub mod Beside
 pub mod Guards
+pub mod Seen
+pub mod Ranges
+pub mod Places
 pub mod Turns

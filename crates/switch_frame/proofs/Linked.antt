@@ -6,7 +6,7 @@ use Rattle.big_memory.specs.Memory.{Memory, IsRam}
 use Rattle.big_memory.proofs.Lists.{length-put, part-put_apart}
 use Rattle.switch_frame.specs.Sets.{frame_size}
 use Rattle.switch_frame.specs.Records.{Record, isa_of, image}
-use Rattle.switch_frame.specs.Chain.{Fits, Frames, IsInside, outer_of, records, read_chain, depth_at, cleared, zeros}
+use Rattle.switch_frame.specs.Chain.{Apart, Fits, Frames, IsInside, outer_of, records, read_chain, depth_at, cleared, zeros}
 use Rattle.switch_frame.specs.Laws.{ReadsBack, ReadsOuter, BeginsEmpty, KeepsLength}
 use Rattle.switch_frame.proofs.Pieces.{length-zeros}
 use Rattle.switch_frame.proofs.Images.{IsReadAt, image-back, length-image, size-least}
@@ -76,17 +76,12 @@ reads_outer m top r rs links = record { ram = links.ram; first = refl; few = ome
 pub begins_empty : BeginsEmpty
 begins_empty m ram free = record { links = record { ram = ram; first = refl; few = lit≤ tt; frames = tt }; guarded = free }
 
--- each record lies apart from n elements at a
-abbrev pub Apart : ℕ → ℕ → List Record → Type 0
-Apart a n [] = Unit {0}
-Apart a n (r ∷ rs) = ((r.hi ≤ a) ⊎ (a + n ≤ r.lo)) × Apart a n rs
-
 -- each record lies above an address
 abbrev pub Above : ℕ → List Record → Type 0
 Above hi [] = Unit {0}
 Above hi (r ∷ rs) = (hi ≤ r.lo) × Above hi rs
 
-above-less : (lo hi : ℕ) (rs : List Record) → lo ≤ hi → Above hi rs → Above lo rs
+pub above-less : (lo hi : ℕ) (rs : List Record) → lo ≤ hi → Above hi rs → Above lo rs
 above-less lo hi [] less above = tt
 above-less lo hi (r ∷ rs) less above = (omega (arith, above.0), above-less lo hi rs less above.1)
 

@@ -12,13 +12,14 @@ use Rattle.switch_frame.specs.declared.held.Held.{Held}
 use Rattle.switch_frame.specs.Longs.{long_at}
 use Rattle.switch_frame.specs.Sets.{caller_isa, frame_size, kind_at}
 use Rattle.switch_frame.specs.Records.{Record, isa_of, image, record_at, record_of, held_of}
-use Rattle.switch_frame.specs.Chain.{Fits, Frames, IsFrameRange, IsHeld, IsInside, Links, Chain, outer_of, records, depth_at, covered, in_range, cleared, zeros, most_frames}
+use Rattle.switch_frame.specs.Chain.{Apart, Fits, Frames, IsFrameRange, IsHeld, IsInside, Links, Chain, outer_of, records, depth_at, covered, in_range, cleared, zeros, most_frames}
 use Rattle.switch_frame.specs.Calls.{IsPlace, IsCalled, innermost, is_crossed}
 use Rattle.switch_frame.proofs.Pieces.{length-zeros, ram-kept}
 use Rattle.switch_frame.proofs.Images.{IsReadAt}
-use Rattle.switch_frame.proofs.Linked.{IsLen, IsRange, Above, Apart, apart-above, first-back, depth-back, frames-above, frames-kept, len-ram, length-cleared, length-image_fits, range-fits, reads_back}
+use Rattle.switch_frame.proofs.Linked.{IsLen, IsRange, Above, apart-above, first-back, depth-back, frames-above, frames-kept, len-ram, length-cleared, length-image_fits, range-fits, reads_back}
 use Rattle.switch_frame.proofs.Beside.{cleared-put}
 use Rattle.switch_frame.proofs.Guards.{IsUnits, units-fits}
+use Rattle.switch_frame.proofs.Places.{called-inside}
 
 -- the marks of a range set or cleared
 range-units : (lo hi unit : ℕ) → lo % 16 ≡ 0 → hi % 16 ≡ 0 → lo < hi → (nat_le (lo / 16) unit && nat_lt unit (lo / 16 + (hi - lo) / 16)) ≡ in_range lo hi unit
@@ -235,6 +236,9 @@ pub record IsPopped (m new : Memory) (top : ℕ) (held : Held) (rs : List Record
   pub chain : Chain new top (records new.bytes top)
   pub memory : cleared new.bytes (records new.bytes top) ≡ cleared m.bytes rs
   pub len : length new.bytes ≡ length m.bytes
+  pub kind : caller_isa held.kind ≡ isa_of held.caller
+  pub signature : has_signature held.info ≡ true
+  pub called : IsCalled held.caller (records new.bytes top)
 
 pub pop-is : (m new : Memory) (top outer : ℕ) (rs : List Record) (held : Held) → Chain m top rs → 0 < top → held ≡ held_of (record_at top m.bytes) (long_at (top + 28) m.bytes) → outer ≡ long_at held.lo m.bytes
     → new ≡ with_marks (held.lo / 16) (replicate ((held.hi - held.lo) / 16) false) (with_bytes held.lo (zeros (held.hi - held.lo)) m) → IsPopped m new outer held rs
@@ -242,7 +246,8 @@ pop-is m new top outer [] held chain live read out e = absurd (omega (arith, cha
 pop-is m new top outer (r ∷ rs) held chain live read out e =
     let links = chain.links in
     let ok : IsLen (length m.bytes) = len-ram m links.ram in
-    let range : IsRange (length m.bytes) r = range-fits (length m.bytes) r rs ok links.frames.1 in
+    let fits : Fits (length m.bytes) r rs = links.frames.1 in
+    let range : IsRange (length m.bytes) r = range-fits (length m.bytes) r rs ok fits in
     let back : IsReadAt m.bytes r (outer_of rs) (suc (length rs)) = first-back (length m.bytes) m.bytes r rs ok (omega (arith, links.few)) links.frames in
     let held_is : held ≡ held_of r (suc (length rs))
     = read ∙ ap (λ t. held_of (record_at t m.bytes) (long_at (t + 28) m.bytes)) links.first ∙ ap (λ x. held_of x (long_at (r.lo + 28) m.bytes)) back.record_is ∙ ap (λ d. held_of r d) back.depth_is in
@@ -257,6 +262,9 @@ pop-is m new top outer (r ∷ rs) held chain live read out e =
       chain = subst (λ xs. Chain (popped m r) (outer_of rs) xs) (sym rest) done;
       memory = ap (λ xs. cleared (popped m r).bytes xs) rest ∙ popped-cleared m top rs r links;
       len = length-put r.lo (zeros (r.hi - r.lo)) m.bytes (omega (arith, range.some, range.end));
+      kind = fits.kind;
+      signature = fits.signature;
+      called = subst (λ xs. IsCalled r.caller xs) (sym rest) (called-inside r rs fits.inside);
     } in
     subst (λ n. IsPopped m n outer held (r ∷ rs)) (sym new_is)
     (subst (λ t. IsPopped m (popped m r) t held (r ∷ rs)) (sym outer_is) (subst (λ h. IsPopped m (popped m r) (outer_of rs) h (r ∷ rs)) (sym held_is) result))

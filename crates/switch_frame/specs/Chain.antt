@@ -1,5 +1,5 @@
 -- The chain of frames in memory, from the innermost outward: read as a function of the bytes, and as a relation.
-use Rattle.std.specs.Prelude.{◌≡◌, ℕ, zero, suc, ◌+◌, ◌-◌, ◌*◌, ◌/◌, ◌%◌, ◌^◌, ◌<◌, ◌≤◌, ◌==◌, nat_le, nat_lt, Bool, true, false, ◌&&◌, ◌||◌, if◌then◌else◌, List, [], ◌∷◌, length, replicate, slice_index_or, get_or}
+use Rattle.std.specs.Prelude.{◌≡◌, ℕ, zero, suc, ◌+◌, ◌-◌, ◌*◌, ◌/◌, ◌%◌, ◌^◌, ◌<◌, ◌≤◌, ◌==◌, nat_le, nat_lt, ◌⊎◌, Bool, true, false, ◌&&◌, ◌||◌, if◌then◌else◌, List, [], ◌∷◌, length, replicate, slice_index_or, get_or}
 use Rattle.big_memory.specs.Lists.{part, put}
 use Rattle.big_memory.specs.Memory.{Memory, IsRam, floor_of}
 use Rattle.proc_info.specs.Signature.{has_signature}
@@ -98,6 +98,11 @@ in_range lo hi unit = nat_le lo (16 * unit) && nat_lt (16 * unit) hi
 abbrev pub covered : ℕ → List Record → Bool
 covered unit [] = false
 covered unit (r ∷ rs) = in_range r.lo r.hi unit || covered unit rs
+
+-- each record's range lies apart from the n bytes at a
+abbrev pub Apart : ℕ → ℕ → List Record → Type 0
+Apart a n [] = Unit {0}
+Apart a n (r ∷ rs) = ((r.hi ≤ a) ⊎ (a + n ≤ r.lo)) × Apart a n rs
 
 -- a whole chain: its frames stand in memory, and exactly their units are guarded
 pub record Chain (m : Memory) (top : ℕ) (rs : List Record) : Type 0 where

@@ -1,11 +1,15 @@
 -- Laws of chains.
-use Rattle.std.specs.Prelude.{◌≡◌, ℕ, ◌+◌, ◌<◌, ◌≤◌, nat_lt, Bool, false, ◌&&◌, ◌||◌, List, [], ◌∷◌, length, slice_index_or, None, Ok}
-use Rattle.big_memory.specs.Lists.{put}
-use Rattle.big_memory.specs.Memory.{Memory, IsRam, meets_guard, refusal, with_bytes}
+use Rattle.std.specs.Prelude.{◌≡◌, ℕ, ◌+◌, ◌<◌, ◌≤◌, ◌==◌, nat_lt, Bool, false, ◌&&◌, ◌||◌, if◌then◌else◌, List, [], ◌∷◌, length, slice_index_or, Option, Some, None, Ok}
+use Rattle.big_memory.specs.declared.refusals.Access.{Access}
+use Rattle.big_memory.specs.declared.refusals.Access.TheVariants.{Outside, Gate, Frame}
+use Rattle.big_memory.specs.Lists.{part, put}
+use Rattle.big_memory.specs.Memory.{Memory, IsRam, floor_of, meets_gate, meets_guard, refusal, with_bytes}
+use Rattle.big_memory.specs.Stores.{OnlyFree}
 use Rattle.switch_frame.specs.declared.kind.Kind.{Kind}
 use Rattle.switch_frame.specs.Records.{Record}
 use Rattle.switch_frame.specs.Chain.{Chain, Links, cleared, outer_of, records, view}
 use Rattle.switch_frame.specs.Calls.{IsPlace, room_of}
+use Rattle.switch_frame.specs.Seen.{seen_by}
 
 -- the bytes of a chain's frames, read by their layout, are its records
 abbrev pub ReadsBack : Type 0
@@ -48,3 +52,29 @@ GuardIsFrames =
 -- a place is one that a call gives: to a caller whose stack pointer is its end, of a callee that takes no stack
 abbrev pub PlacesAreGiven : Type 0
 PlacesAreGiven = (m : Memory) (rs : List Record) (kind : Kind) (lo hi : ℕ) → IsPlace m rs kind lo hi → room_of m rs hi kind 0 ≡ Ok (lo, hi)
+
+-- why a store of n bytes at a is refused in `len` bytes of memory with these frames, if it is
+abbrev pub refusal_by : ℕ → List Record → ℕ → ℕ → Option Access
+refusal_by len rs a n =
+    if n == 0 then None else (if nat_lt len (a + n) then Some (Outside a) else (if meets_gate a n then Some (Gate a) else (if meets_frames a n rs then Some (Frame a) else None)))
+
+-- stores are refused by the records' ranges
+abbrev pub RefusalsAreRanges : Type 0
+RefusalsAreRanges = (m : Memory) (top : ℕ) (rs : List Record) (a n : ℕ) → Chain m top rs → refusal m a n ≡ refusal_by (length m.bytes) rs a n
+
+-- from the stack's floor up to the end of a place nothing is refused
+abbrev pub PlacesAreFree : Type 0
+PlacesAreFree =
+    (m : Memory) (top : ℕ) (rs : List Record) (kind : Kind) (lo hi a n : ℕ) → Chain m top rs → IsPlace m rs kind lo hi → floor_of m ≤ a → a + n ≤ hi → refusal m a n ≡ None
+
+-- the memory is what loads and stores see of the memory beside the frames
+abbrev pub SeenIsMemory : Type 0
+SeenIsMemory = (m : Memory) (top : ℕ) (rs : List Record) → Chain m top rs → seen_by (cleared m.bytes rs) rs ≡ m
+
+-- where only bytes that a store may change have changed, the chain is the same
+abbrev pub FreeKeepsChain : Type 0
+FreeKeepsChain = (m n : Memory) (top : ℕ) (rs : List Record) → Chain m top rs → OnlyFree m n → Chain n top rs
+
+-- below the stack the memory beside the frames is the memory
+abbrev pub LowIsMemory : Type 0
+LowIsMemory = (m : Memory) (top : ℕ) (rs : List Record) (a n : ℕ) → Links m top rs → a + n ≤ floor_of m → part a n (cleared m.bytes rs) ≡ part a n m.bytes

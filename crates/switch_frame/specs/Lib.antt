@@ -3,4 +3,8 @@ pub mod Sets
 pub mod Records
 pub mod Chain
 pub mod Calls
+pub mod Seen
+pub mod Pieces
+pub mod Program
 pub mod Laws
+pub mod FrameLaws

@@ -56,6 +56,9 @@ pub fn pop(ram: &mut Ram, top: &mut u32) -> Held
     requires live { 0 < top.old }
     ensures records { records ram.old.bytes top.old ≡ record_of result ∷ records ram.new.bytes top.new }
     ensures depth { result.depth ≡ length (records ram.old.bytes top.old) }
+    ensures kind { caller_isa result.kind ≡ isa_of result.caller }
+    ensures signature { has_signature result.info ≡ true }
+    ensures called { IsCalled result.caller (records ram.new.bytes top.new) }
     ensures chain { Chain ram.new top.new (records ram.new.bytes top.new) }
     ensures memory { cleared ram.new.bytes (records ram.new.bytes top.new) ≡ cleared ram.old.bytes (records ram.old.bytes top.old) }
     ensures frame { ram.new ≡ with_frame result.lo result.hi (zeros (result.hi - result.lo)) false ram.old }

@@ -1,4 +1,5 @@
-ghost use Rattle.switch_frame.specs.Laws.{BeginsEmpty, GuardIsFrames, KeepsLength, PlacesAreGiven, ReadsBack, ReadsOuter, StoresBeside, ViewIsMemory};
+ghost use Rattle.switch_frame.specs.FrameLaws.{BelowInnermost, FirstIsHeld, LengthBytes, LengthZeros, MeetsNone, PlaceByLength, RoomByLength, RoomIsPlace, StoredApart, TopIsZero, ZerosBeside};
+ghost use Rattle.switch_frame.specs.Laws.{BeginsEmpty, FreeKeepsChain, GuardIsFrames, KeepsLength, LowIsMemory, PlacesAreFree, PlacesAreGiven, ReadsBack, ReadsOuter, RefusalsAreRanges, SeenIsMemory, StoresBeside, ViewIsMemory};
 
 /// What follows from the definitions of a chain. It does nothing: the clauses are its point.
 pub fn chain_laws()
@@ -10,4 +11,24 @@ pub fn chain_laws()
     ensures stores { StoresBeside }
     ensures guard { GuardIsFrames }
     ensures places { PlacesAreGiven }
+    ensures refusals { RefusalsAreRanges }
+    ensures free_places { PlacesAreFree }
+    ensures seen { SeenIsMemory }
+    ensures keeps { FreeKeepsChain }
+    ensures low { LowIsMemory }
+{}
+
+/// What follows for single frames and their ranges. It does nothing, either.
+pub fn frame_laws()
+    ensures none { TopIsZero }
+    ensures first { FirstIsHeld }
+    ensures meets { MeetsNone }
+    ensures stored { StoredApart }
+    ensures below { BelowInnermost }
+    ensures room { RoomIsPlace }
+    ensures place_by_length { PlaceByLength }
+    ensures room_by_length { RoomByLength }
+    ensures zeros { ZerosBeside }
+    ensures length_zeros { LengthZeros }
+    ensures length_bytes { LengthBytes }
 {}

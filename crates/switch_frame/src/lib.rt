@@ -18,10 +18,10 @@ mod rooms;
 mod tests;
 
 pub use active::Active;
-pub use frames::{pop, push, top};
+pub use frames::{depth, pop, push, top};
 pub use full::Full;
 pub use held::Held;
 pub use kind::Kind;
-pub use laws::chain_laws;
+pub use laws::{chain_laws, frame_laws};
 pub use program::Program;
 pub use rooms::{MOST_FRAMES, room};

@@ -1,5 +1,5 @@
 -- Asks and ejects of the table against those of a rack.
-use Rattle.std.proofs.Common.{◌≡◌, ◌≢◌, ◌==◌, ℕ, ◌<◌, Bool, true, false, not, List, [], ◌∷◌, ◌++◌, length, map, drop, Option, None, Some, IsSome, is_some, Result, Ok, Err, if◌then◌else◌, slice_set, get_or, refl, sym, ap, subst, ◌∙◌, arith}
+use Rattle.std.proofs.Common.{◌≡◌, ◌==◌, ℕ, Bool, true, false, not, List, [], ◌∷◌, ◌++◌, length, map, drop, Option, None, Some, is_some, Result, Ok, Err, if◌then◌else◌, slice_set, get_or, refl, sym, ap, subst, ◌∙◌, arith}
 use Rattle.std.specs.Result.{result_ok}
 use Rattle.std.proofs.Math.ListN.{get_or-map}
 use Rattle.std.proofs.Math.Seq.{drop-append_seam, map-set_same}
@@ -12,16 +12,16 @@ use Rattle.host_heap.specs.Space.{Space}
 use Rattle.dev_rack.specs.declared.answers.Answer.{Answer}
 use Rattle.dev_rack.specs.declared.answers.Answer.TheVariants.{Word, Failed, Empty, Full}
 use Rattle.dev_rack.specs.declared.answers.Asked.{Asked}
-use Rattle.dev_rack.specs.Slots.{Seen, device_at}
+use Rattle.dev_rack.specs.Slots.{device_at}
 use Rattle.dev_rack.specs.Rack.{State, Answered, Asks, Ejects}
 use Rattle.toolbox.specs.declared.values.Operands.{Operands}
 use Rattle.toolbox.specs.declared.values.Results.{Results}
 use Rattle.toolbox.specs.declared.function.Function.{Function}
 use Rattle.toolbox.specs.declared.function.Function.TheVariants.{AskDevice, EjectDevice}
 use Rattle.toolbox.specs.declared.outcome.Outcome.TheVariants.{Given, Asked as AskedFor}
-use Rattle.toolbox.specs.Effects.{Around, Effects, Effect, effect, quiet, results, results_of, answer_in, after_ask, first_answer, noted, holds_device, emptied, no_slot}
+use Rattle.toolbox.specs.Effects.{Around, quiet, results, results_of, answer_in, after_ask, first_answer, noted, holds_device, emptied, no_slot}
 use Rattle.toolbox.specs.Effects.Effect.{Gives}
-use Rattle.toolbox.specs.Calls.{Input, Outside, place, with_rack, answers_since, Taken, ask_of}
+use Rattle.toolbox.specs.Calls.{Input, place, with_rack, answers_since, ask_of}
 use Rattle.toolbox.specs.Calls.Taken.{Nothing}
 use Rattle.toolbox.specs.Performs.{AreLaws, Performs, resources}
 use Rattle.toolbox.proofs.Carried.{since-none, told-nothing, grows-none}

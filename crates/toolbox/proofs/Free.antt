@@ -1,11 +1,11 @@
 -- Bytes of a block of the heap may be stored into: they lie between the gate page and the stack.
-use Rattle.std.proofs.Common.{◌≡◌, ℕ, zero, suc, ◌+◌, ◌-◌, ◌*◌, ◌/◌, ◌%◌, ◌<◌, ◌≤◌, Bool, true, false, List, [], ◌∷◌, length, take, drop, get_or, Option, None, Some, Result, Ok, arith, refl, sym, ◌∙◌, max}
+use Rattle.std.proofs.Common.{◌≡◌, ℕ, zero, suc, ◌+◌, ◌-◌, ◌/◌, ◌<◌, ◌≤◌, Bool, false, List, [], ◌∷◌, length, take, drop, get_or, Option, None, Some, Result, Ok, arith, refl, ◌∙◌}
 use Rattle.std.specs.List.{list_any}
 use Rattle.std.proofs.lemmas.Bool.Decides.{nat_tests}
 use Rattle.std.proofs.lemmas.List.{get_or-drop}
 use Rattle.big_memory.specs.declared.refusals.Access.{Access}
 use Rattle.big_memory.specs.Memory.{Memory, IsRam, IsDoneUnless, floor_of, meets_gate, meets_guard, refusal}
-use Rattle.host_heap.specs.Space.{Space, rounded}
+use Rattle.host_heap.specs.Space.{Space}
 use Rattle.host_heap.specs.Place.{IsPlace}
 use Rattle.toolbox.specs.Calls.{HeapLies}
 

@@ -3,3 +3,4 @@ pub mod Free
 pub mod Carried
 pub mod Devices
 pub mod Settled
+pub mod OneNumber

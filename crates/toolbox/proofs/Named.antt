@@ -1,5 +1,5 @@
 -- A function is found by its name.
-use Rattle.std.proofs.Common.{◌≡◌, ℕ, List, Bool, Option, Some, IsTrue, ◌↔◌, refl, sym, ap, ◌∙◌}
+use Rattle.std.proofs.Common.{◌≡◌, ℕ, List, Bool, Some, IsTrue, ◌↔◌, refl, sym, ap, ◌∙◌}
 use Rattle.toolbox.specs.declared.function.Function.{Function}
 use Rattle.toolbox.specs.Functions.{number_of}
 use Rattle.toolbox.specs.Names.{import_of}

@@ -1,7 +1,5 @@
 -- From what a function performs to what a host call answers.
-use Rattle.std.proofs.Common.{◌≡◌, ℕ, List, Option, None, Some, refl, sym, ap, subst, ◌∙◌}
-use Rattle.big_memory.specs.declared.refusals.Access.{Access}
-use Rattle.big_memory.specs.Faults.{fault_of}
+use Rattle.std.proofs.Common.{◌≡◌, ℕ, List, Option, refl, sym, ap, subst, ◌∙◌}
 use Rattle.big_memory.specs.Stores.{OnlyFree}
 use Rattle.switch_frame.specs.declared.active.Active.{Active}
 use Rattle.dev_rack.specs.Accounts.{Accounts}
@@ -11,10 +9,10 @@ use Rattle.toolbox.specs.declared.function.Function.{Function}
 use Rattle.toolbox.specs.declared.out.HostOut.{HostOut}
 use Rattle.toolbox.specs.declared.out.HostOut.TheVariants.{Done, Asked, Cross, Exit, Stop, ReadFault, OutFault}
 use Rattle.toolbox.specs.Functions.{function_at}
-use Rattle.toolbox.specs.Effects.{Resources, Ask, Effects, Effect, effect}
+use Rattle.toolbox.specs.Effects.{Resources, Ask, Effect, effect}
 use Rattle.toolbox.specs.Effects.Effect.{Gives, Crosses as CrossesInto, Leaves as LeavesWith, Refuses}
 use Rattle.toolbox.specs.Registers.{operands_of, answered}
-use Rattle.toolbox.specs.Host.{Host, Hosted, host, settled, pc_of}
+use Rattle.toolbox.specs.Host.{Hosted, host, settled}
 use Rattle.toolbox.specs.Calls.{KeepsBounds, Place, GoesOn, Stays, ReadBreaks, PutBreaks, Hosts, Blames, Reads, Says, host_at, goes_at}
 use Rattle.toolbox.specs.Performs.{AreLaws, gives, ReadsInput, SaysPiece}
 

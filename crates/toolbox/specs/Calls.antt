@@ -10,11 +10,10 @@ use Rattle.host_heap.specs.Space.{Space}
 use Rattle.dev_rack.specs.declared.answers.Answer.{Answer}
 use Rattle.dev_rack.specs.Rack.{State}
 use Rattle.dev_rack.specs.Accounts.{Accounts}
-use Rattle.toolbox.specs.declared.function.Function.{Function}
 use Rattle.toolbox.specs.declared.out.HostOut.{HostOut}
 use Rattle.toolbox.specs.declared.out.HostOut.TheVariants.{Done, Asked, Cross, Exit, Stop, ReadFault, OutFault}
 use Rattle.toolbox.specs.Effects.{Around, Resources, Ask, Effects}
-use Rattle.toolbox.specs.Host.{Host, Hosted, host}
+use Rattle.toolbox.specs.Host.{Hosted, host}
 use Rattle.toolbox.specs.Host.Hosted.{Goes, Crosses, Leaves, Stops}
 
 -- the input as far as it tells: the bytes that are left, and its count of faults

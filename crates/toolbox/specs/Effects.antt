@@ -1,7 +1,7 @@
 -- The host table: what a call of each function does (Inside Macintosh: PowerPC System Software, chapter 2, for
 -- routine descriptors; the Macintosh toolbox for NewPtr, NewPtrClear, DisposePtr, BlockMove and ExitToShell; the rest
 -- is this project's own).
-use Rattle.std.specs.Prelude.{ℕ, ◌+◌, ◌-◌, ◌%◌, ◌^◌, ◌==◌, Bool, true, false, not, if◌then◌else◌, List, [], ◌∷◌, ◌++◌, length, drop, slice_index_or, slice_set, Option, Some, None}
+use Rattle.std.specs.Prelude.{ℕ, ◌-◌, ◌%◌, ◌^◌, ◌==◌, Bool, true, false, not, if◌then◌else◌, List, [], ◌∷◌, ◌++◌, length, drop, slice_index_or, slice_set, Option, Some, None}
 use Rattle.big_memory.specs.declared.refusals.Access.{Access}
 use Rattle.big_memory.specs.declared.refusals.Access.TheVariants.{Outside}
 use Rattle.big_memory.specs.Lists.{part}

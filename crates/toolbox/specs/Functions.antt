@@ -1,5 +1,5 @@
 -- The functions of the host table: their numbers, and the 68K traps that reach them.
-use Rattle.std.specs.Prelude.{ℕ, ◌==◌, Bool, true, false, if◌then◌else◌, Option, Some, None}
+use Rattle.std.specs.Prelude.{ℕ, zero, suc, ◌==◌, Bool, true, false, if◌then◌else◌, Option, Some, None}
 use Rattle.toolbox.specs.declared.function.Function.{Function}
 use Rattle.toolbox.specs.declared.function.Function.TheVariants.{NewRoutineDescriptor, NewFatRoutineDescriptor, DisposeRoutineDescriptor, CallUniversalProc, NewPtr, NewPtrClear, DisposePtr, BlockMove, ExitToShell, PutByte, GetByte, PutBlock, AskDevice, EjectDevice, ExitWith, UnloadSeg}
 
@@ -57,3 +57,16 @@ sets_codes NewPtrClear = true
 sets_codes DisposePtr = true
 sets_codes BlockMove = true
 sets_codes _ = false
+
+abbrev pub has_trap : Option ℕ → ℕ → Bool
+has_trap None word = false
+has_trap (Some trap) word = trap == word
+
+-- the number of the function, among those with numbers below n, that a trap word reaches
+unfoldable pub trap_below : ℕ → ℕ → Option ℕ
+trap_below zero word = None
+trap_below (suc k) word = if has_trap (trap_of (function_at k)) word then Some k else trap_below k word
+
+-- the number of the function that a trap word reaches
+abbrev pub trap_number : ℕ → Option ℕ
+trap_number word = trap_below 16 word

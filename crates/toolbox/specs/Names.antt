@@ -2,7 +2,7 @@
 use Rattle.std.specs.Prelude.{ℕ, ◌≡◌, List, codes, Option, Some, None}
 use Rattle.toolbox.specs.declared.function.Function.{Function}
 use Rattle.toolbox.specs.declared.function.Function.TheVariants.{NewRoutineDescriptor, NewFatRoutineDescriptor, DisposeRoutineDescriptor, CallUniversalProc, NewPtr, NewPtrClear, DisposePtr, BlockMove, ExitToShell, PutByte, GetByte, PutBlock, AskDevice, EjectDevice, ExitWith, UnloadSeg}
-use Rattle.toolbox.specs.Functions.{number_of, trap_of}
+use Rattle.toolbox.specs.Functions.{number_of, trap_of, trap_number}
 
 -- the toolbox of the Power Macintosh, and a library of this project's own
 abbrev pub interface_lib : List ℕ
@@ -34,6 +34,10 @@ import_of UnloadSeg = None
 abbrev pub IsTrapIndex : ℕ → Option ℕ → Type 0
 IsTrapIndex word None = (f : Function) → trap_of f ≡ Some word → ⊥
 IsTrapIndex word (Some k) = (f : Function) × (trap_of f ≡ Some word) × (k ≡ number_of f)
+
+-- a trap word has at most one such number
+abbrev pub TrapsHaveOneNumber : Type 0
+TrapsHaveOneNumber = (word : ℕ) (index : Option ℕ) → IsTrapIndex word index → trap_number word ≡ index
 
 -- the number of the function that an import names, or none where it names none
 abbrev pub IsImportIndex : List ℕ → List ℕ → Option ℕ → Type 0

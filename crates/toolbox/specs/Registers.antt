@@ -1,5 +1,5 @@
 -- Where the operands of a host call are, and where its results go.
-use Rattle.std.specs.Prelude.{ℕ, ◌+◌, ◌%◌, ◌^◌, ◌==◌, nat_le, Bool, true, false, if◌then◌else◌, List, [], ◌∷◌, slice_index, slice_index_or, slice_set, map}
+use Rattle.std.specs.Prelude.{ℕ, ◌%◌, ◌^◌, ◌==◌, nat_le, false, if◌then◌else◌, List, [], ◌∷◌, slice_index, slice_index_or, slice_set, map}
 use Rattle.mix_bits.specs.Addresses.{onward, aligned}
 use Rattle.m68_isa.specs.declared.registers.Ccr.{Ccr}
 use Rattle.m68_isa.specs.declared.registers.Regs68.{Regs68}

@@ -19,4 +19,4 @@ mod values;
 pub use call::host_call;
 pub use imports::import_index;
 pub use out::HostOut;
-pub use traps::trap_index;
+pub use traps::{trap_index, trap_laws};

@@ -1,4 +1,4 @@
-ghost use Rattle.toolbox.specs.Names.{IsTrapIndex};
+ghost use Rattle.toolbox.specs.Names.{IsTrapIndex, TrapsHaveOneNumber};
 
 /// The number of the function that a trap word reaches.
 pub fn trap_index(word: u16) -> Option<u32>
@@ -23,3 +23,8 @@ pub fn trap_index(word: u16) -> Option<u32>
         _ => None,
     }
 }
+
+/// A trap word has one number. It does nothing: the clause is its point.
+pub fn trap_laws()
+    ensures { TrapsHaveOneNumber }
+{}

@@ -1,4 +1,5 @@
-use Rattle.big_memory.proofs.Guarded.{passes_within, keeps_refusals, loads_back}
+use Rattle.big_memory.proofs.Guarded.{passes_within, keeps_refusals, loads_back, passes, refusal-none, free_from_test, test_from_free}
+use Rattle.big_memory.proofs.Rams.{loads_part, in_memory_within, bytes_keep_ram, marks_keep_ram, marks_of_range, open_below_floor}
 use Rattle.big_memory.proofs.Free.{nothing_free, free_joins, stores_free, done_free, copies_free, free_ram, free_refusals, free_page}
 use Rattle.big_memory.proofs.laws.memory_laws.Goals as goal
 
@@ -7,6 +8,16 @@ returns c = record {
   within = passes_within;
   stays = keeps_refusals;
   reads_back = loads_back;
+  loads = loads_part;
+  inside = in_memory_within;
+  bytes = bytes_keep_ram;
+  marks = marks_keep_ram;
+  marked = marks_of_range;
+  passes = passes;
+  passing = refusal-none;
+  tests = free_from_test;
+  tested = test_from_free;
+  below = open_below_floor;
   nothing = nothing_free;
   joins = free_joins;
   stores = stores_free;

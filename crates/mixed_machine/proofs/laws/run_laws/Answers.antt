@@ -1,5 +1,5 @@
 use Rattle.mixed_machine.proofs.Runs.{exec-continues, exec-stays, backs-stay, limits-last, backs-continue, ends-reach, never-back}
-use Rattle.mixed_machine.proofs.Events.{cuts-continue}
+use Rattle.mixed_machine.proofs.Machines.{cuts-continue}
 use Rattle.mixed_machine.proofs.laws.run_laws.Goals as goal
 
 pub returns : goal.returns

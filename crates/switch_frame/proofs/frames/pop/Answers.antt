@@ -29,3 +29,12 @@ returns-clause-memory c = (pops c).memory
 
 pub returns-clause-len : goal.returns-clause-len
 returns-clause-len c = (pops c).len
+
+pub returns-clause-kind : goal.returns-clause-kind
+returns-clause-kind c = (pops c).kind
+
+pub returns-clause-signature : goal.returns-clause-signature
+returns-clause-signature c = (pops c).signature
+
+pub returns-clause-called : goal.returns-clause-called
+returns-clause-called c = (pops c).called

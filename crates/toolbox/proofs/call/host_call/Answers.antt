@@ -1,5 +1,5 @@
 -- What a function performs is what the call answers.
-use Rattle.std.proofs.Common.{refl, sym, ap, ◌∙◌, None, Some}
+use Rattle.std.proofs.Common.{refl, sym, ap, ◌∙◌, None}
 use Rattle.big_memory.specs.Faults.{fault_of}
 use Rattle.toolbox.specs.Effects.{results_of}
 use Rattle.toolbox.specs.Registers.{answered}

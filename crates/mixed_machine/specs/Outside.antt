@@ -1,0 +1,51 @@
+-- A machine in memory beside the outside: what the outside tells, and how a claim on states is one on machines.
+use Rattle.std.specs.Prelude.{◌≡◌, ℕ, List, [], ◌∷◌, ◌++◌, map, Option, Some, None, is_some}
+use Rattle.mix_io.specs.Streams.{Output}
+use Rattle.switch_frame.specs.declared.active.Active.{Active}
+use Rattle.toolbox.specs.Calls.{Outside, Taken, Took, answers_since}
+use Rattle.toolbox.specs.Effects.{Around}
+use Rattle.mixed_machine.specs.declared.body.Body.{Body}
+use Rattle.mixed_machine.specs.State.{State}
+use Rattle.mixed_machine.specs.Machine.{flat}
+
+-- a machine, and what the outside tells: input, devices and output, and the trace
+pub record At : Type 0 where
+  pub body : Body
+  pub active : Active
+  pub outside : Outside
+  pub trace : Output
+
+abbrev pub at : Body → Active → Outside → Output → At
+at body active outside trace = record { body = body; active = active; outside = outside; trace = trace }
+
+-- what the outside holds for the machine, for some bytes of input that are left and some answers to come
+abbrev pub around_at : Outside → List ℕ → List (Option ℕ) → Around
+around_at o input answers = record { input = input; slots = map is_some o.rack.slots; asks = o.rack.journal; answers = answers }
+
+-- the state that a machine stands for then
+abbrev pub state_of : At → List ℕ → List (Option ℕ) → State
+state_of a input answers = flat a.body a.active (around_at a.outside input answers)
+
+-- the answers that the new entries of the journal tell
+abbrev pub answers_between : At → At → List (Option ℕ)
+answers_between a b = answers_since a.outside.rack b.outside.rack
+
+-- the bytes of an input before and after several calls that took from it
+abbrev pub TookAll : List Taken → List ℕ → List ℕ → Type 0
+TookAll [] before after = before ≡ after
+TookAll (taken ∷ more) before after = (mid : List ℕ) × Took taken before mid × TookAll more mid after
+
+-- the same of an input that may tell them
+abbrev pub ToldAll : List Taken → Option (List ℕ) → Option (List ℕ) → Type 0
+ToldAll taken None after = Unit {0}
+ToldAll taken (Some before) None = ⊥
+ToldAll taken (Some before) (Some after) = TookAll taken before after
+
+-- A claim on the states that a machine stands for before and after: for every input that fits what was taken from it,
+-- and whatever the devices answer later. The answers before are those of the journal's new entries, and then those to
+-- come: so none that was given is left over, and none is missing. An input that tells its bytes fits.
+pub record Over (P : State → State → Type 0) (a b : At) : Type 0 where
+  pub taken : List Taken
+  pub told : ToldAll taken a.outside.input.left b.outside.input.left
+  pub each : (before after : List ℕ) (rest : List (Option ℕ)) → TookAll taken before after
+      → P (state_of a before (answers_between a b ++ rest)) (state_of b after rest)

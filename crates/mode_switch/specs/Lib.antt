@@ -1,0 +1,5 @@
+pub mod Wanted
+pub mod Passed
+pub mod Callee
+pub mod Returned
+pub mod Views

@@ -1,0 +1,28 @@
+-- Kept calls and what is passed to them, as the definitions have them.
+use Rattle.std.specs.Prelude.{Result, Ok, Err}
+use Rattle.big_memory.specs.declared.refusals.Access.{Access}
+use Rattle.proc_info.specs.Views.{signature}
+use Rattle.args_m68.specs.Gather.{words_of}
+use Rattle.mode_switch.specs.declared.wanted.Call.{Call}
+use Rattle.mode_switch.specs.declared.wanted.Wanted.{Wanted}
+use Rattle.mode_switch.specs.declared.wanted.Wanted.TheVariants.{Calls, Jumps, Refuses}
+use Rattle.mode_switch.specs.declared.passed.Passed.{Passed}
+use Rattle.mode_switch.specs.Wanted.{Crossing, Want}
+use Rattle.mode_switch.specs.Wanted.Want.{Calls as IsCall, Jumps as IsJump, Refuses as IsRefusal}
+use Rattle.mode_switch.specs.Passed.{Passage}
+
+abbrev pub crossing : Call → Crossing
+crossing call =
+    record { kind = call.kind; info = call.info; sig = signature call.sig; selector = call.selector; passes = call.passes; target = call.target }
+
+abbrev pub wanted_of : Wanted → Want
+wanted_of (Calls call) = IsCall (crossing call)
+wanted_of (Jumps target) = IsJump target
+wanted_of (Refuses fault) = IsRefusal fault
+
+abbrev pub passage : Passed → Passage
+passage p = record { caller = p.caller; entry = p.entry; args = words_of p.args }
+
+abbrev pub answered : Result Passed Access → Result Passage Access
+answered (Ok p) = Ok (passage p)
+answered (Err e) = Err e

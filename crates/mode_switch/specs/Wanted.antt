@@ -1,0 +1,178 @@
+-- What code wants when it switches modes: 68K code by a routine descriptor at its pc, PowerPC code by the host function
+-- CallUniversalProc (Inside Macintosh: PowerPC System Software, chapter 2; the order of the tests is this project's own).
+use Rattle.std.specs.Prelude.{◌≡◌, ℕ, ◌%◌, ◌==◌, Bool, not, ◌&&◌, if◌then◌else◌, List, [], ◌∷◌, slice_index, Option, Some, None, is_some, Result, Ok, Err}
+use Rattle.mix_bits.specs.Results.{◌>>=◌}
+use Rattle.mix_bits.specs.declared.fault.Fault.{Fault}
+use Rattle.mix_bits.specs.declared.fault.FaultKind.TheVariants.{Odd, BadDesc as IsBadDesc, Info as IsInfo, Mismatch, NoRecord}
+use Rattle.mix_bits.specs.declared.isa.Isa.{Isa}
+use Rattle.mix_bits.specs.declared.isa.Isa.TheVariants.{M68 as set_m68, Ppc as set_ppc}
+use Rattle.mix_bits.specs.declared.size.Size.TheVariants.{Two}
+use Rattle.big_memory.specs.declared.refusals.Access.{Access}
+use Rattle.big_memory.specs.Faults.{fault_at, fault_of}
+use Rattle.big_memory.specs.Memory.{Memory, loaded}
+use Rattle.proc_info.specs.declared.bad_info.BadInfo.{BadInfo}
+use Rattle.proc_info.specs.Codes.{bad_info_code, is_dispatched}
+use Rattle.proc_info.specs.Signature.{Signature, signature_of}
+use Rattle.routine_desc.specs.declared.record.Rec.{Rec}
+use Rattle.routine_desc.specs.declared.record.BadDesc.{BadDesc}
+use Rattle.routine_desc.specs.declared.record.BadDesc.TheVariants.{Access as IsAccess, Info}
+use Rattle.routine_desc.specs.Codes.{bad_desc_code}
+use Rattle.routine_desc.specs.Layout.{has_flag}
+use Rattle.routine_desc.specs.Read.{desc_of}
+use Rattle.routine_desc.specs.Choice.{choice}
+use Rattle.m68_isa.specs.declared.registers.Regs68.{Regs68}
+use Rattle.ppc_isa.specs.declared.registers.RegsPpc.{RegsPpc}
+use Rattle.args_m68.specs.Gather.{selector_in as selector_in_68k}
+use Rattle.args_ppc.specs.Words.{selector_in as selector_in_ppc}
+use Rattle.switch_frame.specs.declared.kind.Kind.{Kind}
+use Rattle.switch_frame.specs.declared.kind.Kind.TheVariants.{M68ToPpc, PpcToM68, PpcToPpc}
+use Rattle.switch_frame.specs.Sets.{caller_isa}
+
+-- a call from one instruction set into another one, or from PowerPC code: the selector is cut to its size, and there is
+-- one where the convention is dispatched; `passes` says whether the callee gets it; the target is 68K code, or the
+-- transition vector of PowerPC code
+pub record Crossing : Type 0 where
+  pub kind : Kind
+  pub info : ℕ
+  pub sig : Signature
+  pub selector : Option ℕ
+  pub passes : Bool
+  pub target : ℕ
+
+-- the selector that the callee gets
+abbrev pub passed_selector : Crossing → Option ℕ
+passed_selector c = if c.passes then c.selector else None
+
+-- code wants to make a call, or to go on elsewhere in its own set, or it can't have what it wants
+pub data Want : Type 0 where
+  Calls : (crossing : Crossing) → Want
+  Jumps : (target : ℕ) → Want
+  Refuses : (fault : Fault) → Want
+
+abbrev pub settled : Result Want Fault → Want
+settled (Ok want) = want
+settled (Err fault) = Refuses fault
+
+-- the fault of a descriptor at an address
+abbrev pub bad_desc : ℕ → ℕ → BadDesc → Fault
+bad_desc pc at bad = record { kind = IsBadDesc; pc = pc; detail = at; also = bad_desc_code bad }
+
+-- its records
+abbrev pub described : ℕ → ℕ → Result (List Rec) BadDesc → Result (List Rec) Fault
+described pc at (Ok records) = Ok records
+described pc at (Err bad) = Err (bad_desc pc at bad)
+
+-- the signature of one of them; each has one, and all have one convention and one selector size
+abbrev pub signed : ℕ → ℕ → Result Signature BadInfo → Result Signature Fault
+signed pc at (Ok sig) = Ok sig
+signed pc at (Err bad) = Err (bad_desc pc at (Info bad))
+
+abbrev pub first_info : List Rec → ℕ
+first_info [] = 0
+first_info (rec ∷ records) = rec.info
+
+-- the selector of a dispatched call in 68K code, at whose A7 the return address is, or the refusal of its bytes
+abbrev pub selector_68k : Signature → Regs68 → Memory → Result (Option ℕ) Access
+selector_68k sig r m = if is_dispatched sig.conv then (selector_in_68k sig r m >>= λ v. Ok (Some v)) else Ok None
+
+abbrev pub loaded_or_fault : ℕ → Result (Option ℕ) Access → Result (Option ℕ) Fault
+loaded_or_fault pc (Ok selector) = Ok selector
+loaded_or_fault pc (Err access) = Err (fault_of pc access)
+
+-- the selector of a dispatched call by CallUniversalProc
+abbrev pub selector_ppc : Signature → RegsPpc → Option ℕ
+selector_ppc sig r = if is_dispatched sig.conv then Some (selector_in_ppc sig r) else None
+
+-- the record that was chosen
+abbrev pub or_zero : Option ℕ → ℕ
+or_zero None = 0
+or_zero (Some v) = v
+
+abbrev pub taken : ℕ → Option ℕ → Option Rec → Result Rec Fault
+taken pc selector (Some rec) = Ok rec
+taken pc selector None = Err (fault_at pc NoRecord (or_zero selector))
+
+-- the call of a record
+abbrev pub call_of_record : Kind → Rec → Option ℕ → Signature → Crossing
+call_of_record kind rec selector sig =
+    record { kind = kind; info = rec.info; sig = sig; selector = selector; passes = is_dispatched sig.conv && not (has_flag rec.flags 8); target = rec.target }
+
+abbrev pub calls_record : ℕ → ℕ → Kind → Rec → Option ℕ → Result Want Fault
+calls_record pc at kind rec selector = signed pc at (signature_of rec.info) >>= λ sig. Ok (Calls (call_of_record kind rec selector sig))
+
+-- 68K code
+
+abbrev pub even_sp : ℕ → ℕ → Result (Unit {0}) Fault
+even_sp pc sp = if sp % 2 == 1 then Err (fault_at pc Odd sp) else Ok tt
+
+-- a record of 68K code is gone on with, without a call
+abbrev pub goes_by : Isa → ℕ → Rec → Option ℕ → Result Want Fault
+goes_by set_m68 pc rec selector = Ok (Jumps rec.target)
+goes_by set_ppc pc rec selector = calls_record pc pc M68ToPpc rec selector
+
+abbrev pub takes_68k : Memory → Regs68 → List Rec → Result Want Fault
+takes_68k m r records =
+    even_sp r.pc (slice_index r.a 7) >>= λ even.
+    signed r.pc r.pc (signature_of (first_info records)) >>= λ sig.
+    loaded_or_fault r.pc (selector_68k sig r m) >>= λ selector.
+    taken r.pc selector (choice records set_m68 selector) >>= λ rec.
+    goes_by rec.isa r.pc rec selector
+
+-- a descriptor stands at pc
+abbrev pub wants_68k : Memory → Regs68 → Want
+wants_68k m r = settled (described r.pc r.pc (desc_of m r.pc) >>= λ records. takes_68k m r records)
+
+-- PowerPC code, with a universal pointer and a procInfo
+
+-- raw 68K code at the pointer
+abbrev pub raw_signature : ℕ → ℕ → Result Signature BadInfo → Result Signature Fault
+raw_signature pc info (Ok sig) = Ok sig
+raw_signature pc info (Err bad) = Err (record { kind = IsInfo; pc = pc; detail = info; also = bad_info_code bad })
+
+abbrev pub raw_call : RegsPpc → ℕ → ℕ → Signature → Crossing
+raw_call r pointer info sig =
+    record { kind = PpcToM68; info = info; sig = sig; selector = selector_ppc sig r; passes = is_dispatched sig.conv; target = pointer }
+
+abbrev pub wants_raw : RegsPpc → ℕ → ℕ → Result Want Fault
+wants_raw r pointer info = raw_signature r.pc info (signature_of info) >>= λ sig. Ok (Calls (raw_call r pointer info sig))
+
+-- a descriptor at the pointer
+abbrev pub matched : ℕ → ℕ → ℕ → Result (Unit {0}) Fault
+matched pc info found = if info == found then Ok tt else Err (record { kind = Mismatch; pc = pc; detail = info; also = found })
+
+abbrev pub kind_into : Isa → Kind
+kind_into set_m68 = PpcToM68
+kind_into set_ppc = PpcToPpc
+
+abbrev pub takes_by : RegsPpc → ℕ → ℕ → List Rec → Option ℕ → Result Want Fault
+takes_by r pointer info records selector =
+    taken r.pc selector (choice records set_ppc selector) >>= λ rec.
+    matched r.pc info rec.info >>= λ same.
+    calls_record r.pc pointer (kind_into rec.isa) rec selector
+
+abbrev pub takes_ppc : RegsPpc → ℕ → ℕ → List Rec → Result Want Fault
+takes_ppc r pointer info records =
+    signed r.pc pointer (signature_of (first_info records)) >>= λ sig. takes_by r pointer info records (selector_ppc sig r)
+
+abbrev pub wants_desc : Memory → RegsPpc → ℕ → ℕ → Result Want Fault
+wants_desc m r pointer info = described r.pc pointer (desc_of m pointer) >>= λ records. takes_ppc r pointer info records
+
+-- the word at the pointer tells which of them stands there
+abbrev pub wants_word : Memory → RegsPpc → ℕ → ℕ → Result ℕ Access → Result Want Fault
+wants_word m r pointer info (Ok word) = if word == 0xAAFE then wants_desc m r pointer info else wants_raw r pointer info
+wants_word m r pointer info (Err access) = Err (bad_desc r.pc pointer IsAccess)
+
+abbrev pub wants_ppc : Memory → RegsPpc → ℕ → ℕ → Want
+wants_ppc m r pointer info = settled (wants_word m r pointer info (loaded m pointer Two))
+
+-- what every wanted call of a set's code meets
+pub record IsMeant (set : Isa) (c : Crossing) : Type 0 where
+  pub caller : caller_isa c.kind ≡ set
+  pub signature : signature_of c.info ≡ Ok c.sig
+  pub selector : is_some c.selector ≡ is_dispatched c.sig.conv
+
+-- PowerPC code never goes on without a call
+abbrev pub Means : Isa → Want → Type 0
+Means set (Calls c) = IsMeant set c
+Means set (Jumps target) = set ≡ set_m68
+Means set (Refuses fault) = Unit {0}

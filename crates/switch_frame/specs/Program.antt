@@ -1,0 +1,62 @@
+-- What every loaded program meets.
+use Rattle.std.specs.Prelude.{◌≡◌, ℕ, zero, suc, ◌+◌, ◌-◌, ◌%◌, ◌≤◌, false, List, [], ◌∷◌, length, replicate, slice_index_or}
+use Rattle.mix_bits.specs.declared.isa.Isa.{Isa}
+use Rattle.mix_bits.specs.declared.isa.Isa.TheVariants.{M68, Ppc}
+use Rattle.big_memory.specs.Lists.{part}
+use Rattle.big_memory.specs.Map.{host_vector_at, host_code_at, host_functions}
+use Rattle.big_memory.specs.Memory.{IsRam, floor_of}
+use Rattle.switch_frame.specs.declared.program.Program.{Program}
+use Rattle.switch_frame.specs.Records.{isa_of}
+use Rattle.switch_frame.specs.Pieces.{Piece, long_piece, puts}
+
+-- where the loaded program begins
+abbrev pub program_start : ℕ
+program_start = 0x10000
+
+-- the transition vectors of the first host functions: each a code address, and no TOC
+unfoldable pub vectors : ℕ → List Piece
+vectors zero = []
+vectors (suc k) = long_piece (host_vector_at k + 4) 0 ∷ long_piece (host_vector_at k) (host_code_at k) ∷ vectors k
+
+-- what the gate page tells the program: where its 68K code starts, its main vector, its A5, and the size of RAM
+unfoldable pub told : ℕ → ℕ → ℕ → ℕ → List Piece → List Piece
+told entry vector a5 len before =
+    long_piece 0x102C len ∷ long_piece 0x1028 a5 ∷ long_piece 0x1024 vector ∷ long_piece 0x1020 entry ∷ before
+
+-- the longs of the gate page; all else there is 0
+abbrev pub gate_longs : ℕ → ℕ → ℕ → ℕ → List Piece
+gate_longs entry vector a5 len = told entry vector a5 len (vectors host_functions)
+
+-- memory in which nothing was put
+unfoldable pub blank : ℕ → List ℕ
+blank n = replicate n 0
+
+-- the gate page's bytes
+unfoldable pub page_bytes : ℕ → ℕ → ℕ → ℕ → List ℕ
+page_bytes entry vector a5 len = part 0x1000 0x1000 (puts (gate_longs entry vector a5 len) (blank 0x2000))
+
+-- memory has the gate page of the memory map, whatever entry and main vector it tells
+pub record HasGatePage (a5 : ℕ) (bytes : List ℕ) : Type 0 where
+  pub entry : ℕ
+  pub vector : ℕ
+  pub page : part 0x1000 0x1000 bytes ≡ page_bytes entry vector a5 (length bytes)
+
+-- the stack pointer with which a main program starts, and is to end
+abbrev pub start_sp_of : Isa → ℕ → ℕ
+start_sp_of M68 len = len
+start_sp_of Ppc len = len - 64
+
+-- the heap goes from the program's end to the stack's floor
+pub record HasHeap (p : Program) : Type 0 where
+  pub aligned : p.heap_lo % 16 ≡ 0
+  pub behind : program_start ≤ p.heap_lo
+  pub ordered : p.heap_lo ≤ p.heap_hi
+  pub whole : p.heap_hi ≡ floor_of p.ram
+
+pub record IsProgram (p : Program) : Type 0 where
+  pub ram : IsRam p.ram
+  pub unguarded : (unit : ℕ) → slice_index_or p.ram.marks unit false ≡ false
+  pub page : HasGatePage p.a5 p.ram.bytes
+  pub set : isa_of p.active ≡ p.main
+  pub start : p.start_sp ≡ start_sp_of p.main (length p.ram.bytes)
+  pub heap : HasHeap p
