@@ -1,6 +1,4 @@
-pub mod Bodies
-pub mod Frames
-pub mod Readings
-pub mod Stepping
-pub mod Crossings
+pub mod Counting
+pub mod Ways
 pub mod Looping
+pub mod Starting

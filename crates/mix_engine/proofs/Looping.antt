@@ -1,109 +1,125 @@
 -- A loop that steps, and at each crossing runs the callee, one event at a time.
-use Rattle.std.proofs.Common.{◌≡◌, ℕ, suc, ◌-◌, ◌<◌, ◌≤◌, nat_lt, true, false, List, ◌∷◌, length, arith, sym, ap, subst, ◌∙◌, refl}
-use Rattle.std.proofs.lemmas.Bool.Decides.{nat_tests}
+use Rattle.std.proofs.Common.{◌≡◌, ℕ, suc, ◌-◌, ◌<◌, ◌≤◌, List, ◌∷◌, length, arith, refl, sym, ap, ◌∙◌}
 use Rattle.mix_bits.specs.declared.fault.Fault.{Fault}
-use Rattle.switch_frame.specs.declared.active.Active.{Active}
-use Rattle.switch_frame.specs.Records.{Record}
-use Rattle.mixed_machine.specs.declared.body.Body.{Body}
+use Rattle.switch_frame.specs.Records.{Record, isa_of}
+use Rattle.dev_rack.proofs.Steps.{accounts-join}
+use Rattle.mixed_machine.specs.declared.did.Did.TheVariants.{Next, Call, Return, Exit, Fault as FaultDid, ReadFault, OutFault, TraceFault}
 use Rattle.mixed_machine.specs.declared.stop.Stop.{Stop}
-use Rattle.mixed_machine.specs.declared.stop.Stop.TheVariants.{Exit as ExitStop, Fault as FaultStop, OutFault as OutStop, TraceFault as TraceStop}
-use Rattle.mixed_machine.specs.State.{State}
+use Rattle.mixed_machine.specs.declared.stop.Stop.TheVariants.{Exit as ExitStop, Fault as FaultStop, Limit, ReadFault as ReadStop, OutFault as OutStop, TraceFault as TraceStop}
+use Rattle.mixed_machine.specs.Acts.{Acts}
+use Rattle.mixed_machine.specs.Counts.{counts_of}
+use Rattle.mixed_machine.specs.Machine.{IsWhole, callers_of}
+use Rattle.mixed_machine.specs.Outside.{At}
 use Rattle.mixed_machine.specs.Step.{step}
-use Rattle.mixed_machine.specs.Machine.{callers_of, flat}
-use Rattle.mixed_machine.specs.Runs.{CameBack, Going, Sinks, Stops}
-use Rattle.mixed_machine.proofs.Events.{going-none, going-more, back-now, exits-now, faults-now, out-broke-now, trace-broke-now, nested-back, nested-stops}
-use Rattle.mix_engine.specs.declared.did.Did.TheVariants.{Next, Call, Return, Exit, Fault as FaultDid, OutFault, TraceFault}
-use Rattle.mix_engine.specs.declared.turn.Turn.TheVariants.{Back, Stop as Stopped}
-use Rattle.mix_engine.specs.Turns.{Does, Turns, Waits}
+use Rattle.mixed_machine.proofs.Machines.{comes-back-at, exits-at, faults-at, limit-at, out-breaks-at, read-breaks-at, trace-breaks-at}
+use Rattle.mix_engine.proofs.Counting.{calm-more}
+use Rattle.mix_engine.proofs.Ways.{Ended, Returned, Way, way-back, way-begins, way-ends, way-on, way-stopped}
 
--- no fewer callers than at entry
-pub stays-here : (d : ℕ) (callers : List Record) → d ≤ length callers → nat_lt (length callers) d ≡ false
-stays-here d callers enough = grind (arith, nat_tests, enough)
+abbrev depth_of : At → ℕ
+depth_of a = length (callers_of a.body)
 
--- one fewer
-comes-back : (d : ℕ) (callers old : List Record) (r : Record) → length old ≡ d → old ≡ r ∷ callers → nat_lt (length callers) d ≡ true
-comes-back d callers old r count is = let one : length old ≡ suc (length callers) = ap length is in grind (arith, nat_tests, count, one)
+-- the loop: on its way, with the callers at entry
+pub record Turning (n left : ℕ) (a b : At) : Type 0 where
+  pub callers : callers_of b.body ≡ callers_of a.body
+  pub way : Way (length (callers_of a.body)) n left a b
 
--- the loop begins
-pub begins : (n : ℕ) (b : Body) (entry : Active) (o : Sinks) → Going (length (callers_of b)) n n (flat b entry) (flat b entry) o o
-begins n b entry o = going-none (length (callers_of b)) n (flat b entry) o (stays-here (length (callers_of b)) (callers_of b) (omega arith))
+pub begins : (n : ℕ) (a : At) → IsWhole a.body (isa_of a.active) → Turning n n a a
+begins n a whole = record { callers = refl; way = way-begins (depth_of a) n a (omega arith) whole }
 
 -- a step in the same set
-pub goes-on : (n left : ℕ) (first b new : Body) (entry before after : Active) (old now next : Sinks) → 0 < left → callers_of b ≡ callers_of first
-    → Going (length (callers_of first)) n left (flat first entry) (flat b before) old now → Does (step (flat b before)) Next b new before after now next
-    → Going (length (callers_of first)) n (left - 1) (flat first entry) (flat new after) old next
-goes-on n left first b new entry before after old now next some callers so_far does =
-    let count : length (callers_of new) ≡ length (callers_of first) = ap length (does.callers ∙ callers) in
-    going-more (length (callers_of first)) n left (flat first entry) (flat b before) (flat new after) old now next some so_far does.state
-    (stays-here (length (callers_of first)) (callers_of new) (omega (arith, count))) does.put.0 does.put.1
+pub goes-on : (n left : ℕ) (cell : Fault) (a b c : At) → 0 < left → Turning n left a b → Acts step Next cell b c → Turning n (left - 1) a c
+goes-on n left cell a b c some turning acts =
+    let kept : callers_of c.body ≡ callers_of a.body = acts.callers ∙ turning.callers in
+    let count : length (callers_of c.body) ≡ length (callers_of a.body) = ap length kept in
+    record { callers = kept; way = way-on (depth_of a) n left Next cell a b c some tt turning.way acts acts.blames (omega (arith, count)) }
 
 -- a crossing
-crossed : (n left : ℕ) (first b mid : Body) (entry before after callee : Active) (old now next : Sinks) → 0 < left → callers_of b ≡ callers_of first
-    → Going (length (callers_of first)) n left (flat first entry) (flat b before) old now → Does (step (flat b before)) (Call callee) b mid before after now next
-    → Going (length (callers_of first)) n (left - 1) (flat first entry) (flat mid callee) old next
-crossed n left first b mid entry before after callee old now next some callers so_far does =
-    let count : length (callers_of mid) ≡ suc (length (callers_of first)) = ap length does.callers.1 ∙ ap (λ cs. suc (length cs)) callers in
-    going-more (length (callers_of first)) n left (flat first entry) (flat b before) (flat mid callee) old now next some so_far does.state
-    (stays-here (length (callers_of first)) (callers_of mid) (omega (arith, count))) does.put.0 does.put.1
+deeper : (a b c : At) (r : Record) → callers_of b.body ≡ callers_of a.body → callers_of c.body ≡ r ∷ callers_of b.body → depth_of c ≡ suc (depth_of a)
+deeper a b c r same called = ap length called ∙ ap (λ rs. suc (length rs)) same
 
-waited : (cs outer new : List Record) (r : Record) (file : Active) → cs ≡ r ∷ outer → Waits cs (Back file) new → new ≡ outer
-waited cs outer new r file is waits = subst (λ xs. Waits xs (Back file) new) is waits
+crossed : (n left : ℕ) (cell : Fault) (a b c : At) → 0 < left → Turning n left a b → Acts step Call cell b c → Way (depth_of a) n (left - 1) a c
+crossed n left cell a b c some turning acts =
+    let count : length (callers_of c.body) ≡ suc (length (callers_of a.body)) = deeper a b c acts.callers.0 turning.callers acts.callers.1 in
+    way-on (depth_of a) n left Call cell a b c some tt turning.way acts acts.blames (omega (arith, count))
 
--- and the callers after it, where the callee came back
-pub callers-kept : (first b mid new : Body) (before after callee file : Active) (now next : Sinks) → callers_of b ≡ callers_of first
-    → Does (step (flat b before)) (Call callee) b mid before after now next → Waits (callers_of mid) (Back file) (callers_of new) → callers_of new ≡ callers_of first
-callers-kept first b mid new before after callee file now next callers does waits =
-    waited (callers_of mid) (callers_of b) (callers_of new) does.callers.0 file does.callers.1 waits ∙ callers
+outside-same : (xs ys zs : List Record) (r s : Record) → xs ≡ r ∷ ys → xs ≡ s ∷ zs → zs ≡ ys
+outside-same xs ys zs r s first then = cc
 
-pub calls-back : (n left l : ℕ) (first b mid new : Body) (entry before after callee file : Active) (old now next end : Sinks) → 0 < left → callers_of b ≡ callers_of first
-    → Going (length (callers_of first)) n left (flat first entry) (flat b before) old now → Does (step (flat b before)) (Call callee) b mid before after now next
-    → Turns (length (callers_of mid)) (left - 1) l (flat mid callee) (flat new file) next end (Back file) → callers_of new ≡ callers_of first
-    → Going (length (callers_of first)) n l (flat first entry) (flat new file) old end
-calls-back n left l first b mid new entry before after callee file old now next end some callers so_far does came kept =
-    let count : length (callers_of mid) ≡ suc (length (callers_of first)) = ap length does.callers.1 ∙ ap (λ cs. suc (length cs)) callers in
-    let back : length (callers_of new) ≡ length (callers_of first) = ap length kept in
-    nested-back (length (callers_of mid)) (length (callers_of first)) n (left - 1) l (flat first entry) (flat mid callee) (flat new file) old next end (omega (arith, count))
-    (crossed n left first b mid entry before after callee old now next some callers so_far does) came (stays-here (length (callers_of first)) (callers_of new) (omega (arith, back)))
+-- the callee came back
+pub calls-back : (n left l : ℕ) (cell : Fault) (a b c e : At) (r : Record) → 0 < left → Turning n left a b → Acts step Call cell b c
+    → Returned (length (callers_of c.body)) (left - 1) l c e → callers_of c.body ≡ r ∷ callers_of e.body → Turning n l a e
+calls-back n left l cell a b c e r some turning acts came waits =
+    let kept : callers_of e.body ≡ callers_of a.body =
+    outside-same (callers_of c.body) (callers_of b.body) (callers_of e.body) acts.callers.0 r acts.callers.1 waits ∙ turning.callers in
+    let count : length (callers_of c.body) ≡ suc (length (callers_of a.body)) = deeper a b c acts.callers.0 turning.callers acts.callers.1 in
+    let back : length (callers_of e.body) ≡ length (callers_of a.body) = ap length kept in
+    record {
+      callers = kept;
+      way = way-back (depth_of c) (depth_of a) n (left - 1) l a c e (omega (arith, count)) (crossed n left cell a b c some turning acts) came (omega (arith, back));
+    }
 
-pub calls-stop : (n left l : ℕ) (first b mid new : Body) (entry before after callee file : Active) (stop : Stop) (old now next end : Sinks) → 0 < left → callers_of b ≡ callers_of first
-    → Going (length (callers_of first)) n left (flat first entry) (flat b before) old now → Does (step (flat b before)) (Call callee) b mid before after now next
-    → Turns (length (callers_of mid)) (left - 1) l (flat mid callee) (flat new file) next end (Stopped file stop)
-    → Stops (length (callers_of first)) n l (flat first entry) (flat new file) old end stop
-calls-stop n left l first b mid new entry before after callee file stop old now next end some callers so_far does stops =
-    let count : length (callers_of mid) ≡ suc (length (callers_of first)) = ap length does.callers.1 ∙ ap (λ cs. suc (length cs)) callers in
-    nested-stops (length (callers_of mid)) (length (callers_of first)) n (left - 1) l (flat first entry) (flat mid callee) (flat new file) old next end stop (omega (arith, count))
-    (crossed n left first b mid entry before after callee old now next some callers so_far does) stops
+-- or stopped
+pub calls-stop : (n left l : ℕ) (cell : Fault) (a b c e : At) (stop : Stop) → 0 < left → Turning n left a b → Acts step Call cell b c
+    → Ended (length (callers_of c.body)) (left - 1) l c e stop → Ended (length (callers_of a.body)) n l a e stop
+calls-stop n left l cell a b c e stop some turning acts ended =
+    let count : length (callers_of c.body) ≡ suc (length (callers_of a.body)) = deeper a b c acts.callers.0 turning.callers acts.callers.1 in
+    way-stopped (depth_of c) (depth_of a) n (left - 1) l a c e stop (omega (arith, count)) (crossed n left cell a b c some turning acts) ended
 
 -- a return
-pub returns : (n left : ℕ) (first b new : Body) (entry before after file : Active) (old now next : Sinks) → 0 < left → callers_of b ≡ callers_of first
-    → Going (length (callers_of first)) n left (flat first entry) (flat b before) old now → Does (step (flat b before)) (Return file) b new before after now next
-    → CameBack (length (callers_of first)) n (left - 1) (flat first entry) (flat new file) old next
-returns n left first b new entry before after file old now next some callers so_far does =
-    back-now (length (callers_of first)) n left (flat first entry) (flat b before) (flat new file) old now next some so_far does.state
-    (comes-back (length (callers_of first)) (callers_of new) (callers_of b) does.callers.0 (ap length callers) does.callers.1) does.put.0 does.put.1
+pub returns : (n left : ℕ) (cell : Fault) (a b c : At) → 0 < left → Turning n left a b → Acts step Return cell b c
+    → Returned (length (callers_of a.body)) n (left - 1) a c
+returns n left cell a b c some turning acts =
+    let fewer : left ≤ n = turning.way.fewer in
+    let one : length (callers_of a.body) ≡ suc (length (callers_of c.body)) = ap length (sym turning.callers ∙ acts.callers.1) in
+    record {
+      whole = acts.whole;
+      fewer = omega (arith, fewer);
+      calm = calm-more (counts_of a) (counts_of b) (counts_of c) turning.way.calm acts.blames;
+      devices = accounts-join a.outside.rack b.outside.rack c.outside.rack turning.way.devices acts.devices;
+      back = comes-back-at (depth_of a) n left Return cell a b c some tt turning.way.devices turning.way.going acts (omega (arith, one));
+    }
 
-pub waits-back : (first b new : Body) (before after file : Active) (now next : Sinks) → callers_of b ≡ callers_of first
-    → Does (step (flat b before)) (Return file) b new before after now next → Waits (callers_of first) (Back file) (callers_of new)
-waits-back first b new before after file now next callers does =
-    subst (λ cs. Waits cs (Back file) (callers_of new)) (sym does.callers.1 ∙ callers) refl
+pub leaves-outer : (n left : ℕ) (cell : Fault) (a b c : At) → Turning n left a b → Acts step Return cell b c
+    → (r : Record) × (callers_of a.body ≡ r ∷ callers_of c.body)
+leaves-outer n left cell a b c turning acts = (acts.callers.0, sym turning.callers ∙ acts.callers.1)
 
 -- the ends
-pub exits : (n left d : ℕ) (s : State) (b new : Body) (before after : Active) (code : ℕ) (old now next : Sinks) → 0 < left → Going d n left s (flat b before) old now
-    → Does (step (flat b before)) (Exit code) b new before after now next → Stops d n (left - 1) s (flat new after) old next (ExitStop code)
-exits n left d s b new before after code old now next some so_far does =
-    exits-now d n left s (flat b before) (flat new after) code old now next some so_far does.state.0 does.state.1 does.put.0 does.put.1
+pub limits : (n left : ℕ) (a b : At) → left ≤ 0 → Turning n left a b → Ended (length (callers_of a.body)) n left a b Limit
+limits n left a b none turning =
+    record {
+      whole = turning.way.whole;
+      fewer = turning.way.fewer;
+      blames = turning.way.calm;
+      devices = turning.way.devices;
+      stops = limit-at (depth_of a) n left a b none turning.way.going;
+    }
 
-pub faults : (n left d : ℕ) (s : State) (b new : Body) (before after : Active) (fault : Fault) (old now next : Sinks) → 0 < left → Going d n left s (flat b before) old now
-    → Does (step (flat b before)) (FaultDid fault) b new before after now next → Stops d n left s (flat new after) old next (FaultStop fault)
-faults n left d s b new before after fault old now next some so_far does =
-    faults-now d n left s (flat b before) (flat new after) fault old now next some so_far does.state.0 does.state.1 does.put.0 does.put.1
+pub exits : (n left code : ℕ) (cell : Fault) (a b c : At) → 0 < left → Turning n left a b → Acts step (Exit code) cell b c
+    → Ended (length (callers_of a.body)) n (left - 1) a c (ExitStop code)
+exits n left code cell a b c some turning acts =
+    way-ends (depth_of a) n left (left - 1) (Exit code) cell a b c (ExitStop code) (omega arith) turning.way acts acts.blames
+    (exits-at (depth_of a) n left code cell a b c some turning.way.devices turning.way.going acts)
 
-pub breaks-out : (n left d : ℕ) (s : State) (b new : Body) (before after : Active) (old now next : Sinks) → 0 < left → Going d n left s (flat b before) old now
-    → Does (step (flat b before)) OutFault b new before after now next → Stops d n left s (flat new after) old next OutStop
-breaks-out n left d s b new before after old now next some so_far does =
-    out-broke-now d n left s (flat b before) (flat new after) old now next some so_far does.state.0 does.state.1 does.put.0 does.put.1
+pub faults : (n left : ℕ) (cell : Fault) (a b c : At) → 0 < left → Turning n left a b → Acts step FaultDid cell b c
+    → Ended (length (callers_of a.body)) n left a c (FaultStop cell)
+faults n left cell a b c some turning acts =
+    way-ends (depth_of a) n left left FaultDid cell a b c (FaultStop cell) (omega arith) turning.way acts acts.blames
+    (faults-at (depth_of a) n left cell a b c some turning.way.devices turning.way.going acts)
 
-pub breaks-trace : (n left d : ℕ) (s : State) (b new : Body) (before after file : Active) (old now next : Sinks) → 0 < left → Going d n left s (flat b before) old now
-    → Does (step (flat b before)) (TraceFault file) b new before after now next → Stops d n (left - 1) s (flat new file) old next TraceStop
-breaks-trace n left d s b new before after file old now next some so_far does =
-    trace-broke-now d n left s (flat b before) (flat new file) old now next some so_far does.state.0 does.state.1 does.put.0 does.put.1
+pub breaks-read : (n left : ℕ) (cell : Fault) (a b c : At) → 0 < left → Turning n left a b → Acts step ReadFault cell b c
+    → Ended (length (callers_of a.body)) n left a c ReadStop
+breaks-read n left cell a b c some turning acts =
+    way-ends (depth_of a) n left left ReadFault cell a b c ReadStop (omega arith) turning.way acts acts.blames
+    (read-breaks-at (depth_of a) n left cell a b c some turning.way.devices turning.way.going acts)
+
+pub breaks-out : (n left : ℕ) (cell : Fault) (a b c : At) → 0 < left → Turning n left a b → Acts step OutFault cell b c
+    → Ended (length (callers_of a.body)) n left a c OutStop
+breaks-out n left cell a b c some turning acts =
+    way-ends (depth_of a) n left left OutFault cell a b c OutStop (omega arith) turning.way acts acts.blames
+    (out-breaks-at (depth_of a) n left cell a b c some turning.way.devices turning.way.going acts)
+
+pub breaks-trace : (n left : ℕ) (cell : Fault) (a b c : At) → 0 < left → Turning n left a b → Acts step TraceFault cell b c
+    → Ended (length (callers_of a.body)) n (left - 1) a c TraceStop
+breaks-trace n left cell a b c some turning acts =
+    way-ends (depth_of a) n left (left - 1) TraceFault cell a b c TraceStop (omega arith) turning.way acts acts.blames
+    (trace-breaks-at (depth_of a) n left cell a b c some turning.way.devices turning.way.going acts)

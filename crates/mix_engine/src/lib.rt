@@ -3,23 +3,9 @@
 //! Suspended callers stand in the machine's memory alone, so a run can be cut after any step and continued.
 #![tactic(auto)]
 
-mod active;
-mod did;
-mod enter;
-mod faults;
-mod gates;
-mod handed;
-mod leave;
-mod m68;
 mod machine;
-mod memory;
-mod ppc;
-mod rows;
 mod runs;
-mod steps;
-mod trace;
 mod turn;
-mod words;
 
 pub use machine::{Machine, run};
 pub use mixed_machine::{Body, Stop};

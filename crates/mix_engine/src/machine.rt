@@ -1,15 +1,23 @@
 // A machine, from its start on.
-ghost use Rattle.std.specs.Prelude.{◌≡◌, ◌*◌, ◌%◌, ◌≤◌, ℕ, false, length, slice_index_or, IfOk};
-ghost use Rattle.big_memory.specs.Memory.{IsRam, floor_of};
+ghost use Rattle.std.specs.Prelude.{◌≡◌, IfOk};
+ghost use Rattle.switch_frame.specs.Program.{IsProgram};
 ghost use Rattle.switch_frame.specs.Records.{isa_of};
-ghost use Rattle.mixed_machine.specs.Machine.{HasGatePage, IsWhole, flat, start_sp_of};
+ghost use Rattle.dev_rack.specs.Accounts.{Accounts};
+ghost use Rattle.toolbox.specs.Calls.{outside};
+ghost use Rattle.toolbox.specs.Effects.{Around};
+ghost use Rattle.mixed_machine.specs.Counts.{Blames};
+ghost use Rattle.mixed_machine.specs.Machine.{IsWhole, flat};
+ghost use Rattle.mixed_machine.specs.Outside.{at};
 ghost use Rattle.mixed_machine.specs.Runs.{Runs};
-ghost use Rattle.mix_engine.specs.Turns.{sinks};
+ghost use Rattle.mix_steps.specs.Does.{output};
 ghost use Rattle.mix_engine.specs.Start.{start_of};
+ghost use Rattle.mix_engine.specs.Turns.{counts};
 
 use crate::runs::run_set;
 use crate::turn::Turn;
 use big_memory::NoMemory;
+use dev_rack::Devices;
+use host_heap::Heap;
 use mix_io::{Sink, Source};
 use mixed_machine::{Body, Stop};
 use std::alloc::Global;
@@ -19,8 +27,8 @@ use switch_frame::{Active, Program};
 ///
 /// It is whole, as `start` and `run` leave it, if its frames are a chain in RAM that ends at the main
 /// program, the set of its registers is that of the innermost callee, or the main program's without one,
-/// the gate page stands as it was loaded, and `start_sp` is that of the main program's set. So far at most
-/// one caller is suspended.
+/// the gate page stands as it was loaded, `start_sp` is that of the main program's set, and the heap lies
+/// between the program and the stack.
 #[derive(Drop)]
 pub struct Machine {
     /// The registers of the active set.
@@ -30,24 +38,20 @@ pub struct Machine {
 }
 
 impl Machine {
-    /// The machine at the start of a program, without a suspended caller.
+    /// The machine at the start of a program, without a suspended caller and with an empty heap.
     ///
-    /// So far it takes no memory.
+    /// The heap takes the room for its list of blocks here, and the machine takes no memory afterwards.
     pub fn start(alloc: Global, program: Program) -> Result<Machine, NoMemory>
-        requires ram { IsRam program.ram }
-        requires unguarded { (unit : ℕ) → slice_index_or program.ram.marks unit false ≡ false }
-        requires page { HasGatePage program.a5 program.ram.bytes }
-        requires set { isa_of program.active ≡ program.main }
-        requires start { program.start_sp ≡ start_sp_of program.main (length program.ram.bytes) }
-        requires heap { (program.heap_lo % 16 ≡ 0) × (0x10000 ≤ program.heap_lo) × (program.heap_lo ≤ program.heap_hi) × (program.heap_hi ≡ floor_of program.ram) }
+        requires { IsProgram program }
         ensures whole { IfOk result (λ m. IsWhole m.body (isa_of m.active)) }
-        ensures state { IfOk result (λ m. flat m.body m.active ≡ start_of program) }
+        ensures state { IfOk result (λ m. (around : Around) → flat m.body m.active around ≡ start_of program around) }
     {
-        let _ = alloc;
+        let heap = Heap::new(alloc, program.heap_lo, program.heap_hi)?;
         Ok(Machine {
             active: program.active,
             body: Body {
                 ram: program.ram,
+                heap,
                 top: 0,
                 a5: program.a5,
                 main: program.main,
@@ -57,28 +61,28 @@ impl Machine {
     }
 }
 
-/// Runs at most `steps` steps, and writes the lines of calls and returns, but no line of how it ended.
+/// Runs at most `steps` steps, and writes the lines of calls, returns and asks, but no line of how it ended.
 ///
-/// The machine is left as it is after the steps that were done, so it can be run on. The input is not read
-/// so far.
-pub fn run<I: Source, O: Sink, T: Sink>(
+/// The machine is left as it is after the steps that were done, so it can be run on.
+pub fn run<I: Source, O: Sink, T: Sink, D: Devices>(
     m: &mut Machine,
     input: &mut I,
     out: &mut O,
     trace: &mut T,
+    rack: &mut D,
     steps: u32,
 ) -> Stop
     requires { IsWhole m.old.body (isa_of m.old.active) }
     ensures whole { IsWhole m.new.body (isa_of m.new.active) }
-    ensures run { Runs steps (flat m.old.body m.old.active) (flat m.new.body m.new.active)
-        (sinks (O.held out.old) (O.faults out.old) (T.held trace.old) (T.faults trace.old))
-        (sinks (O.held out.new) (O.faults out.new) (T.held trace.new) (T.faults trace.new)) result }
-    ensures left { I.left input.new ≡ I.left input.old }
-    ensures calm { I.faults input.new ≡ I.faults input.old }
+    ensures run { Runs steps
+        (at m.old.body m.old.active (outside (I.left input.old) (I.faults input.old) (D.state rack.old) (O.held out.old) (O.faults out.old)) (output (T.held trace.old) (T.faults trace.old)))
+        (at m.new.body m.new.active (outside (I.left input.new) (I.faults input.new) (D.state rack.new) (O.held out.new) (O.faults out.new)) (output (T.held trace.new) (T.faults trace.new))) result }
+    ensures blames { Blames result (counts (I.faults input.old) (O.faults out.old) (T.faults trace.old)) (counts (I.faults input.new) (O.faults out.new) (T.faults trace.new)) }
+    ensures devices { Accounts (D.state rack.old) (D.state rack.new) }
 {
     let mut left = steps;
     'turns: loop {
-        match run_set(&mut m.body, m.active, input, out, trace, &mut left) {
+        match run_set(&mut m.body, m.active, input, out, trace, rack, &mut left) {
             Turn::Back(file) => m.active = file,
             Turn::Stop(file, stop) => {
                 m.active = file;

@@ -3,7 +3,8 @@ use Rattle.std.proofs.Common.{◌≡◌, subst, sym, ap, ◌∙◌, ℕ, ◌+◌
 use Rattle.big_memory.specs.Lists.{part}
 use Rattle.pef_reloc.specs.Laws.{AddsLongs}
 use Rattle.big_memory.specs.Memory.{Memory}
-use Rattle.mix_load.specs.Pieces.{puts, with_pieces}
+use Rattle.switch_frame.specs.Pieces.{puts}
+use Rattle.mix_load.specs.Pieces.{with_pieces}
 use Rattle.mix_load.specs.Sections.{Stand, contents_at, relocated_bytes, relocated_pieces, section_base, section_pieces, sections_end, total_at}
 use Rattle.mix_load.proofs.Ends.{section_above, section_within, sections_apart}
 use Rattle.mix_load.proofs.Placing.{piece-back, pieces-behind, pieces-front, pieces-over}

@@ -4,7 +4,8 @@ use Rattle.std.proofs.lemmas.Bool.Decides.{nat_tests}
 use Rattle.rsrc_fork.specs.Resources.{Resource}
 use Rattle.big_memory.specs.Memory.{Memory}
 use Rattle.pef_head.specs.Parts.{SectionParts, section_at}
-use Rattle.mix_load.specs.Pieces.{Piece, rounded_up, with_pieces}
+use Rattle.switch_frame.specs.Pieces.{Piece}
+use Rattle.mix_load.specs.Pieces.{rounded_up, with_pieces}
 use Rattle.mix_load.specs.Segments.{added_segment, segment_at, segment_pieces, segments_end, with_segment}
 use Rattle.mix_load.specs.Sections.{base_behind, section_base, sections_end, total_at}
 

@@ -4,7 +4,8 @@ use Rattle.byteorder.specs.Endian.{big_bytes}
 use Rattle.big_memory.specs.Lists.{put}
 use Rattle.big_memory.proofs.Lists.{length-put}
 use Rattle.rsrc_fork.specs.Resources.{Resource}
-use Rattle.mix_load.specs.Pieces.{Piece, puts, rounded_up}
+use Rattle.switch_frame.specs.Pieces.{Piece, puts}
+use Rattle.mix_load.specs.Pieces.{rounded_up}
 use Rattle.mix_load.specs.Segments.{added_segment, jump_target, segment_at, segment_in, segment_pieces, segments_end, table_pieces, with_segment}
 use Rattle.mix_load.proofs.Ends.{ends_grow}
 use Rattle.mix_load.proofs.Placing.{take-put_behind}

@@ -4,7 +4,8 @@ use Rattle.std.proofs.lemmas.List.{same_lists, places}
 use Rattle.std.proofs.lemmas.Bool.Decides.{nat_tests}
 use Rattle.big_memory.specs.Lists.{part, put}
 use Rattle.big_memory.proofs.Lists.{length-put, part-put_apart, part-put_same, put-put_apart, put-put_same}
-use Rattle.mix_load.specs.Pieces.{numbered_pieces, puts}
+use Rattle.switch_frame.specs.Pieces.{puts}
+use Rattle.mix_load.specs.Pieces.{numbered_pieces}
 
 -- a piece behind the first elements leaves them
 pub take-put_behind : (n at : ℕ) (ys xs : List ℕ) → n ≤ at → at + length ys ≤ length xs → take n (put at ys xs) ≡ take n xs

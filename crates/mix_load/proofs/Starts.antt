@@ -1,5 +1,5 @@
 -- The program as it starts has what every loaded program has.
-use Rattle.std.proofs.Common.{◌≡◌, inl, subst, sym, ap, ◌∙◌, refl, ℕ, zero, suc, ◌+◌, ◌-◌, ◌*◌, ◌/◌, ◌≤◌, List, [], ◌∷◌, false, slice_index_or, length, take, drop, replicate, arith}
+use Rattle.std.proofs.Common.{◌≡◌, inl, subst, sym, ap, ◌∙◌, refl, ℕ, zero, suc, ◌+◌, ◌-◌, ◌/◌, ◌≤◌, List, [], ◌∷◌, false, slice_index_or, length, take, drop, replicate, arith}
 use Rattle.std.proofs.lemmas.List.{same_lists, places}
 use Rattle.byteorder.specs.Endian.{big_bytes}
 use Rattle.mix_bits.specs.declared.isa.Isa.{Isa}
@@ -10,12 +10,14 @@ use Rattle.big_memory.proofs.Lists.{length-put, part-put_apart}
 use Rattle.switch_frame.specs.declared.active.Active.{Active}
 use Rattle.switch_frame.specs.declared.program.Program.{Program}
 use Rattle.switch_frame.specs.Records.{isa_of}
+use Rattle.switch_frame.specs.Pieces.{Piece, puts}
+use Rattle.switch_frame.specs.Program.{blank, gate_longs, page_bytes, told, vectors, start_sp_of, IsProgram}
+use Rattle.big_memory.specs.Map.{exit_gate, host_vector_at}
 use Rattle.mix_load.specs.declared.image.Image.{Image}
-use Rattle.mix_load.specs.Pieces.{Piece, puts, rounded_up, with_pieces}
-use Rattle.mix_load.specs.Map.{blank, exit_gate_68k, gate_longs, gate_page, told, vectors}
-use Rattle.mix_load.specs.Start.{program_of, stack_pieces, start_file, start_memory, start_sp_of}
+use Rattle.mix_load.specs.Pieces.{rounded_up, with_pieces}
+use Rattle.mix_load.specs.Start.{program_of, stack_pieces, start_file, start_memory}
 use Rattle.mix_load.specs.Load.{no_image}
-use Rattle.mix_load.specs.Loaded.{IsImage, IsProgram}
+use Rattle.mix_load.specs.Loaded.{IsImage}
 
 pub length-blank : (n : ℕ) → length (blank n) ≡ n
 unfolding blank
@@ -68,8 +70,8 @@ vectors-below : (k : ℕ) → k ≤ 15 → AllBelow 0x2000 (vectors k)
 unfolding vectors
 vectors-below zero few = tt
 vectors-below (suc k) few =
-    let one : 0x1404 + 8 * k + 4 ≤ 0x2000 = omega (arith, few) in
-    let two : 0x1400 + 8 * k + 4 ≤ 0x2000 = omega (arith, few) in
+    let one : host_vector_at k + 4 + 4 ≤ 0x2000 = omega (arith, few) in
+    let two : host_vector_at k + 4 ≤ 0x2000 = omega (arith, few) in
     (one, (two, vectors-below k (omega (arith, few))))
 
 gate-below : (entry vector a5 len : ℕ) → AllBelow 0x2000 (gate_longs entry vector a5 len)
@@ -81,18 +83,18 @@ gate-below entry vector a5 len =
     let four : 0x1020 + 4 ≤ 0x2000 = omega arith in
     (one, (two, (three, (four, vectors-below 15 (omega arith)))))
 
-page-is : (entry vector a5 len : ℕ) (xs : List ℕ) → 0x2000 ≤ length xs → take 0x2000 xs ≡ blank 0x2000 → part 0x1000 0x1000 (puts (gate_longs entry vector a5 len) xs) ≡ gate_page entry vector a5 len
-unfolding gate_page
+page-is : (entry vector a5 len : ℕ) (xs : List ℕ) → 0x2000 ≤ length xs → take 0x2000 xs ≡ blank 0x2000 → part 0x1000 0x1000 (puts (gate_longs entry vector a5 len) xs) ≡ page_bytes entry vector a5 len
+unfolding page_bytes
 page-is entry vector a5 len xs most front =
     page-over 0x1000 0x1000 0x2000 (gate_longs entry vector a5 len) xs (blank 0x2000) refl (gate-below entry vector a5 len) most
     (omega (arith, length-blank 0x2000)) (front ∙ sym (take-all 0x2000))
 
 stack-length : (main : Isa) (len : ℕ) (xs : List ℕ) → 131072 ≤ len → length xs ≡ len → length (puts (stack_pieces main len) xs) ≡ length xs
-stack-length M68 len xs large is = length-put (len - 4) (big_bytes 4 exit_gate_68k) xs (omega (arith, large, is))
+stack-length M68 len xs large is = length-put (len - 4) (big_bytes 4 (exit_gate M68)) xs (omega (arith, large, is))
 stack-length Ppc len xs large is = refl
 
 stack-page : (main : Isa) (len : ℕ) (xs : List ℕ) → 131072 ≤ len → length xs ≡ len → part 0x1000 0x1000 (puts (stack_pieces main len) xs) ≡ part 0x1000 0x1000 xs
-stack-page M68 len xs large is = part-put_apart 0x1000 0x1000 (len - 4) (big_bytes 4 exit_gate_68k) xs (omega (arith, large, is)) (inl (omega (arith, large)))
+stack-page M68 len xs large is = part-put_apart 0x1000 0x1000 (len - 4) (big_bytes 4 (exit_gate M68)) xs (omega (arith, large, is)) (inl (omega (arith, large)))
 stack-page Ppc len xs large is = refl
 
 file-set : (main : Isa) (image : Image) (len : ℕ) → isa_of (start_file main image len) ≡ main
@@ -114,7 +116,7 @@ is_program main image large whole ram =
         vector = image.vector;
         page = stack-page main len (puts (gate_longs image.entry image.vector image.a5 len) image.ram.bytes) large gate_len
             ∙ (page-is image.entry image.vector image.a5 len image.ram.bytes (omega (arith, large)) (whole.front 0x2000 (omega arith))
-            ∙ ap (gate_page image.entry image.vector image.a5) (sym all_len));
+            ∙ ap (page_bytes image.entry image.vector image.a5) (sym all_len));
       };
       set = file-set main image len;
       start = ap (start_sp_of main) (sym all_len);

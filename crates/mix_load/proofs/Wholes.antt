@@ -5,10 +5,11 @@ use Rattle.big_memory.specs.Memory.{Memory, floor_of, with_bytes}
 use Rattle.big_memory.proofs.Lists.{length-put}
 use Rattle.mix_bits.specs.declared.isa.Isa.{Isa}
 use Rattle.rsrc_fork.specs.Resources.{Resource}
+use Rattle.switch_frame.specs.Program.{program_start}
+use Rattle.switch_frame.specs.Pieces.{puts}
 use Rattle.mix_load.specs.declared.header.CodeHeader.{CodeHeader}
 use Rattle.mix_load.specs.declared.image.Image.{Image}
-use Rattle.mix_load.specs.Map.{program_start}
-use Rattle.mix_load.specs.Pieces.{puts, rounded_up}
+use Rattle.mix_load.specs.Pieces.{rounded_up}
 use Rattle.mix_load.specs.Segments.{a5_of, entry_count, header_of, segment_pieces, segment_places, segments_end, segments_start, table_pieces, table_start}
 use Rattle.std.proofs.lemmas.Bool.Decides.{nat_tests}
 use Rattle.pef_head.specs.Search.{refused}

@@ -3,7 +3,7 @@ use Rattle.std.specs.Prelude.{ℕ, Bool, false, ◌&&◌, List, bytes_eq, Option
 use Rattle.pef_head.specs.Search.{least}
 use Rattle.toolbox.specs.Functions.{function_at}
 use Rattle.toolbox.specs.Names.{import_of}
-use Rattle.mix_load.specs.Map.{host_functions}
+use Rattle.big_memory.specs.Map.{host_functions}
 
 -- whether what a function is imported by is this library and name
 abbrev pub is_named : List ℕ → List ℕ → Option (List ℕ × List ℕ) → Bool

@@ -4,14 +4,15 @@ use Rattle.mix_bits.specs.declared.isa.Isa.{Isa}
 use Rattle.mix_bits.specs.declared.isa.Isa.TheVariants.{M68, Ppc}
 use Rattle.big_memory.specs.Memory.{floor_of, zeroed}
 use Rattle.switch_frame.specs.declared.program.Program.{Program}
+use Rattle.switch_frame.specs.Pieces.{piece}
+use Rattle.switch_frame.specs.Program.{program_start}
 use Rattle.mix_load.specs.declared.error.File.{File}
 use Rattle.mix_load.specs.declared.error.File.TheVariants.{Flat, Rsrc, Pef}
 use Rattle.mix_load.specs.declared.error.LoadError.{LoadError}
 use Rattle.mix_load.specs.declared.error.LoadError.TheVariants.{Empty}
 use Rattle.mix_load.specs.declared.files.Files.{Files}
 use Rattle.mix_load.specs.declared.image.Image.{Image}
-use Rattle.mix_load.specs.Pieces.{piece, with_pieces}
-use Rattle.mix_load.specs.Map.{program_start}
+use Rattle.mix_load.specs.Pieces.{with_pieces}
 use Rattle.mix_load.specs.Outcome.{◌>>=◌, unless}
 use Rattle.mix_load.specs.ForkImage.{too_large, with_fork}
 use Rattle.mix_load.specs.ContainerImage.{with_container}

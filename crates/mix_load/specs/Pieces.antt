@@ -1,25 +1,7 @@
--- What stands where in memory: pieces, put one after the other.
+-- Pieces in memory, and rounded addresses.
 use Rattle.std.specs.Prelude.{ℕ, zero, suc, ◌+◌, ◌-◌, ◌*◌, ◌/◌, List, [], ◌∷◌, ◌++◌}
-use Rattle.byteorder.specs.Endian.{big_bytes}
-use Rattle.big_memory.specs.Lists.{put}
 use Rattle.big_memory.specs.Memory.{Memory}
-
--- bytes, and the address of the first of them
-pub record Piece : Type 0 where
-  pub at : ℕ
-  pub bytes : List ℕ
-
-abbrev pub piece : ℕ → List ℕ → Piece
-piece at bytes = record { at = at; bytes = bytes }
-
--- a big-endian long
-abbrev pub long_piece : ℕ → ℕ → Piece
-long_piece at value = piece at (big_bytes 4 value)
-
--- bytes with these pieces put into them, the last one first
-abbrev pub puts : List Piece → List ℕ → List ℕ
-puts [] bytes = bytes
-puts (p ∷ ps) bytes = put p.at p.bytes (puts ps bytes)
+use Rattle.switch_frame.specs.Pieces.{Piece, piece, puts}
 
 -- memory with these pieces
 abbrev pub with_pieces : List Piece → Memory → Memory

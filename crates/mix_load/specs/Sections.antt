@@ -9,10 +9,11 @@ use Rattle.pef_reloc.specs.declared.error.RelocError.{RelocError}
 use Rattle.pef_reloc.specs.Additions.{Sources}
 use Rattle.pef_reloc.specs.Pattern.{unpacked}
 use Rattle.pef_reloc.specs.Program.{Relocated, relocated}
+use Rattle.big_memory.specs.Map.{host_vector_at}
+use Rattle.switch_frame.specs.Pieces.{Piece}
 use Rattle.mix_load.specs.declared.sections.Placement.{Placement}
 use Rattle.mix_load.specs.HostTable.{import_index}
-use Rattle.mix_load.specs.Map.{host_vector}
-use Rattle.mix_load.specs.Pieces.{Piece, numbered, numbered_pieces, rounded_to}
+use Rattle.mix_load.specs.Pieces.{numbered, numbered_pieces, rounded_to}
 
 -- where a section stands that follows an end: at a multiple of 16 and of its alignment, a power of two
 abbrev pub base_behind : SectionParts → ℕ → ℕ
@@ -66,7 +67,7 @@ section_pieces bytes start count = numbered_pieces (section_base bytes start) (c
 -- an import is the transition vector of a host function; a weak one that the host lacks is 0
 abbrev pub resolved : Bool → Option ℕ → Option ℕ
 resolved weak None = if weak then Some 0 else None
-resolved weak (Some k) = Some (host_vector k)
+resolved weak (Some k) = Some (host_vector_at k)
 
 abbrev pub import_address : ImportParts → Option ℕ
 import_address i = resolved i.weak (import_index i.library i.name)

@@ -9,9 +9,10 @@ use Rattle.std.specs.Prelude.{ℕ, zero, suc, ◌+◌, ◌*◌, ◌≤◌, ◌<�
 use Rattle.std.specs.Option.{option_map_or}
 use Rattle.rsrc_fork.specs.Fields.{word_at, long_at}
 use Rattle.rsrc_fork.specs.Resources.{Resource, bytes_of, named}
+use Rattle.switch_frame.specs.Pieces.{Piece, piece, long_piece}
+use Rattle.switch_frame.specs.Program.{program_start}
 use Rattle.mix_load.specs.declared.header.CodeHeader.{CodeHeader}
-use Rattle.mix_load.specs.Pieces.{Piece, piece, long_piece, numbered, rounded_up}
-use Rattle.mix_load.specs.Map.{program_start}
+use Rattle.mix_load.specs.Pieces.{numbered, rounded_up}
 
 -- 'CODE'
 abbrev pub code_kind : ℕ

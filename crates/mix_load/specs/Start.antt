@@ -11,9 +11,11 @@ use Rattle.big_memory.specs.Memory.{Memory, floor_of}
 use Rattle.switch_frame.specs.declared.active.Active.{Active}
 use Rattle.switch_frame.specs.declared.active.Active.TheVariants.{M68, Ppc}
 use Rattle.switch_frame.specs.declared.program.Program.{Program}
+use Rattle.switch_frame.specs.Pieces.{Piece, long_piece}
+use Rattle.switch_frame.specs.Program.{program_start, gate_longs, start_sp_of}
+use Rattle.big_memory.specs.Map.{exit_gate}
 use Rattle.mix_load.specs.declared.image.Image.{Image}
-use Rattle.mix_load.specs.Pieces.{Piece, long_piece, with_pieces, rounded_up}
-use Rattle.mix_load.specs.Map.{program_start, exit_gate_68k, exit_gate_ppc, gate_longs}
+use Rattle.mix_load.specs.Pieces.{with_pieces, rounded_up}
 
 -- the long at an address
 abbrev pub long_in : Memory → ℕ → ℕ
@@ -27,11 +29,6 @@ code_of image = if image.vector == 0 then program_start else long_in image.ram i
 abbrev pub toc_of : Image → ℕ
 toc_of image = if image.vector == 0 then 0 else long_in image.ram (image.vector + 4)
 
--- the stack pointer with which a main program starts, and is to end
-abbrev pub start_sp_of : Isa → ℕ → ℕ
-start_sp_of set_m68 len = len
-start_sp_of set_ppc len = len - 64
-
 -- 68K code has its A5, and its stack pointer at the address to which it returns
 abbrev pub start_m68 : Image → ℕ → Regs68
 start_m68 image len = record cleared_m68 {
@@ -43,7 +40,7 @@ start_m68 image len = record cleared_m68 {
 abbrev pub start_ppc : Image → ℕ → RegsPpc
 start_ppc image len = record cleared_ppc {
   gpr = slice_set (slice_set cleared_ppc.gpr 1 (len - 64)) 2 (toc_of image);
-  lr = exit_gate_ppc;
+  lr = exit_gate set_ppc;
   pc = code_of image;
 }
 
@@ -53,7 +50,7 @@ start_file set_ppc image len = Ppc (start_ppc image len)
 
 -- on top of the stack of 68K code stands the address to which it returns
 abbrev pub stack_pieces : Isa → ℕ → List Piece
-stack_pieces set_m68 len = long_piece (len - 4) exit_gate_68k ∷ []
+stack_pieces set_m68 len = long_piece (len - 4) (exit_gate set_m68) ∷ []
 stack_pieces set_ppc len = []
 
 abbrev pub start_memory : Isa → Image → ℕ → Memory

@@ -1,11 +1,11 @@
 //! The gate page.
 ghost use Rattle.std.specs.Prelude.{◌≡◌, ◌≤◌, length};
-ghost use Rattle.mix_load.specs.Map.{gate_longs, host_functions, vectors};
+ghost use Rattle.switch_frame.specs.Program.{gate_longs, vectors};
+ghost use Rattle.big_memory.specs.Map.{host_functions};
 ghost use Rattle.mix_load.specs.Pieces.{with_pieces};
 
 use crate::image::put_long;
-use crate::imports::HOST_VECTORS;
-use big_memory::Ram;
+use big_memory::{HOST_FUNCTIONS, Ram, host_address, host_vector};
 
 /// Where the gate page tells the entry of 68K code, the main vector of PowerPC code, the program's A5, and
 /// the size of RAM.
@@ -17,14 +17,8 @@ const PROGRAM_A5: u32 = 0x1028;
 
 const RAM_SIZE: u32 = 0x102C;
 
-/// The code address of the first of the host's functions, which are 4 apart.
-const HOST_CODE: u32 = 0x1800;
-
-/// How many functions the host has.
-const HOST_FUNCTIONS: u32 = 15;
-
 /// Puts the transition vectors of the first host functions, each a code address and no TOC.
-#[tactic(auto, unfolding(crate::specs::Map::vectors))]
+#[tactic(auto, unfolding(switch_frame::specs::Program::vectors))]
 fn put_vectors(ram: &mut Ram, count: u32)
     requires room { 0x2000 ≤ length ram.old.bytes }
     requires few { count ≤ 15 }
@@ -32,13 +26,13 @@ fn put_vectors(ram: &mut Ram, count: u32)
     ensures len { length ram.new.bytes ≡ length ram.old.bytes }
 {
     for k in 0..count {
-        put_long(ram, HOST_VECTORS + 8 * k, HOST_CODE + 4 * k);
-        put_long(ram, HOST_VECTORS + 4 + 8 * k, 0);
+        put_long(ram, host_vector(k), host_address(k));
+        put_long(ram, host_vector(k) + 4, 0);
     }
 }
 
 /// Puts the gate page of a program.
-#[tactic(auto, unfolding(crate::specs::Map::told))]
+#[tactic(auto, unfolding(switch_frame::specs::Program::told))]
 pub fn put_gate_page(ram: &mut Ram, entry: u32, vector: u32, a5: u32, len: u32)
     requires { 0x2000 ≤ length ram.old.bytes }
     ensures memory { ram.new ≡ with_pieces (gate_longs entry vector a5 len) ram.old }

@@ -8,12 +8,10 @@ ghost use Rattle.mix_load.specs.Outcome.{Finds};
 ghost use Rattle.mix_load.specs.Sections.{import_address, import_addresses, is_missing};
 
 use crate::error::LoadError;
+use big_memory::host_vector;
 use pef_head::{Import, Pef};
 use std::alloc::Global;
 use toolbox::import_index;
-
-/// Where the transition vectors of the host's functions stand, 8 bytes each.
-pub const HOST_VECTORS: u32 = 0x1400;
 
 /// The number of the host function of this library and name.
 #[tactic(auto, using(crate::proofs::HostNames::index_is, crate::proofs::HostNames::index_below))]
@@ -29,7 +27,7 @@ fn address_of(import: Import) -> Option<u32>
     ensures { result ≡ import_address (names import.entry) }
 {
     match function_index(import.library, import.name) {
-        Some(k) => Some(HOST_VECTORS + 8 * k),
+        Some(k) => Some(host_vector(k)),
         None if import.weak => Some(0),
         None => None,
     }

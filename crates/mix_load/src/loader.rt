@@ -1,8 +1,9 @@
 ghost use Rattle.std.specs.Prelude.{◌≡◌, ◌*◌, ◌%◌, ◌≤◌, IfErr, IfOk};
+ghost use Rattle.switch_frame.specs.Program.{IsProgram};
 ghost use Rattle.mix_load.specs.ContainerImage.{with_container};
 ghost use Rattle.mix_load.specs.ForkImage.{with_fork};
 ghost use Rattle.mix_load.specs.Load.{AreLoadable, IsSmall, load_of, no_image, with_file, with_flat};
-ghost use Rattle.mix_load.specs.Loaded.{IsImage, IsProgram};
+ghost use Rattle.mix_load.specs.Loaded.{IsImage};
 ghost use Rattle.mix_load.specs.Outcome.{Gives};
 
 use crate::container::add_container;

@@ -1,22 +1,17 @@
 //! Programs as they start.
 ghost use Rattle.std.specs.Prelude.{◌≡◌, ◌+◌, ◌^◌, ◌≤◌, length};
-ghost use Rattle.mix_load.specs.Loaded.{IsImage, IsProgram};
+ghost use Rattle.switch_frame.specs.Program.{IsProgram, start_sp_of};
+ghost use Rattle.mix_load.specs.Loaded.{IsImage};
 ghost use Rattle.mix_load.specs.Pieces.{with_pieces};
-ghost use Rattle.mix_load.specs.Start.{long_in, program_of, stack_pieces, start_file, start_m68, start_ppc, start_sp_of};
+ghost use Rattle.mix_load.specs.Start.{long_in, program_of, stack_pieces, start_file, start_m68, start_ppc};
 
 use crate::gate::put_gate_page;
 use crate::image::{Image, PROGRAM_START, put_long, round_up};
-use big_memory::Ram;
+use big_memory::{Ram, exit_gate};
 use m68_isa::Regs68;
 use mix_bits::{Isa, Size};
 use ppc_isa::RegsPpc;
 use switch_frame::{Active, Program};
-
-/// Where 68K code that ends goes on.
-const EXIT_GATE_68K: u32 = 0x1000;
-
-/// Where PowerPC code that ends goes on.
-const EXIT_GATE_PPC: u32 = 0x1010;
 
 /// How many bytes below the end of RAM the stack pointer of PowerPC code starts.
 const PPC_STACK: u32 = 64;
@@ -60,7 +55,7 @@ fn start_ppc(image: &Image, len: u32) -> RegsPpc
     };
     regs.gpr[1] = len - PPC_STACK;
     regs.gpr[2] = toc;
-    regs.lr = EXIT_GATE_PPC;
+    regs.lr = exit_gate(Isa::Ppc);
     regs.pc = code;
     regs
 }
@@ -86,7 +81,7 @@ fn put_stack(ram: &mut Ram, main: Isa, len: u32)
     ensures len { length ram.new.bytes ≡ length ram.old.bytes }
 {
     match main {
-        Isa::M68 => put_long(ram, len - 4, EXIT_GATE_68K),
+        Isa::M68 => put_long(ram, len - 4, exit_gate(Isa::M68)),
         Isa::Ppc => {}
     }
 }

@@ -3,3 +3,4 @@ pub mod Passed
 pub mod Callee
 pub mod Returned
 pub mod Views
+pub mod Laws

@@ -1,5 +1,5 @@
 -- What a caller passes to a call.
-use Rattle.std.specs.Prelude.{ℕ, List, slice_index, Result, Ok, Err}
+use Rattle.std.specs.Prelude.{ℕ, List, slice_index, Result, Ok}
 use Rattle.mix_bits.specs.Results.{◌>>=◌}
 use Rattle.mix_bits.specs.Addresses.{aligned, onward}
 use Rattle.mix_bits.specs.declared.isa.Isa.{Isa}

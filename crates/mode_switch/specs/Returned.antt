@@ -27,6 +27,12 @@ abbrev pub put_result : Memory → Signature → ℕ → Active → Result Given
 put_result m sig v (M68 r) = with_result_68k sig v r m >>= λ given. Ok (record { file = M68 given.regs; memory = given.memory })
 put_result m sig v (Ppc r) = Ok (record { file = Ppc (with_result_ppc sig v r); memory = m })
 
+-- what is given is left, in the same set, with memory changed only where it may be stored into; or all is left as it was
+abbrev pub Puts : {T : Type 0} → Result Given Access → Result T Access → Memory → Memory → Active → Active → Type 0
+Puts given (Ok done) old new before after =
+    (given ≡ Ok (record { file = after; memory = new })) × OnlyFree old new × (isa_of after ≡ isa_of before)
+Puts given (Err e) old new before after = (given ≡ Err e) × (new ≡ old) × (after ≡ before)
+
 -- the result, and the caller and memory with it
 pub record Returned : Type 0 where
   pub value : ℕ
@@ -39,7 +45,7 @@ given_back m sig callee caller =
     put_result m sig v caller >>= λ given.
     Ok (record { value = v; file = given.file; memory = given.memory })
 
--- a caller keeps its set, and memory changes only where it may be stored into; or all is left as it was
+-- the same for a call that answers the result
 abbrev pub GivesBack : Result Returned Access → Result ℕ Access → Memory → Memory → Active → Active → Type 0
 GivesBack all (Ok v) old new before after =
     (all ≡ Ok (record { value = v; file = after; memory = new })) × OnlyFree old new × (isa_of after ≡ isa_of before)

@@ -1,6 +1,9 @@
 -- Kept calls and what is passed to them, as the definitions have them.
 use Rattle.std.specs.Prelude.{Result, Ok, Err}
+use Rattle.mix_bits.specs.declared.fault.Fault.{Fault}
 use Rattle.big_memory.specs.declared.refusals.Access.{Access}
+use Rattle.proc_info.specs.declared.sig.Sig.{Sig}
+use Rattle.proc_info.specs.Signature.{Signature}
 use Rattle.proc_info.specs.Views.{signature}
 use Rattle.args_m68.specs.Gather.{words_of}
 use Rattle.mode_switch.specs.declared.wanted.Call.{Call}
@@ -19,6 +22,14 @@ abbrev pub wanted_of : Wanted → Want
 wanted_of (Calls call) = IsCall (crossing call)
 wanted_of (Jumps target) = IsJump target
 wanted_of (Refuses fault) = IsRefusal fault
+
+abbrev pub told : Result Wanted Fault → Result Want Fault
+told (Ok wanted) = Ok (wanted_of wanted)
+told (Err fault) = Err fault
+
+abbrev pub signed_kept : Result Sig Fault → Result Signature Fault
+signed_kept (Ok sig) = Ok (signature sig)
+signed_kept (Err fault) = Err fault
 
 abbrev pub passage : Passed → Passage
 passage p = record { caller = p.caller; entry = p.entry; args = words_of p.args }

@@ -118,9 +118,12 @@ takes_68k m r records =
     taken r.pc selector (choice records set_m68 selector) >>= λ rec.
     goes_by rec.isa r.pc rec selector
 
--- a descriptor stands at pc
+-- the descriptor stands at pc
+abbrev pub wants_desc_68k : Memory → Regs68 → Result Want Fault
+wants_desc_68k m r = described r.pc r.pc (desc_of m r.pc) >>= λ records. takes_68k m r records
+
 abbrev pub wants_68k : Memory → Regs68 → Want
-wants_68k m r = settled (described r.pc r.pc (desc_of m r.pc) >>= λ records. takes_68k m r records)
+wants_68k m r = settled (wants_desc_68k m r)
 
 -- PowerPC code, with a universal pointer and a procInfo
 
@@ -154,12 +157,12 @@ abbrev pub takes_ppc : RegsPpc → ℕ → ℕ → List Rec → Result Want Faul
 takes_ppc r pointer info records =
     signed r.pc pointer (signature_of (first_info records)) >>= λ sig. takes_by r pointer info records (selector_ppc sig r)
 
-abbrev pub wants_desc : Memory → RegsPpc → ℕ → ℕ → Result Want Fault
-wants_desc m r pointer info = described r.pc pointer (desc_of m pointer) >>= λ records. takes_ppc r pointer info records
+abbrev pub wants_desc_ppc : Memory → RegsPpc → ℕ → ℕ → Result Want Fault
+wants_desc_ppc m r pointer info = described r.pc pointer (desc_of m pointer) >>= λ records. takes_ppc r pointer info records
 
 -- the word at the pointer tells which of them stands there
 abbrev pub wants_word : Memory → RegsPpc → ℕ → ℕ → Result ℕ Access → Result Want Fault
-wants_word m r pointer info (Ok word) = if word == 0xAAFE then wants_desc m r pointer info else wants_raw r pointer info
+wants_word m r pointer info (Ok word) = if word == 0xAAFE then wants_desc_ppc m r pointer info else wants_raw r pointer info
 wants_word m r pointer info (Err access) = Err (bad_desc r.pc pointer IsAccess)
 
 abbrev pub wants_ppc : Memory → RegsPpc → ℕ → ℕ → Want

@@ -4,8 +4,19 @@
 //! suspended callers.
 #![tactic(auto)]
 
+mod callee;
+mod code_68k;
+mod code_ppc;
+mod laws;
 mod passed;
+mod records;
+mod returned;
 mod wanted;
 
-pub use passed::{Entry, Passed};
+pub use callee::{below, deliver, wanted_sp};
+pub use code_68k::wants_68k;
+pub use code_ppc::wants_ppc;
+pub use laws::switch_laws;
+pub use passed::{Entry, Passed, pass};
+pub use returned::give_back;
 pub use wanted::{Call, Wanted};

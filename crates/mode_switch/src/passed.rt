@@ -1,5 +1,19 @@
 // What a caller passes to a call.
-use args_m68::Words;
+ghost use Rattle.std.specs.Prelude.{◌≡◌, IfOk};
+ghost use Rattle.proc_info.specs.Views.{signature};
+ghost use Rattle.args_m68.specs.Gather.{answered as values_answered};
+ghost use Rattle.switch_frame.specs.Records.{isa_of};
+ghost use Rattle.mode_switch.specs.Passed.{behind as behind_lem, entry_at as entry_at_lem, gathered, passed};
+ghost use Rattle.mode_switch.specs.Views.{answered, crossing};
+
+use crate::Call;
+use args_m68::{Words, gather68};
+use args_ppc::gather_ppc;
+use big_memory::{Access, Ram};
+use m68_isa::Regs68;
+use mix_bits::{Isa, aligned, onward};
+use ppc_isa::RegsPpc;
+use proc_info::Sig;
 use switch_frame::Active;
 
 /// Where a callee begins.
@@ -19,4 +33,73 @@ pub struct Passed {
     pub entry: Entry,
     /// The arguments, each cut to its size.
     pub args: Words,
+}
+
+/// What a caller passes to a call, or the first refusal: the return address of 68K code, the transition
+/// vector of PowerPC code, and the arguments are loaded in this order.
+pub fn pass(ram: &Ram, active: &Active, call: &Call) -> Result<Passed, Access>
+    ensures exact { answered result ≡ passed ram.now active.now (crossing call.now) }
+    ensures count { IfOk result (λ p. p.args.count ≡ call.now.sig.count) }
+    ensures caller { IfOk result (λ p. isa_of p.caller ≡ isa_of active.now) }
+{
+    let caller = behind(ram, active)?;
+    let entry = entry_at(ram, call.kind.callee(), call.target)?;
+    let args = gather(ram, active, &call.sig)?;
+    Ok(Passed {
+        caller,
+        entry,
+        args,
+    })
+}
+
+/// The caller as it goes on behind the call.
+fn behind(ram: &Ram, active: &Active) -> Result<Active, Access>
+    ensures exact { result ≡ behind_lem ram.now active.now }
+    ensures set { IfOk result (λ caller. isa_of caller ≡ isa_of active.now) }
+{
+    match active {
+        Active::M68(regs) => {
+            let pc = ram.load_long(regs.a[7])?;
+            Ok(Active::M68(Regs68 { pc, ..*regs }))
+        }
+        Active::Ppc(regs) => Ok(Active::Ppc(RegsPpc {
+            pc: aligned(regs.lr),
+            ..*regs
+        })),
+    }
+}
+
+/// Where a callee of a set begins.
+fn entry_at(ram: &Ram, callee: Isa, target: u32) -> Result<Entry, Access>
+    ensures { result ≡ entry_at_lem ram.now callee target }
+{
+    match callee {
+        Isa::M68 => Ok(Entry {
+            code: target,
+            toc: 0,
+        }),
+        Isa::Ppc => {
+            let code = ram.load_long(target)?;
+            let toc = ram.load_long(onward(target, 4))?;
+            Ok(Entry { code, toc })
+        }
+    }
+}
+
+/// The arguments of a call.
+fn gather(ram: &Ram, active: &Active, sig: &Sig) -> Result<Words, Access>
+    ensures values { values_answered result ≡ gathered ram.now active.now (signature sig.now) }
+    ensures count { IfOk result (λ words. words.count ≡ sig.now.count) }
+{
+    match active {
+        Active::M68(regs) => gather68(sig, regs, ram),
+        Active::Ppc(regs) => {
+            let words = gather_ppc(sig, regs, ram)?;
+            let value = words.value;
+            Ok(Words {
+                count: words.count,
+                value,
+            })
+        }
+    }
 }

@@ -22,7 +22,7 @@ found-before r caller true rs =
     ∙ ap (λ o. record { first = Some r; native = (if is_isa r.isa Ppc then Some r else head_of (filter (λ c. is_isa c.isa Ppc) rs)); own = o }) (head-filter (is_isa r.isa caller) r (filter (λ c. is_isa c.isa caller) rs))
 
 -- the first of two lists that has a record, by their first records
-head-first_of : (rs others : List Rec) → head_of (first_of rs others) ≡ or_else (head_of rs) (head_of others)
+pub head-first_of : (rs others : List Rec) → head_of (first_of rs others) ≡ or_else (head_of rs) (head_of others)
 head-first_of [] others = refl
 head-first_of (r ∷ rs) others = refl
 

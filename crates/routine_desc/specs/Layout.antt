@@ -1,6 +1,6 @@
 -- The layout of a routine descriptor, as this project takes it
 -- (Inside Macintosh: PowerPC System Software, chapter 2).
-use Rattle.std.specs.Prelude.{ℕ, ◌+◌, ◌/◌, ◌%◌, ◌^◌, ◌==◌, nat_lt, Bool, not, ◌&&◌, if◌then◌else◌, drop, Option, Some, None}
+use Rattle.std.specs.Prelude.{ℕ, ◌+◌, ◌/◌, ◌%◌, ◌^◌, ◌==◌, nat_lt, Bool, not, ◌&&◌, ◌||◌, if◌then◌else◌, drop, Option, Some, None}
 use Rattle.byteorder.specs.Endian.{big_number}
 use Rattle.mix_bits.specs.declared.isa.Isa.{Isa}
 use Rattle.mix_bits.specs.declared.isa.Isa.TheVariants.{M68, Ppc}
@@ -16,6 +16,10 @@ number_at m a n = big_number n (drop a m.bytes)
 -- whether flags have one of a power of two
 abbrev pub has_flag : ℕ → ℕ → Bool
 has_flag flags flag = flags / flag % 2 == 1
+
+-- the flags that have names: relative, needs preparing, use native, don't pass the selector, default, index
+abbrev pub is_flag : ℕ → Bool
+is_flag flag = (flag == 1) || (flag == 2) || (flag == 4) || (flag == 8) || (flag == 16) || (flag == 32)
 
 -- no record needs preparing or holds an index, and there are no other flags
 abbrev pub are_good_flags : ℕ → Bool

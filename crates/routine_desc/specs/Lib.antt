@@ -3,3 +3,4 @@ pub mod Codes
 pub mod Read
 pub mod Choice
 pub mod Build
+pub mod Laws

@@ -3,6 +3,7 @@ ghost use Rattle.std.specs.Prelude.{◌≡◌, ◌≤◌};
 ghost use Rattle.routine_desc.specs.Read.{records_of};
 ghost use Rattle.routine_desc.specs.Choice.{choice, chosen_of, found_before, is_default as is_default_lem, is_isa as is_isa_lem, matches_selector, scan_of};
 
+use super::flags::RoutineFlags;
 use super::record::{Desc, Rec};
 use mix_bits::Isa;
 
@@ -93,7 +94,7 @@ fn chosen(found: Found) -> Option<Rec>
     match found.first {
         None => None,
         Some(first) => {
-            if first.flags / 4 % 2 == 1 && found.native.is_some() {
+            if RoutineFlags::USE_NATIVE.is_in(first.flags) && found.native.is_some() {
                 found.native
             } else if found.own.is_some() {
                 found.own
@@ -118,7 +119,7 @@ fn matches(rec: &Rec, selector: Option<u32>) -> bool
 fn is_default(rec: &Rec) -> bool
     ensures { result ≡ is_default_lem rec.now }
 {
-    rec.flags / 16 % 2 == 1
+    RoutineFlags::DEFAULT.is_in(rec.flags)
 }
 
 /// Whether two sets are the same.

@@ -1,14 +1,15 @@
 // The flags of a routine record.
-ghost use Rattle.std.specs.Prelude.{⊤, [], ◌∷◌, codes};
+ghost use Rattle.std.specs.Prelude.{◌≡◌, true, ⊤, [], ◌∷◌, codes};
+ghost use Rattle.routine_desc.specs.Layout.{has_flag, is_flag};
 
 use bitflags::{Flag, Flags, bitflag_items};
 
 /// The routine flags of a record (Inside Macintosh: PowerPC System Software, chapter 2).
 #[derive(Clone, Copy, PartialEq, Eq, Debug)]
-pub struct RoutineFlags(u16);
+pub struct RoutineFlags(u32);
 
 bitflag_items! {
-    impl RoutineFlags: u16 {
+    impl RoutineFlags: u32 {
         /// The procDescriptor is counted from the descriptor.
         const RELATIVE = 1;
         /// The routine has to be prepared first, which this host does not do.
@@ -24,8 +25,18 @@ bitflag_items! {
     }
 }
 
+impl RoutineFlags {
+    /// Whether this one flag is among the flags of a record.
+    pub fn is_in(self, flags: u32) -> bool
+        requires { is_flag self.0 ≡ true }
+        ensures { result ≡ has_flag flags self.0 }
+    {
+        RoutineFlags::from_bits_retain(flags).contains(self)
+    }
+}
+
 impl Flags for RoutineFlags {
-    type Bits = u16;
+    type Bits = u32;
 
     ghost exact = { ⊤ };
 
@@ -38,11 +49,11 @@ impl Flags for RoutineFlags {
         RoutineFlags::FLAGS
     }
 
-    fn bits(&self) -> u16 {
+    fn bits(&self) -> u32 {
         self.0
     }
 
-    fn from_bits_retain(bits: u16) -> RoutineFlags {
+    fn from_bits_retain(bits: u32) -> RoutineFlags {
         RoutineFlags(bits)
     }
 }

@@ -3,6 +3,7 @@
 
 mod choice;
 mod flags;
+mod laws;
 mod making;
 mod read;
 mod record;
@@ -11,6 +12,7 @@ mod tests;
 
 pub use choice::choose;
 pub use flags::RoutineFlags;
+pub use laws::desc_laws;
 pub use making::build;
 pub use read::read_desc;
 pub use record::{BadDesc, Desc, Rec};

@@ -7,8 +7,10 @@ ghost use Rattle.big_memory.specs.Memory.{in_memory};
 ghost use Rattle.routine_desc.specs.Layout.{are_good_flags, bad_header, bad_record, isa_of, number_at, record_at, target_of};
 ghost use Rattle.routine_desc.specs.Read.{FillsRecords, Reads, ReadsBody, all_alike as all_alike_lem, is_alike as is_alike_lem, is_dispatched_code, read_record as read_record_lem};
 
+use super::flags::RoutineFlags;
 use super::record::{BadDesc, Desc, Rec};
 use big_memory::Ram;
+use bitflags::Flags;
 use mix_bits::{Isa, Size};
 use proc_info::read;
 
@@ -125,7 +127,7 @@ fn isa(code: u32) -> Isa
 fn target(a: u32, flags: u32, proc: u32) -> u32
     ensures { result ≡ target_of a flags proc }
 {
-    if flags % 2 == 1 {
+    if RoutineFlags::RELATIVE.is_in(flags) {
         a.wrapping_add(proc)
     } else {
         proc
@@ -136,7 +138,7 @@ fn target(a: u32, flags: u32, proc: u32) -> u32
 fn have_meaning(flags: u32) -> bool
     ensures { result ≡ are_good_flags flags }
 {
-    flags < 0x20 && flags / 2 % 2 != 1
+    flags < RoutineFlags::INDEX.bits() && !RoutineFlags::NEEDS_PREPARING.is_in(flags)
 }
 
 /// Fills the list with the records of a descriptor, from the first one on.

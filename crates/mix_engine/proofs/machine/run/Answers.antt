@@ -1,34 +1,27 @@
-use Rattle.std.proofs.Common.{length, arith, refl, ◌∙◌}
-use Rattle.mixed_machine.specs.Machine.{callers_of, flat}
-use Rattle.mixed_machine.proofs.Events.{going-none, nested-back, nested-stops}
-use Rattle.mix_engine.proofs.Looping.{stays-here}
+use Rattle.std.proofs.Common.{◌≡◌, ◌<◌, suc, List, ◌∷◌, length, ap, arith}
+use Rattle.switch_frame.specs.Records.{Record}
+use Rattle.mix_engine.proofs.Ways.{came, stopped, whole-back, whole-begins, whole-stopped}
 use Rattle.mix_engine.proofs.machine.run.Goals as goal
 
 pub turns-init : goal.turns-init
-turns-init g c =
-    record {
-      whole = c.requires;
-      left = refl;
-      calm = refl;
-      going = going-none 0 c.args.steps (flat c.args.m.now.body c.args.m.now.active) _ (stays-here 0 (callers_of c.args.m.now.body) (omega arith));
-    }
+turns-init g c = whole-begins c.args.steps _ c.requires
+
+pub run_set-requires : goal.run_set-requires
+run_set-requires g c = c.turns.invariant.whole
 
 pub turns-preserved : goal.turns-preserved
 turns-preserved g c =
-    let i = c.turns.invariant in
-    record {
-      whole = c.in-Back.ensures.whole;
-      left = c.in-Back.ensures.left ∙ i.left;
-      calm = c.in-Back.ensures.calm ∙ i.calm;
-      going = nested-back (length (callers_of c.turns.m.body)) 0 c.args.steps c.turns.left c.run_set.new.steps (flat c.args.m.now.body c.args.m.now.active) (flat c.turns.m.body c.turns.m.active)
-          (flat c.run_set.new.body c.in-Back.file) _ _ _ (omega arith) i.going c.in-Back.ensures.run (stays-here 0 (callers_of c.run_set.new.body) (omega arith));
-    }
+    let turn = c.in-Back.ensures in
+    whole-back _ _ _ _ _ _ _ c.turns.invariant (came _ _ _ _ _ turn.run turn.whole turn.fewer turn.blames turn.devices)
 
-pub returns-in-Stop-clause-run : goal.returns-in-Stop-clause-run
-returns-in-Stop-clause-run g c =
-    let i = c.turns.invariant in
-    record {
-      left = c.run_set.new.steps;
-      stops = nested-stops (length (callers_of c.turns.m.body)) 0 c.args.steps c.turns.left c.run_set.new.steps (flat c.args.m.now.body c.args.m.now.active)
-          (flat c.turns.m.body c.turns.m.active) (flat c.run_set.new.body c.in-Stop.file) _ _ _ c.in-Stop.stop (omega arith) i.going c.in-Stop.ensures.run;
-    }
+fewer-outside : (old new : List Record) (r : Record) → old ≡ r ∷ new → length new < length old
+fewer-outside old new r is = let one : length old ≡ suc (length new) = ap length is in omega (arith, one)
+
+pub turns-smaller : goal.turns-smaller
+turns-smaller g c = fewer-outside _ _ _ c.in-Back.ensures.callers.1
+
+pub returns-in-Stop : goal.returns-in-Stop
+returns-in-Stop g c =
+    let turn = c.in-Stop.ensures in
+    let end = whole-stopped _ _ _ _ _ _ _ _ c.turns.invariant (stopped _ _ _ _ _ _ turn.run turn.whole turn.fewer turn.blames turn.devices) in
+    record { whole = end.whole; run = record { left = c.run_set.new.steps; fewer = end.fewer; run = end.stops }; blames = end.blames; devices = end.devices }

@@ -2,7 +2,7 @@
 use Rattle.std.proofs.Common.{ℕ, ap, ◌∙◌}
 use Rattle.byteorder.specs.Endian.{big_bytes}
 use Rattle.big_memory.specs.Memory.{Memory, with_bytes}
-use Rattle.mix_load.specs.Map.{told}
+use Rattle.switch_frame.specs.Program.{told}
 use Rattle.mix_load.proofs.gate.put_gate_page.Goals as goal
 
 abbrev longed : ℕ → ℕ → Memory → Memory

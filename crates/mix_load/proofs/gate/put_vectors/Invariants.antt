@@ -1,5 +1,5 @@
 use Rattle.std.proofs.Common.{◌≡◌, length}
-use Rattle.mix_load.specs.Map.{vectors}
+use Rattle.switch_frame.specs.Program.{vectors}
 use Rattle.mix_load.specs.Pieces.{with_pieces}
 use Rattle.mix_load.proofs.gate.put_vectors.Given as goal
 

@@ -1,0 +1,89 @@
+// What 68K code wants.
+ghost use Rattle.std.specs.Prelude.{◌≡◌, ◌≤◌, slice_index};
+ghost use Rattle.proc_info.specs.Views.{signature};
+ghost use Rattle.routine_desc.specs.Read.{records_of};
+ghost use Rattle.mode_switch.specs.Views.{told, wanted_of};
+ghost use Rattle.mode_switch.specs.Wanted.{Means, even_sp as even_sp_lem, goes_by as goes_by_lem, loaded_or_fault, selector_68k as selector_68k_lem, takes_68k as takes_68k_lem, wants_desc_68k, wants_68k as wants_68k_lem};
+
+use crate::Wanted;
+use crate::records::{bad_desc, calls_record, first_info, settle, signed, taken};
+use args_m68::select68;
+use big_memory::Ram;
+use m68_isa::Regs68;
+use mix_bits::{Fault, FaultKind, Isa};
+use proc_info::Sig;
+use routine_desc::{Desc, Rec, choose, read_desc};
+use switch_frame::Kind;
+
+/// What 68K code wants at a routine descriptor at its pc, with the return address at A7. Refusals come in
+/// this order: the descriptor's, an odd A7, the selector's bytes, no record.
+pub fn wants_68k(ram: &Ram, regs: &Regs68) -> Wanted
+    ensures exact { wanted_of result ≡ wants_68k_lem ram.now regs.now }
+    ensures meant { Means Isa.M68 (wanted_of result) }
+{
+    settle(wants_desc(ram, regs))
+}
+
+/// What it wants at the descriptor.
+fn wants_desc(ram: &Ram, regs: &Regs68) -> Result<Wanted, Fault>
+    ensures { told result ≡ wants_desc_68k ram.now regs.now }
+{
+    match read_desc(ram, regs.pc) {
+        Ok(desc) => takes(ram, regs, &desc),
+        Err(bad) => Err(bad_desc(regs.pc, regs.pc, bad)),
+    }
+}
+
+/// What it wants of a descriptor.
+fn takes(ram: &Ram, regs: &Regs68, desc: &Desc) -> Result<Wanted, Fault>
+    requires { desc.now.count ≤ 64 }
+    ensures { told result ≡ takes_68k_lem ram.now regs.now (records_of desc.now) }
+{
+    even_sp(regs)?;
+    let info = first_info(&desc.recs[..desc.count as usize]);
+    let sig = signed(regs.pc, regs.pc, info)?;
+    let selector = selector(ram, regs, &sig)?;
+    let rec = taken(regs.pc, selector, choose(desc, Isa::M68, selector))?;
+    goes_by(regs.pc, &rec, selector)
+}
+
+/// An odd A7 is refused.
+fn even_sp(regs: &Regs68) -> Result<(), Fault>
+    ensures { result ≡ even_sp_lem regs.now.pc (slice_index regs.now.a 7) }
+{
+    let sp = regs.a[7];
+    if sp % 2 == 1 {
+        Err(Fault {
+            kind: FaultKind::Odd,
+            pc: regs.pc,
+            detail: sp,
+            also: 0,
+        })
+    } else {
+        Ok(())
+    }
+}
+
+/// The selector of a dispatched call.
+fn selector(ram: &Ram, regs: &Regs68, sig: &Sig) -> Result<Option<u32>, Fault>
+    ensures { result ≡ loaded_or_fault regs.now.pc (selector_68k_lem (signature sig.now) regs.now ram.now) }
+{
+    if sig.conv.is_dispatched() {
+        match select68(sig, regs, ram) {
+            Ok(selector) => Ok(Some(selector)),
+            Err(access) => Err(access.fault(regs.pc)),
+        }
+    } else {
+        Ok(None)
+    }
+}
+
+/// A record of 68K code is gone on with, and one of PowerPC code is called.
+fn goes_by(pc: u32, rec: &Rec, selector: Option<u32>) -> Result<Wanted, Fault>
+    ensures { told result ≡ goes_by_lem rec.now.isa pc rec.now selector }
+{
+    match rec.isa {
+        Isa::M68 => Ok(Wanted::Jumps(rec.target)),
+        Isa::Ppc => calls_record(pc, pc, Kind::M68ToPpc, rec, selector),
+    }
+}

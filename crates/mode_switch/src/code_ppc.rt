@@ -1,0 +1,138 @@
+// What PowerPC code wants.
+ghost use Rattle.std.specs.Prelude.{◌≡◌, ◌≤◌};
+ghost use Rattle.proc_info.specs.Signature.{signature_of};
+ghost use Rattle.proc_info.specs.Views.{signature};
+ghost use Rattle.routine_desc.specs.Read.{records_of};
+ghost use Rattle.mix_bits.specs.declared.size.Size.TheVariants.{Two};
+ghost use Rattle.big_memory.specs.Memory.{loaded};
+ghost use Rattle.mode_switch.specs.Views.{signed_kept, told, wanted_of};
+ghost use Rattle.mode_switch.specs.Wanted.{Means, kind_into as kind_into_lem, matched as matched_lem, raw_signature as raw_signature_lem, selector_ppc as selector_ppc_lem, takes_ppc as takes_ppc_lem, wants_desc_ppc, wants_ppc as wants_ppc_lem, wants_raw as wants_raw_lem, wants_word as wants_word_lem};
+
+use crate::records::{bad_desc, calls_record, first_info, settle, signed, taken};
+use crate::{Call, Wanted};
+use args_ppc::select_ppc;
+use big_memory::Ram;
+use mix_bits::{Fault, FaultKind, Isa};
+use ppc_isa::RegsPpc;
+use proc_info::{Sig, read};
+use routine_desc::{BadDesc, Desc, choose, read_desc};
+use switch_frame::Kind;
+
+/// The word with which a routine descriptor begins.
+const DESCRIPTOR: u32 = 0xAAFE;
+
+/// What PowerPC code wants by CallUniversalProc with a universal pointer and a procInfo. Refusals come in
+/// this order: the word at the pointer outside memory; then for 68K code there the procInfo without a
+/// signature, or for a descriptor there the descriptor's, no record, another procInfo than the record's.
+pub fn wants_ppc(ram: &Ram, regs: &RegsPpc, pointer: u32, info: u32) -> Wanted
+    ensures exact { wanted_of result ≡ wants_ppc_lem ram.now regs.now pointer info }
+    ensures meant { Means Isa.Ppc (wanted_of result) }
+{
+    settle(wants_word(ram, regs, pointer, info))
+}
+
+/// What it wants by the word at the pointer.
+fn wants_word(ram: &Ram, regs: &RegsPpc, pointer: u32, info: u32) -> Result<Wanted, Fault>
+    ensures { told result ≡ wants_word_lem ram.now regs.now pointer info (loaded ram.now pointer Two) }
+{
+    match ram.load_word(pointer) {
+        Ok(word) => {
+            if word == DESCRIPTOR {
+                wants_desc(ram, regs, pointer, info)
+            } else {
+                wants_raw(regs, pointer, info)
+            }
+        }
+        Err(_) => Err(bad_desc(regs.pc, pointer, BadDesc::Access)),
+    }
+}
+
+/// What it wants of raw 68K code.
+fn wants_raw(regs: &RegsPpc, pointer: u32, info: u32) -> Result<Wanted, Fault>
+    ensures { told result ≡ wants_raw_lem regs.now pointer info }
+{
+    let sig = raw_signature(regs.pc, info)?;
+    Ok(Wanted::Calls(Call {
+        kind: Kind::PpcToM68,
+        info,
+        sig,
+        selector: selector(regs, &sig),
+        passes: sig.conv.is_dispatched(),
+        target: pointer,
+    }))
+}
+
+/// The signature of the procInfo.
+fn raw_signature(pc: u32, info: u32) -> Result<Sig, Fault>
+    ensures { signed_kept result ≡ raw_signature_lem pc info (signature_of info) }
+{
+    match read(info) {
+        Ok(sig) => Ok(sig),
+        Err(bad) => Err(Fault {
+            kind: FaultKind::Info,
+            pc,
+            detail: info,
+            also: bad.code(),
+        }),
+    }
+}
+
+/// What it wants at a descriptor.
+fn wants_desc(ram: &Ram, regs: &RegsPpc, pointer: u32, info: u32) -> Result<Wanted, Fault>
+    ensures { told result ≡ wants_desc_ppc ram.now regs.now pointer info }
+{
+    match read_desc(ram, pointer) {
+        Ok(desc) => takes(regs, pointer, info, &desc),
+        Err(bad) => Err(bad_desc(regs.pc, pointer, bad)),
+    }
+}
+
+/// What it wants of a descriptor.
+fn takes(regs: &RegsPpc, pointer: u32, info: u32, desc: &Desc) -> Result<Wanted, Fault>
+    requires { desc.now.count ≤ 64 }
+    ensures { told result ≡ takes_ppc_lem regs.now pointer info (records_of desc.now) }
+{
+    let first = first_info(&desc.recs[..desc.count as usize]);
+    let sig = signed(regs.pc, pointer, first)?;
+    let selector = selector(regs, &sig);
+    let rec = taken(regs.pc, selector, choose(desc, Isa::Ppc, selector))?;
+    matched(regs.pc, info, rec.info)?;
+    calls_record(regs.pc, pointer, kind_into(rec.isa), &rec, selector)
+}
+
+/// The selector of a dispatched call.
+fn selector(regs: &RegsPpc, sig: &Sig) -> Option<u32>
+    ensures { result ≡ selector_ppc_lem (signature sig.now) regs.now }
+{
+    if sig.conv.is_dispatched() {
+        Some(select_ppc(sig, regs))
+    } else {
+        None
+    }
+}
+
+/// Another procInfo than the record's is refused.
+fn matched(pc: u32, info: u32, found: u32) -> Result<(), Fault>
+    ensures { result ≡ matched_lem pc info found }
+{
+    if info == found {
+        Ok(())
+    } else {
+        Err(Fault {
+            kind: FaultKind::Mismatch,
+            pc,
+            detail: info,
+            also: found,
+        })
+    }
+}
+
+/// The kind of a call from PowerPC code into a set.
+fn kind_into(callee: Isa) -> Kind
+    ensures { result ≡ kind_into_lem callee }
+{
+    match callee {
+        Isa::M68 => Kind::PpcToM68,
+        Isa::Ppc => Kind::PpcToPpc,
+    }
+}
