@@ -1,0 +1,11 @@
+pub mod Changed
+pub mod Instructions
+pub mod Codes
+pub mod Over
+pub mod Amid
+pub mod Hosts
+pub mod Leavings
+pub mod Doing
+pub mod Framing
+pub mod Entering
+pub mod Returning

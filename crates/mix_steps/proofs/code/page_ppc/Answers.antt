@@ -1,0 +1,8 @@
+use Rattle.std.proofs.Common.{sym, ◌∙◌}
+use Rattle.mix_steps.proofs.Codes.{fetch-ppc}
+use Rattle.mix_steps.proofs.code.page_ppc.Goals as goal
+
+pub returns-in-None : goal.returns-in-None
+returns-in-None c =
+    rw c.refused-in-None.ensures.code
+    (fetch-ppc c.refused-in-None.new.fault c.args.body.now c.args.regs.now c.requires c.if-pc-ne0.false (sym c.is_gate.ensures ∙ c.if-is_gate.false) (sym c.in-None.ensures.is) c.refused-in-None.ensures.cell)

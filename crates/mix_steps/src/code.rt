@@ -1,0 +1,134 @@
+// What code of the active set does by itself.
+ghost use Rattle.std.specs.Prelude.{◌≡◌, true};
+ghost use Rattle.big_memory.specs.Faults.{fault_at};
+ghost use Rattle.big_memory.specs.Map.{in_gate_page as in_gate_page_of};
+ghost use Rattle.mix_bits.specs.declared.isa.Isa.TheVariants.{M68 as set_m68, Ppc as set_ppc};
+ghost use Rattle.switch_frame.specs.declared.active.Active.TheVariants.{M68, Ppc};
+ghost use Rattle.switch_frame.specs.Records.{isa_of};
+ghost use Rattle.mixed_machine.specs.Machine.{IsWhole};
+ghost use Rattle.mix_steps.specs.Cores.{Codes};
+
+use crate::cores::{core_68k, core_ppc};
+use big_memory::{Did, host_code, in_gate_page, is_gate};
+use m68_isa::Regs68;
+use mix_bits::{Fault, FaultKind};
+use mixed_machine::Body;
+use ppc_isa::RegsPpc;
+use switch_frame::Active;
+
+/// What the code at pc did. Beside it stands a cell for a fault.
+#[derive(Clone, Copy, PartialEq)]
+pub enum Code {
+    /// The instruction is done.
+    Next,
+    /// The host is to go on, with the number in the cell's detail: a word of line A in 68K code, the number
+    /// of a host function in PowerPC code. Nothing has changed.
+    Leave,
+    /// The fault in the cell. Nothing has changed.
+    Stop,
+    /// A gate stands at pc. Nothing has changed.
+    Gate,
+}
+
+/// The instruction at pc, or why the host is to go on.
+#[inline(always)]
+pub fn run_code(body: &mut Body, active: &mut Active, fault: &mut Fault) -> Code
+    requires { IsWhole body.old (isa_of active.old) }
+    ensures { Codes result fault.new active.old active.new body.old body.new }
+{
+    match active {
+        Active::M68(regs) => code_68k(body, regs, fault),
+        Active::Ppc(regs) => code_ppc(body, regs, fault),
+    }
+}
+
+#[inline(always)]
+fn code_68k(body: &mut Body, regs: &mut Regs68, fault: &mut Fault) -> Code
+    requires { IsWhole body.old set_m68 }
+    ensures { Codes result fault.new (M68 regs.old) (M68 regs.new) body.old body.new }
+{
+    if in_gate_page(regs.pc) {
+        return page_68k(body, regs, fault);
+    }
+    match core_68k(body, regs, fault) {
+        Did::Next => Code::Next,
+        Did::Leave => Code::Leave,
+        Did::Stop => Code::Stop,
+    }
+}
+
+/// 68K code in the gate page, where no instruction is.
+#[cold]
+#[inline(never)]
+#[tactic(auto, unfolding(mixed_machine::specs::Step::step, mixed_machine::specs::Step::step_68k))]
+fn page_68k(body: &Body, regs: &Regs68, fault: &mut Fault) -> Code
+    requires { in_gate_page_of regs.now.pc ≡ true }
+    ensures { Codes result fault.new (M68 regs.now) (M68 regs.now) body.now body.now }
+{
+    let pc = regs.pc;
+    if pc % 2 == 1 {
+        refused(fault, FaultKind::Odd, pc, pc)
+    } else if is_gate(pc) {
+        Code::Gate
+    } else {
+        refused(fault, FaultKind::GateFetch, pc, pc)
+    }
+}
+
+/// A fault that tells one number.
+#[cold]
+#[inline(never)]
+fn refused(fault: &mut Fault, kind: FaultKind, pc: u32, detail: u32) -> Code
+    ensures code { result ≡ Code.Stop }
+    ensures cell { fault.new ≡ fault_at pc kind detail }
+{
+    *fault = Fault {
+        kind,
+        pc,
+        detail,
+        also: 0,
+    };
+    Code::Stop
+}
+
+#[inline(always)]
+fn code_ppc(body: &mut Body, regs: &mut RegsPpc, fault: &mut Fault) -> Code
+    requires { IsWhole body.old set_ppc }
+    ensures { Codes result fault.new (Ppc regs.old) (Ppc regs.new) body.old body.new }
+{
+    if in_gate_page(regs.pc) {
+        return page_ppc(body, regs, fault);
+    }
+    match core_ppc(body, regs, fault) {
+        Did::Next => Code::Next,
+        Did::Leave => {
+            let number = fault.detail;
+            refused(fault, FaultKind::BadInstr, regs.pc, number)
+        }
+        Did::Stop => Code::Stop,
+    }
+}
+
+/// PowerPC code in the gate page, where no instruction is.
+#[cold]
+#[inline(never)]
+#[tactic(auto, unfolding(mixed_machine::specs::Step::step, mixed_machine::specs::Step::step_ppc))]
+fn page_ppc(body: &Body, regs: &RegsPpc, fault: &mut Fault) -> Code
+    requires { in_gate_page_of regs.now.pc ≡ true }
+    ensures { Codes result fault.new (Ppc regs.now) (Ppc regs.now) body.now body.now }
+{
+    let pc = regs.pc;
+    if pc % 4 != 0 {
+        return refused(fault, FaultKind::Odd, pc, pc);
+    }
+    if is_gate(pc) {
+        return Code::Gate;
+    }
+    match host_code(pc) {
+        Some(index) => {
+            fault.detail = index;
+            Code::Leave
+        }
+        None => refused(fault, FaultKind::GateFetch, pc, pc),
+    }
+}

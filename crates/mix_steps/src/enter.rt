@@ -1,0 +1,174 @@
+// A call from one set into the other, or from PowerPC code by CallUniversalProc.
+ghost use Rattle.std.specs.Prelude.{◌≡◌, ◌+◌, ◌≤◌, length, is_some, Ok};
+ghost use Rattle.mix_bits.specs.declared.fault.Fault.{Fault as AFault};
+ghost use Rattle.big_memory.specs.Memory.{floor_of};
+ghost use Rattle.switch_frame.specs.Calls.{IsPlace};
+ghost use Rattle.switch_frame.specs.Records.{isa_of, record_of};
+ghost use Rattle.switch_frame.specs.Sets.{callee_isa};
+ghost use Rattle.mode_switch.specs.Callee.{below as below_of};
+ghost use Rattle.mode_switch.specs.Views.{crossing, passage, wanted_of};
+ghost use Rattle.mode_switch.specs.Wanted.{IsMeant, Means, or_zero, passed_selector as passed_selector_of};
+ghost use Rattle.mixed_machine.specs.Enter.{crosses as crosses_of, enters, enters_with, suspended};
+ghost use Rattle.mixed_machine.specs.Machine.{IsWhole, callers_of};
+ghost use Rattle.mix_steps.specs.Does.{Does, output};
+ghost use Rattle.mix_steps.specs.Frames.{IsEntered};
+
+use crate::active::{jump, sp};
+use crate::call_laws::call_laws;
+use crate::frames::{prepare, suspend};
+use crate::laws::body_laws;
+use crate::refuse::{refuse, refuse_full};
+use call_trace::put_call;
+use mix_bits::Fault;
+use mix_io::Sink;
+use mixed_machine::{Body, Did};
+use mode_switch::{Call, Passed, Wanted, below, pass, wanted_sp};
+use switch_frame::{Active, Held, depth, room};
+
+/// Does what code wants when it switches modes.
+#[inline(never)]
+pub fn cross<T: Sink>(
+    body: &mut Body,
+    active: &mut Active,
+    wanted: &Wanted,
+    trace: &mut T,
+    fault: &mut Fault,
+) -> Did
+    requires whole { IsWhole body.old (isa_of active.old) }
+    requires meant { Means (isa_of active.old) (wanted_of wanted.now) }
+    ensures { Does (λ s. crosses_of s (wanted_of wanted.now)) result fault.new body.old body.new active.old active.new
+        (output (T.held trace.old) (T.faults trace.old)) (output (T.held trace.new) (T.faults trace.new)) }
+{
+    call_laws();
+    match wanted {
+        Wanted::Calls(call) => enter(body, active, call, trace, fault),
+        Wanted::Jumps(target) => {
+            jump(active, *target);
+            Did::Next
+        }
+        Wanted::Refuses(reason) => {
+            *fault = *reason;
+            Did::Fault
+        }
+    }
+}
+
+/// Suspends the caller in a frame, if there is room for one, and starts the callee.
+fn enter<T: Sink>(
+    body: &mut Body,
+    active: &mut Active,
+    call: &Call,
+    trace: &mut T,
+    fault: &mut Fault,
+) -> Did
+    requires whole { IsWhole body.old (isa_of active.old) }
+    requires meant { IsMeant (isa_of active.old) (crossing call.now) }
+    ensures { Does (λ s. enters s (crossing call.now)) result fault.new body.old body.new active.old active.new
+        (output (T.held trace.old) (T.faults trace.old)) (output (T.held trace.new) (T.faults trace.new)) }
+{
+    body_laws();
+    call_laws();
+    let below = below(call.kind.callee(), &call.sig, passes_selector(call));
+    match room(&body.ram, body.top, sp(active), call.kind, below) {
+        Ok(range) => match pass(&body.ram, active, call) {
+            Ok(passed) => enter_with(body, active, call, range, below, &passed, trace),
+            Err(access) => refuse(active, access, fault),
+        },
+        Err(full) => refuse_full(body, active, full, fault),
+    }
+}
+
+/// Suspends the caller in a frame of this range, and starts the callee, whose stack has so many bytes.
+fn enter_with<T: Sink>(
+    body: &mut Body,
+    active: &mut Active,
+    call: &Call,
+    range: (u32, u32),
+    below: u32,
+    passed: &Passed,
+    trace: &mut T,
+) -> Did
+    requires whole { IsWhole body.old (isa_of active.old) }
+    requires meant { IsMeant (isa_of active.old) (crossing call.now) }
+    requires place { IsPlace body.old.ram (callers_of body.old) call.now.kind range.0 range.1 }
+    requires below { below ≡ below_of (callee_isa call.now.kind) (crossing call.now).sig (is_some (passed_selector_of (crossing call.now))) }
+    requires floor { floor_of body.old.ram + below ≤ range.0 }
+    requires count { passed.now.args.count ≡ call.now.sig.count }
+    requires caller { isa_of passed.now.caller ≡ isa_of active.old }
+    ensures { (cell : AFault) → Does (λ s. enters_with s (crossing call.now) range (Ok (passage passed.now))) result cell body.old body.new active.old active.new
+        (output (T.held trace.old) (T.faults trace.old)) (output (T.held trace.new) (T.faults trace.new)) }
+{
+    call_laws();
+    let values = values(passed);
+    let _params = call.sig.params();
+    let held = start(body, active, call, range, below, passed);
+    match put_call(trace, &held, &call.sig, values) {
+        Ok(()) => Did::Call,
+        Err(_) => Did::TraceFault,
+    }
+}
+
+/// Whether the callee gets a selector.
+fn passes_selector(call: &Call) -> bool
+    ensures { result ≡ is_some (passed_selector_of (crossing call.now)) }
+{
+    call.passes && call.selector.is_some()
+}
+
+/// The arguments.
+fn values(passed: &Passed) -> &[u32]
+    requires { passed.now.args.count ≤ 13 }
+    ensures list { result.now ≡ (passage passed.now).args }
+    ensures count { length result.now ≡ passed.now.args.count }
+{
+    &passed.args.value[..passed.args.count as usize]
+}
+
+/// The selector that a frame keeps, 0 without one.
+fn kept_selector(call: &Call) -> u32
+    ensures { result ≡ or_zero call.now.selector }
+{
+    match call.selector {
+        Some(selector) => selector,
+        None => 0,
+    }
+}
+
+/// Makes the frame and the callee's stack below it. The caller that is suspended has its pc behind the
+/// call.
+fn start(
+    body: &mut Body,
+    active: &mut Active,
+    call: &Call,
+    range: (u32, u32),
+    below: u32,
+    passed: &Passed,
+) -> Held
+    requires whole { IsWhole body.old (isa_of active.old) }
+    requires meant { IsMeant (isa_of active.old) (crossing call.now) }
+    requires place { IsPlace body.old.ram (callers_of body.old) call.now.kind range.0 range.1 }
+    requires below { below ≡ below_of (callee_isa call.now.kind) (crossing call.now).sig (is_some (passed_selector_of (crossing call.now))) }
+    requires floor { floor_of body.old.ram + below ≤ range.0 }
+    requires count { passed.now.args.count ≡ call.now.sig.count }
+    requires values { length (passage passed.now).args ≡ length (crossing call.now).sig.params }
+    requires caller { isa_of passed.now.caller ≡ isa_of active.old }
+    ensures held { record_of result ≡ suspended (crossing call.now) range (passage passed.now) }
+    ensures entered { IsEntered body.old body.new active.new (crossing call.now) range (passage passed.now) }
+{
+    body_laws();
+    call_laws();
+    let held = Held {
+        kind: call.kind,
+        caller: passed.caller,
+        info: call.info,
+        selector: kept_selector(call),
+        target: call.target,
+        lo: range.0,
+        hi: range.1,
+        want_sp: wanted_sp(call, range.0 - below),
+        depth: depth(&body.ram, body.top) + 1,
+    };
+    *active = prepare(body, call, range, below, passed);
+    suspend(body, &held);
+    held
+}

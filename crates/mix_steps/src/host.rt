@@ -1,0 +1,209 @@
+// Steps of the host: a call of one of its functions, or a mode switch that code asks for.
+ghost use Rattle.std.specs.Prelude.{◌≡◌, ◌<◌, ◌^◌};
+ghost use Rattle.mix_bits.specs.declared.fault.FaultKind.TheVariants.{NoTrap};
+ghost use Rattle.big_memory.specs.Faults.{fault_at};
+ghost use Rattle.mix_bits.specs.declared.isa.Isa.TheVariants.{M68 as set_m68};
+ghost use Rattle.switch_frame.specs.Records.{isa_of};
+ghost use Rattle.toolbox.specs.Calls.{outside};
+ghost use Rattle.toolbox.specs.Functions.{trap_number};
+ghost use Rattle.toolbox.specs.Host.{host as host_at};
+ghost use Rattle.toolbox.specs.Host.Hosted.{Crosses};
+ghost use Rattle.mixed_machine.specs.Acts.{Acts};
+ghost use Rattle.mixed_machine.specs.Host.{host_of, traps_to};
+ghost use Rattle.mixed_machine.specs.Machine.{IsWhole};
+ghost use Rattle.mixed_machine.specs.State.{pc_of};
+ghost use Rattle.mixed_machine.specs.Outside.{at};
+ghost use Rattle.mix_steps.specs.Called.{IsCalled, hosted_in};
+ghost use Rattle.mix_steps.specs.Cores.{IsNumber, leaves_code};
+ghost use Rattle.mix_steps.specs.Does.{Does, output};
+
+use crate::active::pc;
+use crate::enter::cross;
+use crate::laws::body_laws;
+use call_trace::put_ask;
+use dev_rack::Devices;
+use mix_bits::{Fault, FaultKind};
+use mix_io::{Sink, Source};
+use mixed_machine::{Body, Did};
+use mode_switch::{wants_68k, wants_ppc};
+use switch_frame::Active;
+use toolbox::{HostOut, host_call, trap_index, trap_laws};
+
+/// The word of line A with which a routine descriptor begins.
+const MIXED_MODE_MAGIC: u32 = 0xAAFE;
+
+/// How a call of a host function went.
+#[derive(Clone, Copy)]
+pub enum Called {
+    /// It is a step, done or not.
+    Went(Did),
+    /// It goes on into other code, by a universal pointer and the procInfo of the call. Nothing has changed.
+    Cross { pointer: u32, info: u32 },
+}
+
+/// The host goes on: with a word of line A of 68K code, or with a host function of PowerPC code, as the
+/// cell's detail tells.
+#[inline(never)]
+pub fn leave_code<I: Source, O: Sink, T: Sink, D: Devices>(
+    body: &mut Body,
+    active: &mut Active,
+    input: &mut I,
+    out: &mut O,
+    trace: &mut T,
+    rack: &mut D,
+    fault: &mut Fault,
+) -> Did
+    requires whole { IsWhole body.old (isa_of active.old) }
+    requires number { IsNumber active.old fault.old.detail }
+    ensures { Acts (λ s. leaves_code active.old s fault.old.detail) result fault.new
+        (at body.old active.old (outside (I.left input.old) (I.faults input.old) (D.state rack.old) (O.held out.old) (O.faults out.old)) (output (T.held trace.old) (T.faults trace.old)))
+        (at body.new active.new (outside (I.left input.new) (I.faults input.new) (D.state rack.new) (O.held out.new) (O.faults out.new)) (output (T.held trace.new) (T.faults trace.new))) }
+{
+    body_laws();
+    let number = fault.detail;
+    match active {
+        Active::M68(regs) => {
+            if number == MIXED_MODE_MAGIC {
+                let wanted = wants_68k(&body.ram, regs);
+                cross(body, active, &wanted, trace, fault)
+            } else {
+                trap(number, body, active, input, out, trace, rack, fault)
+            }
+        }
+        Active::Ppc(_) => call_function(number, 0, body, active, input, out, trace, rack, fault),
+    }
+}
+
+/// The trap with this word.
+fn trap<I: Source, O: Sink, T: Sink, D: Devices>(
+    word: u32,
+    body: &mut Body,
+    active: &mut Active,
+    input: &mut I,
+    out: &mut O,
+    trace: &mut T,
+    rack: &mut D,
+    fault: &mut Fault,
+) -> Did
+    requires whole { IsWhole body.old (isa_of active.old) }
+    requires set { isa_of active.old ≡ set_m68 }
+    requires word { word < 2 ^ 16 }
+    ensures { Acts (λ s. traps_to s word (trap_number word)) result fault.new
+        (at body.old active.old (outside (I.left input.old) (I.faults input.old) (D.state rack.old) (O.held out.old) (O.faults out.old)) (output (T.held trace.old) (T.faults trace.old)))
+        (at body.new active.new (outside (I.left input.new) (I.faults input.new) (D.state rack.new) (O.held out.new) (O.faults out.new)) (output (T.held trace.new) (T.faults trace.new))) }
+{
+    body_laws();
+    trap_laws();
+    match trap_index(word as u16) {
+        Some(index) => call_function(index, word, body, active, input, out, trace, rack, fault),
+        None => no_trap(word, active, fault),
+    }
+}
+
+/// No trap has this word.
+fn no_trap(word: u32, active: &Active, fault: &mut Fault) -> Did
+    ensures did { result ≡ Did.Fault }
+    ensures cell { fault.new ≡ fault_at (pc_of active.now) NoTrap word }
+{
+    *fault = Fault {
+        kind: FaultKind::NoTrap,
+        pc: pc(active),
+        detail: word,
+        also: 0,
+    };
+    Did::Fault
+}
+
+/// Calls a host function, from the trap with this word in 68K code.
+fn call_function<I: Source, O: Sink, T: Sink, D: Devices>(
+    index: u32,
+    word: u32,
+    body: &mut Body,
+    active: &mut Active,
+    input: &mut I,
+    out: &mut O,
+    trace: &mut T,
+    rack: &mut D,
+    fault: &mut Fault,
+) -> Did
+    requires whole { IsWhole body.old (isa_of active.old) }
+    requires index { index < 16 }
+    ensures { Acts (λ s. hosted_in active.old word s (host_at index (host_of s))) result fault.new
+        (at body.old active.old (outside (I.left input.old) (I.faults input.old) (D.state rack.old) (O.held out.old) (O.faults out.old)) (output (T.held trace.old) (T.faults trace.old)))
+        (at body.new active.new (outside (I.left input.new) (I.faults input.new) (D.state rack.new) (O.held out.new) (O.faults out.new)) (output (T.held trace.new) (T.faults trace.new))) }
+{
+    body_laws();
+    match call(index, body, active, input, out, trace, rack, fault) {
+        Called::Went(did) => did,
+        Called::Cross { pointer, info } => {
+            cross_by(pointer, info, word, body, active, trace, fault)
+        }
+    }
+}
+
+/// Calls a host function.
+fn call<I: Source, O: Sink, T: Sink, D: Devices>(
+    index: u32,
+    body: &mut Body,
+    active: &mut Active,
+    input: &mut I,
+    out: &mut O,
+    trace: &mut T,
+    rack: &mut D,
+    fault: &mut Fault,
+) -> Called
+    requires whole { IsWhole body.old (isa_of active.old) }
+    requires index { index < 16 }
+    ensures { IsCalled index result fault.new
+        (at body.old active.old (outside (I.left input.old) (I.faults input.old) (D.state rack.old) (O.held out.old) (O.faults out.old)) (output (T.held trace.old) (T.faults trace.old)))
+        (at body.new active.new (outside (I.left input.new) (I.faults input.new) (D.state rack.new) (O.held out.new) (O.faults out.new)) (output (T.held trace.new) (T.faults trace.new))) }
+{
+    body_laws();
+    match host_call(
+        index,
+        active,
+        &mut body.ram,
+        &mut body.heap,
+        rack,
+        input,
+        out,
+    ) {
+        HostOut::Done => Called::Went(Did::Next),
+        HostOut::Asked { slot, word, answer } => match put_ask(trace, slot, word, answer) {
+            Ok(()) => Called::Went(Did::Next),
+            Err(_) => Called::Went(Did::TraceFault),
+        },
+        HostOut::Cross { pointer, info } => Called::Cross { pointer, info },
+        HostOut::Exit(code) => Called::Went(Did::Exit(code)),
+        HostOut::Stop(reason) => {
+            *fault = reason;
+            Called::Went(Did::Fault)
+        }
+        HostOut::ReadFault => Called::Went(Did::ReadFault),
+        HostOut::OutFault => Called::Went(Did::OutFault),
+    }
+}
+
+/// The call of a host function goes on into other code, which only PowerPC code may ask for.
+fn cross_by<T: Sink>(
+    pointer: u32,
+    info: u32,
+    word: u32,
+    body: &mut Body,
+    active: &mut Active,
+    trace: &mut T,
+    fault: &mut Fault,
+) -> Did
+    requires whole { IsWhole body.old (isa_of active.old) }
+    ensures { Does (λ s. hosted_in active.old word s (Crosses pointer info)) result fault.new body.old body.new active.old active.new
+        (output (T.held trace.old) (T.faults trace.old)) (output (T.held trace.new) (T.faults trace.new)) }
+{
+    body_laws();
+    match active {
+        Active::M68(_) => no_trap(word, active, fault),
+        Active::Ppc(regs) => {
+            let wanted = wants_ppc(&body.ram, regs, pointer, info);
+            cross(body, active, &wanted, trace, fault)
+        }
+    }
+}

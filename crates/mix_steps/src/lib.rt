@@ -1,0 +1,17 @@
+//! One step of the mixed machine in memory: an instruction of either set, a call from one set into the
+//! other, a return, or a call of the host.
+#![tactic(auto)]
+
+mod active;
+mod call_laws;
+mod code;
+mod cores;
+mod enter;
+mod frames;
+mod host;
+mod laws;
+mod leave;
+mod refuse;
+mod step;
+
+pub use step::one;
