@@ -1,4 +1,3 @@
-pub mod NumberLemmas
+pub mod Counting
+pub mod Fetching
 pub mod Ways
-pub mod Starts
-pub mod WordLemmas

@@ -1,37 +1,49 @@
 -- How the answers of the parts make up a way to end.
-use Rattle.std.proofs.Common.{◌≡◌, ℕ, suc, ◌-◌, ◌<◌, ◌≤◌, inl, inr, List, [], length, Option, Some, None, IsSomeAnd, Ok, Err, arith, sym, ap, subst, ◌∙◌, refl, append-nil}
-use Rattle.std.specs.Prelude.{Vec}
+use Rattle.std.proofs.Common.{◌≡◌, ◌≢◌, ℕ, suc, ◌-◌, ◌<◌, ◌≤◌, inl, inr, List, [], ◌++◌, length, Option, Some, None, Result, Ok, Err, arith, sym, ap, subst, ◌∙◌, refl, append-nil}
 use Rattle.mix_bits.specs.declared.isa.Isa.{Isa}
-use Rattle.mix_io.specs.Counts.{CountsStay, CountRose, FetchCause}
-use Rattle.mix_io.specs.Told.{Fetches, FetchesFile}
+use Rattle.mix_bits.specs.declared.isa.Isa.TheVariants.{M68, Ppc}
+use Rattle.mix_io.specs.Counts.{CountsStay}
 use Rattle.mix_io.specs.Streams.{Output, Grows, Breaks}
-use Rattle.mix_io.proofs.Streams.{grows-none, grows-more, breaks-after}
+use Rattle.mix_io.proofs.Streams.{grows-more, breaks-after}
 use Rattle.mix_io.specs.declared.errors.FetchError.{FetchError}
 use Rattle.mix_io.specs.declared.errors.FetchError.TheVariants.{NoMemory as NoRoom, Failed, TooLong}
+use Rattle.switch_frame.specs.declared.program.Program.{Program}
+use Rattle.switch_frame.specs.Records.{isa_of}
+use Rattle.toolbox.specs.Calls.{Outside}
+use Rattle.toolbox.specs.Effects.{Around}
+use Rattle.call_trace.specs.Lines.{end_line}
 use Rattle.mixed_machine.specs.State.{State}
+use Rattle.mixed_machine.specs.Step.{step}
+use Rattle.mixed_machine.specs.Machine.{flat}
 use Rattle.mixed_machine.specs.Exec.{How, log, line_of, said_of}
 use Rattle.mixed_machine.specs.Exec.How.{Limited, Exited, Faulted}
-use Rattle.mixed_machine.specs.Load.{load_flat}
-use Rattle.mixed_machine.specs.Endings.{end_line}
-use Rattle.switch_frame.specs.Records.{isa_of}
-use Rattle.mixed_machine.specs.Step.{step}
-use Rattle.mixed_machine.specs.Runs.{OutBroke, Ran, Runs, Sinks, TraceBroke}
-use Rattle.mixed_machine.specs.declared.load.LoadError.{LoadError}
-use Rattle.mixed_machine.specs.declared.load.LoadError.TheVariants.{NoMemory, Empty, TooLarge}
-use Rattle.mix_top.specs.Lines.{words_line, fetch_line, fetch_status, load_error_line, load_error_status}
-use Rattle.mix_top.specs.Words.{command_of}
-use Rattle.mix_top.specs.Loads.{Loads}
-use Rattle.mix_top.specs.Ends.{Contents, Input, Closes, Early, FileWay, ProgramWay, Way, Finishes, IsFile, IsLong, file_limit, flat_name, ram_size, status_of}
-use Rattle.mix_top.specs.Ends.FileWay.{no_memory, refused}
-use Rattle.mix_top.specs.Ends.ProgramWay.{ended, out_failed, trace_failed}
-use Rattle.mix_top.specs.Ends.Way.{bad_words, no_file, long_file, no_memory_for_file, fetched}
-use Rattle.mix_top.specs.declared.words.Command.TheVariants.{Run}
-use Rattle.mix_top.specs.declared.words.Job.{Job}
+use Rattle.mixed_machine.specs.Outside.{At, answers_between, around_at, state_of}
+use Rattle.mixed_machine.specs.Runs.{OutBroke, Ran as RanTo, ReadBroke, Runs, Sinks, Stops, TraceBroke}
 use Rattle.mixed_machine.specs.declared.stop.Stop.{Stop}
-use Rattle.mixed_machine.specs.declared.stop.Stop.TheVariants.{Exit as ExitStop, Fault as FaultStop, Limit, ReadFault as ReadStop, OutFault as OutStop, TraceFault as TraceStop}
-
-abbrev inputs : Option (List ℕ) → ℕ → Input
-inputs left faults = record { left = left; faults = faults }
+use Rattle.mixed_machine.specs.declared.stop.Stop.TheVariants.{Exit, Fault, Limit, ReadFault, OutFault, TraceFault}
+use Rattle.mix_engine.specs.Start.{start_of}
+use Rattle.std.specs.Prelude.{IfNone, IfSome, IsSome}
+use Rattle.job_words.specs.Drafts.{main_file}
+use Rattle.job_words.specs.Jobs.{FitsMainOf}
+use Rattle.job_words.specs.Words.{bad_at, name_at, name_of}
+use Rattle.std.specs.Option.{option_map}
+use Rattle.job_words.specs.declared.job.Job.{Job}
+use Rattle.job_words.specs.declared.job.Key.{Key}
+use Rattle.mix_load.specs.Load.{AreLoadable, HasMain, IsAlone, IsSmall, load_of}
+use Rattle.mix_load.specs.Outcome.{Gives}
+use Rattle.mix_load.specs.declared.files.Files.{Files}
+use Rattle.mix_load.specs.declared.error.LoadError.{LoadError}
+use Rattle.mix_load.specs.declared.error.LoadError.TheVariants.{NoMemory, Empty, Rsrc, NoCode, Far, JumpTable, Pef, TooLarge, Reloc, Unresolved, NoMain}
+use Rattle.mix_top.specs.Lines.{load_line, load_refusal, memory_line, words_line}
+use Rattle.mix_top.specs.World.{World, Accounted, Closes, Early, world}
+use Rattle.mix_top.specs.Files.{AreFiles, Contents, IsNamed, IsFile, file_limit, job_in, ram_size}
+use Rattle.mix_top.specs.Ends.{Ends, FileWay, IsNext, ProgramWay, Ran, RunWay, Way, end_of, status_of}
+use Rattle.mix_top.specs.Ends.RunWay.{ended, out_failed, read_failed, trace_failed}
+use Rattle.mix_top.specs.Ends.FileWay.{no_memory, refused}
+use Rattle.mix_top.specs.Ends.Way.{bad_words, fetched, long_file, no_file, no_memory_for_file}
+use Rattle.mix_top.specs.Parts.{Finishes, IsCause, MissesFirst, unfetched_line, unfetched_status, unloaded_line, unloaded_status}
+use Rattle.mix_top.specs.declared.files.Missing.{Missing}
+use Rattle.mix_top.proofs.Counting.{IsPlain, accounted-early}
 
 -- a last line after the lines of a run
 after-lines : (a b c : Output) (lines line : List ℕ) (status result : ℕ) → Grows a b lines → Closes b c [] line status result → Closes a c lines line status result
@@ -39,108 +51,191 @@ after-lines a b c lines line status result first (inl (grows, same)) = inl (grow
 after-lines a b c lines line status result first (inr (breaks, same)) =
     inr (subst (λ xs. Breaks a c xs line) (append-nil lines) (breaks-after a b c lines [] line first breaks), same)
 
-ended-way : (job : Job) (start last : State) (how : How) (set : Isa) (left : ℕ) (old now : Sinks) (trace_new : Output) (result : ℕ) → Ran 0 job.steps left start last how old now
-    → set ≡ isa_of last.active → Closes now.trace trace_new [] (end_line set how) (status_of how) result → ProgramWay job start old.out now.out old.trace trace_new result
-ended-way job start last how set left old now trace_new result ran set_is closes =
-    ended last how left ran.fewer ran.ends ran.took.said
-    (after-lines old.trace now.trace trace_new (log line_of (job.steps - left) start) (end_line (isa_of last.active) how) (status_of how) result ran.took.traced
-    (subst (λ s. Closes now.trace trace_new [] (end_line s how) (status_of how) result) set_is closes))
+ended-way : (steps left : ℕ) (start last : State) (around : Around) (how : How) (set : Isa) (old mid new : World) (result : ℕ)
+    → last.around ≡ around → set ≡ isa_of last.active → new.outside ≡ mid.outside
+    → RanTo 0 steps left start last how (record { out = old.outside.out; trace = old.trace }) (record { out = mid.outside.out; trace = mid.trace })
+    → Closes mid.trace new.trace [] (end_line (end_of set how)) (status_of how) result → RunWay steps start around old new result
+ended-way steps left start last around how set old mid new result around_is set_is same ran closes =
+    ended last how left ran.fewer ran.ends around_is
+    (subst (λ o. Grows old.outside.out o.out (log said_of (steps - left) start)) (sym same) ran.took.said)
+    (after-lines old.trace mid.trace new.trace (log line_of (steps - left) start) (end_line (end_of (isa_of last.active) how)) (status_of how) result ran.took.traced
+    (subst (λ s. Closes mid.trace new.trace [] (end_line (end_of s how)) (status_of how) result) set_is closes))
 
 -- a run that stopped, and what follows it
-pub way-of_run : (job : Job) (start last : State) (set : Isa) (old now : Sinks) (trace_new : Output) (stop : Stop) (result : ℕ) → Runs job.steps start last old now stop
-    → set ≡ isa_of last.active → Finishes stop set now.trace trace_new result → ProgramWay job start old.out now.out old.trace trace_new result
-way-of_run job start last set old now trace_new (ExitStop code) result runs set_is closes = ended-way job start last (Exited code) set runs.left old now trace_new result runs.stops set_is closes
-way-of_run job start last set old now trace_new (FaultStop fault) result runs set_is closes = ended-way job start last (Faulted fault) set runs.left old now trace_new result runs.stops set_is closes
-way-of_run job start last set old now trace_new Limit result runs set_is closes = ended-way job start last Limited set runs.left old now trace_new result runs.stops set_is closes
-way-of_run job start last set old now trace_new ReadStop result runs set_is closes = absurd runs.stops
-way-of_run job start last set old now trace_new OutStop result runs set_is closes =
-    let broke : OutBroke 0 job.steps runs.left start last old now = runs.stops in
-    let some : 0 < runs.left = broke.some in
-    let fewer : runs.left ≤ job.steps = broke.fewer in
-    out_failed last (job.steps - runs.left) (omega (arith, some, fewer)) broke.leads broke.says broke.said
-    (subst (λ t. Grows old.trace t (log line_of (job.steps - runs.left) start)) (sym closes.0) broke.traced) closes.1
-way-of_run job start last set old now trace_new TraceStop result runs set_is closes =
-    let broke : TraceBroke 0 job.steps runs.left start last old now = runs.stops in
-    let fewer : runs.left < job.steps = broke.fewer in
-    let one : job.steps - runs.left ≡ suc (job.steps - suc runs.left) = omega (arith, fewer) in
-    trace_failed broke.last last (job.steps - suc runs.left) (omega (arith, fewer)) broke.leads broke.goes broke.tells
-    (subst (λ j. Grows old.out now.out (log said_of j start)) one broke.said)
-    (subst (λ t. Breaks old.trace t (log line_of (job.steps - suc runs.left) start) (line_of (step broke.last))) (sym closes.0) broke.traced) closes.1
+way-of_stop : (steps left : ℕ) (start last : State) (around : Around) (set : Isa) (old mid new : World) (stop : Stop) (result : ℕ)
+    → last.around ≡ around → set ≡ isa_of last.active → new.outside ≡ mid.outside
+    → Stops 0 steps left start last (record { out = old.outside.out; trace = old.trace }) (record { out = mid.outside.out; trace = mid.trace }) stop
+    → Finishes stop set mid.trace new.trace result → RunWay steps start around old new result
+way-of_stop steps left start last around set old mid new (Exit code) result around_is set_is same stops closes =
+    ended-way steps left start last around (Exited code) set old mid new result around_is set_is same stops closes
+way-of_stop steps left start last around set old mid new (Fault fault) result around_is set_is same stops closes =
+    ended-way steps left start last around (Faulted fault) set old mid new result around_is set_is same stops closes
+way-of_stop steps left start last around set old mid new Limit result around_is set_is same stops closes =
+    ended-way steps left start last around Limited set old mid new result around_is set_is same stops closes
+way-of_stop steps left start last around set old mid new ReadFault result around_is set_is same broke closes =
+    let some : 0 < left = broke.some in
+    let fewer : left ≤ steps = broke.fewer in
+    read_failed last (steps - left) (omega (arith, some, fewer)) broke.leads broke.reads around_is
+    (subst (λ o. Grows old.outside.out o.out (log said_of (steps - left) start)) (sym same) broke.took.said)
+    (subst (λ t. Grows old.trace t (log line_of (steps - left) start)) (sym closes.0) broke.took.traced) closes.1
+way-of_stop steps left start last around set old mid new OutFault result around_is set_is same broke closes =
+    let some : 0 < left = broke.some in
+    let fewer : left ≤ steps = broke.fewer in
+    out_failed last (steps - left) (omega (arith, some, fewer)) broke.leads broke.says around_is
+    (subst (λ o. Breaks old.outside.out o.out (log said_of (steps - left) start) (said_of (step last))) (sym same) broke.said)
+    (subst (λ t. Grows old.trace t (log line_of (steps - left) start)) (sym closes.0) broke.traced) closes.1
+way-of_stop steps left start last around set old mid new TraceFault result around_is set_is same broke closes =
+    let fewer : left < steps = broke.fewer in
+    let one : steps - left ≡ suc (steps - suc left) = omega (arith, fewer) in
+    trace_failed broke.last last (steps - suc left) (omega (arith, fewer)) broke.leads broke.goes broke.tells around_is
+    (subst (λ o. Grows old.outside.out o.out (log said_of (suc (steps - suc left)) start)) (sym same)
+    (subst (λ j. Grows old.outside.out mid.outside.out (log said_of j start)) one broke.said))
+    (subst (λ t. Breaks old.trace t (log line_of (steps - suc left) start) (line_of (step broke.last))) (sym closes.0) broke.traced) closes.1
 
--- one line, and nothing on the output
-early : (out ta tb : Output) (line : List ℕ) (status result : ℕ) → Closes ta tb [] line status result → Early out out ta tb line status result
-early out ta tb line status result closes = record { out = grows-none out; trace = closes }
+-- the machine at a program's start ran, and the call was closed
+pub ran-of_run : (program : Program) (steps : ℕ) (a b : At) (new : World) (set : Isa) (stop : Stop) (result : ℕ)
+    → ((around : Around) → flat a.body a.active around ≡ start_of program around) → set ≡ isa_of b.active → new.outside ≡ b.outside
+    → Runs steps a b stop → Finishes stop set b.trace new.trace result → Ran program steps (world a.outside a.trace) new result
+ran-of_run program steps a b new set stop result start_is set_is same runs closes =
+    subst (λ o. Ran program steps (world a.outside a.trace) (world o new.trace) result) (sym same)
+    (record {
+      taken = runs.run.taken;
+      told = runs.run.told;
+      each = λ before after rest took.
+          subst (λ s. RunWay steps s (around_at b.outside after rest) (world a.outside a.trace) (world b.outside new.trace) result)
+          (start_is (around_at a.outside before (answers_between a b ++ rest)))
+          (way-of_stop steps runs.left (state_of a before (answers_between a b ++ rest)) (state_of b after rest) (around_at b.outside after rest) set
+          (world a.outside a.trace) (world b.outside b.trace) (world b.outside new.trace) stop result refl set_is refl (runs.run.each before after rest took) closes);
+    })
 
--- a file that was not loaded
-pub way-of_refusal : (job : Job) (file : List ℕ) (out ta tb : Output) (error : LoadError) (result : ℕ)
-    → Loads (load_flat (ram_size job) file) (Err error) → Closes ta tb [] (load_error_line error) (load_error_status error) result
-    → FileWay job file out out ta tb result
-way-of_refusal job file out ta tb NoMemory result loads closes = no_memory (early out ta tb (load_error_line NoMemory) 9 result closes)
-way-of_refusal job file out ta tb Empty result loads closes = refused Empty loads (early out ta tb (load_error_line Empty) 3 result closes)
-way-of_refusal job file out ta tb (TooLarge end) result loads closes =
-    refused (TooLarge end) loads (early out ta tb (load_error_line (TooLarge end)) 3 result closes)
+-- a refusal that is no want of memory
+abbrev IsOther : LoadError → Type 0
+IsOther NoMemory = ⊥
+IsOther error = Unit {0}
 
--- the line and the status of an error that is known
-pub closes-load_error : (error e : LoadError) (old new : Output) (line : List ℕ) (result : ℕ) → error ≡ e → line ≡ load_error_line e
-    → Closes old new [] line (load_error_status e) result → Closes old new [] (load_error_line error) (load_error_status error) result
-closes-load_error error e old new line result same text closes =
-    subst (λ x. Closes old new [] (load_error_line x) (load_error_status x) result) (sym same)
-    (subst (λ l. Closes old new [] l (load_error_status e) result) text closes)
+other : (error : LoadError) → IsOther error → error ≢ NoMemory
+other error is same = subst IsOther same is
 
-pub closes-fetch_error : (error e : FetchError) (old new : Output) (line : List ℕ) (result : ℕ) → error ≡ e → line ≡ fetch_line e
-    → Closes old new [] line (fetch_status e) result → Closes old new [] (fetch_line error) (fetch_status error) result
-closes-fetch_error error e old new line result same text closes =
-    subst (λ x. Closes old new [] (fetch_line x) (fetch_status x) result) (sym same)
-    (subst (λ l. Closes old new [] l (fetch_status e) result) text closes)
+-- the line and the status of such a refusal
+pub closes-refusal : (error : LoadError) (old new : Output) (line : List ℕ) (result : ℕ) → error ≢ NoMemory → line ≡ load_line (load_refusal error)
+    → Closes old new [] line 3 result → Closes old new [] (unloaded_line error) (unloaded_status error) result
+closes-refusal NoMemory old new line result ne same closes = absurd (ne refl)
+closes-refusal error old new line result ne same closes = subst (λ l. Closes old new [] l 3 result) same closes
 
--- the file that was fetched is the one that the shelf tells
-told-file : {A : Type 0} (o : Option (List ℕ)) (limit : ℕ) (v : Vec ℕ A) → FetchesFile o limit (Ok v) → o ≡ Some v.items
-told-file (Some bytes) limit v fetches = ap Some (sym fetches.0)
-told-file None limit v fetches = absurd fetches
+-- a program that was not loaded
+pub way-of_refusal : (job : Job) (files : Files) (old new : World) (error : LoadError) (result : ℕ) → new.outside ≡ old.outside
+    → Gives (Err error) (load_of files job.main (ram_size job)) → Closes old.trace new.trace [] (unloaded_line error) (unloaded_status error) result
+    → FileWay job files old new result
+way-of_refusal job files old new NoMemory result same gives closes = no_memory (record { outside = same; trace = closes })
+way-of_refusal job files old new (Empty file) result same gives closes = refused (Empty file) (gives (other (Empty file) tt)) (record { outside = same; trace = closes })
+way-of_refusal job files old new (Rsrc e) result same gives closes = refused (Rsrc e) (gives (other (Rsrc e) tt)) (record { outside = same; trace = closes })
+way-of_refusal job files old new (NoCode id) result same gives closes = refused (NoCode id) (gives (other (NoCode id) tt)) (record { outside = same; trace = closes })
+way-of_refusal job files old new (Far id) result same gives closes = refused (Far id) (gives (other (Far id) tt)) (record { outside = same; trace = closes })
+way-of_refusal job files old new (JumpTable at) result same gives closes = refused (JumpTable at) (gives (other (JumpTable at) tt)) (record { outside = same; trace = closes })
+way-of_refusal job files old new (Pef e) result same gives closes = refused (Pef e) (gives (other (Pef e) tt)) (record { outside = same; trace = closes })
+way-of_refusal job files old new (TooLarge end) result same gives closes = refused (TooLarge end) (gives (other (TooLarge end) tt)) (record { outside = same; trace = closes })
+way-of_refusal job files old new (Reloc e) result same gives closes = refused (Reloc e) (gives (other (Reloc e) tt)) (record { outside = same; trace = closes })
+way-of_refusal job files old new (Unresolved n) result same gives closes = refused (Unresolved n) (gives (other (Unresolved n) tt)) (record { outside = same; trace = closes })
+way-of_refusal job files old new NoMain result same gives closes = refused NoMain (gives (other NoMain tt)) (record { outside = same; trace = closes })
 
-pub file-fetched : {A : Type 0} (contents : Contents) (name : List ℕ) (v : Vec ℕ A) → length v.items ≤ file_limit
-    → Fetches contents name file_limit (Ok v) → IsFile contents name v.items
-file-fetched None name v within fetches = within
-file-fetched (Some held) name v within fetches = (told-file (held name) file_limit v fetches, within)
+nine-plain : IsPlain 9
+nine-plain = record { input = refl; out = refl; trace = refl }
 
-long-told : (A : Type 0) (o : Option (List ℕ)) (limit n : ℕ) → FetchesFile {A = A} o limit (Err (TooLong n)) → IsSomeAnd o (λ file. limit < length file)
-long-told A (Some bytes) limit n fetches = fetches.1
-long-told A None limit n fetches = absurd fetches
+unloaded-plain : (error : LoadError) → IsPlain (unloaded_status error)
+unloaded-plain NoMemory = nine-plain
+unloaded-plain error = record { input = refl; out = refl; trace = refl }
 
-is-long : (A : Type 0) (contents : Contents) (name : List ℕ) (n : ℕ) → Fetches {A = A} contents name file_limit (Err (TooLong n)) → IsLong contents name
-is-long A None name n fetches = tt
-is-long A (Some held) name n fetches = long-told A (held name) file_limit n fetches
+pub accounted-unloaded : (old new : World) (error : LoadError) (result : ℕ) → new.outside ≡ old.outside
+    → Closes old.trace new.trace [] (unloaded_line error) (unloaded_status error) result → Accounted old new result
+accounted-unloaded old new error result same closes =
+    accounted-early old new (unloaded_line error) (unloaded_status error) result (unloaded-plain error) (record { outside = same; trace = closes })
+
+pub accounted-memory : (old new : World) (result : ℕ) → new.outside ≡ old.outside → Closes old.trace new.trace [] memory_line 9 result → Accounted old new result
+accounted-memory old new result same closes = accounted-early old new memory_line 9 result nine-plain (record { outside = same; trace = closes })
 
 -- a file that was not fetched
-pub way-of_fetch : (A : Type 0) (words : List (List ℕ)) (contents : Contents) (old new : List ℕ → ℕ) (out ta tb : Output) (job : Job) (name : List ℕ) (error : FetchError) (result : ℕ)
-    → command_of words ≡ Ok (Run job) → name ≡ flat_name words job → Fetches {A = A} contents name file_limit (Err error)
-    → FetchCause {V = Vec ℕ A} old new name (Err error)
-    → Closes ta tb [] (fetch_line error) (fetch_status error) result
-    → Way words contents (record { shelf_faults = old; out = out; trace = ta }) (record { shelf_faults = new; out = out; trace = tb }) result
-way-of_fetch A words contents old new out ta tb job name NoRoom result job_is name_is fetches cause closes =
-    no_memory_for_file job job_is cause (early out ta tb (fetch_line NoRoom) 9 result closes)
-way-of_fetch A words contents old new out ta tb job name Failed result job_is name_is fetches cause closes =
-    no_file job job_is (subst (CountRose old new) name_is cause) (early out ta tb (fetch_line Failed) 4 result closes)
-way-of_fetch A words contents old new out ta tb job name (TooLong n) result job_is name_is fetches cause closes =
-    long_file job job_is (subst (IsLong contents) name_is (is-long A contents name n fetches)) cause
-    (early out ta tb (fetch_line (TooLong file_limit)) 3 result closes)
+unfetched-plain : (error : FetchError) → IsPlain (unfetched_status error)
+unfetched-plain NoRoom = nine-plain
+unfetched-plain Failed = record { input = refl; out = refl; trace = refl }
+unfetched-plain (TooLong limit) = record { input = refl; out = refl; trace = refl }
 
--- a file that was
-pub way-of_file : {A : Type 0} (words : List (List ℕ)) (contents : Contents) (old new : List ℕ → ℕ) (oa ob ta tb : Output) (job : Job) (name file : List ℕ) (v : Vec ℕ A) (result : ℕ)
-    → command_of words ≡ Ok (Run job) → name ≡ flat_name words job → file ≡ v.items → length v.items ≤ file_limit → Fetches contents name file_limit (Ok v)
-    → CountsStay old new → FileWay job file oa ob ta tb result
-    → Way words contents (record { shelf_faults = old; out = oa; trace = ta }) (record { shelf_faults = new; out = ob; trace = tb }) result
-way-of_file words contents old new oa ob ta tb job name file v result job_is name_is file_is within fetches stay way =
-    fetched job file job_is
-    (subst (λ n. IsFile contents n file) name_is (subst (IsFile contents name) (sym file_is) (file-fetched contents name v within fetches))) stay way
+way-of_cause : (words : List (List ℕ)) (contents : Contents) (a b : List ℕ → ℕ) (old new : World) (job : Job) (key : Key) (error : FetchError) (result : ℕ)
+    → job_in words ≡ Ok job → IsNext words contents job key → IsCause contents (name_of words job key) a b error
+    → new.outside ≡ old.outside → Closes old.trace new.trace [] (unfetched_line key error) (unfetched_status error) result → Way words contents a b old new result
+way-of_cause words contents a b old new job key NoRoom result job_is next cause same closes =
+    no_memory_for_file job job_is cause (record { outside = same; trace = closes })
+way-of_cause words contents a b old new job key Failed result job_is next cause same closes =
+    no_file job key job_is next cause (record { outside = same; trace = closes })
+way-of_cause words contents a b old new job key (TooLong limit) result job_is next cause same closes =
+    long_file job key job_is next cause.0 cause.1 (record { outside = same; trace = closes })
+
+pub ends-of_missing : (words : List (List ℕ)) (contents : Contents) (a b : List ℕ → ℕ) (old new : World) (job : Job) (missing : Missing) (result : ℕ)
+    → job_in words ≡ Ok job → MissesFirst words contents job a b missing
+    → new.outside ≡ old.outside → Closes old.trace new.trace [] (unfetched_line missing.key missing.error) (unfetched_status missing.error) result
+    → Ends words contents a b old new result
+ends-of_missing words contents a b old new job missing result job_is misses same closes =
+    record {
+      accounted = accounted-early old new (unfetched_line missing.key missing.error) (unfetched_status missing.error) result (unfetched-plain missing.error) (record { outside = same; trace = closes });
+      way = way-of_cause words contents a b old new job missing.key missing.error result job_is misses.next misses.cause same closes;
+    }
+
+-- files that were
+pub ends-of_files : (words : List (List ℕ)) (contents : Contents) (a b : List ℕ → ℕ) (old new : World) (job : Job) (files : Files) (result : ℕ)
+    → job_in words ≡ Ok job → AreFiles words contents job files → CountsStay a b → Accounted old new result → FileWay job files old new result
+    → Ends words contents a b old new result
+ends-of_files words contents a b old new job files result job_is are stay accounted way =
+    record { accounted = accounted; way = fetched job files job_is are stay way }
 
 -- words that are no job
-pub way-of_words : (words : List (List ℕ)) (contents : Contents) (faults : List ℕ → ℕ) (out ta tb : Output) (place : ℕ) (line : List ℕ) (result : ℕ)
-    → command_of words ≡ Err (record { place = place }) → line ≡ words_line place → Closes ta tb [] line 2 result
-    → Way words contents (record { shelf_faults = faults; out = out; trace = ta }) (record { shelf_faults = faults; out = out; trace = tb }) result
-way-of_words words contents faults out ta tb place line result bad line_is closes =
-    bad_words place bad (λ n. refl) (early out ta tb (words_line place) 2 result (subst (λ l. Closes ta tb [] l 2 result) line_is closes))
+pub ends-of_words : (words : List (List ℕ)) (contents : Contents) (faults : List ℕ → ℕ) (old new : World) (place : ℕ) (line : List ℕ) (result : ℕ)
+    → job_in words ≡ Err (bad_at place) → line ≡ words_line place → new.outside ≡ old.outside → Closes old.trace new.trace [] line 2 result
+    → Ends words contents faults faults old new result
+ends-of_words words contents faults old new place line result bad line_is same closes =
+    let told : Early old new (words_line place) 2 result = record { outside = same; trace = subst (λ l. Closes old.trace new.trace [] l 2 result) line_is closes } in
+    record {
+      accounted = accounted-early old new (words_line place) 2 result (record { input = refl; out = refl; trace = refl }) told;
+      way = bad_words place bad (λ n. refl) told;
+    }
 
--- the input stays as it is
-pub input-same : (a b : Option (List ℕ)) (n m : ℕ) → b ≡ a → m ≡ n → inputs b m ≡ inputs a n
-input-same a b n m left calm = ap (λ l. inputs l m) left ∙ ap (inputs a) calm
+-- the files of a job can be loaded
+named-small : (contents : Contents) (name file : Option (List ℕ)) → IsNamed contents name file → IsSmall file
+named-small contents None None named = tt
+named-small contents None (Some file) named = absurd named
+named-small contents (Some name) None named = absurd named
+named-small None (Some name) (Some file) named = named
+named-small (Some held) (Some name) (Some file) named = named.1
+
+named-no : (words : List (List ℕ)) (contents : Contents) (o : Option ℕ) (file : Option (List ℕ)) → o ≡ None → IsNamed contents (option_map (name_at words) o) file → file ≡ None
+named-no words contents None None none named = refl
+named-no words contents None (Some file) none named = absurd named
+named-no words contents (Some place) None none named = refl
+named-no words contents (Some place) (Some file) none named = absurd (subst (λ x. IsNamed contents (option_map (name_at words) x) (Some file)) none named)
+
+named-yes : (words : List (List ℕ)) (contents : Contents) (o : Option ℕ) (file : Option (List ℕ)) → IsSome o → IsNamed contents (option_map (name_at words) o) file → IsSome file
+named-yes words contents None None some named = some
+named-yes words contents None (Some file) some named = refl
+named-yes words contents (Some place) None some named = absurd named
+named-yes words contents (Some place) (Some file) some named = refl
+
+named-main : (words : List (List ℕ)) (contents : Contents) (main : Isa) (r p : Option ℕ) (files : Files) → IsSome (main_file main r p)
+    → IsNamed contents (option_map (name_at words) r) files.rsrc → IsNamed contents (option_map (name_at words) p) files.pef → HasMain main files
+named-main words contents M68 r p files own rsrc pef = named-yes words contents r files.rsrc own rsrc
+named-main words contents Ppc r p files own rsrc pef = named-yes words contents p files.pef own pef
+
+named-alone : (words : List (List ℕ)) (contents : Contents) (main : Isa) (f r p : Option ℕ) (flat : Option (List ℕ)) (files : Files)
+    → IfSome f (λ place. (r ≡ None) × (p ≡ None)) → IfNone f (IsSome (main_file main r p)) → IsNamed contents (option_map (name_at words) f) flat
+    → IsNamed contents (option_map (name_at words) r) files.rsrc → IsNamed contents (option_map (name_at words) p) files.pef → IsAlone flat main files
+named-alone words contents main None r p None files alone own named rsrc pef = named-main words contents main r p files own rsrc pef
+named-alone words contents main None r p (Some flat) files alone own named rsrc pef = absurd named
+named-alone words contents main (Some place) r p None files alone own named rsrc pef = absurd named
+named-alone words contents main (Some place) r p (Some flat) files alone own named rsrc pef =
+    (named-no words contents r files.rsrc alone.0 rsrc, named-no words contents p files.pef alone.1 pef)
+
+pub loadable : (words : List (List ℕ)) (contents : Contents) (job : Job) (files : Files) → FitsMainOf job → AreFiles words contents job files → AreLoadable files job.main
+loadable words contents job files fits are =
+    record {
+      named = named-alone words contents job.main job.flat job.rsrc job.pef files.flat files fits.alone fits.own are.flat are.rsrc are.pef;
+      flat = named-small contents (option_map (name_at words) job.flat) files.flat are.flat;
+      rsrc = named-small contents (option_map (name_at words) job.rsrc) files.rsrc are.rsrc;
+      pef = named-small contents (option_map (name_at words) job.pef) files.pef are.pef;
+    }

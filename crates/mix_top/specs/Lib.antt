@@ -1,5 +1,5 @@
-pub mod Numbers
-pub mod Words
 pub mod Lines
-pub mod Loads
+pub mod World
+pub mod Files
 pub mod Ends
+pub mod Parts

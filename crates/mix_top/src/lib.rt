@@ -1,13 +1,10 @@
-//! The whole program as one call over traits: words, a shelf of files, an input, an output and a trace.
+//! The whole program as one call over traits: words, a shelf of files, an input, an output, a trace and devices.
 #![tactic(auto)]
 
+mod close;
+mod files;
 mod lines;
-mod load;
-mod number;
-#[cfg(test)]
-mod tests;
+mod run;
 mod top;
-mod words;
 
 pub use top::mixed_main;
-pub use words::{BadWord, Command, Job, read_words};

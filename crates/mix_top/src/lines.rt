@@ -1,104 +1,127 @@
-// The lines of the trace.
-ghost use Rattle.std.specs.Prelude.{◌≡◌, ◌+◌, ◌≤◌, ◌++◌, length, decimal};
-ghost use Rattle.mix_bits.specs.Text.{hexadecimal};
-ghost use Rattle.mixed_machine.specs.Trace.{exit_line, fault_line, fault_name, set_name as set_name_of};
-ghost use Rattle.mix_top.specs.Lines.{words_line, load_line};
+// The lines of the trace that a call ends with before it runs a program.
+ghost use Rattle.std.specs.Prelude.{◌≡◌, ◌+◌, ◌≤◌, ◌++◌, length, pos};
+ghost use Rattle.job_words.specs.Settings.{key_text as key_text_of};
+ghost use Rattle.mix_top.specs.Lines.{file_number as file_number_of, fetch_line, fork_refusal, head_refusal, key_number as key_number_of, load_line, load_refusal, long_file, numbered as numbered_line, refusal, reloc_refusal, words_line};
 
-use mix_bits::{Fault, FaultKind, Isa, Line};
-
-/// `exit CODE`
-pub fn exit_text(code: u32) -> Line
-    ensures { result ≡ exit_line code }
-{
-    let mut line = Line::new();
-    add(&mut line, "exit ");
-    add_number(&mut line, code);
-    add(&mut line, "\n");
-    line
-}
-
-/// `fault NAME SET PC DETAIL ALSO`
-pub fn fault_text(set: Isa, fault: Fault) -> Line
-    ensures { result ≡ fault_line set fault }
-{
-    let mut line = Line::new();
-    add(&mut line, "fault ");
-    add(&mut line, kind_name(fault.kind));
-    add(&mut line, " ");
-    add(&mut line, set_name(set));
-    add(&mut line, " ");
-    add_long(&mut line, fault.pc);
-    add(&mut line, " ");
-    add_long(&mut line, fault.detail);
-    add(&mut line, " ");
-    add_long(&mut line, fault.also);
-    add(&mut line, "\n");
-    line
-}
+use itoa::Buffer;
+use job_words::Key;
+use mix_bits::Line;
+use mix_load::{File, LoadError};
+use pef_head::PefError;
+use pef_reloc::RelocError;
+use rsrc_fork::RsrcError;
 
 /// `words PLACE`
 pub fn words_text(place: u32) -> Line
     ensures { result ≡ words_line place }
 {
+    numbered("words", "", place as i128)
+}
+
+/// `fetch KEY`
+pub fn fetch_text(key: Key) -> Line
+    ensures { result ≡ fetch_line key }
+{
     let mut line = Line::new();
-    add(&mut line, "words ");
-    add_number(&mut line, place);
+    add(&mut line, "fetch ");
+    add(&mut line, key_text(key));
     add(&mut line, "\n");
     line
+}
+
+/// The line for a file above the limit.
+pub fn long_text(key: Key) -> Line
+    ensures { result ≡ load_line (long_file key) }
+{
+    refused("long", key_number(key) as i128)
+}
+
+/// The line for a program that was not loaded.
+pub fn load_text(error: LoadError) -> Line
+    ensures { result ≡ load_line (load_refusal error) }
+{
+    match error {
+        LoadError::NoMemory => refused("memory", 0),
+        LoadError::Empty(file) => refused("empty", file_number(file) as i128),
+        LoadError::Rsrc(error) => fork_text(error),
+        LoadError::NoCode(id) => refused("nocode", id as i128),
+        LoadError::Far(id) => refused("far", id as i128),
+        LoadError::JumpTable(place) => refused("jumptable", place as i128),
+        LoadError::Pef(error) => head_text(error),
+        LoadError::TooLarge(end) => refused("toolarge", end as i128),
+        LoadError::Reloc(error) => reloc_text(error),
+        LoadError::Unresolved(import) => refused("unresolved", import as i128),
+        LoadError::NoMain => refused("nomain", 0),
+    }
+}
+
+/// The line for a file that is no resource fork.
+fn fork_text(error: RsrcError) -> Line
+    ensures { result ≡ load_line (fork_refusal error) }
+{
+    match error {
+        RsrcError::NoMemory => refused("memory", 0),
+        RsrcError::Short(length) => refused("rsrc-short", length as i128),
+        RsrcError::Overlap => refused("rsrc-overlap", 0),
+        RsrcError::BadOffset(offset) => refused("rsrc-offset", offset as i128),
+        RsrcError::Twice(_, id) => refused("rsrc-twice", id as i128),
+        RsrcError::Compressed(_, id) => refused("rsrc-compressed", id as i128),
+    }
+}
+
+/// The line for a file that is no container.
+fn head_text(error: PefError) -> Line
+    ensures { result ≡ load_line (head_refusal error) }
+{
+    match error {
+        PefError::Short(length) => refused("pef-short", length as i128),
+        PefError::Magic => refused("pef-magic", 0),
+        PefError::Architecture => refused("pef-architecture", 0),
+        PefError::Version => refused("pef-version", 0),
+        PefError::Section(section) => refused("pef-section", section as i128),
+        PefError::NoLoader => refused("pef-noloader", 0),
+        PefError::Loader(place) => refused("pef-loader", place as i128),
+        PefError::Name(place) => refused("pef-name", place as i128),
+        PefError::Init => refused("pef-init", 0),
+    }
+}
+
+/// The line for a section that was not unpacked or relocated.
+fn reloc_text(error: RelocError) -> Line
+    ensures { result ≡ load_line (reloc_refusal error) }
+{
+    match error {
+        RelocError::Pattern(place) => refused("pattern", place as i128),
+        RelocError::Short(place) => refused("reloc-short", place as i128),
+        RelocError::Unsupported(place) => refused("reloc-unsupported", place as i128),
+        RelocError::OutsideSection(place) => refused("reloc-outside", place as i128),
+        RelocError::ImportIndex(place) => refused("reloc-import", place as i128),
+        RelocError::SectionIndex(place) => refused("reloc-section", place as i128),
+        RelocError::RepeatFront(place) => refused("reloc-repeat", place as i128),
+        RelocError::Work => refused("reloc-work", 0),
+    }
 }
 
 /// `load NAME NUMBER`
-pub fn load_text(name: &str, number: u32) -> Line
+fn refused(name: &str, number: i128) -> Line
     requires { length name.now ≤ 20 }
-    ensures { result ≡ load_line name.now number }
+    ensures { result ≡ load_line (refusal name.now number) }
+{
+    numbered("load ", name, number)
+}
+
+/// A line of a name in two parts and a number.
+fn numbered(head: &str, name: &str, number: i128) -> Line
+    requires { length head.now + length name.now ≤ 40 }
+    ensures { result ≡ numbered_line (head.now ++ name.now) number }
 {
     let mut line = Line::new();
-    add(&mut line, "load ");
+    add(&mut line, head);
     add(&mut line, name);
     add(&mut line, " ");
-    add_number(&mut line, number);
+    add(&mut line, Buffer::new().format(number));
     add(&mut line, "\n");
     line
-}
-
-/// The name of a set.
-fn set_name(set: Isa) -> &'static str
-    ensures name { result.now ≡ set_name_of set }
-    ensures length { length result.now ≡ 3 }
-{
-    match set {
-        Isa::M68 => "68k",
-        Isa::Ppc => "ppc",
-    }
-}
-
-/// The name of a fault in its line.
-fn kind_name(kind: FaultKind) -> &'static str
-    ensures name { result.now ≡ fault_name kind }
-    ensures short { length result.now ≤ 12 }
-{
-    match kind {
-        FaultKind::Illegal => "illegal",
-        FaultKind::Privileged => "privileged",
-        FaultKind::Odd => "odd",
-        FaultKind::Outside => "outside",
-        FaultKind::GateStore => "gatestore",
-        FaultKind::FrameStore => "framestore",
-        FaultKind::GateFetch => "gatefetch",
-        FaultKind::Vector => "vector",
-        FaultKind::BadInstr => "badinstr",
-        FaultKind::Trap => "trap",
-        FaultKind::NoTrap => "notrap",
-        FaultKind::BadDesc => "baddesc",
-        FaultKind::Info => "badinfo",
-        FaultKind::Mismatch => "mismatch",
-        FaultKind::NoRecord => "norecord",
-        FaultKind::FramesFull => "framesfull",
-        FaultKind::StackOutside => "stackoutside",
-        FaultKind::StackCrossed => "stackcrossed",
-        FaultKind::StackFull => "stackfull",
-        FaultKind::Unmatched => "unmatched",
-    }
 }
 
 /// Appends a text to a line with room for it.
@@ -109,20 +132,36 @@ fn add(line: &mut Line, text: &str)
     let _fits = line.text(text);
 }
 
-/// Appends eight hexadecimal digits.
-fn add_long(line: &mut Line, number: u32)
-    requires { length line.old + 8 ≤ 160 }
-    ensures { line.new ≡ line.old ++ hexadecimal 8 number }
+/// The name of a file's key.
+fn key_text(key: Key) -> &'static str
+    ensures text { result.now ≡ key_text_of key }
+    ensures short { length result.now ≤ 4 }
 {
-    let _fits = line.hex(number, 8);
+    match key {
+        Key::Flat => "flat",
+        Key::Rsrc => "rsrc",
+        Key::Pef => "pef",
+    }
 }
 
-/// Appends a number in decimal.
-#[tactic(auto, using(crate::proofs::NumberLemmas::decimal_short))]
-fn add_number(line: &mut Line, number: u32)
-    requires { length line.old + 10 ≤ 160 }
-    ensures text { line.new ≡ line.old ++ decimal number }
-    ensures short { length line.new ≤ length line.old + 10 }
+/// The number of a file's key.
+fn key_number(key: Key) -> u32
+    ensures { result ≡ key_number_of key }
 {
-    let _fits = line.dec(number);
+    match key {
+        Key::Flat => 0,
+        Key::Rsrc => 1,
+        Key::Pef => 2,
+    }
+}
+
+/// The number of a file.
+fn file_number(file: File) -> u32
+    ensures { result ≡ file_number_of file }
+{
+    match file {
+        File::Flat => 0,
+        File::Rsrc => 1,
+        File::Pef => 2,
+    }
 }

@@ -2,8 +2,24 @@
 #![tactic(auto)]
 
 #[cfg(test)]
+mod case;
+#[cfg(test)]
 mod crossing;
+#[cfg(test)]
+mod failing;
+#[cfg(test)]
+mod files;
 #[cfg(test)]
 mod flat;
 #[cfg(test)]
+mod host;
+#[cfg(test)]
+mod image;
+#[cfg(test)]
+mod m68;
+#[cfg(test)]
 mod outside;
+#[cfg(test)]
+mod ppc;
+#[cfg(test)]
+mod words;

@@ -1,64 +1,71 @@
 // A call of the program over objects in memory.
-use mix_io::{MemShelf, MemSink, MemSource};
+use dev_rack::{Devices, Rack};
+use mix_io::{Counter, Device, MemShelf, MemSink, MemSource, Tape};
 use mix_top::mixed_main;
 use std::alloc::Global;
-use std::process::Abort;
 use std::test::Fail;
 
 /// The calls that fail, by their numbers from 1.
 #[derive(Clone, Copy)]
 pub struct Faults<'a> {
-    pub shelf: &'a [u32],
+    pub input: &'a [u32],
     pub out: &'a [u32],
     pub trace: &'a [u32],
 }
 
 /// No call fails.
 pub const CALM: Faults<'static> = Faults {
-    shelf: &[],
+    input: &[],
     out: &[],
     trace: &[],
 };
 
-/// What a call gives.
-#[derive(Clone, Copy)]
-pub struct Wanted<'a> {
-    pub out: &'a str,
-    pub trace: &'a str,
-    pub status: u8,
-}
-
-/// What a call gave.
+/// What a call gave, and how many asks the journal holds then.
 #[derive(Drop)]
 pub struct Given {
-    out: Vec<u8>,
-    trace: Vec<u8>,
-    status: u8,
+    pub out: Vec<u8>,
+    pub trace: Vec<u8>,
+    pub status: u8,
+    pub asks: usize,
 }
 
-/// Calls the program with the file `a` on the shelf.
-pub fn call(alloc: Global, words: &[&str], file: &[u8], faults: Faults) -> Result<Given, Fail> {
-    let mut all = Vec::new(alloc);
-    for word in words {
-        all.push(String::from_str(alloc, word)?)?;
-    }
-    let names = vec![in alloc; String::from_str(alloc, "a")?]?;
-    let contents = vec![in alloc; file.to_vec(alloc)?]?;
-    let mut shelf = MemShelf::new(names, contents, faults.shelf.to_vec(alloc)?);
-    let mut input = MemSource::new(Vec::new(alloc), Vec::new(alloc));
-    let mut out = MemSink::new(alloc, 4096, faults.out.to_vec(alloc)?)?;
-    let mut trace = MemSink::new(alloc, 4096, faults.trace.to_vec(alloc)?)?;
-    let status = mixed_main(alloc, &all, &mut shelf, &mut input, &mut out, &mut trace);
+/// Calls the program.
+pub fn call(
+    alloc: Global,
+    words: &str,
+    shelf: MemShelf,
+    bytes: &[u8],
+    faults: Faults,
+    rack: &mut Rack,
+) -> Result<Given, Fail> {
+    let mut shelf = shelf;
+    let all = split(alloc, words)?;
+    let mut input = MemSource::new(bytes.to_vec(alloc)?, faults.input.to_vec(alloc)?);
+    let mut out = MemSink::new(alloc, 65536, faults.out.to_vec(alloc)?)?;
+    let mut trace = MemSink::new(alloc, 65536, faults.trace.to_vec(alloc)?)?;
+    let status = mixed_main(
+        alloc, &all, &mut shelf, &mut input, &mut out, &mut trace, rack,
+    );
     Ok(Given {
         out: out.held().to_vec(alloc)?,
         trace: trace.held().to_vec(alloc)?,
         status,
+        asks: rack.journal().len(),
     })
 }
 
-/// Compares all that a call gave.
-pub fn compare(rt: &impl Abort, given: &Given, wanted: Wanted) {
-    assert_eq!(rt; given.out.as_slice(), wanted.out.as_bytes());
-    assert_eq!(rt; given.trace.as_slice(), wanted.trace.as_bytes());
-    assert_eq!(rt; given.status, wanted.status);
+/// The words of a text.
+pub fn split(alloc: Global, words: &str) -> Result<Vec<String>, Fail> {
+    let mut all = Vec::new(alloc);
+    for word in words.split_whitespace() {
+        all.push(String::from_str(alloc, word)?)?;
+    }
+    Ok(all)
+}
+
+/// A counter in slot 0 and a tape in slot 1.
+pub fn standard_rack(alloc: Global) -> Result<Rack, Fail> {
+    let counter: Box<dyn Device> = Box::new(alloc, Counter::new(alloc)?)?;
+    let tape: Box<dyn Device> = Box::new(alloc, Tape::new(alloc)?)?;
+    Ok(Rack::new(alloc, vec![in alloc; counter, tape]?)?)
 }

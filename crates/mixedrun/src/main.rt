@@ -1,26 +1,51 @@
-//! The program: words from the command line, files by their paths, the output on standard output and
-//! the trace on standard error.
+//! The program: words from the command line, files by their paths, the input on standard input, the output
+//! on standard output and the trace on standard error. A counter stands in slot 0 and a tape in slot 1.
 #![tactic(auto)]
 
-use mix_io::{FileShelf, Sink, StdSink, StdSource};
+use dev_rack::Rack;
+use mix_io::{Counter, Device, FileShelf, Sink, StdSink, StdSource, Tape};
 use mix_top::mixed_main;
+use std::alloc::Global;
 use std::env;
-use std::io::{self, ErrorKind};
+use std::io::{self, BufReader, ErrorKind};
 use std::process::ExitCode;
 
 /// What `--help` prints.
 const HELP: &str = "\
 mixedrun runs programs that mix 68K and PowerPC code.
 
-usage: mixedrun run flat=FILE [steps=N]
+usage: mixedrun run flat=FILE | rsrc=FILE | pef=FILE | rsrc=FILE pef=FILE
+                    [main=68k|ppc] [ram=KIB] [steps=N]
 
-  flat=FILE   a flat image of 68K code, put at address $10000 and started there
-  steps=N     how many steps are done at most (default 1000000)
+  flat=FILE   a flat image, put at address $10000 and started there
+  rsrc=FILE   a resource fork with CODE segments of 68K code
+  pef=FILE    a container of PowerPC code
+  main=SET    the set of the main program, 68k or ppc
+              (default: 68k where flat or rsrc is given, else ppc)
+  ram=KIB     the size of RAM, 128 to 16384 KiB (default 1024)
+  steps=N     how many steps are done at most, 0 to 4294967295
+              (default 1000000)
 
-Output goes to standard output, the trace of the run to standard error.
-Status: 0 or 1 for an exit with code 0 or another, 2 for bad words, 3 for a file that is not
-loaded, 4, 6 or 7 where a file, the output or the trace failed, 9 for want of memory, 10 for a
-fault, 11 where all steps were done.
+The words stand in any order behind run. A flat file stands alone; main=68k
+needs a flat file or a fork, and main=ppc a flat file or a container.
+
+Input comes from standard input, output goes to standard output, and the trace
+of calls, returns, device asks and the end goes to standard error. Slot 0 holds
+a counter and slot 1 a tape.
+
+Status:
+  0, 1    the program ended with code 0, or with another code
+  2       bad words                    3       the program was not loaded
+  4       a file was not read          5       the input failed
+  6       the output failed            7       the trace failed
+  9       there was no memory          10      a fault
+  11      all steps were done
+
+Examples:
+  mixedrun run flat=samples/hello.bin
+  mixedrun run rsrc=program.rsrc pef=program.pef main=ppc ram=4096 steps=50000
+
+The folder docs/ says what the machine is and what the lines of the trace mean.
 ";
 
 /// What `--version` prints.
@@ -29,12 +54,15 @@ const VERSION: &str = "mixedrun 0.1.0\n";
 /// The status where the output failed.
 const OUTPUT_FAILED: u8 = 6;
 
+/// The status where there was no memory.
+const NO_MEMORY: u8 = 9;
+
 fn main(rt: HostRuntime) -> ExitCode {
     ExitCode::from(match words(&rt) {
         Ok(words) => match words.as_slice() {
             [word] if word.as_str() == "--help" => print(&rt, HELP),
             [word] if word.as_str() == "--version" => print(&rt, VERSION),
-            words => run(&rt, words),
+            words => run(&rt, words).unwrap_or(NO_MEMORY),
         },
         Err(error) => refuse(&rt, error.kind()),
     })
@@ -47,26 +75,35 @@ fn words(rt: &HostRuntime) -> io::Result<Vec<String>> {
     Ok(args.collect(rt.alloc())?)
 }
 
-/// Runs the words over the real files and streams, and answers the status.
-fn run(rt: &HostRuntime, words: &[String]) -> u8 {
+/// Runs the words over the real files and streams, and answers the status, or none for want of memory.
+fn run(rt: &HostRuntime, words: &[String]) -> Option<u8> {
     let mut shelf = FileShelf::new(rt);
-    let mut input = StdSource::new(rt.stdin());
+    let mut input = StdSource::new(BufReader::new(rt.alloc(), rt.stdin()).ok()?);
     let mut out = StdSink::new(rt.stdout());
     let mut trace = StdSink::new(rt.stderr());
-    mixed_main(
+    let mut rack = rack(rt.alloc())?;
+    Some(mixed_main(
         rt.alloc(),
         words,
         &mut shelf,
         &mut input,
         &mut out,
         &mut trace,
-    )
+        &mut rack,
+    ))
+}
+
+/// A counter in slot 0 and a tape in slot 1.
+fn rack(alloc: Global) -> Option<Rack> {
+    let counter: Box<dyn Device> = Box::new(alloc, Counter::new(alloc).ok()?).ok()?;
+    let tape: Box<dyn Device> = Box::new(alloc, Tape::new(alloc).ok()?).ok()?;
+    Rack::new(alloc, vec![in alloc; counter, tape].ok()?).ok()
 }
 
 /// The status where there are no words: for want of memory, or since one of them is no text.
 fn refuse(rt: &HostRuntime, kind: ErrorKind) -> u8 {
     if kind == ErrorKind::OutOfMemory {
-        return 9;
+        return NO_MEMORY;
     }
     match StdSink::new(rt.stderr()).put(b"words 0\n") {
         Ok(()) => 2,

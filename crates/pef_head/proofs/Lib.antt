@@ -6,3 +6,5 @@ pub mod Passed
 pub mod Whole
 pub mod Loadable
 pub mod Counts
+pub mod Tables
+pub mod Cuts

@@ -6,7 +6,7 @@ use Rattle.pef_head.specs.Container.{HasHeaders, HasSections, is_bad_section, is
 use Rattle.pef_head.specs.Loader.{loader_in, loader_of}
 use Rattle.pef_head.specs.Places.{HasTables, is_repeated, has_end, library_name, relocated, symbol_name, words_end}
 use Rattle.pef_head.specs.Owners.{is_lost, owners}
-use Rattle.pef_head.specs.Parts.{ImportParts, import_at, import_of}
+use Rattle.pef_head.specs.Parts.{ImportParts, cut, import_at, import_of}
 use Rattle.pef_head.specs.Read.{IsRead}
 use Rattle.pef_head.specs.Refusals.{entries_refusal, is_bad_relocation, is_nameless_library, is_nameless_symbol, loader_refusal, names_refusal, refusal_of}
 use Rattle.pef_head.specs.Search.{least}
@@ -97,3 +97,8 @@ pub import_same : (bytes now : List ℕ) (l : Loader) (i : ℕ) (r : ImportParts
     → r ≡ import_at bytes l i → r ≡ import_of now i
 import_same bytes now l i r view is e =
     subst (λ (n : List ℕ). r ≡ import_of n i) view (e ∙ ap (λ (k : Loader). import_at bytes k i) is)
+
+pub import_cut : (bytes now : List ℕ) (l : Loader) (i most : ℕ) (r : ImportParts) → bytes ≡ now → l ≡ loader_of bytes
+    → r ≡ cut most (import_at bytes l i) → r ≡ cut most (import_of now i)
+import_cut bytes now l i most r view is e =
+    subst (λ (n : List ℕ). r ≡ cut most (import_of n i)) view (e ∙ ap (λ (k : Loader). cut most (import_at bytes k i)) is)

@@ -1,13 +1,21 @@
 -- Which libraries have a symbol, and what a search of a range of symbols keeps.
-use Rattle.std.specs.Prelude.{◌≡◌, ◌≢◌, ℕ, ◌-◌, ◌<◌, ◌≤◌, Bool, false, ◌==◌, not, List, slice_index_or, Option, Some, None}
+use Rattle.std.specs.Prelude.{◌≡◌, ◌≢◌, ℕ, ◌-◌, ◌<◌, ◌≤◌, Bool, false, ◌==◌, not, List, slice_index, slice_index_or, Option, Some, None, unwrap_or}
 use Rattle.std.specs.Int.{from_bool}
 use Rattle.pef_head.specs.declared.loader.Loader.{Loader}
 use Rattle.pef_head.specs.Places.{holds}
-use Rattle.pef_head.specs.Search.{count_below}
+use Rattle.pef_head.specs.Search.{count_below, least}
 
 -- how many of the first n libraries have the symbol
 abbrev pub owners : List ℕ → Loader → ℕ → ℕ → ℕ
 owners bytes l n i = count_below (holds bytes l i) n
+
+-- the table has for each symbol the first of the first n libraries that has it, or 0
+abbrev pub HasOwners : List ℕ → Loader → ℕ → List ℕ → Type 0
+HasOwners bytes l n table = (i : ℕ) → i < l.symbols → slice_index table i ≡ unwrap_or (least (holds bytes l i) n) 0
+
+-- each symbol is in one library
+abbrev pub AreOwned : List ℕ → Loader → Type 0
+AreOwned bytes l = (i : ℕ) → i < l.symbols → owners bytes l l.libraries i ≡ 1
 
 -- it is in no library, or in two
 abbrev pub is_lost : List ℕ → Loader → ℕ → Bool

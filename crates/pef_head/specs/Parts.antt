@@ -1,5 +1,5 @@
 -- What a container's accessors give: fields and slices of its file.
-use Rattle.std.specs.Prelude.{◌≡◌, ℕ, ◌+◌, ◌^◌, ◌≤◌, Bool, false, length, ◌==◌, not, bit_and, if◌then◌else◌, List, [], slice_index, slice_range, Option, Some, None, unwrap_or}
+use Rattle.std.specs.Prelude.{◌≡◌, ℕ, ◌+◌, ◌^◌, ◌≤◌, Bool, false, length, ◌==◌, not, bit_and, if◌then◌else◌, List, [], slice_index, slice_range, take, Option, Some, None, unwrap_or}
 use Rattle.std.specs.Option.{option_map_or}
 use Rattle.pef_head.specs.declared.loader.Loader.{Loader}
 use Rattle.pef_head.specs.declared.section.Section.{Section}
@@ -74,6 +74,14 @@ import_at bytes l i = record {
 
 abbrev pub import_of : List ℕ → ℕ → ImportParts
 import_of bytes i = import_at bytes (loader_of bytes) i
+
+-- the library of a symbol
+abbrev pub library_of : List ℕ → ℕ → ℕ
+library_of bytes i = owner_of bytes (loader_of bytes) i
+
+-- an import with the first bytes of its names, at most so many of each
+abbrev pub cut : ℕ → ImportParts → ImportParts
+cut most i = record { library = take most i.library; name = take most i.name; weak = i.weak }
 
 -- the words of a section's relocation header
 abbrev pub relocs_at : List ℕ → Loader → ℕ → List ℕ

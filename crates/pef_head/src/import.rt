@@ -1,11 +1,11 @@
 ghost use Rattle.std.specs.Prelude.{◌≡◌, ℕ, ◌^◌, ◌≤◌, ◌<◌, true, length};
 ghost use Rattle.pef_head.specs.Owners.{owners};
-ghost use Rattle.pef_head.specs.Parts.{import_at, names, owner_of};
+ghost use Rattle.pef_head.specs.Parts.{cut, import_at, is_weak, names, owner_of};
 ghost use Rattle.pef_head.specs.Places.{HasTables, has_end, holds, library_name, symbol_name};
 ghost use Rattle.pef_head.specs.Search.{least};
 
 use crate::loader::Loader;
-use crate::names::name_at;
+use crate::names::{name_at, name_within};
 use crate::places::{holds, library_name, symbol, symbol_name};
 
 /// A symbol that the container takes from a library.
@@ -34,6 +34,35 @@ fn owner_of(bytes: &[u8], l: Loader, i: u32) -> u32
     unreachable!()
 }
 
+/// Whether a symbol may be missing.
+fn is_weak(bytes: &[u8], l: Loader, i: u32) -> bool
+    requires tables { HasTables bytes.now l }
+    requires below { i < l.symbols }
+    ensures { result ≡ is_weak bytes.now l i }
+{
+    bytes[symbol(l, i) as usize] & 0x80 != 0
+}
+
+/// The symbol with this number, which this library has, with the first bytes of the names, at most so many
+/// of each.
+#[tactic(auto, using(crate::proofs::Tables::owner_below))]
+pub fn import_within<'a>(bytes: &'a [u8], l: Loader, i: u32, owner: u32, most: usize) -> Import<'a>
+    requires tables { HasTables bytes.now l }
+    requires below { i < l.symbols }
+    requires owned { owners bytes.now l l.libraries i ≡ 1 }
+    requires owner { owner ≡ owner_of bytes.now l i }
+    requires libraries { (j : ℕ) → j < l.libraries → has_end bytes.now l (library_name bytes.now l j) ≡ true }
+    requires ends { has_end bytes.now l (symbol_name bytes.now l i) ≡ true }
+    ensures { names result ≡ cut most (import_at bytes.now l i) }
+{
+    let library = library_name(bytes, l, owner);
+    Import {
+        library: name_within(bytes, l, library, most),
+        name: name_within(bytes, l, symbol_name(bytes, l, i), most),
+        weak: is_weak(bytes, l, i),
+    }
+}
+
 /// The symbol with this number.
 pub fn import_at<'a>(bytes: &'a [u8], l: Loader, i: u32) -> Import<'a>
     requires tables { HasTables bytes.now l }
@@ -44,10 +73,9 @@ pub fn import_at<'a>(bytes: &'a [u8], l: Loader, i: u32) -> Import<'a>
     ensures { names result ≡ import_at bytes.now l i }
 {
     let library = library_name(bytes, l, owner_of(bytes, l, i));
-    let class = bytes[symbol(l, i) as usize];
     Import {
         library: name_at(bytes, l, library),
         name: name_at(bytes, l, symbol_name(bytes, l, i)),
-        weak: class & 0x80 != 0,
+        weak: is_weak(bytes, l, i),
     }
 }

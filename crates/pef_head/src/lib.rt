@@ -19,6 +19,7 @@ mod places;
 mod read;
 mod relocations;
 mod section;
+mod table;
 #[cfg(test)]
 mod tests;
 

@@ -1,5 +1,5 @@
 //! Names in the loader section, each with a zero byte behind it.
-ghost use Rattle.std.specs.Prelude.{◌≡◌, ℕ, ◌+◌, ◌^◌, ◌≤◌, ◌<◌, Bool, true, length, nat_lt, slice_index, slice_range, IfSome};
+ghost use Rattle.std.specs.Prelude.{◌≡◌, ℕ, ◌+◌, ◌^◌, ◌≤◌, ◌<◌, Bool, true, length, take, nat_lt, slice_index, slice_range, IfSome};
 ghost use Rattle.pef_head.specs.Places.{HasTables, has_end, is_zero, library_name, symbol_name};
 ghost use Rattle.pef_head.specs.Names.{IsNamesEnd, name_at};
 ghost use Rattle.pef_head.specs.Refusals.{names_refusal, is_nameless_library, is_nameless_symbol};
@@ -87,5 +87,19 @@ pub fn name_at<'a>(bytes: &'a [u8], l: Loader, from: u64) -> &'a [u8]
     match first_zero(rest) {
         Some(len) => &rest[..len],
         None => rest,
+    }
+}
+
+/// The first bytes of the name that begins at a place, at most so many.
+pub fn name_within<'a>(bytes: &'a [u8], l: Loader, from: u64, most: usize) -> &'a [u8]
+    requires within { l.end ≤ length bytes.now }
+    requires ends { has_end bytes.now l from ≡ true }
+    ensures { result.now ≡ take most (name_at bytes.now l from) }
+{
+    let rest = &bytes[from as usize..l.end as usize];
+    let first = &rest[..rest.len().min(most)];
+    match first_zero(first) {
+        Some(len) => &first[..len],
+        None => first,
     }
 }

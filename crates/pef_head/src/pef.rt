@@ -1,11 +1,13 @@
 use crate::container::instantiated_count;
 use crate::error::PefError;
 use crate::fields::long_at;
-use crate::import::{Import, import_at};
+use crate::import::{Import, import_at, import_within};
 use crate::loader::Loader;
 use crate::read::{NO_SECTION, read_head};
 use crate::relocations::relocs_at;
 use crate::section::{Section, section_at};
+use crate::table::owner_table;
+use std::alloc::{AllocError, Global};
 use std::marker::Model;
 
 /// A container that was read. Contracts see it as the bytes of its file.
@@ -27,10 +29,10 @@ impl<'a> Model for Pef<'a> {
 }
 
 impl<'a> Pef<'a> {
-    ghost use Rattle.std.specs.Prelude.{◌≡◌, ℕ, ◌^◌, ◌≤◌, ◌<◌, ◌*◌, ◌%◌, length, IfOk, OnOk, OnErr};
+    ghost use Rattle.std.specs.Prelude.{◌≡◌, ℕ, ◌^◌, ◌≤◌, ◌<◌, ◌*◌, ◌%◌, length, slice_index, IfOk, OnOk, OnErr};
     ghost use Rattle.std.specs.Result.{result_err};
     ghost use Rattle.pef_head.specs.Container.{instantiated_count};
-    ghost use Rattle.pef_head.specs.Parts.{IsLoadable, import_count, import_of, main_of, names, parts, relocs_of, section_at};
+    ghost use Rattle.pef_head.specs.Parts.{IsLoadable, cut, import_count, import_of, library_of, main_of, names, parts, relocs_of, section_at};
     ghost use Rattle.pef_head.specs.Refusals.{refusal_of};
     ghost use Rattle.pef_head.specs.Whole.{IsContainer};
 
@@ -93,6 +95,25 @@ impl<'a> Pef<'a> {
         ensures { names result ≡ import_of self.now i }
     {
         import_at(self.bytes, self.loader, i)
+    }
+
+    /// The library of each imported symbol, as its number among the libraries. It takes one walk over the
+    /// libraries and symbols.
+    pub fn owners(&self, alloc: Global) -> Result<Vec<u32>, AllocError>
+        ensures is { IfOk result (λ owners. (i : ℕ) → i < import_count self.now → slice_index owners.items i ≡ library_of self.now i) }
+        ensures len { IfOk result (λ owners. length owners.items ≡ import_count self.now) }
+    {
+        owner_table(alloc, self.bytes, self.loader)
+    }
+
+    /// The imported symbol with this number, by the number of its library, with the first bytes of the
+    /// names, at most `most` of each. It looks at no other bytes of them.
+    pub fn import_within(&self, i: u32, owner: u32, most: usize) -> Import<'a>
+        requires below { i < import_count self.now }
+        requires owner { owner ≡ library_of self.now i }
+        ensures { names result ≡ cut most (import_of self.now i) }
+    {
+        import_within(self.bytes, self.loader, i, owner, most)
     }
 
     /// The relocation words of the instantiated section with this number, two bytes each, or none where it

@@ -11,10 +11,6 @@ pub lookup_seen : (name : Name) (entries : List (Name × Bor (List ℕ)))
     → bytes_of (seen entries) name ≡ option_map (λ (piece : Bor (List ℕ)). piece.now) (lookup (same_name name) entries)
 lookup_seen name entries = lookup-map_values (λ (piece : Bor (List ℕ)). piece.now) (same_name name) entries
 
-pub names_seen : (entries : List (Name × Bor (List ℕ))) → names_of (seen entries) ≡ keys_of entries
-names_seen [] = refl
-names_seen (e ∷ es) = ap (λ names. e.0 ∷ names) (names_seen es)
-
 module _ (name : Name) (entries : List (Name × Bor (List ℕ))) (piece : Bor (List ℕ)) where
   pub found_twice : (there : Bor (List ℕ)) → lookup (same_name name) entries ≡ Some there
       → with_resource (seen entries) name piece.now ≡ Err (Twice name.kind name.id)

@@ -1,11 +1,12 @@
 -- `next_id` is the least id of its type above `after`.
-use Rattle.std.proofs.Common.{◌≡◌, refl, sym, subst, ℕ, ℤ, ◌≤ℤ◌, ◌<ℤ◌, Bool, true, false, true≢false, ◌&&◌, nat_eq, int_lt, if◌then◌else◌, List, [], ◌∷◌, fold, Option, Some, None, IsSome, ◌⊎◌, inl, inr, arith}
+use Rattle.std.proofs.Common.{◌≡◌, ◌∙◌, refl, sym, ap, subst, ℕ, ℤ, pos, ◌≤ℤ◌, ◌<ℤ◌, Bool, true, false, true≢false, ◌&&◌, nat_eq, int_lt, if◌then◌else◌, List, [], ◌∷◌, fold, Option, Some, None, IsSome, is_some, option_map, Bor, ◌⊎◌, inl, inr, arith}
+use Rattle.std.proofs.lemmas.List.Elements.{All-head, All-tail}
 use Rattle.std.proofs.lemmas.Bool.{and_parts, eq-eqb, eqb-true}
 use Rattle.std.proofs.lemmas.Bool.Decides.{Decides-int_eq}
 use Rattle.std.proofs.lemmas.Int.{ints}
 use Rattle.std.specs.Ordering.{int_eq}
 use Rattle.rsrc_fork.specs.declared.name.Name.{Name}
-use Rattle.rsrc_fork.specs.Resources.{Resource, named, same_name, bytes_of, is_nearer, nearer, names_of, next_id, IsNextId}
+use Rattle.rsrc_fork.specs.Resources.{Resource, AreSmall, IsSmall, named, same_name, bytes_of, is_nearer, nearer, names_of, next_id, IsNextId}
 
 -- one more resource in front hides none
 later : (resource : Resource) (resources : List Resource) (name : Name)
@@ -15,6 +16,9 @@ later resource resources name h = by (same_name name resource.0)
     by : (same : Bool) → IsSome (if same then Some resource.1 else bytes_of resources name)
     by true = refl
     by false = h
+
+none_there : (resources : List Resource) (name : Name) → bytes_of resources name ≡ None → IsSome (bytes_of resources name) → ⊥
+none_there resources name none there = true≢false (sym there ∙ ap is_some none)
 
 module _ (kind : ℕ) (after : ℤ) where
   -- there is an id, and it is not above x
@@ -118,3 +122,44 @@ module _ (kind : ℕ) (after : ℤ) where
                 let reached : id ≤ℤ x = subst (λ (o : Option ℤ). Reaches o x) q (reaches_found resources None x above there) in
                 omega (arith, ints)),
           )
+
+  -- there is one such answer
+  unique : (resources : List Resource) (one other : Option ℤ) → IsNextId resources kind after one → IsNextId resources kind after other → one ≡ other
+  unique resources None None p q = refl
+  unique resources None (Some b) p q = absurd (none_there resources (named kind b) (p b q.1) q.0)
+  unique resources (Some a) None p q = absurd (none_there resources (named kind a) (q a p.1) p.0)
+  unique resources (Some a) (Some b) p q = by (int_lt a b) refl (int_lt b a) refl
+    where
+      by : (s : Bool) → int_lt a b ≡ s → (t : Bool) → int_lt b a ≡ t → Some a ≡ Some b
+      by true e t f = let less : a <ℤ b = grind (arith, ints) in absurd (none_there resources (named kind a) (q.2 a p.1 less) p.0)
+      by false e true f = let less : b <ℤ a = grind (arith, ints) in absurd (none_there resources (named kind b) (p.2 b q.1 less) q.0)
+      by false e false f = let same : a ≡ b = grind (arith, ints) in cc
+
+  pub next_is : (resources : List Resource) (o : Option ℤ) → IsNextId resources kind after o → o ≡ next_id resources kind after
+  next_is resources o is = unique resources o (next_id resources kind after) is (next_id_is resources)
+
+  -- no id is above those of a signed word
+  pub none_above : (resources : List Resource) (x : ℤ) → AreSmall resources → pos 32767 <ℤ x → bytes_of resources (named kind x) ≡ None
+  none_above [] x small high = refl
+  none_above (r ∷ rs) x small high = by (same_name (named kind x) r.0) refl (none_above rs x (All-tail IsSmall r rs small) high)
+    where
+      by : (same : Bool) → same_name (named kind x) r.0 ≡ same → bytes_of rs (named kind x) ≡ None
+          → (if same then Some r.1 else bytes_of rs (named kind x)) ≡ None
+      by true q rest =
+          let most : r.0.id ≤ℤ pos 32767 = (All-head IsSmall r rs small).1 in
+          let is : r.0.id ≡ x = (same_parts x r.0 q).1 in
+          absurd (omega (arith, ints, most, is, high))
+      by false q rest = rest
+
+-- none up to the last signed word, and none above it
+pub none_from : (kind : ℕ) (after last : ℤ) (resources : List Resource) → AreSmall resources → pos 32767 ≤ℤ last
+    → ((x : ℤ) → after <ℤ x → x ≤ℤ last → bytes_of resources (named kind x) ≡ None) → (x : ℤ) → after <ℤ x → bytes_of resources (named kind x) ≡ None
+none_from kind after last resources small end none x above = by (int_lt (pos 32767) x) refl
+  where
+    by : (b : Bool) → int_lt (pos 32767) x ≡ b → bytes_of resources (named kind x) ≡ None
+    by true q = none_above kind after resources x small (grind (arith, ints))
+    by false q = none x above (let low : x ≤ℤ pos 32767 = grind (arith, ints) in omega (arith, ints, low, end))
+
+pub some_seen : (found : Option (Bor (List ℕ))) (o : Option (List ℕ)) → option_map (λ (piece : Bor (List ℕ)). piece.now) found ≡ o → is_some found ≡ true → IsSome o
+some_seen None o is there = absurd (true≢false (sym there))
+some_seen (Some piece) o is there = subst (λ (p : Option (List ℕ)). IsSome p) is refl

@@ -1,33 +1,51 @@
 -- The resources of a fork are no longer than its file.
-use Rattle.std.proofs.Common.{◌≡◌, ◌≤◌, ◌^◌, ℕ, sym, subst, List, [], ◌∷◌, length, get_or, ◌+◌, Bool, true, false, if◌then◌else◌, Option, Some, None, IfSome, option_map, slice_range, Ok, Bor, arith, length-take, length-drop}
+use Rattle.std.proofs.Common.{◌≡◌, ◌≤◌, ◌<◌, ◌^◌, ℕ, pos, ◌≤ℤ◌, ◌-ℤ◌, nat_lt, refl, sym, subst, List, [], ◌∷◌, length, get_or, ◌+◌, Bool, true, false, if◌then◌else◌, Option, Some, None, IfSome, option_map, slice_range, Ok, Bor, arith, length-take, length-drop}
+use Rattle.std.proofs.lemmas.List.{places}
+use Rattle.std.proofs.lemmas.Bool.Decides.{nat_tests}
+use Rattle.std.proofs.lemmas.Int.{ints}
 use Rattle.std.proofs.lemmas.List.Elements.{All-map, All-head, All-tail}
 use Rattle.rsrc_fork.specs.declared.name.Name.{Name}
 use Rattle.rsrc_fork.specs.Listing.{Reference, references_of, resource_at, start_at, end_at}
+use Rattle.rsrc_fork.specs.Fields.{id_at, word_at}
 use Rattle.rsrc_fork.specs.References.{resources_of}
-use Rattle.rsrc_fork.specs.Resources.{Resource, AreSmall, bytes_of, same_name}
+use Rattle.rsrc_fork.specs.Resources.{Resource, AreSmall, IsSmall, bytes_of, same_name}
 use Rattle.rsrc_fork.proofs.Listing.{fork_is}
 
 within : (bytes : List ℕ) (start end : ℕ) → length (slice_range bytes start end) ≤ length bytes
 within bytes start end = simp (length-take, length-drop) (omega arith)
 
-pub small_is : (bytes : List ℕ) (resources : List Resource) → length bytes ≤ 2 ^ 24 → resources_of bytes ≡ Ok resources → AreSmall resources
-small_is bytes resources fits e =
-    subst AreSmall (sym (fork_is bytes resources e).listed)
-    (All-map (λ (resource : Resource). length resource.1 ≤ 2 ^ 24) (resource_at bytes) (references_of bytes) (λ k d lt. small (get_or (references_of bytes) k d)))
+-- a signed word is at most 32767
+byte_in : (bytes : List ℕ) (from i : ℕ) → ((k : ℕ) → get_or bytes k 0 < 256) → get_or (slice_range bytes from (from + 2)) i 0 < 256
+byte_in bytes from i fit = let byte = fit (from + i) in grind (arith, places)
+
+id_most : (bytes : List ℕ) (place : ℕ) → ((k : ℕ) → get_or bytes k 0 < 256) → id_at bytes place ≤ℤ pos 32767
+id_most bytes place fit = by (nat_lt (word_at bytes place) 32768) refl
   where
-    small : (r : Reference) → length (resource_at bytes r).1 ≤ 2 ^ 24
-    small r = omega (arith, within bytes (start_at bytes r + 4) (end_at bytes r))
+    word_most : word_at bytes place < 65536
+    word_most = omega (arith, byte_in bytes place 0 fit, byte_in bytes place 1 fit)
+
+    by : (b : Bool) → nat_lt (word_at bytes place) 32768 ≡ b
+        → (if b then pos (word_at bytes place) else pos (word_at bytes place) -ℤ pos 65536) ≤ℤ pos 32767
+    by true q = let low : word_at bytes place < 32768 = grind (arith, nat_tests) in omega (arith, ints, low)
+    by false q = omega (arith, ints, word_most)
+
+pub small_is : (bytes : List ℕ) (resources : List Resource) → length bytes ≤ 2 ^ 24 → ((k : ℕ) → get_or bytes k 0 < 256) → resources_of bytes ≡ Ok resources → AreSmall resources
+small_is bytes resources fits bytes_fit e =
+    subst AreSmall (sym (fork_is bytes resources e).listed)
+    (All-map IsSmall (resource_at bytes) (references_of bytes) (λ k d lt. small (get_or (references_of bytes) k d)))
+  where
+    small : (r : Reference) → IsSmall (resource_at bytes r)
+    small r =
+        let brief : length (resource_at bytes r).1 ≤ 2 ^ 24 = omega (arith, within bytes (start_at bytes r + 4) (end_at bytes r)) in
+        (brief, id_most bytes r.place bytes_fit)
 
 pub small_found : (resources : List Resource) (name : Name) → AreSmall resources → IfSome (bytes_of resources name) (λ piece. length piece ≤ 2 ^ 24)
 small_found [] name h = tt
 small_found (r ∷ rs) name h = by (same_name name r.0) (small_found rs name (All-tail IsSmall r rs h))
   where
-    IsSmall : Resource → Type 0
-    IsSmall resource = length resource.1 ≤ 2 ^ 24
-
     by : (same : Bool) → IfSome (bytes_of rs name) (λ piece. length piece ≤ 2 ^ 24)
         → IfSome (if same then Some r.1 else bytes_of rs name) (λ piece. length piece ≤ 2 ^ 24)
-    by true rest = All-head IsSmall r rs h
+    by true rest = (All-head IsSmall r rs h).0
     by false rest = rest
 
 pub small_piece : (found : Option (Bor (List ℕ))) (resources : List Resource) (name : Name) → AreSmall resources

@@ -1,5 +1,5 @@
 -- Resources in the order of their file, and the look-ups among them.
-use Rattle.std.specs.Prelude.{◌≡◌, ℕ, ℤ, ◌<ℤ◌, Bool, true, ◌&&◌, ◌++◌, ◌∷◌, [], nat_eq, int_lt, is_some, IsSome, All, length, ◌≤◌, ◌^◌, if◌then◌else◌, List, map, fold, Option, Some, None, Result, Ok, Err}
+use Rattle.std.specs.Prelude.{◌≡◌, ℕ, ℤ, ◌<ℤ◌, ◌≤ℤ◌, pos, Bool, true, ◌&&◌, ◌++◌, ◌∷◌, [], nat_eq, int_lt, is_some, IsSome, All, length, ◌≤◌, ◌^◌, if◌then◌else◌, List, map, fold, Option, Some, None, Result, Ok, Err}
 use denote.Ref.{Bor}
 use Rattle.std.specs.Ordering.{int_eq}
 use Rattle.std.specs.Map.{lookup}
@@ -21,9 +21,12 @@ same_name a b = nat_eq a.kind b.kind && int_eq a.id b.id
 abbrev pub bytes_of : List Resource → Name → Option (List ℕ)
 bytes_of resources name = lookup (same_name name) resources
 
--- no resource is longer than a file may be
+-- no resource is longer than a file may be, and each id is a signed word's at most
+abbrev pub IsSmall : Resource → Type 0
+IsSmall resource = (length resource.1 ≤ 2 ^ 24) × (resource.0.id ≤ℤ pos 32767)
+
 abbrev pub AreSmall : List Resource → Type 0
-AreSmall resources = All (λ resource. length resource.1 ≤ 2 ^ 24) resources
+AreSmall resources = All IsSmall resources
 
 -- an id comes before the least one so far
 abbrev pub is_nearer : ℤ → Option ℤ → Bool

@@ -1,5 +1,5 @@
 use crate::error::RsrcError;
-use crate::lookup::{find, least_above};
+use crate::lookup::{find, next_id};
 use crate::name::Name;
 use crate::references::{Resources, resources_of};
 use std::alloc::Global;
@@ -54,12 +54,12 @@ impl<'a> Fork<'a> {
         find(&self.resources, Name { kind, id })
     }
 
-    /// The least id above `after` among the resources of a type. It looks at each name of the fork.
-    #[tactic(auto, using(crate::proofs::Lookups::names_seen, crate::proofs::NextId::next_id_is))]
+    /// The least id above `after` among the resources of a type. It looks up one id after the other.
+    #[tactic(auto, using(crate::proofs::NextId::next_is))]
     pub fn ids(&self, kind: u32, after: i16) -> Option<i16>
         ensures is { result ≡ next_id self.now kind after }
         ensures next { IsNextId self.now kind after result }
     {
-        least_above(&self.resources, kind, after)
+        next_id(&self.resources, kind, after)
     }
 }

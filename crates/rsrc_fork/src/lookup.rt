@@ -1,6 +1,5 @@
 ghost use Rattle.std.specs.Prelude.{◌≡◌, option_map};
-ghost use Rattle.indexmap.specs.IndexMap.{keys};
-ghost use Rattle.rsrc_fork.specs.Resources.{bytes_of, least_above, nearer, seen};
+ghost use Rattle.rsrc_fork.specs.Resources.{AreSmall, IsNextId, bytes_of, seen};
 
 use crate::name::Name;
 use crate::references::Resources;
@@ -13,22 +12,16 @@ pub fn find<'a>(resources: &Resources<'a>, name: Name) -> Option<&'a [u8]>
     resources.get(&name).copied()
 }
 
-/// The least id of a type above `after`.
-pub fn least_above(resources: &Resources, kind: u32, after: i16) -> Option<i16>
-    ensures { result ≡ least_above (keys resources.now) kind after }
+/// The least id of a type above `after`. It looks up one id after the other.
+pub fn next_id(resources: &Resources, kind: u32, after: i16) -> Option<i16>
+    requires { AreSmall (seen resources.now.entries) }
+    ensures { IsNextId (seen resources.now.entries) kind after result }
 {
-    let names = resources.keys();
-    names.fold(None, |least, name| nearer(kind, after, least, *name))
-}
-
-/// The nearer of the least id so far and a name's, where that is of the type and above `after`.
-fn nearer(kind: u32, after: i16, least: Option<i16>, name: Name) -> Option<i16>
-    ensures { result ≡ nearer kind after least name }
-{
-    let comes_before = least.is_none_or(|least| name.id < least);
-    if name.kind == kind && after < name.id && comes_before {
-        Some(name.id)
-    } else {
-        least
+    for before in after..i16::MAX {
+        let id = before + 1;
+        if find(resources, Name { kind, id }).is_some() {
+            return Some(id);
+        }
     }
+    None
 }

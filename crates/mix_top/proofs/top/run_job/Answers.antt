@@ -1,13 +1,15 @@
 -- What the shelf answered decides the way.
-use Rattle.mix_top.proofs.Ways.{way-of_file, way-of_fetch}
+use Rattle.std.proofs.Common.{refl}
+use Rattle.mix_top.proofs.Ways.{ends-of_files, ends-of_missing, loadable}
 use Rattle.mix_top.proofs.top.run_job.Goals as goal
 
-pub returns-in-Ok-clause-way : goal.returns-in-Ok-clause-way
-returns-in-Ok-clause-way g c =
-    way-of_file _ _ _ _ _ _ _ _ c.args.job c.flat_name.result.now c.deref.result.now c.in-Ok.file _ c.requires.job c.flat_name.ensures c.deref.ensures.value
-    c.in-Ok.ensures.within c.in-Ok.ensures.answer c.in-Ok.ensures.cause c.run_file.ensures.way
+pub run_files-requires-clause-files : goal.run_files-requires-clause-files
+run_files-requires-clause-files g c = loadable _ _ c.args.job c.in-Ok.files c.requires.proper.main c.in-Ok.ensures.files
 
-pub returns-in-Err-clause-way : goal.returns-in-Err-clause-way
-returns-in-Err-clause-way g c =
-    way-of_fetch _ _ _ _ _ _ _ _ c.args.job c.flat_name.result.now c.in-Err.error _ c.requires.job c.flat_name.ensures
-    c.in-Err.ensures.answer c.in-Err.ensures.cause c.close_unfetched.ensures
+pub returns-in-Ok : goal.returns-in-Ok
+returns-in-Ok g c =
+    ends-of_files _ _ _ _ _ _ c.args.job c.in-Ok.files _ c.requires.job c.in-Ok.ensures.files c.in-Ok.ensures.counts
+    c.run_files.ensures.accounted c.run_files.ensures.way
+
+pub returns-in-Err : goal.returns-in-Err
+returns-in-Err g c = ends-of_missing _ _ _ _ _ _ c.args.job c.in-Err.missing _ c.requires.job c.in-Err.ensures.missing refl c.close_unfetched.ensures

@@ -1,3 +1,4 @@
+use Rattle.std.proofs.Math.Facts.{Fits-lt-pow}
 use Rattle.std.proofs.lemmas.Result.{err_from_is_err_and}
 use Rattle.rsrc_fork.proofs.Listing.{fork_is, no_fork}
 use Rattle.rsrc_fork.proofs.Small.{small_is}
@@ -12,4 +13,4 @@ returns-in_err-resources-clause-refused c =
     rw (p.1, p.2) (λ real. no_fork c.args.bytes.now _ (c.in_err-resources.ensures real))
 
 pub invariant_of-result : goal.invariant_of-result
-invariant_of-result c = small_is c.args.bytes.now _ c.requires c.in_ok-resources.ensures
+invariant_of-result c = small_is c.args.bytes.now _ c.requires (λ k. Fits-lt-pow (c.type_inv.bytes k)) c.in_ok-resources.ensures

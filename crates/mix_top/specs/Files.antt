@@ -1,0 +1,61 @@
+-- The files of a job, as a shelf tells them.
+use Rattle.std.specs.Prelude.{◌≡◌, ℕ, ◌*◌, ◌<◌, ◌≤◌, List, [], ◌∷◌, length, Option, Some, None, IsSomeAnd, Result, Ok, Err}
+use Rattle.std.specs.Option.{option_map}
+use Rattle.job_words.specs.Words.{bad_at, command_of, name_at, name_of}
+use Rattle.job_words.specs.declared.job.BadWord.{BadWord}
+use Rattle.job_words.specs.declared.job.Command.{Command}
+use Rattle.job_words.specs.declared.job.Command.TheVariants.{Run, List as Lists, Sample}
+use Rattle.job_words.specs.declared.job.Job.{Job}
+use Rattle.job_words.specs.declared.job.Key.{Key}
+use Rattle.mix_load.specs.declared.files.Files.{Files}
+
+-- the job that a command runs; the other commands count as words that are none
+abbrev pub built : Result Command BadWord → Result Job BadWord
+built (Ok (Run job)) = Ok job
+built (Ok (Lists job address count)) = Err (bad_at 0)
+built (Ok (Sample calls depth)) = Err (bad_at 0)
+built (Err bad) = Err bad
+
+-- the job, or the place of the first bad word
+abbrev pub job_in : List (List ℕ) → Result Job BadWord
+job_in words = built (command_of words)
+
+-- the files of a shelf, by their names, where it tells them
+abbrev pub Contents : Type 0
+Contents = Option (List ℕ → Option (List ℕ))
+
+-- the largest file that is fetched
+abbrev pub file_limit : ℕ
+file_limit = 16777216
+
+-- a file of that name was fetched: the one that the shelf tells, where it tells
+abbrev pub IsFile : Contents → List ℕ → List ℕ → Type 0
+IsFile None name file = length file ≤ file_limit
+IsFile (Some held) name file = (held name ≡ Some file) × (length file ≤ file_limit)
+
+-- the file of that name is above the limit, where the shelf tells
+abbrev pub IsLong : Contents → List ℕ → Type 0
+IsLong None name = Unit {0}
+IsLong (Some held) name = IsSomeAnd (held name) (λ file. file_limit < length file)
+
+-- files of these keys were fetched
+abbrev pub AreFetched : List (List ℕ) → Contents → Job → List Key → Type 0
+AreFetched words contents job [] = Unit {0}
+AreFetched words contents job (key ∷ keys) = ((file : List ℕ) × IsFile contents (name_of words job key) file) × AreFetched words contents job keys
+
+-- a file is there exactly where a word names it
+abbrev pub IsNamed : Contents → Option (List ℕ) → Option (List ℕ) → Type 0
+IsNamed contents None None = Unit {0}
+IsNamed contents None (Some file) = ⊥
+IsNamed contents (Some name) None = ⊥
+IsNamed contents (Some name) (Some file) = IsFile contents name file
+
+-- the files of a job
+pub record AreFiles (words : List (List ℕ)) (contents : Contents) (job : Job) (files : Files) : Type 0 where
+  pub flat : IsNamed contents (option_map (name_at words) job.flat) files.flat
+  pub rsrc : IsNamed contents (option_map (name_at words) job.rsrc) files.rsrc
+  pub pef : IsNamed contents (option_map (name_at words) job.pef) files.pef
+
+-- the bytes of RAM of a job
+abbrev pub ram_size : Job → ℕ
+ram_size job = 1024 * job.kib

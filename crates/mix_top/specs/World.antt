@@ -1,0 +1,39 @@
+-- The outside of a call: what it tells before and after, and the last line that a call puts.
+use Rattle.std.specs.Prelude.{◌≡◌, ℕ, ◌==◌, ◌⊎◌, List, [], ◌++◌, Option, MatchBool}
+use Rattle.mix_io.specs.Counts.{Rose}
+use Rattle.mix_io.specs.Streams.{Output, Grows, Breaks}
+use Rattle.dev_rack.specs.Accounts.{Accounts}
+use Rattle.toolbox.specs.Calls.{Outside}
+
+-- the outside beside the shelf: the input, the devices and the output; and the trace
+pub record World : Type 0 where
+  pub outside : Outside
+  pub trace : Output
+
+abbrev pub trace_told : Option (List ℕ) → ℕ → Output
+trace_told held faults = record { held = held; faults = faults }
+
+abbrev pub world : Outside → Output → World
+world outside trace = record { outside = outside; trace = trace }
+
+-- the trace took these bytes and then a last line, and the status is this one; or it failed within that line, and the
+-- status is 7
+abbrev pub Closes : Output → Output → List ℕ → List ℕ → ℕ → ℕ → Type 0
+Closes old new bytes line status result = (Grows old new (bytes ++ line) × (result ≡ status)) ⊎ (Breaks old new bytes line × (result ≡ 7))
+
+-- a call that ends before any step: nothing was taken, asked or put on the output, and one line is on the trace
+pub record Early (old new : World) (line : List ℕ) (status result : ℕ) : Type 0 where
+  pub outside : new.outside ≡ old.outside
+  pub trace : Closes old.trace new.trace [] line status result
+
+-- a count rose exactly where the call ended with its status
+abbrev pub RoseAt : ℕ → ℕ → ℕ → ℕ → Type 0
+RoseAt status result old new = MatchBool (result == status) (Rose old new) (new ≡ old)
+
+-- no failure of the input, the output or the trace is passed over, and none is made up; and the journal accounts for
+-- each device
+pub record Accounted (old new : World) (result : ℕ) : Type 0 where
+  pub input : RoseAt 5 result old.outside.input.faults new.outside.input.faults
+  pub out : RoseAt 6 result old.outside.out.faults new.outside.out.faults
+  pub trace : RoseAt 7 result old.trace.faults new.trace.faults
+  pub devices : Accounts old.outside.rack new.outside.rack

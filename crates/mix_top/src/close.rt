@@ -1,0 +1,89 @@
+// The last line of a call, and the status.
+ghost use Rattle.std.specs.Prelude.{◌≡◌, []};
+ghost use Rattle.switch_frame.specs.Records.{isa_of};
+ghost use Rattle.call_trace.specs.Lines.{end_line};
+ghost use Rattle.mix_top.specs.Lines.{memory_line};
+ghost use Rattle.mix_top.specs.World.{Closes, trace_told};
+ghost use Rattle.mix_top.specs.Parts.{Finishes, unfetched_line, unfetched_status, unloaded_line, unloaded_status};
+
+use super::files::Missing;
+use super::lines::{fetch_text, load_text, long_text};
+use call_trace::{End, put_end};
+use mix_bits::Isa;
+use mix_io::{FetchError, Sink};
+use mix_load::LoadError;
+use mixed_machine::Stop;
+use switch_frame::Active;
+
+/// Puts the last line on the trace, and answers the status, or 7 where the trace failed.
+pub fn close<T: Sink>(trace: &mut T, line: &[u8], status: u8) -> u8
+    ensures { Closes (trace_told (T.held trace.old) (T.faults trace.old)) (trace_told (T.held trace.new) (T.faults trace.new)) [] line.now status result }
+{
+    match trace.put(line) {
+        Ok(()) => status,
+        Err(_) => 7,
+    }
+}
+
+/// The line and the status where there was no memory.
+pub fn close_without_memory<T: Sink>(trace: &mut T) -> u8
+    ensures { Closes (trace_told (T.held trace.old) (T.faults trace.old)) (trace_told (T.held trace.new) (T.faults trace.new)) [] memory_line 9 result }
+{
+    close(trace, b"memory\n", 9)
+}
+
+/// The line and the status where a file was not fetched.
+pub fn close_unfetched<T: Sink>(missing: Missing, trace: &mut T) -> u8
+    ensures { Closes (trace_told (T.held trace.old) (T.faults trace.old)) (trace_told (T.held trace.new) (T.faults trace.new)) [] (unfetched_line missing.key missing.error) (unfetched_status missing.error) result }
+{
+    match missing.error {
+        FetchError::NoMemory => close_without_memory(trace),
+        FetchError::Failed => close(trace, fetch_text(missing.key).bytes(), 4),
+        FetchError::TooLong(_) => close(trace, long_text(missing.key).bytes(), 3),
+    }
+}
+
+/// The line and the status where a program was not loaded.
+pub fn close_unloaded<T: Sink>(error: LoadError, trace: &mut T) -> u8
+    ensures { Closes (trace_told (T.held trace.old) (T.faults trace.old)) (trace_told (T.held trace.new) (T.faults trace.new)) [] (unloaded_line error) (unloaded_status error) result }
+{
+    match error {
+        LoadError::NoMemory => close_without_memory(trace),
+        _ => close(trace, load_text(error).bytes(), 3),
+    }
+}
+
+/// The end line and the status of a run that stopped with these registers.
+pub fn finish<T: Sink>(stop: Stop, active: &Active, trace: &mut T) -> u8
+    ensures { Finishes stop (isa_of active.now) (trace_told (T.held trace.old) (T.faults trace.old)) (trace_told (T.held trace.new) (T.faults trace.new)) result }
+{
+    match stop {
+        Stop::Exit(0) => close_end(trace, End::Exit(0), 0),
+        Stop::Exit(code) => close_end(trace, End::Exit(code), 1),
+        Stop::Fault(fault) => close_end(trace, End::Fault(set_of(active), fault), 10),
+        Stop::Limit => close_end(trace, End::Limit, 11),
+        Stop::ReadFault => 5,
+        Stop::OutFault => 6,
+        Stop::TraceFault => 7,
+    }
+}
+
+/// Puts an end line, and answers the status, or 7 where the trace failed.
+fn close_end<T: Sink>(trace: &mut T, end: End, status: u8) -> u8
+    ensures { Closes (trace_told (T.held trace.old) (T.faults trace.old)) (trace_told (T.held trace.new) (T.faults trace.new)) [] (end_line end) status result }
+{
+    match put_end(trace, &end) {
+        Ok(()) => status,
+        Err(_) => 7,
+    }
+}
+
+/// The instruction set of a register file.
+fn set_of(active: &Active) -> Isa
+    ensures { result ≡ isa_of active.now }
+{
+    match active {
+        Active::M68(_) => Isa::M68,
+        Active::Ppc(_) => Isa::Ppc,
+    }
+}

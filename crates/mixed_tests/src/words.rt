@@ -1,0 +1,50 @@
+// Words that are no job have a first bad one.
+use super::case::compare_table;
+use std::test::Fail;
+
+/// A case a line: the words, the files, the output, the lines of the trace, and the status.
+const CASES: &str = "
+ | |  | words 0 | 2
+run | |  | words 1 | 2
+run flat=a ram=64 | |  | words 2 | 2
+run flat=a flat=a | |  | words 2 | 2
+walk flat=a | |  | words 0 | 2
+run flat= | |  | words 1 | 2
+run flat | |  | words 1 | 2
+run flat=a steps=01 | |  | words 2 | 2
+run flat=a steps=4294967296 | |  | words 2 | 2
+run flat=a steps=-1 | |  | words 2 | 2
+run flat=a steps= | |  | words 2 | 2
+run flat=a steps=+1 | |  | words 2 | 2
+run steps=5 | |  | words 2 | 2
+run flat=a stepz=5 | |  | words 2 | 2
+run steps=1 steps=2 flat=a | |  | words 2 | 2
+run flat=a steps=00000000001 | |  | words 2 | 2
+Run flat=a | |  | words 0 | 2
+run run flat=a | |  | words 1 | 2
+run =a | |  | words 1 | 2
+run flat=a FLAT=a | |  | words 2 | 2
+list flat=a at=00010000 count=2 | |  | words 0 | 2
+sample n=1 depth=1 | |  | words 0 | 2
+assemble set=68k text=a at=00010000 | |  | words 0 | 2
+run flat=a save=s | |  | words 2 | 2
+continue image=a | |  | words 0 | 2
+debug flat=a script=a | |  | words 0 | 2
+run flat=a main=x | |  | words 2 | 2
+run flat=a ram=127 | |  | words 2 | 2
+run flat=a ram=16385 | |  | words 2 | 2
+run flat=a main=68k main=68k | |  | words 3 | 2
+run main=68k | |  | words 2 | 2
+run main=ppc ram=128 | |  | words 3 | 2
+run flat=a rsrc=f | |  | words 2 | 2
+run rsrc=f flat=a | |  | words 2 | 2
+run rsrc=f main=ppc | |  | words 3 | 2
+run pef=p main=68k | |  | words 3 | 2
+run pef=p flat=a | |  | words 2 | 2
+run flat=a pef=p | |  | words 2 | 2
+";
+
+#[test]
+fn the_first_bad_word_is_named(rt: HostRuntime) -> Result<(), Fail> {
+    compare_table(&rt, rt.alloc(), CASES)
+}
