@@ -1,8 +1,8 @@
 -- Steps that touch neither input nor devices nor output are steps amid any outside.
-use Rattle.std.proofs.Common.{◌≡◌, ℕ, [], ◌++◌, refl, sym, subst}
-use Rattle.std.proofs.KnownBytes.{Appends-nil}
+use Rattle.std.proofs.Common.{◌≡◌, [], ◌++◌, refl, sym, subst}
 use Rattle.mix_bits.specs.declared.fault.Fault.{Fault as AFault}
-use Rattle.mix_io.specs.Streams.{Output, Grows}
+use Rattle.mix_io.specs.Streams.{Output}
+use Rattle.mix_io.proofs.Streams.{grows-none}
 use Rattle.switch_frame.specs.declared.active.Active.{Active}
 use Rattle.switch_frame.specs.Records.{isa_of}
 use Rattle.toolbox.specs.Calls.{Outside}
@@ -12,7 +12,7 @@ use Rattle.mixed_machine.specs.declared.did.Did.{Did}
 use Rattle.mixed_machine.specs.declared.did.Did.TheVariants.{Next as IsNext, Call, Return, Exit, Fault, ReadFault, OutFault, TraceFault}
 use Rattle.mixed_machine.specs.State.{State}
 use Rattle.mixed_machine.specs.Next.{Next, quiet}
-use Rattle.mixed_machine.specs.Next.Next.{Goes, Exits, Faults}
+use Rattle.mixed_machine.specs.Next.Next.{Goes}
 use Rattle.mixed_machine.specs.Machine.{IsWhole, callers_of, flat}
 use Rattle.mixed_machine.specs.Outside.{At, at, around_at, answers_between, state_of}
 use Rattle.mixed_machine.specs.Counts.{counts_of}
@@ -21,10 +21,6 @@ use Rattle.mixed_machine.specs.Acts.{Acts, BlamesBy, Done}
 use Rattle.mix_steps.specs.Laws.{AreLaws}
 use Rattle.mix_steps.specs.Does.{Does, IsInside, beside}
 use Rattle.mix_steps.proofs.Over.{over-quiet, told-none}
-
--- nothing was put
-pub grows-none : (a : Output) → Grows a a []
-grows-none a = record { taken = Appends-nil a.held; calm = refl }
 
 -- the same of an equal step
 pub done-by : (x y : Next) (did : Did) (cell : AFault) (s t : State) (old new : Sinks) → x ≡ y → Done y did cell s t old new → Done x did cell s t old new
@@ -79,34 +75,13 @@ acts-from x y did cell a mid b is same acts =
     }
 
 -- a step that goes on within the machine, and puts nothing
-pub does-next : (x : State → Next) (cell : AFault) (b new : Body) (before after : Active) (a : Output) → IsWhole new (isa_of after) → callers_of new ≡ callers_of b
+pub does-change : (x : State → Next) (cell : AFault) (b new : Body) (before after : Active) (a : Output) → IsWhole new (isa_of after) → callers_of new ≡ callers_of b
     → ((around : Around) → x (flat b before around) ≡ Goes (flat new after around) quiet) → Does x IsNext cell b new before after a a
-does-next x cell b new before after a whole callers is =
+does-change x cell b new before after a whole callers is =
     record {
       whole = whole;
       callers = callers;
       inside = tt;
       done = λ around out. done-by (x (flat b before around)) (Goes (flat new after around) quiet) IsNext cell (flat b before around) (flat new after around) (beside out a) (beside out a)
           (is around) (record { state = refl; put = record { out = grows-none out; trace = grows-none a } });
-    }
-
--- a step that is a fault, and one that is an exit
-pub does-fault : (x : State → Next) (cell : AFault) (b : Body) (active : Active) (a : Output) → IsWhole b (isa_of active)
-    → ((around : Around) → x (flat b active around) ≡ Faults cell) → Does x Fault cell b b active active a a
-does-fault x cell b active a whole is =
-    record {
-      whole = whole;
-      callers = refl;
-      inside = tt;
-      done = λ around out. record { state = (is around, refl); put = record { out = grows-none out; trace = grows-none a } };
-    }
-
-pub does-exit : (x : State → Next) (code : ℕ) (cell : AFault) (b : Body) (active : Active) (a : Output) → IsWhole b (isa_of active)
-    → ((around : Around) → x (flat b active around) ≡ Exits code) → Does x (Exit code) cell b b active active a a
-does-exit x code cell b active a whole is =
-    record {
-      whole = whole;
-      callers = refl;
-      inside = tt;
-      done = λ around out. record { state = (is around, refl); put = record { out = grows-none out; trace = grows-none a } };
     }

@@ -36,7 +36,9 @@ use Rattle.mix_steps.specs.Laws.{AreLaws}
 use Rattle.mix_steps.specs.Called.{hosted_by}
 use Rattle.mix_steps.proofs.Changed.{altered, changed, seen-is}
 use Rattle.mix_steps.proofs.Over.{over-quiet, over-taken, some-took, told-kept, told-none}
-use Rattle.mix_steps.proofs.Amid.{amid, does-exit, does-fault, done-by, grows-none}
+use Rattle.mix_io.proofs.Streams.{grows-none}
+use Rattle.mix_steps.proofs.Amid.{amid, done-by}
+use Rattle.mix_steps.proofs.Doing.{does-exit, does-fault}
 
 -- what a crossing does, in each state
 abbrev pub Crossings : Type 0
@@ -168,7 +170,7 @@ pub exited : AreLaws → (crossing : Crossings) (index code : ℕ) (cell : AFaul
 exited laws crossing index code cell b n h before after o p a whole stays active =
     stays-at (λ z. Acts (host_step crossing index) (Exit code) cell (at b before o a) z) b n h before after o p o a stays.same active
     (amid laws (host_step crossing index) (Exit code) cell b b before before o a a
-    (does-exit (host_step crossing index) code cell b before a whole
+    (does-exit grows-none (host_step crossing index) code cell b before a whole
     (λ around. ap (hosted_by (crossing (flat b before around)) (flat b before around)) (host-is laws index b before o around whole ∙ stays.does around))))
 
 -- the call is refused an access
@@ -178,7 +180,7 @@ pub refused : AreLaws → (crossing : Crossings) (index : ℕ) (cell : AFault) (
 refused laws crossing index cell b n h before after o p a whole stays active =
     stays-at (λ z. Acts (host_step crossing index) Fault cell (at b before o a) z) b n h before after o p o a stays.same active
     (amid laws (host_step crossing index) Fault cell b b before before o a a
-    (does-fault (host_step crossing index) cell b before a whole
+    (does-fault grows-none (host_step crossing index) cell b before a whole
     (λ around. ap (hosted_by (crossing (flat b before around)) (flat b before around)) (host-is laws index b before o around whole ∙ stays.does around))))
 
 -- the call crosses

@@ -33,7 +33,9 @@ use Rattle.mix_steps.specs.Called.{hosted_by, hosted_in}
 use Rattle.mix_steps.specs.Cores.{leaves_code}
 use Rattle.mix_steps.specs.Does.{Does, beside}
 use Rattle.mix_steps.proofs.Changed.{seen-is}
-use Rattle.mix_steps.proofs.Amid.{amid, does-fault}
+use Rattle.mix_io.proofs.Streams.{grows-none}
+use Rattle.mix_steps.proofs.Amid.{amid}
+use Rattle.mix_steps.proofs.Doing.{does-fault}
 
 -- a step of either set is one with a crossing that is settled
 pub hosted-same : (active : Active) (word : ℕ) (s : State) (h : Hosted) → hosted_in active word s h ≡ hosted_by (λ pointer info. hosted_in active word s (Crosses pointer info)) s h
@@ -106,11 +108,11 @@ pub no-trap : AreLaws → (word : ℕ) (cell : AFault) (b : Body) (active : Acti
     → Acts (λ s. traps_to s word (trap_number word)) Fault cell (at b active o a) (at b active o a)
 no-trap laws word cell b active o a whole none is =
     amid laws (λ s. traps_to s word (trap_number word)) Fault cell b b active active o a a
-    (does-fault (λ s. traps_to s word (trap_number word)) cell b active a whole (λ around. ap (traps_to (flat b active around) word) none ∙ ap (λ f. Faults f) (sym is)))
+    (does-fault grows-none (λ s. traps_to s word (trap_number word)) cell b active a whole (λ around. ap (traps_to (flat b active around) word) none ∙ ap (λ f. Faults f) (sym is)))
 
 -- a step that is a fault, by a machine that is as before
 pub stopped : AreLaws → (x : State → Next) (cell : AFault) (b new : Body) (before after : Active) (o : Outside) (a : Output) → IsWhole b (isa_of before)
     → ((around : Around) → x (flat b before around) ≡ Faults cell) → after ≡ before → new ≡ b → Acts x Fault cell (at b before o a) (at new after o a)
 stopped laws x cell b new before after o a whole faults active body =
     subst (λ z. Acts x Fault cell (at b before o a) z) (sym (same-at b new before after o a active body))
-    (amid laws x Fault cell b b before before o a a (does-fault x cell b before a whole faults))
+    (amid laws x Fault cell b b before before o a a (does-fault grows-none x cell b before a whole faults))

@@ -2,10 +2,10 @@ pub mod Changed
 pub mod Instructions
 pub mod Codes
 pub mod Over
+pub mod Doing
 pub mod Amid
 pub mod Hosts
 pub mod Leavings
-pub mod Doing
 pub mod Framing
 pub mod Entering
 pub mod Returning

@@ -1,8 +1,6 @@
 -- A machine whose memory and heap a step has changed, and whose frames are as before.
-use Rattle.std.specs.Prelude.{◌≡◌, ℕ, ◌<◌, ◌≤◌, List, length, None}
+use Rattle.std.specs.Prelude.{◌≡◌}
 use Rattle.mix_bits.specs.declared.isa.Isa.{Isa}
-use Rattle.big_memory.specs.Laws.{NothingIsFree, FreeKeepsRam, FreeKeepsPage}
-use Rattle.big_memory.specs.Memory.{Memory}
 use Rattle.switch_frame.specs.declared.active.Active.{Active}
 use Rattle.toolbox.specs.Effects.{Around}
 use Rattle.mixed_machine.specs.declared.body.Body.{Body}

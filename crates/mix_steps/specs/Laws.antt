@@ -1,6 +1,6 @@
 -- The laws of the crates below that the steps stand on.
 use Rattle.big_memory.specs.Laws.{NothingIsFree, FreeKeepsRam, FreeKeepsPage, StoresAreFree}
-use Rattle.switch_frame.specs.Laws.{ReadsBack, KeepsLength, BeginsEmpty, StoresBeside, SeenIsMemory, FreeKeepsChain, LowIsMemory, PlacesAreFree}
+use Rattle.switch_frame.specs.Laws.{ReadsBack, KeepsLength, StoresBeside, SeenIsMemory, FreeKeepsChain, LowIsMemory, PlacesAreFree}
 use Rattle.dev_rack.specs.Rack.{State as Rack}
 use Rattle.dev_rack.specs.Accounts.{Accounts}
 

@@ -4,13 +4,13 @@ use Rattle.mixed_machine.specs.Machine.{flat}
 use Rattle.mixed_machine.specs.Step.{step}
 use Rattle.mixed_machine.specs.declared.did.Did.TheVariants.{Next}
 use Rattle.mix_steps.specs.Cores.{leaves_code}
-use Rattle.mix_steps.proofs.Amid.{acts-from, amid, does-next}
+use Rattle.mix_steps.proofs.Amid.{acts-from, amid, does-change}
 use Rattle.mix_steps.proofs.Leavings.{same-at, stopped}
 use Rattle.mix_steps.proofs.step.one.Goals as goal
 
 pub returns-in-Next : goal.returns-in-Next
 returns-in-Next g c =
-    amid c.body_laws.ensures step Next _ _ _ _ _ _ _ _ (does-next step _ _ _ _ _ _ c.in-Next.ensures.1 c.in-Next.ensures.2 c.in-Next.ensures.0)
+    amid c.body_laws.ensures step Next _ _ _ _ _ _ _ _ (does-change step _ _ _ _ _ _ c.in-Next.ensures.1 c.in-Next.ensures.2 c.in-Next.ensures.0)
 
 pub returns-in-Stop : goal.returns-in-Stop
 returns-in-Stop g c = stopped c.body_laws.ensures step _ _ _ _ _ _ _ c.requires c.in-Stop.ensures.0 c.in-Stop.ensures.1 c.in-Stop.ensures.2
