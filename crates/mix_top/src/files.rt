@@ -31,6 +31,7 @@ pub fn fetch_files<F: Shelf>(
     shelf: &mut F,
 ) -> Result<Files, Missing>
     requires { NamesJob (map string_bytes words.now) job }
+    ensures contents { F.contents shelf.new ≡ F.contents shelf.old }
     ensures files { IfOk result (AreFiles (map string_bytes words.now) (F.contents shelf.old) job) }
     ensures counts { OnOk result (CountsStay (F.faults shelf.old) (F.faults shelf.new)) }
     ensures missing { IfErr result (MissesFirst (map string_bytes words.now) (F.contents shelf.old) job (F.faults shelf.old) (F.faults shelf.new)) }

@@ -28,7 +28,8 @@ pub fn mixed_main<F: Shelf, I: Source, O: Sink, T: Sink, D: Devices>(
     trace: &mut T,
     rack: &mut D,
 ) -> u8
-    ensures { Ends (map string_bytes words.now) (F.contents shelf.old) (F.faults shelf.old) (F.faults shelf.new)
+    ensures contents { F.contents shelf.new ≡ F.contents shelf.old }
+    ensures ends { Ends (map string_bytes words.now) (F.contents shelf.old) (F.faults shelf.old) (F.faults shelf.new)
         (world (outside (I.left input.old) (I.faults input.old) (D.state rack.old) (O.held out.old) (O.faults out.old)) (trace_told (T.held trace.old) (T.faults trace.old)))
         (world (outside (I.left input.new) (I.faults input.new) (D.state rack.new) (O.held out.new) (O.faults out.new)) (trace_told (T.held trace.new) (T.faults trace.new)))
         result }
@@ -66,7 +67,8 @@ fn run_job<F: Shelf, I: Source, O: Sink, T: Sink, D: Devices>(
     requires job { job_in (map string_bytes words.now) ≡ Ok job }
     requires named { NamesJob (map string_bytes words.now) job }
     requires proper { IsProperJob job }
-    ensures { Ends (map string_bytes words.now) (F.contents shelf.old) (F.faults shelf.old) (F.faults shelf.new)
+    ensures contents { F.contents shelf.new ≡ F.contents shelf.old }
+    ensures ends { Ends (map string_bytes words.now) (F.contents shelf.old) (F.faults shelf.old) (F.faults shelf.new)
         (world (outside (I.left input.old) (I.faults input.old) (D.state rack.old) (O.held out.old) (O.faults out.old)) (trace_told (T.held trace.old) (T.faults trace.old)))
         (world (outside (I.left input.new) (I.faults input.new) (D.state rack.new) (O.held out.new) (O.faults out.new)) (trace_told (T.held trace.new) (T.faults trace.new)))
         result }
