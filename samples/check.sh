@@ -1,0 +1,37 @@
+#!/bin/sh
+# Runs every sample on a program, and compares output, trace and status with what the sample expects.
+# usage: samples/check.sh [PROGRAM]        PROGRAM is ../mixedrun, beside this folder, if none is given.
+samples=$(cd "$(dirname "$0")" && pwd) || exit 2
+program=${1:-$samples/../mixedrun}
+case $program in
+    /*) ;;
+    *) program=$PWD/$program ;;
+esac
+cd "$samples/.." || exit 2
+kept=$(mktemp -d) || exit 2
+trap 'rm -rf "$kept"' EXIT
+trap 'exit 2' HUP INT TERM
+
+# The first run builds the program where that has to be done, and its messages are shown.
+if ! "$program" run flat=samples/hello.bin >"$kept/stdout"; then
+    echo "check.sh: $program does not run samples/hello.bin" >&2
+    exit 2
+fi
+
+failed=0
+for words in samples/*/words; do
+    folder=${words%/words}
+    input=/dev/null
+    [ -f "$folder/stdin" ] && input=$folder/stdin
+    # The words of a command have no blanks in them.
+    "$program" $(cat "$words") <"$input" >"$kept/stdout" 2>"$kept/stderr"
+    echo $? >"$kept/status"
+    result=ok
+    for part in stdout stderr status; do
+        cmp -s "$kept/$part" "$folder/expected/$part" || result="$result, $part differs"
+    done
+    echo "${folder#samples/}: ${result#ok, }"
+    [ "$result" = ok ] || failed=$((failed + 1))
+done
+
+[ "$failed" = 0 ] || { echo "$failed samples failed"; exit 1; }
