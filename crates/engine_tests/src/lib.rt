@@ -1,0 +1,18 @@
+//! Tests of the engine: whole programs, runs that are cut, callers that wait while their callees write, and
+//! an outside that fails, over objects in memory.
+#![tactic(auto)]
+
+#[cfg(test)]
+mod bench;
+#[cfg(test)]
+mod cuts;
+#[cfg(test)]
+mod failing;
+#[cfg(test)]
+mod frames;
+#[cfg(test)]
+mod images;
+#[cfg(test)]
+mod programs;
+#[cfg(test)]
+mod text;
