@@ -5,7 +5,6 @@
 use dev_rack::Rack;
 use mix_io::{Counter, Device, FileShelf, Sink, StdSink, StdSource, Tape};
 use mix_top::mixed_main;
-use std::alloc::Global;
 use std::env;
 use std::io::{self, BufReader, ErrorKind};
 use std::process::ExitCode;
@@ -75,29 +74,20 @@ fn words(rt: &HostRuntime) -> io::Result<Vec<String>> {
     Ok(args.collect(rt.alloc())?)
 }
 
-/// Runs the words over the real files and streams, and answers the status, or none for want of memory.
+/// Runs the words over the real files and streams, with a counter in slot 0 and a tape in slot 1, and answers
+/// the status, or none for want of memory.
 fn run(rt: &HostRuntime, words: &[String]) -> Option<u8> {
+    let alloc = rt.alloc();
     let mut shelf = FileShelf::new(rt);
-    let mut input = StdSource::new(BufReader::new(rt.alloc(), rt.stdin()).ok()?);
+    let mut input = StdSource::new(BufReader::new(alloc, rt.stdin()).ok()?);
     let mut out = StdSink::new(rt.stdout());
     let mut trace = StdSink::new(rt.stderr());
-    let mut rack = rack(rt.alloc())?;
-    Some(mixed_main(
-        rt.alloc(),
-        words,
-        &mut shelf,
-        &mut input,
-        &mut out,
-        &mut trace,
-        &mut rack,
-    ))
-}
-
-/// A counter in slot 0 and a tape in slot 1.
-fn rack(alloc: Global) -> Option<Rack> {
     let counter: Box<dyn Device> = Box::new(alloc, Counter::new(alloc).ok()?).ok()?;
     let tape: Box<dyn Device> = Box::new(alloc, Tape::new(alloc).ok()?).ok()?;
-    Rack::new(alloc, vec![in alloc; counter, tape].ok()?).ok()
+    let mut rack = Rack::new(alloc, vec![in alloc; counter, tape].ok()?).ok()?;
+    Some(mixed_main(
+        alloc, words, &mut shelf, &mut input, &mut out, &mut trace, &mut rack,
+    ))
 }
 
 /// The status where there are no words: for want of memory, or since one of them is no text.
