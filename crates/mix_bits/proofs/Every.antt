@@ -3,6 +3,7 @@ use Rattle.std.proofs.Common.{◌≡◌, inl, inr, ℕ, zero, suc, ◌+◌, ◌*
 use Rattle.std.proofs.Math.Nat.{pow-suc}
 use Rattle.std.proofs.lemmas.Bool.{cases_lt}
 use Rattle.mix_bits.specs.Ranges.{every}
+use Rattle.mix_bits.specs.Laws.{HoldsOfEach}
 
 -- both tests hold where the first one, and then the second one, does
 both : (a b : Bool) → (if a then b else false) ≡ true → (a ≡ true) × (b ≡ true)
@@ -26,6 +27,5 @@ every_within (suc k) base p n holds from to =
     (subst (λ m. m * base ≤ n) (pow-suc 2 k) from)
     (subst (λ m. n < m * (base + 1)) (pow-suc 2 k) to)
 
--- a test that holds of all numbers below 2 ^ k holds of each
-pub every_at : (k : ℕ) (p : ℕ → Bool) (n : ℕ) → every k 0 p ≡ true → n < 2 ^ k → p n ≡ true
+pub every_at : HoldsOfEach
 every_at k p n holds below = every_within k 0 p n holds (omega arith) (omega (arith, below))

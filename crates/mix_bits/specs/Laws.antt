@@ -1,6 +1,7 @@
--- Laws of digits.
-use Rattle.std.specs.Prelude.{◌≡◌, ◌⊎◌, ℕ, ◌+◌, ◌^◌, ◌<◌, ◌≤◌}
+-- Laws of digits and of tests of ranges.
+use Rattle.std.specs.Prelude.{◌≡◌, ◌⊎◌, ℕ, ◌+◌, ◌^◌, ◌<◌, ◌≤◌, Bool, true}
 use Rattle.mix_bits.specs.Digits.{digit_of, digit_replaced}
+use Rattle.mix_bits.specs.Ranges.{every}
 
 -- a digit that was replaced reads back
 abbrev pub ReadsReplaced : Type 0
@@ -11,3 +12,7 @@ abbrev pub OthersStay : Type 0
 OthersStay =
     (v at width d place size : ℕ) → d < 2 ^ width → (place + size ≤ at) ⊎ (at + width ≤ place)
     → digit_of (digit_replaced v at width d) place size ≡ digit_of v place size
+
+-- a test that holds of all numbers below 2 ^ k holds of each
+abbrev pub HoldsOfEach : Type 0
+HoldsOfEach = (k : ℕ) (p : ℕ → Bool) (n : ℕ) → every k 0 p ≡ true → n < 2 ^ k → p n ≡ true

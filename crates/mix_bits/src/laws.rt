@@ -1,7 +1,12 @@
-ghost use Rattle.mix_bits.specs.Laws.{ReadsReplaced, OthersStay};
+ghost use Rattle.mix_bits.specs.Laws.{HoldsOfEach, ReadsReplaced, OthersStay};
 
 /// What follows from the definition of a replaced digit. It does nothing: the clauses are its point.
 pub fn digit_laws()
     ensures reads { ReadsReplaced }
     ensures stays { OthersStay }
+{}
+
+/// What follows from a test of all numbers of a range. It does nothing, either.
+pub fn range_laws()
+    ensures each { HoldsOfEach }
 {}

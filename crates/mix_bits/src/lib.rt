@@ -17,6 +17,6 @@ pub use addresses::{aligned, onward};
 pub use digits::{digit, power, with_digit};
 pub use fault::{Fault, FaultKind};
 pub use isa::Isa;
-pub use laws::digit_laws;
+pub use laws::{digit_laws, range_laws};
 pub use line::Line;
 pub use size::{Size, sext, trunc, with_low};
