@@ -2,10 +2,12 @@
 use Rattle.std.specs.Prelude.{ℕ, zero, suc, ◌≡◌, ◌+◌, ◌*◌, ◌^◌, ◌<◌, Bool, true, false, if◌then◌else◌, nat_lt, List, [], ◌∷◌}
 use Rattle.m68_isa.specs.declared.instructions.Decoded68.{Decoded68}
 use Rattle.m68_isa.specs.declared.instructions.Decoded68.TheVariants.{Op, LineA, LineF, Privileged, Illegal, Short}
+use Rattle.m68_isa.specs.declared.instructions.Instr68.{Instr68}
 use Rattle.m68_isa.specs.declared.first.First.{First}
 use Rattle.m68_isa.specs.First.{first_of}
 use Rattle.m68_isa.specs.Rows.{Row, row}
 use Rattle.m68_isa.specs.Decode.{rows_of, decoded}
+use Rattle.m68_isa.specs.Modes.{has_modes}
 
 -- how many rows have a first word
 abbrev pub matches : List Row → First → ℕ
@@ -35,3 +37,5 @@ pub record TableLaws : Type 0 where
   pub in_a_row : how_many 16 0 (λ w. nat_lt 0 (rows_with w)) ≡ 45816
   -- and of these so many are the supervisor's
   pub privileged : how_many 16 0 (λ w. is_privileged (decoded (w ∷ []))) ≡ 75
+  -- each operand of an instruction is in the class of modes that its row allows
+  pub modes : (w : ℕ) (ws : List ℕ) (i : Instr68) (used : ℕ) → w < 2 ^ 16 → decoded (w ∷ ws) ≡ Op i used → has_modes i ≡ true

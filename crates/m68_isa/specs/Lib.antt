@@ -14,4 +14,5 @@ pub mod Branches
 pub mod Arithmetic
 pub mod Shifts
 pub mod Decode
+pub mod Modes
 pub mod Laws
