@@ -4,3 +4,4 @@ pub mod Logical
 pub mod Shifts
 pub mod Decimal
 pub mod Products
+pub mod Laws

@@ -1,8 +1,8 @@
 -- Sums and differences: carry and overflow compare sums without a bound
 -- (M68000 Family Programmer's Reference Manual, ADD, ADDX, SUB, SUBX and CMP in section 4).
-use Rattle.std.specs.Prelude.{ℕ, ℤ, ◌+◌, ◌-◌, ◌%◌, ◌==◌, ◌&&◌, pos, ◌+ℤ◌, ◌-ℤ◌, nat_le, nat_lt, Bool}
+use Rattle.std.specs.Prelude.{ℕ, ℤ, ◌+◌, ◌-◌, ◌%◌, ◌==◌, ◌&&◌, pos, ◌+ℤ◌, ◌-ℤ◌, nat_le, nat_lt, Bool, false}
 use Rattle.std.specs.Int.{from_bool}
-use Rattle.mix_bits.specs.Sizes.{modulus, signed_of}
+use Rattle.mix_bits.specs.Sizes.{modulus, signed_of, truncated}
 use Rattle.mix_bits.specs.declared.size.Size.{Size}
 use Rattle.m68_isa.specs.declared.registers.Ccr.{Ccr}
 use Rattle.m68_alu.specs.declared.sums.Out.{Out}
@@ -57,3 +57,20 @@ with_old_zero out old = record out { ccr = record out.ccr { z = old.z && out.ccr
 -- X stays
 abbrev pub with_old_extend : Out → Ccr → Out
 with_old_extend out old = record out { ccr = record out.ccr { x = old.x } }
+
+-- destination + source, and with X
+abbrev pub sum : Size → ℕ → ℕ → Out
+sum size d s = sum_of size (truncated d size) (truncated s size) false
+
+abbrev pub sum_with_x : Size → Ccr → ℕ → ℕ → Out
+sum_with_x size old d s = with_old_zero (sum_of size (truncated d size) (truncated s size) old.x) old
+
+-- destination - source, with X, and in a comparison, which leaves X
+abbrev pub difference : Size → ℕ → ℕ → Out
+difference size d s = difference_of size (truncated d size) (truncated s size) false
+
+abbrev pub difference_with_x : Size → Ccr → ℕ → ℕ → Out
+difference_with_x size old d s = with_old_zero (difference_of size (truncated d size) (truncated s size) old.x) old
+
+abbrev pub compared : Size → Ccr → ℕ → ℕ → Out
+compared size old d s = with_old_extend (difference size d s) old

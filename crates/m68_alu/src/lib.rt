@@ -2,6 +2,7 @@
 #![tactic(auto)]
 
 mod decimal;
+mod laws;
 mod logical;
 mod products;
 mod quotients;
@@ -12,6 +13,7 @@ mod sums;
 mod tests;
 
 pub use decimal::{abcd, sbcd};
+pub use laws::overflow_laws;
 pub use logical::logic;
 pub use m68_isa::{LogicOp, ShiftOp};
 pub use products::mul;

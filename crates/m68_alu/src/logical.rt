@@ -1,8 +1,8 @@
 // AND, OR and EOR.
 ghost use Rattle.std.specs.Prelude.{◌≡◌, ◌≢◌, ◌<◌};
-ghost use Rattle.mix_bits.specs.Sizes.{modulus, truncated};
+ghost use Rattle.mix_bits.specs.Sizes.{modulus};
 ghost use Rattle.mix_bits.specs.declared.size.Size.TheVariants.{Zero};
-ghost use Rattle.m68_alu.specs.Logical.{combined};
+ghost use Rattle.m68_alu.specs.Logical.{combination};
 
 use super::sizes::result_flags;
 use super::sums::Out;
@@ -13,7 +13,7 @@ use mix_bits::{Size, trunc};
 #[inline]
 pub fn logic(op: LogicOp, s: Size, dst: u32, src: u32, old: Ccr) -> Out
     requires { s ≢ Zero }
-    ensures value { result ≡ combined op s (truncated dst s) (truncated src s) old }
+    ensures value { result ≡ combination op s old dst src }
     ensures below { result.value < modulus s }
 {
     let d = trunc(dst, s);

@@ -1,11 +1,12 @@
-// Shifts and rotates: shifts at once, rotates one bit after the other.
-ghost use Rattle.std.specs.Prelude.{◌≡◌, ◌≢◌, ◌<◌, ◌*◌, ◌^◌, ◌==◌, ◌-◌, ◌≤◌, ◌/◌, ◌%◌, ◌&&◌, not, nat_lt, if◌then◌else◌, true, false};
+// Shifts and rotates, each at once.
+ghost use Rattle.std.specs.Prelude.{◌≡◌, ◌≢◌, ◌<◌, ◌+◌, ◌*◌, ◌^◌, ◌==◌, ◌-◌, ◌≤◌, ◌/◌, ◌%◌, ◌&&◌, not, nat_le, nat_lt, if◌then◌else◌, true, false};
+ghost use Rattle.std.specs.Int.{from_bool};
 ghost use Rattle.mix_bits.specs.Sizes.{modulus as modulus_lem, truncated};
 ghost use Rattle.mix_bits.specs.declared.size.Size.TheVariants.{Zero};
 ghost use Rattle.m68_alu.specs.Sizes.{half as half_lem};
-ghost use Rattle.m68_alu.specs.Shifts.{begun, bit_in as bit_in_lem, bit_out as bit_out_lem, changes as changes_lem, ended, extend_after as extend_after_lem, moved as moved_lem, once as once_lem, shifted};
+ghost use Rattle.m68_alu.specs.Shifts.{ended, shifted};
 
-use super::sizes::{half, is_negative, modulus};
+use super::sizes::{bits, half, is_negative, modulus};
 use super::sums::Out;
 use m68_isa::{Ccr, ShiftOp};
 use mix_bits::{Size, power, trunc};
@@ -31,22 +32,11 @@ pub fn shift(op: ShiftOp, left: bool, s: Size, v: u32, count: u32, old: Ccr) -> 
         ShiftOp::Ls => zeros_right(s, v, count, old),
         ShiftOp::As if left => sign_left(s, v, count, old),
         ShiftOp::As => sign_right(s, v, count, old),
-        ShiftOp::Rox | ShiftOp::Ro => one_by_one(op, left, s, v, count, old),
+        ShiftOp::Rox if left => through_left(s, v, count, old),
+        ShiftOp::Rox => through_right(s, v, count, old),
+        ShiftOp::Ro if left => round_left(s, v, count, old),
+        ShiftOp::Ro => round_right(s, v, count, old),
     }
-}
-
-/// The same, one single shift after another.
-fn one_by_one(op: ShiftOp, left: bool, s: Size, v: u32, count: u32, old: Ccr) -> Out
-    requires size { s ≢ Zero }
-    requires count { count < 64 }
-    ensures value { result ≡ shifted op left s v count old }
-    ensures below { result.value < modulus_lem s }
-{
-    let mut state = begin(op, s, v, old);
-    for _i in 0..count {
-        state = once(op, left, s, state);
-    }
-    end(s, state)
 }
 
 /// `count` shifts to the right that zeros follow, at once.
@@ -202,6 +192,126 @@ fn moved_far(v: u32, count: u32) -> u64
     }
 }
 
+/// `count` rotations to the left, at once.
+#[inline]
+fn round_left(s: Size, v: u32, count: u32, old: Ccr) -> Out
+    requires size { s ≢ Zero }
+    requires count { count < 64 }
+    ensures value { result ≡ shifted ShiftOp.Ro true s v count old }
+    ensures below { result.value < modulus_lem s }
+{
+    let width = bits(s);
+    let value = rotated(width, u64::from(trunc(v, s)), count % width) as u32;
+    let state = Shifting {
+        value,
+        out: out_behind(count, value % 2 == 1),
+        x: old.x,
+        changed: false,
+    };
+    end(s, state)
+}
+
+/// `count` rotations to the right, at once.
+#[inline]
+fn round_right(s: Size, v: u32, count: u32, old: Ccr) -> Out
+    requires size { s ≢ Zero }
+    requires count { count < 64 }
+    ensures value { result ≡ shifted ShiftOp.Ro false s v count old }
+    ensures below { result.value < modulus_lem s }
+{
+    let width = bits(s);
+    let value = rotated(width, u64::from(trunc(v, s)), width - count % width) as u32;
+    let state = Shifting {
+        value,
+        out: out_behind(count, is_negative(s, value)),
+        x: old.x,
+        changed: false,
+    };
+    end(s, state)
+}
+
+/// `count` rotations to the left through X, at once.
+#[inline]
+fn through_left(s: Size, v: u32, count: u32, old: Ccr) -> Out
+    requires size { s ≢ Zero }
+    requires count { count < 64 }
+    ensures value { result ≡ shifted ShiftOp.Rox true s v count old }
+    ensures below { result.value < modulus_lem s }
+{
+    let width = bits(s) + 1;
+    end_through(s, rotated(width, with_extend(s, v, old.x), count % width))
+}
+
+/// `count` rotations to the right through X, at once.
+#[inline]
+fn through_right(s: Size, v: u32, count: u32, old: Ccr) -> Out
+    requires size { s ≢ Zero }
+    requires count { count < 64 }
+    ensures value { result ≡ shifted ShiftOp.Rox false s v count old }
+    ensures below { result.value < modulus_lem s }
+{
+    let width = bits(s) + 1;
+    end_through(
+        s,
+        rotated(width, with_extend(s, v, old.x), width - count % width),
+    )
+}
+
+/// The low bytes of a value, with X as one bit more above them.
+#[inline]
+fn with_extend(s: Size, v: u32, x: bool) -> u64
+    ensures is { result ≡ from_bool x * modulus_lem s + truncated v s }
+    ensures below { result < 2 * modulus_lem s }
+{
+    u64::from(x) * modulus(s) + u64::from(trunc(v, s))
+}
+
+/// The result of a rotation through X, with X above the value.
+#[inline]
+fn end_through(s: Size, all: u64) -> Out
+    ensures value { result ≡ ended s (record { value = all % modulus_lem s; out = nat_le (modulus_lem s) all; x = nat_le (modulus_lem s) all; changed = false }) }
+    ensures below { result.value < modulus_lem s }
+{
+    let x = all >= modulus(s);
+    let state = Shifting {
+        value: (all % modulus(s)) as u32,
+        out: x,
+        x,
+        changed: false,
+    };
+    end(s, state)
+}
+
+/// A number of `width` bits, rotated to the left by `turns` bits.
+#[inline]
+fn rotated(width: u32, v: u64, turns: u32) -> u64
+    requires width { width ≤ 33 }
+    requires turns { turns ≤ width }
+    requires fits { v < 2 ^ width }
+    ensures is { result ≡ v % 2 ^ (width - turns) * 2 ^ turns + v / 2 ^ (width - turns) }
+    ensures below { result < 2 ^ width }
+{
+    let below = numbers(width - turns);
+    v % below * numbers(turns) + v / below
+}
+
+/// How many numbers of so many bits there are.
+#[inline(always)]
+fn numbers(bits: u32) -> u64
+    requires { bits ≤ 33 }
+    ensures { result ≡ 2 ^ bits }
+{
+    1u64 << bits
+}
+
+/// The bit behind so many rotations, which is 0 where there was none.
+#[inline]
+fn out_behind(count: u32, bit: bool) -> bool
+    ensures { result ≡ (not (count == 0) && bit) }
+{
+    count != 0 && bit
+}
+
 /// The result after the last shift.
 fn end(s: Size, state: Shifting) -> Out
     ensures { result ≡ ended s state }
@@ -215,99 +325,5 @@ fn end(s: Size, state: Shifting) -> Out
             v: state.changed,
             c: state.out,
         },
-    }
-}
-
-/// Before the first shift nothing went out; a rotate through X begins with X.
-fn begin(op: ShiftOp, s: Size, v: u32, old: Ccr) -> Shifting
-    ensures value { result ≡ begun op s v old }
-    ensures below { result.value < modulus_lem s }
-{
-    Shifting {
-        value: trunc(v, s),
-        out: match op {
-            ShiftOp::Rox => old.x,
-            ShiftOp::As | ShiftOp::Ls | ShiftOp::Ro => false,
-        },
-        x: old.x,
-        changed: false,
-    }
-}
-
-/// One shift by one bit.
-fn once(op: ShiftOp, left: bool, s: Size, state: Shifting) -> Shifting
-    requires size { s ≢ Zero }
-    requires state { state.value < modulus_lem s }
-    ensures value { result ≡ once_lem op left s state }
-    ensures below { result.value < modulus_lem s }
-{
-    let out = bit_out(left, s, state.value);
-    let after = moved(left, s, state.value, bit_in(op, left, s, state));
-    Shifting {
-        value: after,
-        out,
-        x: extend_after(op, state.x, out),
-        changed: state.changed || changes(op, left, s, state.value, after),
-    }
-}
-
-/// The bit that goes out.
-fn bit_out(left: bool, s: Size, value: u32) -> bool
-    ensures { result ≡ bit_out_lem left s value }
-{
-    if left {
-        is_negative(s, value)
-    } else {
-        value % 2 == 1
-    }
-}
-
-/// The bit that comes in.
-fn bit_in(op: ShiftOp, left: bool, s: Size, state: Shifting) -> bool
-    ensures { result ≡ bit_in_lem op left s state }
-{
-    match op {
-        ShiftOp::As => !left && is_negative(s, state.value),
-        ShiftOp::Ls => false,
-        ShiftOp::Rox => state.x,
-        ShiftOp::Ro => bit_out(left, s, state.value),
-    }
-}
-
-/// X after a shift.
-fn extend_after(op: ShiftOp, x: bool, out: bool) -> bool
-    ensures { result ≡ extend_after_lem op x out }
-{
-    match op {
-        ShiftOp::As => out,
-        ShiftOp::Ls => out,
-        ShiftOp::Rox => out,
-        ShiftOp::Ro => x,
-    }
-}
-
-/// Whether the sign changes in an arithmetic shift to the left.
-fn changes(op: ShiftOp, left: bool, s: Size, before: u32, after: u32) -> bool
-    ensures { result ≡ changes_lem op left s before after }
-{
-    match op {
-        ShiftOp::As => left && is_negative(s, before) != is_negative(s, after),
-        ShiftOp::Ls => false,
-        ShiftOp::Rox => false,
-        ShiftOp::Ro => false,
-    }
-}
-
-/// The value moved by one bit, with a bit put in at its end.
-fn moved(left: bool, s: Size, value: u32, bit: bool) -> u32
-    requires size { s ≢ Zero }
-    requires value { value < modulus_lem s }
-    ensures value { result ≡ moved_lem left s value bit }
-    ensures below { result < modulus_lem s }
-{
-    if left {
-        ((2 * u64::from(value) + u64::from(bit)) % modulus(s)) as u32
-    } else {
-        value / 2 + u32::from(bit) * half(s)
     }
 }

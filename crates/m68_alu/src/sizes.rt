@@ -1,7 +1,7 @@
 // The numbers of a size.
-ghost use Rattle.std.specs.Prelude.{◌≡◌, ◌≢◌, ◌≤◌, ◌*◌, ◌^◌, ◌≤ℤ◌, ◌<ℤ◌, pos, neg_ℤ, FitsSigned};
+ghost use Rattle.std.specs.Prelude.{◌≡◌, ◌≢◌, ◌<◌, ◌≤◌, ◌*◌, ◌^◌, ◌≤ℤ◌, ◌<ℤ◌, pos, neg_ℤ, FitsSigned};
 ghost use Rattle.std.specs.Int.{w64};
-ghost use Rattle.mix_bits.specs.Sizes.{modulus as modulus_lem, signed_of};
+ghost use Rattle.mix_bits.specs.Sizes.{bytes_of, modulus as modulus_lem, signed_of};
 ghost use Rattle.mix_bits.specs.declared.size.Size.TheVariants.{Zero};
 ghost use Rattle.m68_alu.specs.Sizes.{half as half_lem, is_negative as is_negative_lem, leaves as leaves_lem, result_flags as result_flags_lem};
 
@@ -19,6 +19,21 @@ pub fn modulus(s: Size) -> u64
         Size::One => 0x100,
         Size::Two => 0x1_0000,
         Size::Four => 0x1_0000_0000,
+    }
+}
+
+/// How many bits a value of this size has.
+pub fn bits(s: Size) -> u32
+    ensures value { result ≡ 8 * bytes_of s }
+    ensures most { result ≤ 32 }
+    ensures some { s ≢ Zero → 0 < result }
+    ensures values { 2 ^ result ≡ modulus_lem s }
+{
+    match s {
+        Size::Zero => 0,
+        Size::One => 8,
+        Size::Two => 16,
+        Size::Four => 32,
     }
 }
 

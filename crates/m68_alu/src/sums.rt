@@ -1,10 +1,10 @@
 // Sums and differences.
-ghost use Rattle.std.specs.Prelude.{◌≡◌, ◌≢◌, ◌<◌, ◌≤ℤ◌, ◌+ℤ◌, ◌-ℤ◌, pos, neg_ℤ, false, FitsSigned};
+ghost use Rattle.std.specs.Prelude.{◌≡◌, ◌≢◌, ◌<◌, ◌≤ℤ◌, ◌+ℤ◌, ◌-ℤ◌, pos, neg_ℤ, FitsSigned};
 ghost use Rattle.std.specs.Int.{from_bool, w64};
-ghost use Rattle.mix_bits.specs.Sizes.{modulus as modulus_lem, signed_of, truncated};
+ghost use Rattle.mix_bits.specs.Sizes.{modulus as modulus_lem, signed_of};
 ghost use Rattle.mix_bits.specs.declared.size.Size.TheVariants.{Zero};
 ghost use Rattle.m68_alu.specs.Sizes.{leaves as leaves_lem};
-ghost use Rattle.m68_alu.specs.Sums.{difference_of, signed_difference, signed_total, sum_of, with_old_extend, with_old_zero};
+ghost use Rattle.m68_alu.specs.Sums.{compared, difference as difference_lem, difference_of, difference_with_x, signed_difference, signed_total, sum as sum_lem, sum_of, sum_with_x, with_old_zero};
 
 use super::sizes::{is_negative, leaves, modulus, signed};
 use m68_isa::Ccr;
@@ -21,7 +21,7 @@ pub struct Out {
 #[inline]
 pub fn add(s: Size, dst: u32, src: u32, old: Ccr) -> Out
     requires { s ≢ Zero }
-    ensures value { result ≡ sum_of s (truncated dst s) (truncated src s) false }
+    ensures value { result ≡ sum_lem s dst src }
     ensures below { result.value < modulus_lem s }
 {
     let _ = old;
@@ -32,7 +32,7 @@ pub fn add(s: Size, dst: u32, src: u32, old: Ccr) -> Out
 #[inline]
 pub fn addx(s: Size, dst: u32, src: u32, old: Ccr) -> Out
     requires { s ≢ Zero }
-    ensures value { result ≡ with_old_zero (sum_of s (truncated dst s) (truncated src s) old.x) old }
+    ensures value { result ≡ sum_with_x s old dst src }
     ensures below { result.value < modulus_lem s }
 {
     keep_zero(sum(s, trunc(dst, s), trunc(src, s), old.x), old)
@@ -42,7 +42,7 @@ pub fn addx(s: Size, dst: u32, src: u32, old: Ccr) -> Out
 #[inline]
 pub fn sub(s: Size, dst: u32, src: u32, old: Ccr) -> Out
     requires { s ≢ Zero }
-    ensures value { result ≡ difference_of s (truncated dst s) (truncated src s) false }
+    ensures value { result ≡ difference_lem s dst src }
     ensures below { result.value < modulus_lem s }
 {
     let _ = old;
@@ -53,7 +53,7 @@ pub fn sub(s: Size, dst: u32, src: u32, old: Ccr) -> Out
 #[inline]
 pub fn subx(s: Size, dst: u32, src: u32, old: Ccr) -> Out
     requires { s ≢ Zero }
-    ensures value { result ≡ with_old_zero (difference_of s (truncated dst s) (truncated src s) old.x) old }
+    ensures value { result ≡ difference_with_x s old dst src }
     ensures below { result.value < modulus_lem s }
 {
     keep_zero(difference(s, trunc(dst, s), trunc(src, s), old.x), old)
@@ -63,7 +63,7 @@ pub fn subx(s: Size, dst: u32, src: u32, old: Ccr) -> Out
 #[inline]
 pub fn cmp(s: Size, dst: u32, src: u32, old: Ccr) -> Out
     requires { s ≢ Zero }
-    ensures value { result ≡ with_old_extend (difference_of s (truncated dst s) (truncated src s) false) old }
+    ensures value { result ≡ compared s old dst src }
     ensures below { result.value < modulus_lem s }
 {
     let out = difference(s, trunc(dst, s), trunc(src, s), false);
