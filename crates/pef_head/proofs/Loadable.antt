@@ -1,12 +1,14 @@
 -- What holds of the sections and the relocation words of a container that was read.
-use Rattle.std.proofs.Common.{◌≡◌, ◌∙◌, refl, ℕ, zero, suc, ◌+◌, ◌-◌, ◌*◌, ◌%◌, ◌^◌, ◌<◌, ◌≤◌, Bool, true, false, List, length, slice_range, Option, Some, None, length-take, length-drop, pow_mono, arith}
+use Rattle.std.proofs.Common.{◌≡◌, ◌∙◌, refl, ℕ, zero, suc, ◌+◌, ◌-◌, ◌*◌, ◌%◌, ◌^◌, ◌<◌, ◌≤◌, Bool, true, false, true≢false, not, ◌||◌, ◌==◌, ◌⊎◌, inl, inr, List, length, slice_range, Option, Some, None, length-take, length-drop, pow_mono, arith}
 use Rattle.std.proofs.Math.Nat.{mul-mod_right}
+use Rattle.std.proofs.lemmas.Bool.Decides.{nat_tests}
 use Rattle.pef_head.specs.declared.loader.Loader.{Loader}
-use Rattle.pef_head.specs.Container.{IsSection, packed_of, offset_of}
+use Rattle.pef_head.specs.Container.{IsSection, exponent_of, packed_of, offset_of}
 use Rattle.pef_head.specs.Fields.{long_at}
 use Rattle.pef_head.specs.Parts.{IsLoadable, relocs_at, section_at}
 use Rattle.pef_head.specs.Places.{is_for, relocation, words_end, words_start}
 use Rattle.pef_head.specs.Search.{◌or◌, refused, least}
+use Rattle.pef_head.proofs.Searches.{fails_below}
 use Rattle.pef_head.proofs.Whole.{instantiable}
 
 slice_length : (bytes : List ℕ) (start end : ℕ) → end ≤ length bytes → length (slice_range bytes start end) ≡ end - start
@@ -14,6 +16,19 @@ slice_length bytes start end fits = simp (length-take, length-drop) (omega arith
 
 slice_small : (bytes : List ℕ) (start end : ℕ) → length (slice_range bytes start end) ≤ length bytes
 slice_small bytes start end = simp (length-take, length-drop) (omega arith)
+
+module _ (e : ℕ) (few : e ≤ 12) where
+  of_units : (a b : Bool) → (2 ^ e % 16 == 0) ≡ a → (16 % 2 ^ e == 0) ≡ b → not (a || b) ≡ false → (2 ^ e % 16 ≡ 0) ⊎ (16 % 2 ^ e ≡ 0)
+  of_units true b p q one = inl (grind (arith, nat_tests))
+  of_units false true p q one = inr (grind (arith, nat_tests))
+  of_units false false p q one = absurd (true≢false one)
+
+  -- of a power of two and 16 one divides the other
+  divides_at : (2 ^ e % 16 ≡ 0) ⊎ (16 % 2 ^ e ≡ 0)
+  divides_at = of_units (2 ^ e % 16 == 0) (16 % 2 ^ e == 0) refl refl (fails_below (λ k. not (2 ^ k % 16 == 0 || 16 % 2 ^ k == 0)) 13 e refl (omega (arith, few)))
+
+  positive_at : 2 ^ 0 ≤ 2 ^ e
+  positive_at = let none : 0 ≤ e = omega arith in pow_mono none
 
 pub loadable : (bytes : List ℕ) (k : ℕ) → IsSection bytes k → length bytes ≤ 2 ^ 24 → IsLoadable (section_at bytes k)
 loadable bytes k section small =
@@ -23,6 +38,8 @@ loadable bytes k section small =
       kind = parts.kind;
       kept = parts.kept;
       aligned = pow_mono section.aligned;
+      positive = positive_at (exponent_of bytes k) section.aligned;
+      divides = divides_at (exponent_of bytes k) section.aligned;
       whole = λ plain. long ∙ (added (offset_of bytes k) (packed_of bytes k) ∙ parts.packed plain);
       small = at_most _ (length bytes) (slice_small bytes (offset_of bytes k) (offset_of bytes k + packed_of bytes k)) small;
     }
@@ -33,7 +50,7 @@ loadable bytes k section small =
     at_most : (a b : ℕ) → a ≤ b → b ≤ 2 ^ 24 → a ≤ 2 ^ 24
     at_most a b p q = omega arith
 
-least_below : (test : ℕ → Bool) (n k : ℕ) → least test n ≡ Some k → k < n
+pub least_below : (test : ℕ → Bool) (n k : ℕ) → least test n ≡ Some k → k < n
 least_below test zero k found = absurd (cc)
 least_below test (suc n) k found = by (least test n) refl (test n) refl found (λ i h. least_below test n i h)
   where

@@ -1,5 +1,5 @@
 -- What a container's accessors give: fields and slices of its file.
-use Rattle.std.specs.Prelude.{◌≡◌, ℕ, ◌+◌, ◌^◌, ◌≤◌, Bool, false, length, ◌==◌, not, bit_and, if◌then◌else◌, List, [], slice_index, slice_range, take, Option, Some, None, unwrap_or}
+use Rattle.std.specs.Prelude.{◌≡◌, ℕ, ◌+◌, ◌%◌, ◌^◌, ◌≤◌, ◌⊎◌, Bool, false, length, ◌==◌, not, bit_and, if◌then◌else◌, List, [], slice_index, slice_range, take, Option, Some, None, unwrap_or}
 use Rattle.std.specs.Option.{option_map_or}
 use Rattle.pef_head.specs.declared.loader.Loader.{Loader}
 use Rattle.pef_head.specs.declared.section.Section.{Section}
@@ -32,11 +32,13 @@ section_at bytes k = record {
 }
 
 -- what holds of each instantiated section: its unpacked bytes fit its total size, and are the bytes of the file unless it
--- is pattern data
+-- is pattern data; and of its alignment and 16 one divides the other
 pub record IsLoadable (s : SectionParts) : Type 0 where
   pub kind : is_uninstantiable s.kind ≡ false
   pub kept : s.unpacked ≤ s.total
   pub aligned : s.align ≤ 4096
+  pub positive : 1 ≤ s.align
+  pub divides : (s.align % 16 ≡ 0) ⊎ (16 % s.align ≡ 0)
   pub whole : is_pattern s.kind ≡ false → length s.bytes ≡ s.unpacked
   pub small : length s.bytes ≤ 2 ^ 24
 
@@ -83,10 +85,17 @@ library_of bytes i = owner_of bytes (loader_of bytes) i
 abbrev pub cut : ℕ → ImportParts → ImportParts
 cut most i = record { library = take most i.library; name = take most i.name; weak = i.weak }
 
+-- the first relocation header of a section
+abbrev pub header_for : List ℕ → Loader → ℕ → Option ℕ
+header_for bytes l k = least (is_for bytes l k) l.headers
+
+abbrev pub reloc_header_of : List ℕ → ℕ → Option ℕ
+reloc_header_of bytes k = header_for bytes (loader_of bytes) k
+
 -- the words of a section's relocation header
 abbrev pub relocs_at : List ℕ → Loader → ℕ → List ℕ
 relocs_at bytes l k =
-    option_map_or (λ h. slice_range bytes (words_start bytes l h) (words_end bytes l h)) (least (is_for bytes l k) l.headers) []
+    option_map_or (λ h. slice_range bytes (words_start bytes l h) (words_end bytes l h)) (header_for bytes l k) []
 
 abbrev pub relocs_of : List ℕ → ℕ → List ℕ
 relocs_of bytes k = relocs_at bytes (loader_of bytes) k

@@ -15,7 +15,7 @@ const PEFF: u32 = 0x7065_6666;
 const PWPC: u32 = 0x7077_7063;
 
 /// Pattern data, whose packed bytes describe the unpacked ones.
-const PATTERN: u8 = 2;
+pub const PATTERN: u8 = 2;
 
 const LOADER: u8 = 4;
 

@@ -4,7 +4,7 @@ use crate::fields::long_at;
 use crate::import::{Import, import_at, import_within};
 use crate::loader::Loader;
 use crate::read::{NO_SECTION, read_head};
-use crate::relocations::relocs_at;
+use crate::relocations::{header_for, header_table, relocs_at};
 use crate::section::{Section, section_at};
 use crate::table::owner_table;
 use std::alloc::{AllocError, Global};
@@ -29,10 +29,10 @@ impl<'a> Model for Pef<'a> {
 }
 
 impl<'a> Pef<'a> {
-    ghost use Rattle.std.specs.Prelude.{◌≡◌, ℕ, ◌^◌, ◌≤◌, ◌<◌, ◌*◌, ◌%◌, length, slice_index, IfOk, OnOk, OnErr};
+    ghost use Rattle.std.specs.Prelude.{◌≡◌, ℕ, ◌^◌, ◌≤◌, ◌<◌, ◌*◌, ◌%◌, length, slice_index, slice_index_or, None, IfOk, OnOk, OnErr};
     ghost use Rattle.std.specs.Result.{result_err};
     ghost use Rattle.pef_head.specs.Container.{instantiated_count};
-    ghost use Rattle.pef_head.specs.Parts.{IsLoadable, cut, import_count, import_of, library_of, main_of, names, parts, relocs_of, section_at};
+    ghost use Rattle.pef_head.specs.Parts.{IsLoadable, cut, import_count, import_of, library_of, main_of, names, parts, reloc_header_of, relocs_of, section_at};
     ghost use Rattle.pef_head.specs.Refusals.{refusal_of};
     ghost use Rattle.pef_head.specs.Whole.{IsContainer};
 
@@ -117,13 +117,36 @@ impl<'a> Pef<'a> {
     }
 
     /// The relocation words of the instantiated section with this number, two bytes each, or none where it
-    /// has no relocation header.
+    /// has no relocation header. It looks for that header among all.
     pub fn relocs(&self, k: u32) -> &'a [u8]
         requires { k < instantiated_count self.now }
         ensures is { result.now ≡ relocs_of self.now k }
         ensures even { length result.now % 2 ≡ 0 }
         ensures small { length result.now ≤ 2 ^ 24 }
     {
-        relocs_at(self.bytes, self.loader, k)
+        let header = header_for(self.bytes, self.loader, k);
+        relocs_at(self.bytes, self.loader, k, header)
+    }
+
+    /// The relocation header of each instantiated section, as its number among the headers, if it has one.
+    /// It takes one walk over the headers.
+    pub fn reloc_headers(&self, alloc: Global) -> Result<Vec<Option<u32>>, AllocError>
+        ensures is { IfOk result (λ headers. (k : ℕ) → k < instantiated_count self.now → slice_index_or headers.items k None ≡ reloc_header_of self.now k) }
+        ensures len { IfOk result (λ headers. length headers.items ≡ instantiated_count self.now) }
+    {
+        let sections = instantiated_count(self.bytes);
+        header_table(alloc, self.bytes, self.loader, sections)
+    }
+
+    /// The relocation words of the instantiated section with this number, as `relocs` gives them, by its
+    /// relocation header.
+    pub fn relocs_by(&self, k: u32, header: Option<u32>) -> &'a [u8]
+        requires below { k < instantiated_count self.now }
+        requires header { header ≡ reloc_header_of self.now k }
+        ensures is { result.now ≡ relocs_of self.now k }
+        ensures even { length result.now % 2 ≡ 0 }
+        ensures small { length result.now ≤ 2 ^ 24 }
+    {
+        relocs_at(self.bytes, self.loader, k, header)
     }
 }

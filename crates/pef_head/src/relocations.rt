@@ -1,16 +1,17 @@
 //! The table of relocation headers.
-ghost use Rattle.std.specs.Prelude.{◌≡◌, ℕ, ◌+◌, ◌*◌, ◌^◌, ◌≤◌, ◌<◌, length, IfSome};
+ghost use Rattle.std.specs.Prelude.{◌≡◌, ℕ, ◌+◌, ◌*◌, ◌^◌, ◌≤◌, ◌<◌, length, IfSome, IfOk};
 ghost use Rattle.pef_head.specs.Places.{HasTables, is_for, is_repeated, relocated, relocation, words_end, words_start};
-ghost use Rattle.pef_head.specs.Relocations.{Seen};
+ghost use Rattle.pef_head.specs.Relocations.{HasHeadersFor, Seen};
 ghost use Rattle.pef_head.specs.Container.{instantiated_count};
 ghost use Rattle.pef_head.specs.Refusals.{is_bad_relocation};
-ghost use Rattle.pef_head.specs.Parts.{relocs_at};
+ghost use Rattle.pef_head.specs.Parts.{header_for, relocs_at};
 ghost use Rattle.pef_head.specs.Search.{least};
 
 use crate::container::instantiated_count;
 use crate::fields::{long_at, word_at};
 use crate::loader::Loader;
 use crate::places::relocation;
+use std::alloc::{AllocError, Global};
 
 /// How many numbers a section may have.
 const NUMBERS: usize = 65536;
@@ -88,12 +89,11 @@ pub fn bad_relocation(bytes: &[u8], l: Loader) -> Option<u32>
     None
 }
 
-/// The relocation header of a section.
+/// The relocation header of a section. It looks at the headers in turn.
 #[tactic(auto, using(crate::proofs::Searches::least_at))]
-fn header_for(bytes: &[u8], l: Loader, k: u32) -> Option<u32>
+pub fn header_for(bytes: &[u8], l: Loader, k: u32) -> Option<u32>
     requires { HasTables bytes.now l }
-    ensures is { result ≡ least (is_for bytes.now l k) l.headers }
-    ensures below { IfSome result (λ h. h < l.headers) }
+    ensures is { result ≡ header_for bytes.now l k }
 {
     for h in 0..l.headers {
         if relocated(bytes, l, h) as u32 == k {
@@ -103,13 +103,47 @@ fn header_for(bytes: &[u8], l: Loader, k: u32) -> Option<u32>
     None
 }
 
-/// The words of a section's relocation header, or none where it has no header.
-pub fn relocs_at<'a>(bytes: &'a [u8], l: Loader, k: u32) -> &'a [u8]
+/// Notes a header for its section, unless an earlier one is noted.
+fn note_header(table: &mut [Option<u32>], bytes: &[u8], l: Loader, h: u32)
+    requires tables { HasTables bytes.now l }
+    requires below { h < l.headers }
+    requires noted { HasHeadersFor bytes.now l h table.old }
+    ensures noted { HasHeadersFor bytes.now l (h + 1) table.new }
+    ensures len { length table.new ≡ length table.old }
+{
+    let section = relocated(bytes, l, h) as usize;
+    if section < table.len() && table[section].is_none() {
+        table[section] = Some(h);
+    }
+}
+
+/// The relocation header of each of the first sections, if it has one.
+pub fn header_table(
+    alloc: Global,
+    bytes: &[u8],
+    l: Loader,
+    sections: u16,
+) -> Result<Vec<Option<u32>>, AllocError>
+    requires { HasTables bytes.now l }
+    ensures noted { IfOk result (λ table. HasHeadersFor bytes.now l l.headers table.items) }
+    ensures len { IfOk result (λ table. length table.items ≡ sections) }
+{
+    let mut table = vec![in alloc; None; sections as usize]?;
+    for h in 0..l.headers {
+        note_header(&mut table, bytes, l, h);
+    }
+    Ok(table)
+}
+
+/// The words of a section, by its relocation header, or none where it has no header.
+#[tactic(auto, using(crate::proofs::Loadable::least_below))]
+pub fn relocs_at<'a>(bytes: &'a [u8], l: Loader, k: u32, header: Option<u32>) -> &'a [u8]
     requires tables { HasTables bytes.now l }
     requires words { (h : ℕ) → h < l.headers → words_end bytes.now l h ≤ l.end }
+    requires header { header ≡ header_for bytes.now l k }
     ensures { result.now ≡ relocs_at bytes.now l k }
 {
-    match header_for(bytes, l, k) {
+    match header {
         Some(h) => {
             let start = words_start(bytes, l, h) as usize;
             &bytes[start..words_end(bytes, l, h) as usize]

@@ -2,7 +2,7 @@ ghost use Rattle.std.specs.Prelude.{◌≡◌, ℕ, ◌^◌, ◌≤◌, length};
 ghost use Rattle.pef_head.specs.Container.{IsSection};
 ghost use Rattle.pef_head.specs.Parts.{parts, section_at};
 
-use crate::container::section_header;
+use crate::container::{PATTERN, section_header};
 use crate::fields::long_at;
 
 /// An instantiated section: one that is loaded.
@@ -18,6 +18,18 @@ pub struct Section<'a> {
     pub align: u32,
     /// Its bytes in the file: the unpacked ones, or those of pattern data, which describe them.
     pub bytes: &'a [u8],
+}
+
+impl<'a> Section<'a> {
+    ghost use Rattle.std.specs.Prelude.{◌≡◌};
+    ghost use Rattle.pef_head.specs.Container.{is_pattern};
+
+    /// Whether its bytes are pattern data.
+    pub fn is_pattern(&self) -> bool
+        ensures { result ≡ is_pattern self.now.kind }
+    {
+        self.kind == PATTERN
+    }
 }
 
 /// The section with this number.
