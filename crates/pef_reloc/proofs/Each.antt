@@ -7,7 +7,7 @@ use Rattle.pef_reloc.specs.Rows.{first_of}
 use Rattle.pef_reloc.specs.Additions.{◌>>=◌}
 use Rattle.pef_reloc.specs.Program.{width, width_at, word_at, each, each_by}
 
-some_width : (f : First) → 1 ≤ width f
+pub some_width : (f : First) → 1 ≤ width f
 some_width (One i) = omega arith
 some_width (Two large high) = omega arith
 some_width (Repeat count further) = omega arith

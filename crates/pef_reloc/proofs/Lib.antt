@@ -8,3 +8,6 @@ mod Repeats
 mod Table
 mod Pieces
 mod Longs
+mod Alike
+mod Work
+mod Spans

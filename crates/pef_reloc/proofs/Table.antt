@@ -4,7 +4,7 @@ use borrow.Author.Tests.{ltb-true}
 use Rattle.mix_bits.specs.Ranges.{every}
 use Rattle.mix_bits.proofs.Every.{every_at}
 use Rattle.pef_reloc.specs.Rows.{rows, first_of}
-use Rattle.pef_reloc.specs.Laws.{HasOneRow, IsSpelled, is_spelled, rows_with}
+use Rattle.pef_reloc.specs.Laws.{HasAllRows, HasOneRow, IsSpelled, is_spelled, rows_with}
 
 at_most_one : every 7 0 (λ top. nat_lt (rows_with rows top) 2) ≡ true
 at_most_one = refl
@@ -17,3 +17,6 @@ all_spelled = refl
 
 pub is_spelled_back : IsSpelled
 is_spelled_back word below = every_at 16 (λ w. is_spelled w (first_of w)) word all_spelled below
+
+pub has_all_rows : HasAllRows
+has_all_rows = refl

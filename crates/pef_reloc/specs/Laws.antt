@@ -1,5 +1,8 @@
 -- What holds of pattern data, of the table of relocations, and of runs of them as a whole.
-use Rattle.std.specs.Prelude.{◌≡◌, ℕ, ◌+◌, ◌-◌, ◌*◌, ◌/◌, ◌<◌, ◌≤◌, ◌==◌, ◌↔◌, nat_le, ◌&&◌, Bool, true, if◌then◌else◌, List, [], ◌∷◌, ◌++◌, length, Some, None}
+use Rattle.std.specs.Prelude.{◌≡◌, ℕ, zero, suc, ◌+◌, ◌-◌, ◌*◌, ◌/◌, ◌<◌, ◌≤◌, ◌==◌, ◌↔◌, ◌⊎◌, nat_le, ◌&&◌, Bool, true, false, if◌then◌else◌, List, [], ◌∷◌, ◌++◌, length, slice_index, All, Option, Some, None}
+use Rattle.std.specs.Int.{from_bool}
+use Rattle.pef_reloc.specs.declared.error.RelocError.{RelocError}
+use Rattle.pef_reloc.specs.declared.error.RelocError.TheVariants.{Work}
 use Rattle.pef_reloc.specs.declared.instruction.Instruction.{Instruction}
 use Rattle.pef_reloc.specs.declared.instruction.Instruction.TheVariants.{BySectDWithSkip, Run, ByImport, SetSectC, SetSectD, BySection, IncrPosition, SetPosition}
 use Rattle.pef_reloc.specs.declared.instruction.Turn.{Turn}
@@ -11,7 +14,7 @@ use Rattle.pef_reloc.specs.declared.instruction.First.TheVariants.{One, Two, Rep
 use Rattle.pef_reloc.specs.Pattern.{with_rest, piece_in, unpacked}
 use Rattle.pef_reloc.specs.Rows.{Row, rows, first_of}
 use Rattle.pef_reloc.specs.Additions.{Sources, with_long}
-use Rattle.pef_reloc.specs.Program.{relocated}
+use Rattle.pef_reloc.specs.Program.{relocated, is_repeat, is_span, span_at, width_at, word_at}
 
 -- pattern data writes the pieces of its instructions, one after the other
 pub data Writes : List ℕ → List ℕ → Type 0 where
@@ -71,6 +74,21 @@ HasOneRow = (top : ℕ) → top < 128 → rows_with rows top < 2
 abbrev pub IsSpelled : Type 0
 IsSpelled = (word : ℕ) → word < 65536 → is_spelled word (first_of word) ≡ true
 
+-- how many of the 2 ^ k numbers from 2 ^ k * base on pass a test
+abbrev pub passing : ℕ → ℕ → (ℕ → Bool) → ℕ
+passing zero base test = from_bool (test base)
+passing (suc k) base test = passing k (base * 2) test + passing k (base * 2 + 1) test
+
+abbrev pub has_row : First → Bool
+has_row (One i) = true
+has_row (Two large high) = true
+has_row (Repeat count further) = true
+has_row NoRow = false
+
+-- so many of the 65536 words have a row
+abbrev pub HasAllRows : Type 0
+HasAllRows = passing 16 0 (λ word. has_row (first_of word)) ≡ 31936
+
 -- a section's bytes after additions to longs that lie in it
 pub data Adds : List ℕ → List ℕ → Type 0 where
   Same : (section later : List ℕ) → later ≡ section → Adds section later
@@ -80,3 +98,82 @@ pub data Adds : List ℕ → List ℕ → Type 0 where
 -- whatever relocation words do to a section, also where they are refused, is a list of additions to its longs
 abbrev pub AddsLongs : Type 0
 AddsLongs = (sources : Sources) (words section : List ℕ) → Adds section (relocated sources words section).section
+
+-- an addition: the position of a long in the section, and what is added to it
+pub record Addition : Type 0 where
+  pub position : ℕ
+  pub value : ℕ
+
+-- a section's bytes after additions, one after the other
+abbrev pub with_additions : List Addition → List ℕ → List ℕ
+with_additions [] section = section
+with_additions (a ∷ later) section = with_additions later (with_long a.position a.value section)
+
+abbrev pub IsItem : List ℕ → ℕ → Type 0
+IsItem items value = (n : ℕ) × (n < length items) × (value ≡ slice_index items n)
+
+-- 0, the base of a section, or the address of an import
+abbrev pub IsAddend : Sources → ℕ → Type 0
+IsAddend sources value = (value ≡ 0) ⊎ (IsItem sources.bases value ⊎ IsItem sources.imports value)
+
+-- the long lies in a section of this size, and nothing else is added to it
+pub record IsAddition (sources : Sources) (total : ℕ) (a : Addition) : Type 0 where
+  pub within : a.position + 4 ≤ total
+  pub addend : IsAddend sources a.value
+
+-- what relocation words do to each section of a size, whatever its bytes are: additions, and at last a refusal or none
+pub record Plan (sources : Sources) (words : List ℕ) (total : ℕ) : Type 0 where
+  pub additions : List Addition
+  pub refusal : Option RelocError
+  pub sound : All (IsAddition sources total) additions
+  pub makes : (section : List ℕ) → length section ≡ total
+      → relocated sources words section ≡ record { section = with_additions additions section; refusal = refusal }
+
+-- the additions depend on the sources, the words and the size of the section, and not on its bytes
+abbrev pub HasPlan : Type 0
+HasPlan = (sources : Sources) (words : List ℕ) (total : ℕ) → Plan sources words total
+
+-- a number for each instruction from a place on, at most n of them, in sum
+abbrev pub summed_by : ℕ → List ℕ → (ℕ → ℕ) → ℕ → ℕ
+summed_by zero words number place = 0
+summed_by (suc n) words number place =
+    if nat_le (place + 2) (length words) then number place + summed_by n words number (place + width_at words place) else 0
+
+abbrev pub summed : List ℕ → (ℕ → ℕ) → ℕ
+summed words number = summed_by (length words - 0) words number 0
+
+-- an instruction counts once; `again` says how often a repeat does
+abbrev pub work_by : (ℕ → ℕ → ℕ) → First → ℕ
+work_by again (One i) = 1
+work_by again (Two large high) = 1
+work_by again (Repeat count further) = again count further
+work_by again NoRow = 1
+
+-- how many instructions a span has that is repeated: none of them is a repeat
+abbrev pub span_work : List ℕ → ℕ
+span_work span = summed span (λ place. work_by (λ count further. 0) (first_of (word_at span place)))
+
+-- how many instructions a run of all words takes: a repeat is one, and each of its span is one again, each further time
+abbrev pub repeat_work : List ℕ → ℕ → ℕ → ℕ → ℕ
+repeat_work words place count further = 1 + further * span_work (span_at words place count)
+
+abbrev pub work_of : List ℕ → ℕ
+work_of words = summed words (λ place. work_by (repeat_work words place) (first_of (word_at words place)))
+
+-- a run that is not refused takes at most 16777216 instructions
+abbrev pub IsWithinLimit : Type 0
+IsWithinLimit = (sources : Sources) (words section : List ℕ) → (relocated sources words section).refusal ≡ None → work_of words ≤ 16777216
+
+-- and the limit refuses none that takes no more
+abbrev pub IsBeyondLimit : Type 0
+IsBeyondLimit = (sources : Sources) (words section : List ℕ) → (relocated sources words section).refusal ≡ Some Work → 16777216 < work_of words
+
+-- instructions, none of them a repeat, fill a span from a place on
+pub data Fills : List ℕ → ℕ → Type 0 where
+  Filled : (span : List ℕ) (place : ℕ) → length span < place + 2 → Fills span place
+  Next : (span : List ℕ) (place : ℕ) → place + 2 ≤ length span → is_repeat (first_of (word_at span place)) ≡ false
+      → place + width_at span place ≤ length span → Fills span (place + width_at span place) → Fills span place
+
+-- a span can be repeated exactly where such instructions fill it
+abbrev pub IsFilledSpan : Type 0
+IsFilledSpan = (span : List ℕ) → (is_span span ≡ true) ↔ Fills span 0

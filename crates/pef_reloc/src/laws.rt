@@ -1,4 +1,4 @@
-ghost use Rattle.pef_reloc.specs.Laws.{AddsLongs, HasOneRow, IsSpelled, UnpacksPieces};
+ghost use Rattle.pef_reloc.specs.Laws.{AddsLongs, HasAllRows, HasOneRow, HasPlan, IsBeyondLimit, IsFilledSpan, IsSpelled, IsWithinLimit, UnpacksPieces};
 
 /// What holds of pattern data as a whole. It does nothing: the clause is its point.
 pub fn pattern_laws()
@@ -9,9 +9,23 @@ pub fn pattern_laws()
 pub fn table_laws()
     ensures one_row { HasOneRow }
     ensures spelled { IsSpelled }
+    ensures all { HasAllRows }
 {}
 
 /// What holds of every run of relocations. It does nothing: the clause is its point.
 pub fn run_laws()
     ensures { AddsLongs }
+{}
+
+/// What the additions of a run depend on. It does nothing: the clause is its point.
+pub fn plan_laws()
+    ensures { HasPlan }
+{}
+
+/// How many instructions a run takes, and what a repeat goes back over. It does nothing: the clauses are
+/// its point.
+pub fn work_laws()
+    ensures within { IsWithinLimit }
+    ensures beyond { IsBeyondLimit }
+    ensures span { IsFilledSpan }
 {}

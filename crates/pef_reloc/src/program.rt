@@ -203,6 +203,7 @@ fn relocate_target(ram: &mut Ram, target: Target, words: &[u8]) -> Result<(), Re
     ensures refusal { result_err result ≡ (relocated (sources_of target.entry) words.now (section_of target.entry ram.old)).refusal }
     ensures section { section_of target.entry ram.new ≡ (relocated (sources_of target.entry) words.now (section_of target.entry ram.old)).section }
     ensures memory { ram.new ≡ with_bytes target.entry.base (section_of target.entry ram.new) ram.old }
+    ensures len { length ram.new.bytes ≡ length ram.old.bytes }
 {
     let mut cursor = start(target.bases);
     run_words(ram, &mut cursor, target, words)
@@ -237,6 +238,7 @@ pub fn relocate(
     requires inside { in_memory ram.old (slice_index bases.now section) (slice_index totals.now section) ≡ true }
     ensures refusal { result_err result ≡ (relocated_in section words.now bases.now totals.now imports.now ram.old).refusal }
     ensures memory { ram.new ≡ with_bytes (slice_index bases.now section) (relocated_in section words.now bases.now totals.now imports.now ram.old).section ram.old }
+    ensures len { length ram.new.bytes ≡ length ram.old.bytes }
 {
     let total = totals[section as usize];
     let target = Target {
