@@ -101,6 +101,7 @@ fn reads_a_program(rt: HostRuntime) -> Result<(), PefError> {
     };
     assert_eq!(rt; pef.section(0), code);
     assert_eq!(rt; pef.section(1), data);
+    assert!(rt; !pef.section(1).is_pattern());
     assert_eq!(rt; pef.main(), Some((1, 4)));
     assert_eq!(rt; pef.relocs(0), b"".as_slice());
     assert_eq!(rt; pef.relocs(1), [0x60, 0x00, 0x46, 0x00].as_slice());

@@ -3,3 +3,4 @@ pub mod Steps
 pub mod NextId
 pub mod Listing
 pub mod Small
+mod Walk

@@ -17,7 +17,7 @@ later resource resources name h = by (same_name name resource.0)
     by true = refl
     by false = h
 
-none_there : (resources : List Resource) (name : Name) → bytes_of resources name ≡ None → IsSome (bytes_of resources name) → ⊥
+pub none_there : (resources : List Resource) (name : Name) → bytes_of resources name ≡ None → IsSome (bytes_of resources name) → ⊥
 none_there resources name none there = true≢false (sym there ∙ ap is_some none)
 
 module _ (kind : ℕ) (after : ℤ) where

@@ -4,3 +4,4 @@ pub mod Header
 pub mod Resources
 pub mod References
 pub mod Listing
+pub mod Walk

@@ -29,6 +29,7 @@ impl<'a> Fork<'a> {
     ghost use Rattle.rsrc_fork.specs.Listing.{IsFork};
     ghost use Rattle.rsrc_fork.specs.References.{resources_of};
     ghost use Rattle.rsrc_fork.specs.Resources.{Resource, bytes_of, named, next_id, IsNextId};
+    ghost use Rattle.rsrc_fork.specs.Walk.{ComesToEnd, FindsAll};
 
     /// Reads the fork in a file's bytes. A refusal is the first in the order of the file: the header,
     /// the place of the type list, and then each type and its references in turn. It keeps an entry for
@@ -61,5 +62,14 @@ impl<'a> Fork<'a> {
         ensures next { IsNextId self.now kind after result }
     {
         next_id(&self.resources, kind, after)
+    }
+
+    /// What holds of a walk by `ids`, each time from the id that it gave. It does nothing: the clauses are
+    /// its point.
+    pub fn id_laws(&self)
+        ensures all { FindsAll self.now }
+        ensures end { ComesToEnd self.now }
+    {
+        let _resources = &self.resources;
     }
 }
