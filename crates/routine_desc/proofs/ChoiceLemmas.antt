@@ -1,5 +1,5 @@
 -- One scan finds what the filters leave.
-use Rattle.std.proofs.Common.{◌≡◌, ℕ, Bool, true, false, if◌then◌else◌, List, [], ◌∷◌, filter, length, take, drop, ◌-◌, get_or, ◌<◌, arith, Option, Some, None, is_some, sym, ap, subst, ◌∙◌, refl}
+use Rattle.std.proofs.Common.{◌≡◌, ℕ, Bool, true, false, if◌then◌else◌, List, [], ◌∷◌, filter, length, take, drop, ◌-◌, get_or, suc, ◌<◌, arith, Option, Some, None, is_some, sym, ap, subst, ◌∙◌, refl}
 use Rattle.std.proofs.lemmas.List.{same_lists, places}
 use Rattle.mix_bits.specs.declared.isa.Isa.{Isa}
 use Rattle.mix_bits.specs.declared.isa.Isa.TheVariants.{Ppc}
@@ -7,7 +7,7 @@ use Rattle.routine_desc.specs.declared.record.Rec.{Rec}
 use Rattle.routine_desc.specs.declared.choice.Found.{Found}
 use Rattle.routine_desc.specs.declared.choice.Scan.{Scan}
 use Rattle.routine_desc.specs.Layout.{has_flag}
-use Rattle.routine_desc.specs.Choice.{candidates, choice, chosen_among, chosen_of, first_of, found_before, found_of, has_selector, head_of, is_default, is_isa, matches_selector, or_else, scan_of}
+use Rattle.routine_desc.specs.Choice.{candidates, choice, choice_of_one, chosen_among, chosen_of, first_of, found_before, found_of, has_selector, head_of, is_default, is_isa, matches_selector, or_else, scan_of}
 
 -- the head of a filtered list, with one more record before it
 head-filter : (b : Bool) (r : Rec) (rs : List Rec) → head_of (if b then r ∷ rs else rs) ≡ (if b then Some r else head_of rs)
@@ -114,3 +114,37 @@ scan-parts (r ∷ rs) d caller selector rest asked default e f some rest_read as
     ap (λ x. record { equal = x; fallback = f }) equal_is
     ∙ ap (λ x. record { equal = found_before r caller (matches_selector selector r) (scan_of caller selector rs).equal; fallback = x }) fallback_is
     ∙ sym (scan_more r rs caller selector)
+
+-- one candidate is taken
+chosen-one : (caller : Isa) (r : Rec) → chosen_among caller (r ∷ []) ≡ Some r
+chosen-one caller r = picks (has_flag r.flags 4) (is_isa r.isa Ppc) (is_isa r.isa caller)
+  where
+    picks : (native is_native is_own : Bool)
+        → head_of (first_of (if native then (if is_native then r ∷ [] else []) else []) (first_of (if is_own then r ∷ [] else []) (r ∷ []))) ≡ Some r
+    picks true true is_own = refl
+    picks true false true = refl
+    picks true false false = refl
+    picks false is_native true = refl
+    picks false is_native false = refl
+
+-- the choice where there is one record
+one-choice : (r : Rec) (caller : Isa) (selector : Option ℕ) → choice_of_one r selector ≡ choice (r ∷ []) caller selector
+one-choice r caller None = sym (chosen-one caller r)
+one-choice r caller (Some s) = asked (has_selector s r) (is_default r)
+  where
+    asked : (equal default : Bool)
+        → (if equal then Some r else (if default then Some r else None)) ≡ chosen_among caller (first_of (if equal then r ∷ [] else []) (if default then r ∷ [] else []))
+    asked true default = sym (chosen-one caller r)
+    asked false true = sym (chosen-one caller r)
+    asked false false = refl
+
+pub choose-one : (recs : List Rec) (d : Rec) (caller : Isa) (selector : Option ℕ) → length recs ≡ 1 → choice_of_one (get_or recs 0 d) selector ≡ choice recs caller selector
+choose-one [] d caller selector one = absurd (none 0 one)
+  where
+    none : (n : ℕ) → n ≡ suc n → ⊥
+    none n h = omega (arith, h)
+choose-one (r ∷ []) d caller selector one = one-choice r caller selector
+choose-one (r ∷ s ∷ rs) d caller selector one = absurd (more (length rs) one)
+  where
+    more : (n : ℕ) → suc (suc n) ≡ 1 → ⊥
+    more n h = omega (arith, h)

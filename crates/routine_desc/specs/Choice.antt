@@ -44,6 +44,15 @@ chosen_among caller (r ∷ rs) =
 abbrev pub choice : List Rec → Isa → Option ℕ → Option Rec
 choice records caller selector = chosen_among caller (candidates records selector)
 
+-- every record matches where there is no selector
+abbrev pub matches_selector : Option ℕ → Rec → Bool
+matches_selector None r = true
+matches_selector (Some selector) r = has_selector selector r
+
+-- what is taken of one record: it has the selector, or else is a default
+abbrev pub choice_of_one : Rec → Option ℕ → Option Rec
+choice_of_one r selector = if matches_selector selector r then Some r else (if is_default r then Some r else None)
+
 -- what one scan of a list keeps: its first record, the first of PowerPC code, and the first of the caller's set
 abbrev pub found_of : Isa → List Rec → Found
 found_of caller rs = record {
@@ -51,11 +60,6 @@ found_of caller rs = record {
   native = head_of (filter (λ c. is_isa c.isa Ppc) rs);
   own = head_of (filter (λ c. is_isa c.isa caller) rs);
 }
-
--- every record matches where there is no selector
-abbrev pub matches_selector : Option ℕ → Rec → Bool
-matches_selector None r = true
-matches_selector (Some selector) r = has_selector selector r
 
 abbrev pub scan_of : Isa → Option ℕ → List Rec → Scan
 scan_of caller selector rs = record {

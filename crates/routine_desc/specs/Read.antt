@@ -77,3 +77,13 @@ ReadsBody m a result = Answers a (body_of m a) result
 abbrev pub FillsRecords : {E : Type 0} → Memory → ℕ → List Rec → List Rec → Result E BadDesc → Type 0
 FillsRecords m a old new (Ok done) = (first_records m a (length old) ≡ Ok new) × (length new ≡ length old)
 FillsRecords m a old new (Err e) = (first_records m a (length old) ≡ Err e) × (length new ≡ length old)
+
+-- how many records there are once the header is good, or the rule that it breaks
+abbrev pub Counts : Memory → ℕ → Result ℕ BadDesc → Type 0
+Counts m a (Ok count) = (desc_of m a ≡ body_of m a) × (count ≡ number_at m (a + 10) 2 + 1)
+Counts m a (Err e) = desc_of m a ≡ Err e
+
+-- a list filled with all records, or the refusal of them
+abbrev pub FillsBody : {E : Type 0} → Memory → ℕ → List Rec → Result E BadDesc → Type 0
+FillsBody m a new (Ok done) = body_of m a ≡ Ok new
+FillsBody m a new (Err e) = body_of m a ≡ Err e

@@ -1,7 +1,7 @@
 // The choice among records.
 ghost use Rattle.std.specs.Prelude.{◌≡◌, ◌≤◌};
 ghost use Rattle.routine_desc.specs.Read.{records_of};
-ghost use Rattle.routine_desc.specs.Choice.{choice, chosen_of, found_before, is_default as is_default_lem, is_isa as is_isa_lem, matches_selector, scan_of};
+ghost use Rattle.routine_desc.specs.Choice.{choice, choice_of_one, chosen_of, found_before, is_default as is_default_lem, is_isa as is_isa_lem, matches_selector, scan_of};
 
 use super::flags::RoutineFlags;
 use super::record::{Desc, Rec};
@@ -37,7 +37,35 @@ pub fn choose(desc: &Desc, caller: Isa, selector: Option<u32>) -> Option<Rec>
     requires { desc.now.count ≤ 64 }
     ensures { result ≡ choice (records_of desc.now) caller selector }
 {
-    let scan = look(&desc.recs[..desc.count as usize], caller, selector);
+    choose_among(&desc.recs[..desc.count as usize], caller, selector)
+}
+
+/// The same among the records of a descriptor.
+pub fn choose_among(records: &[Rec], caller: Isa, selector: Option<u32>) -> Option<Rec>
+    ensures { result ≡ choice records.now caller selector }
+{
+    match records {
+        [only] => choose_only(only, selector),
+        _ => choose_by_scan(records, caller, selector),
+    }
+}
+
+/// The choice where there is one record.
+fn choose_only(only: &Rec, selector: Option<u32>) -> Option<Rec>
+    ensures { result ≡ choice_of_one only.now selector }
+{
+    if matches(only, selector) || is_default(only) {
+        Some(*only)
+    } else {
+        None
+    }
+}
+
+/// The choice by one scan of the records.
+fn choose_by_scan(records: &[Rec], caller: Isa, selector: Option<u32>) -> Option<Rec>
+    ensures { result ≡ choice records.now caller selector }
+{
+    let scan = look(records, caller, selector);
     match selector {
         None => chosen(scan.equal),
         Some(_) if scan.equal.first.is_some() => chosen(scan.equal),

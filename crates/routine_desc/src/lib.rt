@@ -10,9 +10,9 @@ mod record;
 #[cfg(test)]
 mod tests;
 
-pub use choice::choose;
+pub use choice::{choose, choose_among};
 pub use flags::RoutineFlags;
 pub use laws::desc_laws;
 pub use making::build;
-pub use read::read_desc;
+pub use read::{count_records, read_all, read_desc};
 pub use record::{BadDesc, Desc, Rec};

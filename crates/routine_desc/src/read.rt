@@ -1,11 +1,11 @@
 // Reading a descriptor.
-ghost use Rattle.std.specs.Prelude.{◌≡◌, ◌≤◌, ◌+◌, length, IfNone};
+ghost use Rattle.std.specs.Prelude.{◌≡◌, ◌≤◌, ◌+◌, length, IfNone, IfOk};
 ghost use Rattle.std.specs.Bool.{OnTrue};
 ghost use Rattle.std.specs.List.{list_all};
 ghost use Rattle.mix_bits.specs.Sizes.{bytes_of};
 ghost use Rattle.big_memory.specs.Memory.{in_memory};
 ghost use Rattle.routine_desc.specs.Layout.{are_good_flags, bad_header, bad_record, isa_of, number_at, record_at, target_of};
-ghost use Rattle.routine_desc.specs.Read.{FillsRecords, Reads, ReadsBody, all_alike as all_alike_lem, is_alike as is_alike_lem, is_dispatched_code, read_record as read_record_lem};
+ghost use Rattle.routine_desc.specs.Read.{Counts, FillsBody, FillsRecords, Reads, ReadsBody, all_alike as all_alike_lem, is_alike as is_alike_lem, is_dispatched_code, read_record as read_record_lem};
 
 use super::flags::RoutineFlags;
 use super::record::{BadDesc, Desc, Rec};
@@ -21,6 +21,40 @@ pub fn read_desc(ram: &Ram, a: u32) -> Result<Desc, BadDesc>
     match broken_header(ram, a) {
         Some(bad) => Err(bad),
         None => read_body(ram, a),
+    }
+}
+
+/// How many records the descriptor at an address has, or the first rule that its header breaks. Guards do
+/// not matter.
+pub fn count_records(ram: &Ram, a: u32) -> Result<u32, BadDesc>
+    ensures value { Counts ram.now a result }
+    ensures within { IfOk result (λ _. a + 12 ≤ length ram.now.bytes) }
+    ensures few { IfOk result (λ count. count ≤ 64) }
+{
+    let _len = ram.len();
+    match broken_header(ram, a) {
+        Some(bad) => Err(bad),
+        None => Ok(number(ram, a + 10, Size::Two) + 1),
+    }
+}
+
+/// Fills the list with all records of a descriptor whose header is good, or answers the first rule that
+/// they break.
+pub fn read_all(ram: &Ram, a: u32, recs: &mut [Rec]) -> Result<(), BadDesc>
+    requires header { a + 12 ≤ length ram.now.bytes }
+    requires few { length recs.old ≤ 64 }
+    requires all { length recs.old ≡ number_at ram.now (a + 10) 2 + 1 }
+    ensures { FillsBody ram.now a recs.new result }
+{
+    match read_records(ram, a, recs) {
+        Ok(()) => {
+            if all_alike(recs) {
+                Ok(())
+            } else {
+                Err(BadDesc::Mixed)
+            }
+        }
+        Err(bad) => Err(bad),
     }
 }
 

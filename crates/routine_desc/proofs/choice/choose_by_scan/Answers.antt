@@ -1,7 +1,7 @@
 -- What the scan found is what the filters leave.
 use Rattle.std.proofs.Common.{◌∙◌, sym}
 use Rattle.routine_desc.proofs.ChoiceLemmas.{choose-all, choose-equal, choose-default}
-use Rattle.routine_desc.proofs.choice.choose.Goals as goal
+use Rattle.routine_desc.proofs.choice.choose_by_scan.Goals as goal
 
 pub returns-in-None : goal.returns-in-None
 returns-in-None c = c.chosen.ensures ∙ choose-all c.look-scan.result _ c.args.caller c.args.selector c.in-None.is c.look-scan.ensures
