@@ -13,7 +13,10 @@ bits_of And d s = bit_and d s
 bits_of Or d s = bit_or d s
 bits_of Eor d s = bit_xor d s
 
+-- the result of values of a size
+abbrev pub combined : LogicOp → Size → ℕ → ℕ → Ccr → Out
+combined op size d s old = record { value = bits_of op d s; ccr = result_flags size (bits_of op d s) old }
+
 -- destination op source
 abbrev pub combination : LogicOp → Size → Ccr → ℕ → ℕ → Out
-combination op size old d s =
-    let value = bits_of op (truncated d size) (truncated s size) in record { value = value; ccr = result_flags size value old }
+combination op size old d s = combined op size (truncated d size) (truncated s size) old
