@@ -1,18 +1,19 @@
 // What 68K code wants.
-ghost use Rattle.std.specs.Prelude.{◌≡◌, ◌≤◌, slice_index};
+ghost use Rattle.std.specs.Prelude.{◌≡◌, ◌+◌, ◌≤◌, length, slice_index, Ok};
+ghost use Rattle.proc_info.specs.Signature.{signature_of};
 ghost use Rattle.proc_info.specs.Views.{signature};
-ghost use Rattle.routine_desc.specs.Read.{records_of};
+ghost use Rattle.routine_desc.specs.Read.{Counts};
 ghost use Rattle.mode_switch.specs.Views.{told, wanted_of};
-ghost use Rattle.mode_switch.specs.Wanted.{Means, even_sp as even_sp_lem, goes_by as goes_by_lem, loaded_or_fault, selector_68k as selector_68k_lem, takes_68k as takes_68k_lem, wants_desc_68k, wants_68k as wants_68k_lem};
+ghost use Rattle.mode_switch.specs.Wanted.{Means, even_sp as even_sp_lem, goes_by as goes_by_lem, loaded_or_fault, selector_68k as selector_68k_lem, signed as signed_lem, takes_68k as takes_68k_lem, wants_desc_68k, wants_68k as wants_68k_lem};
 
 use crate::Wanted;
-use crate::records::{bad_desc, calls_record, first_info, settle, signed, taken};
+use crate::records::{FEW, bad_desc, calls_record, first_info, settle, signed, taken};
 use args_m68::select68;
 use big_memory::Ram;
 use m68_isa::Regs68;
 use mix_bits::{Fault, FaultKind, Isa};
 use proc_info::Sig;
-use routine_desc::{Desc, Rec, choose, read_desc};
+use routine_desc::{Rec, choose_among, count_records, read_all};
 use switch_frame::Kind;
 
 /// What 68K code wants at a routine descriptor at its pc, with the return address at A7. Refusals come in
@@ -28,23 +29,59 @@ pub fn wants_68k(ram: &Ram, regs: &Regs68) -> Wanted
 fn wants_desc(ram: &Ram, regs: &Regs68) -> Result<Wanted, Fault>
     ensures { told result ≡ wants_desc_68k ram.now regs.now }
 {
-    match read_desc(ram, regs.pc) {
-        Ok(desc) => takes(ram, regs, &desc),
+    match count_records(ram, regs.pc) {
+        Ok(count) if count <= FEW => wants_of_few(ram, regs, count),
+        Ok(count) => wants_of_many(ram, regs, count),
         Err(bad) => Err(bad_desc(regs.pc, regs.pc, bad)),
     }
 }
 
-/// What it wants of a descriptor.
-fn takes(ram: &Ram, regs: &Regs68, desc: &Desc) -> Result<Wanted, Fault>
-    requires { desc.now.count ≤ 64 }
-    ensures { told result ≡ takes_68k_lem ram.now regs.now (records_of desc.now) }
+/// What it wants at a descriptor of few records.
+fn wants_of_few(ram: &Ram, regs: &Regs68, count: u32) -> Result<Wanted, Fault>
+    requires header { Counts ram.now regs.now.pc (Ok count) }
+    requires within { regs.now.pc + 12 ≤ length ram.now.bytes }
+    requires few { count ≤ 4 }
+    ensures { told result ≡ wants_desc_68k ram.now regs.now }
+{
+    let mut records = [Rec::NONE; 4];
+    wants_in(ram, regs, &mut records[..count as usize])
+}
+
+/// What it wants at a descriptor of any number of records.
+#[inline(never)]
+fn wants_of_many(ram: &Ram, regs: &Regs68, count: u32) -> Result<Wanted, Fault>
+    requires header { Counts ram.now regs.now.pc (Ok count) }
+    requires within { regs.now.pc + 12 ≤ length ram.now.bytes }
+    requires few { count ≤ 64 }
+    ensures { told result ≡ wants_desc_68k ram.now regs.now }
+{
+    let mut records = [Rec::NONE; 64];
+    wants_in(ram, regs, &mut records[..count as usize])
+}
+
+/// What it wants at a descriptor, which is read into a list with a place for each record.
+fn wants_in(ram: &Ram, regs: &Regs68, records: &mut [Rec]) -> Result<Wanted, Fault>
+    requires header { Counts ram.now regs.now.pc (Ok (length records.old)) }
+    requires within { regs.now.pc + 12 ≤ length ram.now.bytes }
+    requires few { length records.old ≤ 64 }
+    ensures { told result ≡ wants_desc_68k ram.now regs.now }
+{
+    match read_all(ram, regs.pc, records) {
+        Ok(()) => takes(ram, regs, records),
+        Err(bad) => Err(bad_desc(regs.pc, regs.pc, bad)),
+    }
+}
+
+/// What it wants of the records of a descriptor.
+fn takes(ram: &Ram, regs: &Regs68, records: &[Rec]) -> Result<Wanted, Fault>
+    ensures { told result ≡ takes_68k_lem ram.now regs.now records.now }
 {
     even_sp(regs)?;
-    let info = first_info(&desc.recs[..desc.count as usize]);
+    let info = first_info(records);
     let sig = signed(regs.pc, regs.pc, info)?;
     let selector = selector(ram, regs, &sig)?;
-    let rec = taken(regs.pc, selector, choose(desc, Isa::M68, selector))?;
-    goes_by(regs.pc, &rec, selector)
+    let rec = taken(regs.pc, selector, choose_among(records, Isa::M68, selector))?;
+    goes_by(regs.pc, &rec, selector, info, &sig)
 }
 
 /// An odd A7 is refused.
@@ -78,12 +115,20 @@ fn selector(ram: &Ram, regs: &Regs68, sig: &Sig) -> Result<Option<u32>, Fault>
     }
 }
 
-/// A record of 68K code is gone on with, and one of PowerPC code is called.
-fn goes_by(pc: u32, rec: &Rec, selector: Option<u32>) -> Result<Wanted, Fault>
+/// A record of 68K code is gone on with, and one of PowerPC code is called; the signature of another
+/// record's procInfo is known.
+fn goes_by(
+    pc: u32,
+    rec: &Rec,
+    selector: Option<u32>,
+    known: u32,
+    sig: &Sig,
+) -> Result<Wanted, Fault>
+    requires { signed_lem pc pc (signature_of known) ≡ Ok (signature sig.now) }
     ensures { told result ≡ goes_by_lem rec.now.isa pc rec.now selector }
 {
     match rec.isa {
         Isa::M68 => Ok(Wanted::Jumps(rec.target)),
-        Isa::Ppc => calls_record(pc, pc, Kind::M68ToPpc, rec, selector),
+        Isa::Ppc => calls_record(pc, pc, Kind::M68ToPpc, rec, selector, known, sig),
     }
 }

@@ -1,21 +1,21 @@
 // What PowerPC code wants.
-ghost use Rattle.std.specs.Prelude.{◌≡◌, ◌≤◌};
+ghost use Rattle.std.specs.Prelude.{◌≡◌, ◌+◌, ◌≤◌, length, Ok};
 ghost use Rattle.proc_info.specs.Signature.{signature_of};
 ghost use Rattle.proc_info.specs.Views.{signature};
-ghost use Rattle.routine_desc.specs.Read.{records_of};
+ghost use Rattle.routine_desc.specs.Read.{Counts};
 ghost use Rattle.mix_bits.specs.declared.size.Size.TheVariants.{Two};
 ghost use Rattle.big_memory.specs.Memory.{loaded};
 ghost use Rattle.mode_switch.specs.Views.{signed_kept, told, wanted_of};
 ghost use Rattle.mode_switch.specs.Wanted.{Means, kind_into as kind_into_lem, matched as matched_lem, raw_signature as raw_signature_lem, selector_ppc as selector_ppc_lem, takes_ppc as takes_ppc_lem, wants_desc_ppc, wants_ppc as wants_ppc_lem, wants_raw as wants_raw_lem, wants_word as wants_word_lem};
 
-use crate::records::{bad_desc, calls_record, first_info, settle, signed, taken};
+use crate::records::{FEW, bad_desc, calls_record, first_info, settle, signed, taken};
 use crate::{Call, Wanted};
 use args_ppc::select_ppc;
 use big_memory::Ram;
 use mix_bits::{Fault, FaultKind, Isa};
 use ppc_isa::RegsPpc;
 use proc_info::{Sig, read};
-use routine_desc::{BadDesc, Desc, choose, read_desc};
+use routine_desc::{BadDesc, Rec, choose_among, count_records, read_all};
 use switch_frame::Kind;
 
 /// The word with which a routine descriptor begins.
@@ -81,23 +81,85 @@ fn raw_signature(pc: u32, info: u32) -> Result<Sig, Fault>
 fn wants_desc(ram: &Ram, regs: &RegsPpc, pointer: u32, info: u32) -> Result<Wanted, Fault>
     ensures { told result ≡ wants_desc_ppc ram.now regs.now pointer info }
 {
-    match read_desc(ram, pointer) {
-        Ok(desc) => takes(regs, pointer, info, &desc),
+    match count_records(ram, pointer) {
+        Ok(count) if count <= FEW => wants_of_few(ram, regs, pointer, info, count),
+        Ok(count) => wants_of_many(ram, regs, pointer, info, count),
         Err(bad) => Err(bad_desc(regs.pc, pointer, bad)),
     }
 }
 
-/// What it wants of a descriptor.
-fn takes(regs: &RegsPpc, pointer: u32, info: u32, desc: &Desc) -> Result<Wanted, Fault>
-    requires { desc.now.count ≤ 64 }
-    ensures { told result ≡ takes_ppc_lem regs.now pointer info (records_of desc.now) }
+/// What it wants at a descriptor of few records.
+fn wants_of_few(
+    ram: &Ram,
+    regs: &RegsPpc,
+    pointer: u32,
+    info: u32,
+    count: u32,
+) -> Result<Wanted, Fault>
+    requires header { Counts ram.now pointer (Ok count) }
+    requires within { pointer + 12 ≤ length ram.now.bytes }
+    requires few { count ≤ 4 }
+    ensures { told result ≡ wants_desc_ppc ram.now regs.now pointer info }
 {
-    let first = first_info(&desc.recs[..desc.count as usize]);
+    let mut records = [Rec::NONE; 4];
+    wants_in(ram, regs, pointer, info, &mut records[..count as usize])
+}
+
+/// What it wants at a descriptor of any number of records.
+#[inline(never)]
+fn wants_of_many(
+    ram: &Ram,
+    regs: &RegsPpc,
+    pointer: u32,
+    info: u32,
+    count: u32,
+) -> Result<Wanted, Fault>
+    requires header { Counts ram.now pointer (Ok count) }
+    requires within { pointer + 12 ≤ length ram.now.bytes }
+    requires few { count ≤ 64 }
+    ensures { told result ≡ wants_desc_ppc ram.now regs.now pointer info }
+{
+    let mut records = [Rec::NONE; 64];
+    wants_in(ram, regs, pointer, info, &mut records[..count as usize])
+}
+
+/// What it wants at a descriptor, which is read into a list with a place for each record.
+fn wants_in(
+    ram: &Ram,
+    regs: &RegsPpc,
+    pointer: u32,
+    info: u32,
+    records: &mut [Rec],
+) -> Result<Wanted, Fault>
+    requires header { Counts ram.now pointer (Ok (length records.old)) }
+    requires within { pointer + 12 ≤ length ram.now.bytes }
+    requires few { length records.old ≤ 64 }
+    ensures { told result ≡ wants_desc_ppc ram.now regs.now pointer info }
+{
+    match read_all(ram, pointer, records) {
+        Ok(()) => takes(regs, pointer, info, records),
+        Err(bad) => Err(bad_desc(regs.pc, pointer, bad)),
+    }
+}
+
+/// What it wants of the records of a descriptor.
+fn takes(regs: &RegsPpc, pointer: u32, info: u32, records: &[Rec]) -> Result<Wanted, Fault>
+    ensures { told result ≡ takes_ppc_lem regs.now pointer info records.now }
+{
+    let first = first_info(records);
     let sig = signed(regs.pc, pointer, first)?;
     let selector = selector(regs, &sig);
-    let rec = taken(regs.pc, selector, choose(desc, Isa::Ppc, selector))?;
+    let rec = taken(regs.pc, selector, choose_among(records, Isa::Ppc, selector))?;
     matched(regs.pc, info, rec.info)?;
-    calls_record(regs.pc, pointer, kind_into(rec.isa), &rec, selector)
+    calls_record(
+        regs.pc,
+        pointer,
+        kind_into(rec.isa),
+        &rec,
+        selector,
+        first,
+        &sig,
+    )
 }
 
 /// The selector of a dispatched call.

@@ -1,7 +1,8 @@
 // What both sets ask of a routine descriptor.
-ghost use Rattle.std.specs.Prelude.{◌≡◌, ◌&&◌, not};
+ghost use Rattle.std.specs.Prelude.{◌≡◌, ◌&&◌, not, Ok};
 ghost use Rattle.proc_info.specs.Codes.{is_dispatched};
 ghost use Rattle.proc_info.specs.Signature.{signature_of};
+ghost use Rattle.proc_info.specs.Views.{signature};
 ghost use Rattle.routine_desc.specs.Layout.{has_flag};
 ghost use Rattle.mode_switch.specs.Views.{signed_kept, told, wanted_of};
 ghost use Rattle.mode_switch.specs.Wanted.{bad_desc as bad_desc_lem, calls_record as calls_record_lem, first_info as first_info_lem, settled, signed as signed_lem, taken as taken_lem};
@@ -11,6 +12,9 @@ use mix_bits::{Fault, FaultKind};
 use proc_info::{Conv, Sig, read};
 use routine_desc::{BadDesc, Rec, RoutineFlags};
 use switch_frame::Kind;
+
+/// So many records are few: most descriptors have one, and a fat one has two.
+pub const FEW: u32 = 4;
 
 /// What is wanted, or the first refusal.
 pub fn settle(wanted: Result<Wanted, Fault>) -> Wanted
@@ -54,6 +58,19 @@ pub fn signed(pc: u32, at: u32, info: u32) -> Result<Sig, Fault>
     }
 }
 
+/// The signature of a record's procInfo, where that of another one is known, which is the same word in most
+/// descriptors.
+fn signed_like(pc: u32, at: u32, info: u32, known: u32, sig: &Sig) -> Result<Sig, Fault>
+    requires { signed_lem pc at (signature_of known) ≡ Ok (signature sig.now) }
+    ensures { signed_kept result ≡ signed_lem pc at (signature_of info) }
+{
+    if info == known {
+        Ok(*sig)
+    } else {
+        signed(pc, at, info)
+    }
+}
+
 /// The record that was chosen.
 pub fn taken(pc: u32, selector: Option<u32>, chosen: Option<Rec>) -> Result<Rec, Fault>
     ensures { result ≡ taken_lem pc selector chosen }
@@ -69,17 +86,21 @@ pub fn taken(pc: u32, selector: Option<u32>, chosen: Option<Rec>) -> Result<Rec,
     }
 }
 
-/// The call of a record of the descriptor at an address.
+/// The call of a record of the descriptor at an address, where the signature of another record's procInfo
+/// is known.
 pub fn calls_record(
     pc: u32,
     at: u32,
     kind: Kind,
     rec: &Rec,
     selector: Option<u32>,
+    known: u32,
+    sig: &Sig,
 ) -> Result<Wanted, Fault>
+    requires { signed_lem pc at (signature_of known) ≡ Ok (signature sig.now) }
     ensures { told result ≡ calls_record_lem pc at kind rec.now selector }
 {
-    let sig = signed(pc, at, rec.info)?;
+    let sig = signed_like(pc, at, rec.info, known, sig)?;
     Ok(Wanted::Calls(Call {
         kind,
         info: rec.info,

@@ -14,6 +14,7 @@ use mix_bits::Isa;
 use ppc_isa::RegsPpc;
 
 /// The register file of an instruction set at `a`.
+#[inline(always)]
 pub fn read_file(ram: &Ram, a: u32, isa: Isa) -> Active
     requires ram { IsRam ram.now }
     requires within { a + frame_size isa ≤ length ram.now.bytes + 32 }
@@ -25,6 +26,7 @@ pub fn read_file(ram: &Ram, a: u32, isa: Isa) -> Active
     }
 }
 
+#[inline(always)]
 fn read_m68(ram: &Ram, at: u32) -> Regs68
     requires ram { IsRam ram.now }
     requires within { at + 72 ≤ length ram.now.bytes }
@@ -42,6 +44,7 @@ fn read_m68(ram: &Ram, at: u32) -> Regs68
     }
 }
 
+#[inline(always)]
 fn read_ppc(ram: &Ram, at: u32) -> RegsPpc
     requires ram { IsRam ram.now }
     requires within { at + 148 ≤ length ram.now.bytes }

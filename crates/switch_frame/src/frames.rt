@@ -51,6 +51,7 @@ pub fn top(ram: &Ram, top: u32) -> Option<Held>
 }
 
 /// Takes away the innermost frame, and gives the caller that it held.
+#[inline(always)]
 pub fn pop(ram: &mut Ram, top: &mut u32) -> Held
     requires chain { Chain ram.old top.old (records ram.old.bytes top.old) }
     requires live { 0 < top.old }
@@ -93,6 +94,7 @@ fn clear(ram: &mut Ram, lo: u32, hi: u32)
 }
 
 /// The caller in the frame that begins at `lo`.
+#[inline(always)]
 fn read_held(ram: &Ram, lo: u32) -> Held
     requires ram { IsRam ram.now }
     requires within { lo + frame_size (caller_isa (kind_at (long_at (lo + 4) ram.now.bytes))) ≤ length ram.now.bytes }

@@ -14,10 +14,14 @@ pub fn read_long(ram: &Ram, a: u32) -> u32
     requires { a + 4 ≤ length ram.now.bytes }
     ensures { result ≡ long_at a ram.now.bytes }
 {
-    ram.load(a, Size::Four).unwrap()
+    match ram.load(a, Size::Four) {
+        Ok(long) => long,
+        Err(_) => unreachable!(),
+    }
 }
 
 /// Reads as many longs from `a` on as there is place for.
+#[inline(always)]
 pub fn read_longs(ram: &Ram, a: u32, to: &mut [u32])
     requires ram { IsRam ram.now }
     requires within { a + 4 * length to.old ≤ length ram.now.bytes }
