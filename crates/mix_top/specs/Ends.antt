@@ -19,16 +19,24 @@ use Rattle.mixed_machine.specs.Exec.How.{Limited, Exited, Faulted}
 use Rattle.mixed_machine.specs.Exec.End.{Ended}
 use Rattle.mixed_machine.specs.Outside.{TookAll, ToldAll, around_at}
 use Rattle.mix_engine.specs.Start.{start_of}
+use Rattle.mix_list.specs.Listing.{StopsWithin, listing}
 use Rattle.mix_load.specs.Load.{load_of}
 use Rattle.mix_load.specs.declared.error.LoadError.{LoadError}
 use Rattle.mix_load.specs.declared.files.Files.{Files}
+use Rattle.mix_sample.specs.Samples.{IsSample, sample_ram, sample_steps}
+use Rattle.mix_sample.specs.declared.sampled.Ending.{Ending}
+use Rattle.mix_sample.specs.declared.sampled.Ending.TheVariants.{Exit as ExitEnding, Fault as FaultEnding, Limit as LimitEnding}
+use Rattle.mix_sample.specs.declared.sampled.Sampled.{Sampled}
 use Rattle.job_words.specs.Jobs.{wanted}
-use Rattle.job_words.specs.Words.{bad_at, name_of}
+use Rattle.job_words.specs.Words.{bad_at, command_of, name_of}
+use Rattle.job_words.specs.declared.job.Command.{Command}
+use Rattle.job_words.specs.declared.job.Command.TheVariants.{Run, List as Lists, Sample}
 use Rattle.job_words.specs.declared.job.Job.{Job}
 use Rattle.job_words.specs.declared.job.Key.{Key}
 use Rattle.mix_top.specs.Lines.{memory_line, words_line, fetch_line, load_line, long_file as long_refusal, load_refusal}
-use Rattle.mix_top.specs.World.{World, Closes, Early, Accounted}
-use Rattle.mix_top.specs.Files.{Contents, IsLong, AreFetched, AreFiles, job_in, ram_size}
+use Rattle.mix_top.specs.World.{World, Closes, Early, Accounted, OnlyPuts}
+use Rattle.mix_top.specs.SampleLine.{sample_line, exit_text, fault_text}
+use Rattle.mix_top.specs.Files.{Contents, IsLong, AreFetched, AreFiles, job_of, ram_size}
 
 -- the end of a run while a set was active, as its line tells it
 abbrev pub end_of : Isa → How → End
@@ -89,18 +97,48 @@ pub data ProgramWay (program : Program) (steps : ℕ) (old new : World) (result 
   -- it ran
   ran : Ran program steps old new result → ProgramWay program steps old new result
 
--- the ways to end once the files were fetched
-pub data FileWay (job : Job) (files : Files) (old new : World) (result : ℕ) : Type 0 where
+-- the ways to end once the text of a listing or of a sample, and its status, are known
+pub data TextWay (text : List ℕ) (status : ℕ) (old new : World) (result : ℕ) : Type 0 where
+  -- it was put
+  put : OnlyPuts old new → Grows old.outside.out new.outside.out text → result ≡ status
+      → TextWay text status old new result
+  -- the output failed at a line of it
+  failed : OnlyPuts old new → StopsWithin old.outside.out new.outside.out text → result ≡ 6
+      → TextWay text status old new result
+
+-- the ways to end once the program of a command was loaded
+abbrev pub LoadedWay : Command → Program → World → World → ℕ → Type 0
+LoadedWay (Run job) program old new result = ProgramWay program job.steps old new result
+LoadedWay (Lists job address count) program old new result = TextWay (listing count job.main program.ram address) 0 old new result
+LoadedWay (Sample calls depth) program old new result = ⊥
+
+-- the ways to end once the files of a command were fetched
+pub data FileWay (command : Command) (job : Job) (files : Files) (old new : World) (result : ℕ) : Type 0 where
   -- there was no memory for the program
-  no_memory : Early old new memory_line 9 result → FileWay job files old new result
+  no_memory : Early old new memory_line 9 result → FileWay command job files old new result
   -- the first rule of the loader that is broken
   refused : (error : LoadError) → load_of files job.main (ram_size job) ≡ Err error
       → Early old new (load_line (load_refusal error)) 3 result
-      → FileWay job files old new result
+      → FileWay command job files old new result
   -- the program was loaded
   loaded : (program : Program) → load_of files job.main (ram_size job) ≡ Ok program
-      → ProgramWay program job.steps old new result
-      → FileWay job files old new result
+      → LoadedWay command program old new result
+      → FileWay command job files old new result
+
+-- the ways to end of a sample that did this: at the step limit nothing is written
+abbrev pub SampledWay : ℕ → ℕ → Sampled → Ending → World → World → ℕ → Type 0
+SampledWay calls depth sampled (ExitEnding code) old new result = TextWay (sample_line calls depth sampled (exit_text code)) 0 old new result
+SampledWay calls depth sampled (FaultEnding fault) old new result = TextWay (sample_line calls depth sampled (fault_text fault)) 10 old new result
+SampledWay calls depth sampled LimitEnding old new result = (new ≡ old) × (result ≡ 11)
+
+-- the ways to end of a sample
+pub data SampleWay (calls depth : ℕ) (old new : World) (result : ℕ) : Type 0 where
+  -- there was no memory for the program or the machine
+  no_room : Early old new memory_line 9 result → SampleWay calls depth old new result
+  -- the sample image ran, with no input, no device and no answers
+  sampled : (sampled : Sampled) → IsSample sample_ram sample_steps calls depth sampled
+      → SampledWay calls depth sampled sampled.end old new result
+      → SampleWay calls depth old new result
 
 -- a file is the next to be fetched, after others that were
 pub record IsNext (words : List (List ℕ)) (contents : Contents) (job : Job) (key : Key) : Type 0 where
@@ -109,27 +147,36 @@ pub record IsNext (words : List (List ℕ)) (contents : Contents) (job : Job) (k
   pub order : wanted job ≡ before ++ (key ∷ after)
   pub fetched : AreFetched words contents job before
 
+-- the words are a command that loads the program of a job
+pub record Loads (words : List (List ℕ)) (command : Command) (job : Job) : Type 0 where
+  pub command : command_of words ≡ Ok command
+  pub job : job_of command ≡ Some job
+
 -- the ways to end, for the counts of faults of the shelf's names before and after
 pub data Way (words : List (List ℕ)) (contents : Contents) (faults_old faults_new : List ℕ → ℕ) (old new : World) (result : ℕ) : Type 0 where
-  -- the words are no job, and this is the place of the first bad one
-  bad_words : (place : ℕ) → job_in words ≡ Err (bad_at place)
+  -- the words are no command, and this is the place of the first bad one
+  bad_words : (place : ℕ) → command_of words ≡ Err (bad_at place)
       → CountsStay faults_old faults_new → Early old new (words_line place) 2 result
       → Way words contents faults_old faults_new old new result
   -- the shelf failed at the file of a key
-  no_file : (job : Job) (key : Key) → job_in words ≡ Ok job → IsNext words contents job key
+  no_file : (command : Command) (job : Job) (key : Key) → Loads words command job → IsNext words contents job key
       → CountRose faults_old faults_new (name_of words job key) → Early old new (fetch_line key) 4 result
       → Way words contents faults_old faults_new old new result
   -- the file of a key is above the limit
-  long_file : (job : Job) (key : Key) → job_in words ≡ Ok job → IsNext words contents job key → IsLong contents (name_of words job key)
+  long_file : (command : Command) (job : Job) (key : Key) → Loads words command job → IsNext words contents job key → IsLong contents (name_of words job key)
       → CountsStay faults_old faults_new → Early old new (load_line (long_refusal key)) 3 result
       → Way words contents faults_old faults_new old new result
   -- there was no memory for a file
-  no_memory_for_file : (job : Job) → job_in words ≡ Ok job
+  no_memory_for_file : (command : Command) (job : Job) → Loads words command job
       → CountsStay faults_old faults_new → Early old new memory_line 9 result
       → Way words contents faults_old faults_new old new result
   -- the files were fetched
-  fetched : (job : Job) (files : Files) → job_in words ≡ Ok job → AreFiles words contents job files
-      → CountsStay faults_old faults_new → FileWay job files old new result
+  fetched : (command : Command) (job : Job) (files : Files) → Loads words command job → AreFiles words contents job files
+      → CountsStay faults_old faults_new → FileWay command job files old new result
+      → Way words contents faults_old faults_new old new result
+  -- the command is a sample, which has no files
+  sample : (calls depth : ℕ) → command_of words ≡ Ok (Sample calls depth)
+      → CountsStay faults_old faults_new → SampleWay calls depth old new result
       → Way words contents faults_old faults_new old new result
 
 -- a call of the program: it ended in one of the ways, and accounts for each failure and each device

@@ -1,24 +1,18 @@
 -- The files of a job, as a shelf tells them.
-use Rattle.std.specs.Prelude.{◌≡◌, ℕ, ◌*◌, ◌<◌, ◌≤◌, List, [], ◌∷◌, length, Option, Some, None, IsSomeAnd, Result, Ok, Err}
+use Rattle.std.specs.Prelude.{◌≡◌, ℕ, ◌*◌, ◌<◌, ◌≤◌, List, [], ◌∷◌, length, Option, Some, None, IsSomeAnd}
 use Rattle.std.specs.Option.{option_map}
-use Rattle.job_words.specs.Words.{bad_at, command_of, name_at, name_of}
-use Rattle.job_words.specs.declared.job.BadWord.{BadWord}
+use Rattle.job_words.specs.Words.{name_at, name_of}
 use Rattle.job_words.specs.declared.job.Command.{Command}
 use Rattle.job_words.specs.declared.job.Command.TheVariants.{Run, List as Lists, Sample}
 use Rattle.job_words.specs.declared.job.Job.{Job}
 use Rattle.job_words.specs.declared.job.Key.{Key}
 use Rattle.mix_load.specs.declared.files.Files.{Files}
 
--- the job that a command runs; the other commands count as words that are none
-abbrev pub built : Result Command BadWord → Result Job BadWord
-built (Ok (Run job)) = Ok job
-built (Ok (Lists job address count)) = Err (bad_at 0)
-built (Ok (Sample calls depth)) = Err (bad_at 0)
-built (Err bad) = Err bad
-
--- the job, or the place of the first bad word
-abbrev pub job_in : List (List ℕ) → Result Job BadWord
-job_in words = built (command_of words)
+-- the job of the program that a command loads
+abbrev pub job_of : Command → Option Job
+job_of (Run job) = Some job
+job_of (Lists job address count) = Some job
+job_of (Sample calls depth) = None
 
 -- the files of a shelf, by their names, where it tells them
 abbrev pub Contents : Type 0

@@ -1,5 +1,6 @@
 pub mod Lines
 pub mod World
 pub mod Files
+pub mod SampleLine
 pub mod Ends
 pub mod Parts

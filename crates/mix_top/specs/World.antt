@@ -26,6 +26,12 @@ pub record Early (old new : World) (line : List ℕ) (status result : ℕ) : Typ
   pub outside : new.outside ≡ old.outside
   pub trace : Closes old.trace new.trace [] line status result
 
+-- a call that puts something on the output alone: nothing was taken, asked or traced
+pub record OnlyPuts (old new : World) : Type 0 where
+  pub input : new.outside.input ≡ old.outside.input
+  pub rack : new.outside.rack ≡ old.outside.rack
+  pub trace : new.trace ≡ old.trace
+
 -- a count rose exactly where the call ended with its status
 abbrev pub RoseAt : ℕ → ℕ → ℕ → ℕ → Type 0
 RoseAt status result old new = MatchBool (result == status) (Rose old new) (new ≡ old)

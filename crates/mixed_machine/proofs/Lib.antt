@@ -3,3 +3,4 @@ pub mod Logs
 pub mod Events
 pub mod Over
 pub mod Machines
+pub mod Crossings

@@ -12,3 +12,5 @@ pub mod Counts
 pub mod Acts
 pub mod Laws
 pub mod Events
+pub mod Crossings
+pub mod CrossingLaws

@@ -1,3 +1,4 @@
+ghost use Rattle.mixed_machine.specs.CrossingLaws.{CountBegins, CountExits, CountFaults, CountGoesOn, CountLimit};
 ghost use Rattle.mixed_machine.specs.Events.{BeginsAt, CalleeCameBack, CalleeStopped, ComesBackAt, ExitsAt, FaultsAt, GoesOnAt, LimitAt, OutBreaksAt, ReadBreaksAt, TraceBreaksAt};
 ghost use Rattle.mixed_machine.specs.Laws.{BacksContinue, BacksStay, CutsContinue, EndsReach, EndsStay, LimitsAreLast, NeverBack, RunsContinue};
 
@@ -34,4 +35,14 @@ pub fn event_laws()
     ensures trace_breaks { TraceBreaksAt }
     ensures callee_back { CalleeCameBack }
     ensures callee_stopped { CalleeStopped }
+{}
+
+/// Laws of a run that is done a step at a time, with the frames that its steps make and give up. It does
+/// nothing: the clauses are its point.
+pub fn crossing_laws()
+    ensures begins { CountBegins }
+    ensures goes_on { CountGoesOn }
+    ensures exits { CountExits }
+    ensures faults { CountFaults }
+    ensures limit { CountLimit }
 {}

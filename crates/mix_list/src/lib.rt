@@ -1,0 +1,7 @@
+//! The listing of a program in memory: one line for each instruction.
+#![tactic(auto)]
+
+mod instruction;
+mod listing;
+
+pub use listing::list;

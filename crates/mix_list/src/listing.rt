@@ -1,0 +1,59 @@
+ghost use Rattle.std.specs.Prelude.{◌≡◌, ◌≤◌, ◌++◌, OnErr, OnOk, length};
+ghost use Rattle.mix_io.specs.Streams.{Grows};
+ghost use Rattle.mix_list.specs.Listing.{StopsWithin, line_at, listing, sink};
+
+use super::instruction::write_instruction;
+use arrayvec::ArrayVec;
+use big_memory::Ram;
+use mix_bits::{Isa, Line, onward};
+use mix_io::{Failed, Sink};
+
+/// How many bytes a line has at most.
+const LINE_BYTES: usize = 95;
+
+/// Lists the instructions of a set in memory, from an address on: at most `count`, up to the first one that does not
+/// lie whole in memory. Each line is one put.
+pub fn list<O: Sink>(
+    ram: &Ram,
+    set: Isa,
+    at: u32,
+    count: u32,
+    out: &mut O,
+) -> Result<(), Failed>
+    ensures whole { OnOk result (Grows (sink (O.held out.old) (O.faults out.old)) (sink (O.held out.new) (O.faults out.new)) (listing count set ram.now at)) }
+    ensures part { OnErr result (StopsWithin (sink (O.held out.old) (O.faults out.old)) (sink (O.held out.new) (O.faults out.new)) (listing count set ram.now at)) }
+{
+    let mut next = at;
+    'lines: for _k in 0..count {
+        let mut text = Line::new();
+        let Some(bytes) = write_instruction(ram, set, next, &mut text) else {
+            break 'lines;
+        };
+        out.put(&line_of(next, &text))?;
+        next = onward(next, bytes);
+    }
+    Ok(())
+}
+
+/// `ADDRESS: TEXT`
+fn line_of(at: u32, text: &Line) -> ArrayVec<u8, LINE_BYTES>
+    requires { length text.now ≤ 84 }
+    ensures { result.items ≡ line_at at text.now }
+{
+    let mut address = Line::new();
+    address.add_hex(at, 8);
+    let mut line = ArrayVec::new();
+    append(&mut line, address.bytes());
+    append(&mut line, b": ");
+    append(&mut line, text.bytes());
+    append(&mut line, b"\n");
+    line
+}
+
+/// Appends a piece to a line with room for it.
+fn append(line: &mut ArrayVec<u8, LINE_BYTES>, piece: &[u8])
+    requires { length line.old.items + length piece.now ≤ 95 }
+    ensures { line.new.items ≡ line.old.items ++ piece.now }
+{
+    let _fits = line.try_extend_from_slice(piece);
+}
