@@ -4,7 +4,7 @@
 use Rattle.std.specs.Prelude.{◌≡◌, ℕ, suc, ◌-◌, ◌<◌, ◌≤◌, ◌==◌, List, [], ◌∷◌, ◌++◌, Option, Result, Ok, Err, if◌then◌else◌}
 use Rattle.mix_bits.specs.declared.isa.Isa.{Isa}
 use Rattle.mix_io.specs.Counts.{CountsStay, CountRose}
-use Rattle.mix_io.specs.Streams.{Grows, Breaks}
+use Rattle.mix_io.specs.Streams.{Output, Grows, Breaks}
 use Rattle.switch_frame.specs.declared.program.Program.{Program}
 use Rattle.switch_frame.specs.Records.{isa_of}
 use Rattle.toolbox.specs.Calls.{Taken, answers_since}
@@ -19,7 +19,7 @@ use Rattle.mixed_machine.specs.Exec.How.{Limited, Exited, Faulted}
 use Rattle.mixed_machine.specs.Exec.End.{Ended}
 use Rattle.mixed_machine.specs.Outside.{TookAll, ToldAll, around_at}
 use Rattle.mix_engine.specs.Start.{start_of}
-use Rattle.mix_list.specs.Listing.{StopsWithin, listing}
+use Rattle.mix_list.specs.Listing.{listing}
 use Rattle.mix_load.specs.Load.{load_of}
 use Rattle.mix_load.specs.declared.error.LoadError.{LoadError}
 use Rattle.mix_load.specs.declared.files.Files.{Files}
@@ -34,7 +34,7 @@ use Rattle.job_words.specs.declared.job.Command.TheVariants.{Run, List as Lists,
 use Rattle.job_words.specs.declared.job.Job.{Job}
 use Rattle.job_words.specs.declared.job.Key.{Key}
 use Rattle.mix_top.specs.Lines.{memory_line, words_line, fetch_line, load_line, long_file as long_refusal, load_refusal}
-use Rattle.mix_top.specs.World.{World, Closes, Early, Accounted, OnlyPuts}
+use Rattle.mix_top.specs.World.{World, Closes, Early, Accounted, OnlyPuts, PutsText}
 use Rattle.mix_top.specs.SampleLine.{sample_line, exit_text, fault_text}
 use Rattle.mix_top.specs.Files.{Contents, IsLong, AreFetched, AreFiles, job_of, ram_size}
 
@@ -97,19 +97,15 @@ pub data ProgramWay (program : Program) (steps : ℕ) (old new : World) (result 
   -- it ran
   ran : Ran program steps old new result → ProgramWay program steps old new result
 
--- the ways to end once the text of a listing or of a sample, and its status, are known
-pub data TextWay (text : List ℕ) (status : ℕ) (old new : World) (result : ℕ) : Type 0 where
-  -- it was put
-  put : OnlyPuts old new → Grows old.outside.out new.outside.out text → result ≡ status
-      → TextWay text status old new result
-  -- the output failed at a line of it
-  failed : OnlyPuts old new → StopsWithin old.outside.out new.outside.out text → result ≡ 6
-      → TextWay text status old new result
+-- a listing was put, or the output failed at a line of it
+pub record Listed (text : List ℕ) (old new : World) (result : ℕ) : Type 0 where
+  pub only : OnlyPuts old new
+  pub out : PutsText old.outside.out new.outside.out text 0 result
 
 -- the ways to end once the program of a command was loaded
 abbrev pub LoadedWay : Command → Program → World → World → ℕ → Type 0
 LoadedWay (Run job) program old new result = ProgramWay program job.steps old new result
-LoadedWay (Lists job address count) program old new result = TextWay (listing count job.main program.ram address) 0 old new result
+LoadedWay (Lists job address count) program old new result = Listed (listing count job.main program.ram address) old new result
 LoadedWay (Sample calls depth) program old new result = ⊥
 
 -- the ways to end once the files of a command were fetched
@@ -125,27 +121,25 @@ pub data FileWay (command : Command) (job : Job) (files : Files) (old new : Worl
       → LoadedWay command program old new result
       → FileWay command job files old new result
 
--- the ways to end of a sample that did this: at the step limit nothing is written
-abbrev pub SampledWay : ℕ → ℕ → Sampled → Ending → World → World → ℕ → Type 0
-SampledWay calls depth sampled (ExitEnding code) old new result = TextWay (sample_line calls depth sampled (exit_text code)) 0 old new result
-SampledWay calls depth sampled (FaultEnding fault) old new result = TextWay (sample_line calls depth sampled (fault_text fault)) 10 old new result
-SampledWay calls depth sampled LimitEnding old new result = (new ≡ old) × (result ≡ 11)
+-- the line of a sample, by how it ended; at the step limit nothing is written
+abbrev pub PutsSample : ℕ → ℕ → Sampled → Ending → Output → Output → ℕ → Type 0
+PutsSample calls depth sampled (ExitEnding code) old new result = PutsText old new (sample_line calls depth sampled (exit_text code)) 0 result
+PutsSample calls depth sampled (FaultEnding fault) old new result = PutsText old new (sample_line calls depth sampled (fault_text fault)) 10 result
+PutsSample calls depth sampled LimitEnding old new result = (new ≡ old) × (result ≡ 11)
+
+-- the sample image ran, with no input, no device and no answers, and its line was put
+pub record SampleRan (calls depth : ℕ) (old new : World) (result : ℕ) : Type 0 where
+  pub sampled : Sampled
+  pub is : IsSample sample_ram sample_steps calls depth sampled
+  pub only : OnlyPuts old new
+  pub out : PutsSample calls depth sampled sampled.end old.outside.out new.outside.out result
 
 -- the ways to end of a sample
 pub data SampleWay (calls depth : ℕ) (old new : World) (result : ℕ) : Type 0 where
   -- there was no memory for the program or the machine
   no_room : Early old new memory_line 9 result → SampleWay calls depth old new result
-  -- the sample image ran, with no input, no device and no answers
-  sampled : (sampled : Sampled) → IsSample sample_ram sample_steps calls depth sampled
-      → SampledWay calls depth sampled sampled.end old new result
-      → SampleWay calls depth old new result
-
--- a file is the next to be fetched, after others that were
-pub record IsNext (words : List (List ℕ)) (contents : Contents) (job : Job) (key : Key) : Type 0 where
-  pub before : List Key
-  pub after : List Key
-  pub order : wanted job ≡ before ++ (key ∷ after)
-  pub fetched : AreFetched words contents job before
+  -- it ran
+  sample_ran : SampleRan calls depth old new result → SampleWay calls depth old new result
 
 -- the words are a command that loads the program of a job
 pub record Loads (words : List (List ℕ)) (command : Command) (job : Job) : Type 0 where

@@ -5,6 +5,8 @@ use Rattle.mix_io.specs.Counts.{CountsStay, CountRose}
 use Rattle.mix_io.specs.Streams.{Output}
 use Rattle.mix_io.specs.declared.errors.FetchError.{FetchError}
 use Rattle.mix_io.specs.declared.errors.FetchError.TheVariants.{NoMemory as NoRoom, Failed, TooLong}
+use Rattle.dev_rack.specs.Rack.{State}
+use Rattle.toolbox.specs.Calls.{Input}
 use Rattle.mixed_machine.specs.Exec.How.{Limited, Exited, Faulted}
 use Rattle.mixed_machine.specs.declared.stop.Stop.{Stop}
 use Rattle.mixed_machine.specs.declared.stop.Stop.TheVariants.{Exit, Fault, Limit, ReadFault, OutFault, TraceFault}
@@ -16,7 +18,7 @@ use Rattle.job_words.specs.declared.job.Key.{Key}
 use Rattle.mix_load.specs.declared.error.LoadError.{LoadError}
 use Rattle.mix_load.specs.declared.error.LoadError.TheVariants.{NoMemory, Empty, Rsrc, NoCode, Far, JumpTable, Pef, TooLarge, Reloc, Unresolved, NoMain}
 use Rattle.mix_top.specs.Lines.{memory_line, fetch_line, load_line, long_file, load_refusal}
-use Rattle.mix_top.specs.World.{Closes}
+use Rattle.mix_top.specs.World.{World, Closes}
 use Rattle.mix_top.specs.Files.{Contents, IsLong}
 use Rattle.mix_top.specs.Ends.{IsNext, end_of, status_of}
 use Rattle.mix_top.specs.declared.files.Missing.{Missing}
@@ -57,6 +59,10 @@ unloaded_line error = load_line (load_refusal error)
 abbrev pub unloaded_status : LoadError → ℕ
 unloaded_status NoMemory = 9
 unloaded_status error = 3
+
+-- the outside, by its parts
+abbrev pub around : Input → State → Output → Output → World
+around input rack out trace = record { outside = record { input = input; rack = rack; out = out }; trace = trace }
 
 -- how a run that stopped while a set was active ends the call: with its line and status, or, where the outside
 -- stopped it, with none

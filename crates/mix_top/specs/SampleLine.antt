@@ -15,8 +15,11 @@ fault_text fault = codes "fault " ++ fault_name fault.kind
 abbrev pub counted : List ℕ → ℕ → List ℕ
 counted name number = name ++ decimal number
 
--- `sample n=N depth=D calls C returns R steps S` and how it ended
-abbrev pub sample_line : ℕ → ℕ → Sampled → List ℕ → List ℕ
-sample_line calls depth sampled ending =
+-- `sample n=N depth=D calls C returns R steps S`, and how it ended
+abbrev pub sample_head : ℕ → ℕ → Sampled → List ℕ
+sample_head calls depth sampled =
     counted (codes "sample n=") calls ++ counted (codes " depth=") depth ++ counted (codes " calls ") sampled.calls
-    ++ counted (codes " returns ") sampled.returns ++ counted (codes " steps ") sampled.steps ++ codes " " ++ ending ++ codes "\n"
+    ++ counted (codes " returns ") sampled.returns ++ counted (codes " steps ") sampled.steps ++ codes " "
+
+abbrev pub sample_line : ℕ → ℕ → Sampled → List ℕ → List ℕ
+sample_line calls depth sampled ending = sample_head calls depth sampled ++ ending ++ codes "\n"

@@ -4,6 +4,7 @@ use Rattle.mix_io.specs.Counts.{Rose}
 use Rattle.mix_io.specs.Streams.{Output, Grows, Breaks}
 use Rattle.dev_rack.specs.Accounts.{Accounts}
 use Rattle.toolbox.specs.Calls.{Outside}
+use Rattle.mix_list.specs.Listing.{StopsWithin}
 
 -- the outside beside the shelf: the input, the devices and the output; and the trace
 pub record World : Type 0 where
@@ -25,6 +26,10 @@ Closes old new bytes line status result = (Grows old new (bytes ++ line) × (res
 pub record Early (old new : World) (line : List ℕ) (status result : ℕ) : Type 0 where
   pub outside : new.outside ≡ old.outside
   pub trace : Closes old.trace new.trace [] line status result
+
+-- the output took a text, and the status is this one; or it failed at a line of it, and the status is 6
+abbrev pub PutsText : Output → Output → List ℕ → ℕ → ℕ → Type 0
+PutsText old new text status result = (Grows old new text × (result ≡ status)) ⊎ (StopsWithin old new text × (result ≡ 6))
 
 -- a call that puts something on the output alone: nothing was taken, asked or traced
 pub record OnlyPuts (old new : World) : Type 0 where

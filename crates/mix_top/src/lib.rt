@@ -4,7 +4,9 @@
 mod close;
 mod files;
 mod lines;
+mod list;
 mod run;
+mod sample;
 mod top;
 
 pub use top::mixed_main;

@@ -27,9 +27,9 @@ count_of test zero s = 0
 count_of test (suc n) s = count_with (step s) (test s) (count_of test n)
 
 -- the numbers of steps that made a frame and that gave one up, among the first steps from a state
-pub record Crossed (done : ℕ) (s : State) (calls returns : ℕ) : Type 0 where
-  pub calls : calls ≡ count_of makes_frame done s
-  pub returns : returns ≡ count_of gives_up_frame done s
+pub record Crossed (done : ℕ) (s : State) (made given_up : ℕ) : Type 0 where
+  pub calls : made ≡ count_of makes_frame done s
+  pub returns : given_up ≡ count_of gives_up_frame done s
 
 -- a run of at most n steps on its way, with so many steps left and so many crossings behind it
 pub record Counting (n left : ℕ) (s t : State) (calls returns : ℕ) : Type 0 where

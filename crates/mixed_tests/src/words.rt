@@ -24,8 +24,6 @@ Run flat=a | |  | words 0 | 2
 run run flat=a | |  | words 1 | 2
 run =a | |  | words 1 | 2
 run flat=a FLAT=a | |  | words 2 | 2
-list flat=a at=00010000 count=2 | |  | words 0 | 2
-sample n=1 depth=1 | |  | words 0 | 2
 assemble set=68k text=a at=00010000 | |  | words 0 | 2
 run flat=a save=s | |  | words 2 | 2
 continue image=a | |  | words 0 | 2

@@ -1,0 +1,140 @@
+// The sample, from its run to its line.
+ghost use Rattle.std.specs.Prelude.{◌≡◌, ◌≤◌, ◌++◌, length};
+ghost use Rattle.dev_rack.specs.Rack.{State};
+ghost use Rattle.toolbox.specs.Calls.{Input};
+ghost use Rattle.call_trace.specs.Names.{fault_name as name_of_fault};
+ghost use Rattle.mix_top.specs.World.{Accounted, PutsText, trace_told};
+ghost use Rattle.mix_top.specs.SampleLine.{counted, exit_text, fault_text, sample_head, sample_line};
+ghost use Rattle.mix_top.specs.Ends.{PutsSample, SampleWay};
+ghost use Rattle.mix_top.specs.Parts.{around};
+
+use super::close::close_without_memory;
+use mix_bits::{Fault, FaultKind, Line};
+use mix_io::Sink;
+use mix_sample::{Ending, Sampled, run_sample};
+use std::alloc::Global;
+
+/// Runs the sample image, and writes what it did.
+pub fn write_sample<O: Sink, T: Sink>(
+    alloc: Global,
+    calls: u32,
+    depth: u32,
+    out: &mut O,
+    trace: &mut T,
+) -> u8
+    ensures accounted { (input : Input) (rack : State) → Accounted
+        (around input rack (trace_told (O.held out.old) (O.faults out.old)) (trace_told (T.held trace.old) (T.faults trace.old)))
+        (around input rack (trace_told (O.held out.new) (O.faults out.new)) (trace_told (T.held trace.new) (T.faults trace.new)))
+        result }
+    ensures way { (input : Input) (rack : State) → SampleWay calls depth
+        (around input rack (trace_told (O.held out.old) (O.faults out.old)) (trace_told (T.held trace.old) (T.faults trace.old)))
+        (around input rack (trace_told (O.held out.new) (O.faults out.new)) (trace_told (T.held trace.new) (T.faults trace.new)))
+        result }
+{
+    match run_sample(alloc, calls, depth) {
+        Ok(sampled) => put_sample(calls, depth, sampled, out),
+        Err(_) => close_without_memory(trace),
+    }
+}
+
+/// Writes what a sample did, and answers the status.
+fn put_sample<O: Sink>(calls: u32, depth: u32, sampled: Sampled, out: &mut O) -> u8
+    ensures { PutsSample calls depth sampled sampled.end (trace_told (O.held out.old) (O.faults out.old)) (trace_told (O.held out.new) (O.faults out.new)) result }
+{
+    match sampled.end {
+        Ending::Exit(code) => {
+            put_line(&exit_line(calls, depth, sampled, code), 0, out)
+        }
+        Ending::Fault(fault) => {
+            put_line(&fault_line(calls, depth, sampled, fault), 10, out)
+        }
+        Ending::Limit => 11,
+    }
+}
+
+/// Puts a line on the output, and answers the status, or 6 where the output failed.
+fn put_line<O: Sink>(line: &Line, status: u8, out: &mut O) -> u8
+    ensures { PutsText (trace_told (O.held out.old) (O.faults out.old)) (trace_told (O.held out.new) (O.faults out.new)) line.now status result }
+{
+    match out.put(line.bytes()) {
+        Ok(()) => status,
+        Err(_) => 6,
+    }
+}
+
+/// The line of a sample that ended with an exit.
+fn exit_line(calls: u32, depth: u32, sampled: Sampled, code: u32) -> Line
+    ensures { result ≡ sample_line calls depth sampled (exit_text code) }
+{
+    let mut line = head_of(calls, depth, sampled);
+    line.add("exit ");
+    line.add_dec(code);
+    line.add("\n");
+    line
+}
+
+/// The line of a sample that ended with a fault.
+fn fault_line(calls: u32, depth: u32, sampled: Sampled, fault: Fault) -> Line
+    ensures { result ≡ sample_line calls depth sampled (fault_text fault) }
+{
+    let mut line = head_of(calls, depth, sampled);
+    line.add("fault ");
+    line.add(fault_name(fault.kind));
+    line.add("\n");
+    line
+}
+
+/// The line of a sample up to how it ended.
+fn head_of(calls: u32, depth: u32, sampled: Sampled) -> Line
+    ensures text { result ≡ sample_head calls depth sampled }
+    ensures short { length result ≤ 90 }
+{
+    let mut line = Line::new();
+    add_counted(&mut line, "sample n=", calls);
+    add_counted(&mut line, " depth=", depth);
+    add_counted(&mut line, " calls ", sampled.calls);
+    add_counted(&mut line, " returns ", sampled.returns);
+    add_counted(&mut line, " steps ", sampled.steps);
+    line.add(" ");
+    line
+}
+
+/// Appends a name and a number to a line with room for them.
+fn add_counted(line: &mut Line, name: &str, number: u32)
+    requires name { length name.now ≤ 9 }
+    requires room { length line.old ≤ 76 }
+    ensures text { line.new ≡ line.old ++ counted name.now number }
+    ensures short { length line.new ≤ length line.old + length name.now + 10 }
+{
+    line.add(name);
+    line.add_dec(number);
+}
+
+/// The name of a fault.
+fn fault_name(kind: FaultKind) -> &'static str
+    ensures name { result.now ≡ name_of_fault kind }
+    ensures short { length result.now ≤ 12 }
+{
+    match kind {
+        FaultKind::Illegal => "illegal",
+        FaultKind::Privileged => "privileged",
+        FaultKind::Odd => "odd",
+        FaultKind::Outside => "outside",
+        FaultKind::GateStore => "gatestore",
+        FaultKind::FrameStore => "framestore",
+        FaultKind::GateFetch => "gatefetch",
+        FaultKind::Vector => "vector",
+        FaultKind::BadInstr => "badinstr",
+        FaultKind::Trap => "trap",
+        FaultKind::NoTrap => "notrap",
+        FaultKind::BadDesc => "baddesc",
+        FaultKind::Info => "badinfo",
+        FaultKind::Mismatch => "mismatch",
+        FaultKind::NoRecord => "norecord",
+        FaultKind::FramesFull => "framesfull",
+        FaultKind::StackOutside => "stackoutside",
+        FaultKind::StackCrossed => "stackcrossed",
+        FaultKind::StackFull => "stackfull",
+        FaultKind::Unmatched => "unmatched",
+    }
+}
