@@ -1,5 +1,5 @@
 -- The sample image, part by part.
-use Rattle.std.proofs.Common.{◌≡◌, ℕ, length, refl}
+use Rattle.std.proofs.Common.{refl}
 use Rattle.mix_gen.specs.Laws.{HasSampleBytes}
 use Rattle.mix_gen.specs.Sample.{sample_image}
 

@@ -2,7 +2,7 @@
 use Rattle.std.specs.Prelude.{ℕ, List, [], ◌∷◌, ◌++◌, Some, None, replicate}
 use Rattle.std.specs.List.{flat_map}
 use Rattle.byteorder.specs.Endian.{big_bytes}
-use Rattle.switch_frame.specs.Pieces.{Piece, piece, puts}
+use Rattle.switch_frame.specs.Pieces.{piece, puts}
 use Rattle.mix_load.specs.declared.files.Files.{Files}
 
 -- big-endian words, and longs

@@ -28,6 +28,7 @@ const MAIN_PART: [u8; 32] = [
 
 /// Where N and D stand.
 const CALLS_AT: usize = 0x02;
+
 const DEPTH_AT: usize = 0x0A;
 
 /// The routine's 68K half.
@@ -52,8 +53,7 @@ const DESCRIPTOR: [u8; 32] = [
     0x00, 0x00, 0x00, 0xF1, // procInfo: C, a long result, a long
     0x00, 0x01, 0x00, 0x00, // PowerPC code
     0x00, 0x01, 0x00, 0xA0, // its transition vector
-    0x00, 0x00, 0x00, 0x00,
-    0x00, 0x00, 0x00, 0x00, // no selector value
+    0x00, 0x00, 0x00, 0x00, 0x00, 0x00, 0x00, 0x00, // no selector value
 ];
 
 /// The transition vector of the PowerPC half.
@@ -88,7 +88,7 @@ const HALF_PPC: [u8; 68] = [
 pub fn sample(alloc: Global, n: u32, depth: u32) -> Result<Files, NoMemory>
     ensures { IfOk result (λ files. files ≡ sample_files n depth) }
 {
-    let bytes = image(n, depth).to_vec(alloc)?;
+    let bytes = image_of(n, depth).to_vec(alloc)?;
     Ok(Files {
         flat: Some(FileBytes::of(bytes)),
         rsrc: None,
@@ -97,7 +97,7 @@ pub fn sample(alloc: Global, n: u32, depth: u32) -> Result<Files, NoMemory>
 }
 
 /// The bytes of the image.
-fn image(n: u32, depth: u32) -> [u8; SAMPLE_BYTES]
+fn image_of(n: u32, depth: u32) -> [u8; SAMPLE_BYTES]
     ensures { result ≡ sample_image n depth }
 {
     let mut image = [0; SAMPLE_BYTES];
