@@ -82,11 +82,13 @@ fn read_words(ram: &Ram, at: u32) -> ArrayVec<u16, MOST_WORDS>
     let mut words = ArrayVec::new();
     let mut next = at;
     for _k in 0..MOST_WORDS {
-        let Ok(word) = ram.load_word(next) else {
-            return words;
-        };
-        words.push(word as u16);
-        next = onward(next, 2);
+        match ram.load_word(next) {
+            Ok(word) => {
+                words.push(word as u16);
+                next = onward(next, 2);
+            }
+            Err(_) => return words,
+        }
     }
     words
 }
