@@ -9,7 +9,7 @@ use Rattle.dev_rack.proofs.Steps.{accounts-none}
 use Rattle.mixed_machine.specs.Counts.{Counts, Blames, Calm, InputRose, OutRose, TraceRose}
 use Rattle.mixed_machine.specs.declared.stop.Stop.{Stop}
 use Rattle.mixed_machine.specs.declared.stop.Stop.TheVariants.{Exit, Fault, Limit, ReadFault, OutFault, TraceFault}
-use Rattle.mix_top.specs.World.{World, Accounted, Closes, Early, RoseAt}
+use Rattle.mix_top.specs.World.{World, Accounted, Closes, Early, OnlyPuts, PutsText, RoseAt}
 use Rattle.mix_top.specs.Parts.{Finishes}
 
 -- a count that stays, where the status is another one; and one that rose, where it is this one
@@ -51,6 +51,34 @@ pub accounted-early : (old new : World) (line : List ℕ) (status result : ℕ) 
 accounted-early old new line status result plain early =
     accounted-closes old new old.trace line status result plain (ap (λ o. o.input.faults) early.outside) (ap (λ o. o.out.faults) early.outside) refl
     (subst (λ o. Accounts old.outside.rack o.rack) (sym early.outside) (accounts-none old.outside.rack)) early.trace
+
+-- a text on the output alone
+pub accounted-puts : (old new : World) (text : List ℕ) (status result : ℕ) → IsPlain status → OnlyPuts old new
+    → PutsText old.outside.out new.outside.out text status result → Accounted old new result
+accounted-puts old new text status result plain only (inl (grows, same)) =
+    record {
+      input = quiet 5 status result old.outside.input.faults new.outside.input.faults plain.input same (ap (λ i. i.faults) only.input);
+      out = quiet 6 status result old.outside.out.faults new.outside.out.faults plain.out same grows.calm;
+      trace = quiet 7 status result old.trace.faults new.trace.faults plain.trace same (ap (λ t. t.faults) only.trace);
+      devices = subst (Accounts old.outside.rack) (sym only.rack) (accounts-none old.outside.rack);
+    }
+accounted-puts old new text status result plain only (inr (stops, same)) =
+    record {
+      input = quiet 5 6 result old.outside.input.faults new.outside.input.faults refl same (ap (λ i. i.faults) only.input);
+      out = loud 6 result old.outside.out.faults new.outside.out.faults refl same stops.breaks.rose;
+      trace = quiet 7 6 result old.trace.faults new.trace.faults refl same (ap (λ t. t.faults) only.trace);
+      devices = subst (Accounts old.outside.rack) (sym only.rack) (accounts-none old.outside.rack);
+    }
+
+-- nothing on it
+pub accounted-quiet : (old new : World) (status result : ℕ) → IsPlain status → OnlyPuts old new → new.outside.out ≡ old.outside.out → result ≡ status → Accounted old new result
+accounted-quiet old new status result plain only out same =
+    record {
+      input = quiet 5 status result old.outside.input.faults new.outside.input.faults plain.input same (ap (λ i. i.faults) only.input);
+      out = quiet 6 status result old.outside.out.faults new.outside.out.faults plain.out same (ap (λ o. o.faults) out);
+      trace = quiet 7 status result old.trace.faults new.trace.faults plain.trace same (ap (λ t. t.faults) only.trace);
+      devices = subst (Accounts old.outside.rack) (sym only.rack) (accounts-none old.outside.rack);
+    }
 
 -- the counts of the three
 abbrev pub counts_at : World → Counts

@@ -25,7 +25,12 @@ use Rattle.mix_engine.specs.Start.{start_of}
 use Rattle.std.specs.Prelude.{IfNone, IfSome, IsSome}
 use Rattle.job_words.specs.Drafts.{main_file}
 use Rattle.job_words.specs.Jobs.{FitsMainOf}
-use Rattle.job_words.specs.Words.{bad_at, name_at, name_of}
+use Rattle.job_words.specs.Words.{bad_at, command_of, name_at, name_of}
+use Rattle.job_words.specs.declared.job.Command.{Command}
+use Rattle.job_words.specs.declared.job.Command.TheVariants.{Run, List as Lists, Sample}
+use Rattle.mix_sample.specs.declared.sampled.Ending.{Ending}
+use Rattle.mix_sample.specs.declared.sampled.Ending.TheVariants.{Exit as ExitEnding, Fault as FaultEnding, Limit as LimitEnding}
+use Rattle.mix_sample.specs.declared.sampled.Sampled.{Sampled}
 use Rattle.std.specs.Option.{option_map}
 use Rattle.job_words.specs.declared.job.Job.{Job}
 use Rattle.job_words.specs.declared.job.Key.{Key}
@@ -35,15 +40,15 @@ use Rattle.mix_load.specs.declared.files.Files.{Files}
 use Rattle.mix_load.specs.declared.error.LoadError.{LoadError}
 use Rattle.mix_load.specs.declared.error.LoadError.TheVariants.{NoMemory, Empty, Rsrc, NoCode, Far, JumpTable, Pef, TooLarge, Reloc, Unresolved, NoMain}
 use Rattle.mix_top.specs.Lines.{load_line, load_refusal, memory_line, words_line}
-use Rattle.mix_top.specs.World.{World, Accounted, Closes, Early, world}
-use Rattle.mix_top.specs.Files.{AreFiles, Contents, IsNamed, IsFile, file_limit, job_in, ram_size}
-use Rattle.mix_top.specs.Ends.{Ends, FileWay, IsNext, ProgramWay, Ran, RunWay, Way, end_of, status_of}
+use Rattle.mix_top.specs.World.{World, Accounted, Closes, Early, OnlyPuts, PutsText, world}
+use Rattle.mix_top.specs.Files.{AreFiles, Contents, IsNamed, IsFile, file_limit, job_of, ram_size}
+use Rattle.mix_top.specs.Ends.{Ends, FileWay, IsNext, Loads, ProgramWay, PutsSample, Ran, RunWay, SampleWay, Way, end_of, status_of}
 use Rattle.mix_top.specs.Ends.RunWay.{ended, out_failed, read_failed, trace_failed}
 use Rattle.mix_top.specs.Ends.FileWay.{no_memory, refused}
-use Rattle.mix_top.specs.Ends.Way.{bad_words, fetched, long_file, no_file, no_memory_for_file}
+use Rattle.mix_top.specs.Ends.Way.{bad_words, fetched, long_file, no_file, no_memory_for_file, sample}
 use Rattle.mix_top.specs.Parts.{Finishes, IsCause, MissesFirst, unfetched_line, unfetched_status, unloaded_line, unloaded_status}
 use Rattle.mix_top.specs.declared.files.Missing.{Missing}
-use Rattle.mix_top.proofs.Counting.{IsPlain, accounted-early}
+use Rattle.mix_top.proofs.Counting.{IsPlain, accounted-early, accounted-puts, accounted-quiet}
 
 -- a last line after the lines of a run
 after-lines : (a b c : Output) (lines line : List ℕ) (status result : ℕ) → Grows a b lines → Closes b c [] line status result → Closes a c lines line status result
@@ -123,20 +128,20 @@ closes-refusal NoMemory old new line result ne same closes = absurd (ne refl)
 closes-refusal error old new line result ne same closes = subst (λ l. Closes old new [] l 3 result) same closes
 
 -- a program that was not loaded
-pub way-of_refusal : (job : Job) (files : Files) (old new : World) (error : LoadError) (result : ℕ) → new.outside ≡ old.outside
+pub way-of_refusal : (command : Command) (job : Job) (files : Files) (old new : World) (error : LoadError) (result : ℕ) → new.outside ≡ old.outside
     → Gives (Err error) (load_of files job.main (ram_size job)) → Closes old.trace new.trace [] (unloaded_line error) (unloaded_status error) result
-    → FileWay job files old new result
-way-of_refusal job files old new NoMemory result same gives closes = no_memory (record { outside = same; trace = closes })
-way-of_refusal job files old new (Empty file) result same gives closes = refused (Empty file) (gives (other (Empty file) tt)) (record { outside = same; trace = closes })
-way-of_refusal job files old new (Rsrc e) result same gives closes = refused (Rsrc e) (gives (other (Rsrc e) tt)) (record { outside = same; trace = closes })
-way-of_refusal job files old new (NoCode id) result same gives closes = refused (NoCode id) (gives (other (NoCode id) tt)) (record { outside = same; trace = closes })
-way-of_refusal job files old new (Far id) result same gives closes = refused (Far id) (gives (other (Far id) tt)) (record { outside = same; trace = closes })
-way-of_refusal job files old new (JumpTable at) result same gives closes = refused (JumpTable at) (gives (other (JumpTable at) tt)) (record { outside = same; trace = closes })
-way-of_refusal job files old new (Pef e) result same gives closes = refused (Pef e) (gives (other (Pef e) tt)) (record { outside = same; trace = closes })
-way-of_refusal job files old new (TooLarge end) result same gives closes = refused (TooLarge end) (gives (other (TooLarge end) tt)) (record { outside = same; trace = closes })
-way-of_refusal job files old new (Reloc e) result same gives closes = refused (Reloc e) (gives (other (Reloc e) tt)) (record { outside = same; trace = closes })
-way-of_refusal job files old new (Unresolved n) result same gives closes = refused (Unresolved n) (gives (other (Unresolved n) tt)) (record { outside = same; trace = closes })
-way-of_refusal job files old new NoMain result same gives closes = refused NoMain (gives (other NoMain tt)) (record { outside = same; trace = closes })
+    → FileWay command job files old new result
+way-of_refusal command job files old new NoMemory result same gives closes = no_memory (record { outside = same; trace = closes })
+way-of_refusal command job files old new (Empty file) result same gives closes = refused (Empty file) (gives (other (Empty file) tt)) (record { outside = same; trace = closes })
+way-of_refusal command job files old new (Rsrc e) result same gives closes = refused (Rsrc e) (gives (other (Rsrc e) tt)) (record { outside = same; trace = closes })
+way-of_refusal command job files old new (NoCode id) result same gives closes = refused (NoCode id) (gives (other (NoCode id) tt)) (record { outside = same; trace = closes })
+way-of_refusal command job files old new (Far id) result same gives closes = refused (Far id) (gives (other (Far id) tt)) (record { outside = same; trace = closes })
+way-of_refusal command job files old new (JumpTable at) result same gives closes = refused (JumpTable at) (gives (other (JumpTable at) tt)) (record { outside = same; trace = closes })
+way-of_refusal command job files old new (Pef e) result same gives closes = refused (Pef e) (gives (other (Pef e) tt)) (record { outside = same; trace = closes })
+way-of_refusal command job files old new (TooLarge end) result same gives closes = refused (TooLarge end) (gives (other (TooLarge end) tt)) (record { outside = same; trace = closes })
+way-of_refusal command job files old new (Reloc e) result same gives closes = refused (Reloc e) (gives (other (Reloc e) tt)) (record { outside = same; trace = closes })
+way-of_refusal command job files old new (Unresolved n) result same gives closes = refused (Unresolved n) (gives (other (Unresolved n) tt)) (record { outside = same; trace = closes })
+way-of_refusal command job files old new NoMain result same gives closes = refused NoMain (gives (other NoMain tt)) (record { outside = same; trace = closes })
 
 nine-plain : IsPlain 9
 nine-plain = record { input = refl; out = refl; trace = refl }
@@ -159,36 +164,36 @@ unfetched-plain NoRoom = nine-plain
 unfetched-plain Failed = record { input = refl; out = refl; trace = refl }
 unfetched-plain (TooLong limit) = record { input = refl; out = refl; trace = refl }
 
-way-of_cause : (words : List (List ℕ)) (contents : Contents) (a b : List ℕ → ℕ) (old new : World) (job : Job) (key : Key) (error : FetchError) (result : ℕ)
-    → job_in words ≡ Ok job → IsNext words contents job key → IsCause contents (name_of words job key) a b error
+way-of_cause : (words : List (List ℕ)) (contents : Contents) (a b : List ℕ → ℕ) (old new : World) (command : Command) (job : Job) (key : Key) (error : FetchError) (result : ℕ)
+    → Loads words command job → IsNext words contents job key → IsCause contents (name_of words job key) a b error
     → new.outside ≡ old.outside → Closes old.trace new.trace [] (unfetched_line key error) (unfetched_status error) result → Way words contents a b old new result
-way-of_cause words contents a b old new job key NoRoom result job_is next cause same closes =
-    no_memory_for_file job job_is cause (record { outside = same; trace = closes })
-way-of_cause words contents a b old new job key Failed result job_is next cause same closes =
-    no_file job key job_is next cause (record { outside = same; trace = closes })
-way-of_cause words contents a b old new job key (TooLong limit) result job_is next cause same closes =
-    long_file job key job_is next cause.0 cause.1 (record { outside = same; trace = closes })
+way-of_cause words contents a b old new command job key NoRoom result loads next cause same closes =
+    no_memory_for_file command job loads cause (record { outside = same; trace = closes })
+way-of_cause words contents a b old new command job key Failed result loads next cause same closes =
+    no_file command job key loads next cause (record { outside = same; trace = closes })
+way-of_cause words contents a b old new command job key (TooLong limit) result loads next cause same closes =
+    long_file command job key loads next cause.0 cause.1 (record { outside = same; trace = closes })
 
-pub ends-of_missing : (words : List (List ℕ)) (contents : Contents) (a b : List ℕ → ℕ) (old new : World) (job : Job) (missing : Missing) (result : ℕ)
-    → job_in words ≡ Ok job → MissesFirst words contents job a b missing
+pub ends-of_missing : (words : List (List ℕ)) (contents : Contents) (a b : List ℕ → ℕ) (old new : World) (command : Command) (job : Job) (missing : Missing) (result : ℕ)
+    → Loads words command job → MissesFirst words contents job a b missing
     → new.outside ≡ old.outside → Closes old.trace new.trace [] (unfetched_line missing.key missing.error) (unfetched_status missing.error) result
     → Ends words contents a b old new result
-ends-of_missing words contents a b old new job missing result job_is misses same closes =
+ends-of_missing words contents a b old new command job missing result loads misses same closes =
     record {
       accounted = accounted-early old new (unfetched_line missing.key missing.error) (unfetched_status missing.error) result (unfetched-plain missing.error) (record { outside = same; trace = closes });
-      way = way-of_cause words contents a b old new job missing.key missing.error result job_is misses.next misses.cause same closes;
+      way = way-of_cause words contents a b old new command job missing.key missing.error result loads misses.next misses.cause same closes;
     }
 
 -- files that were
-pub ends-of_files : (words : List (List ℕ)) (contents : Contents) (a b : List ℕ → ℕ) (old new : World) (job : Job) (files : Files) (result : ℕ)
-    → job_in words ≡ Ok job → AreFiles words contents job files → CountsStay a b → Accounted old new result → FileWay job files old new result
+pub ends-of_files : (words : List (List ℕ)) (contents : Contents) (a b : List ℕ → ℕ) (old new : World) (command : Command) (job : Job) (files : Files) (result : ℕ)
+    → Loads words command job → AreFiles words contents job files → CountsStay a b → Accounted old new result → FileWay command job files old new result
     → Ends words contents a b old new result
-ends-of_files words contents a b old new job files result job_is are stay accounted way =
-    record { accounted = accounted; way = fetched job files job_is are stay way }
+ends-of_files words contents a b old new command job files result loads are stay accounted way =
+    record { accounted = accounted; way = fetched command job files loads are stay way }
 
--- words that are no job
+-- words that are no command
 pub ends-of_words : (words : List (List ℕ)) (contents : Contents) (faults : List ℕ → ℕ) (old new : World) (place : ℕ) (line : List ℕ) (result : ℕ)
-    → job_in words ≡ Err (bad_at place) → line ≡ words_line place → new.outside ≡ old.outside → Closes old.trace new.trace [] line 2 result
+    → command_of words ≡ Err (bad_at place) → line ≡ words_line place → new.outside ≡ old.outside → Closes old.trace new.trace [] line 2 result
     → Ends words contents faults faults old new result
 ends-of_words words contents faults old new place line result bad line_is same closes =
     let told : Early old new (words_line place) 2 result = record { outside = same; trace = subst (λ l. Closes old.trace new.trace [] l 2 result) line_is closes } in
@@ -196,6 +201,21 @@ ends-of_words words contents faults old new place line result bad line_is same c
       accounted = accounted-early old new (words_line place) 2 result (record { input = refl; out = refl; trace = refl }) told;
       way = bad_words place bad (λ n. refl) told;
     }
+
+-- a sample
+pub ends-of_sample : (words : List (List ℕ)) (contents : Contents) (faults : List ℕ → ℕ) (old new : World) (calls depth result : ℕ)
+    → command_of words ≡ Ok (Sample calls depth) → Accounted old new result → SampleWay calls depth old new result → Ends words contents faults faults old new result
+ends-of_sample words contents faults old new calls depth result command_is accounted way =
+    record { accounted = accounted; way = sample calls depth command_is (λ n. refl) way }
+
+pub accounted-sample : (old new : World) (calls depth : ℕ) (sampled : Sampled) (ending : Ending) (result : ℕ) → OnlyPuts old new
+    → PutsSample calls depth sampled ending old.outside.out new.outside.out result → Accounted old new result
+accounted-sample old new calls depth sampled (ExitEnding code) result only puts =
+    accounted-puts old new _ 0 result (record { input = refl; out = refl; trace = refl }) only puts
+accounted-sample old new calls depth sampled (FaultEnding fault) result only puts =
+    accounted-puts old new _ 10 result (record { input = refl; out = refl; trace = refl }) only puts
+accounted-sample old new calls depth sampled LimitEnding result only puts =
+    accounted-quiet old new 11 result (record { input = refl; out = refl; trace = refl }) only puts.0 puts.1
 
 -- the files of a job can be loaded
 named-small : (contents : Contents) (name file : Option (List ℕ)) → IsNamed contents name file → IsSmall file

@@ -1,6 +1,7 @@
 // A program from its files to its end.
 ghost use Rattle.mix_load.specs.Load.{AreLoadable};
 ghost use Rattle.job_words.specs.Jobs.{HasRamOf};
+ghost use Rattle.job_words.specs.declared.job.Command.TheVariants.{Run};
 ghost use Rattle.toolbox.specs.Calls.{outside};
 ghost use Rattle.switch_frame.specs.Program.{IsProgram};
 ghost use Rattle.mix_top.specs.World.{Accounted, trace_told, world};
@@ -31,7 +32,7 @@ pub fn run_files<I: Source, O: Sink, T: Sink, D: Devices>(
         (world (outside (I.left input.old) (I.faults input.old) (D.state rack.old) (O.held out.old) (O.faults out.old)) (trace_told (T.held trace.old) (T.faults trace.old)))
         (world (outside (I.left input.new) (I.faults input.new) (D.state rack.new) (O.held out.new) (O.faults out.new)) (trace_told (T.held trace.new) (T.faults trace.new)))
         result }
-    ensures way { FileWay job files.now
+    ensures way { FileWay (Run job) job files.now
         (world (outside (I.left input.old) (I.faults input.old) (D.state rack.old) (O.held out.old) (O.faults out.old)) (trace_told (T.held trace.old) (T.faults trace.old)))
         (world (outside (I.left input.new) (I.faults input.new) (D.state rack.new) (O.held out.new) (O.faults out.new)) (trace_told (T.held trace.new) (T.faults trace.new)))
         result }

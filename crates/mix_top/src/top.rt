@@ -2,7 +2,7 @@ ghost use Rattle.std.specs.Prelude.{◌≡◌, Ok, map};
 ghost use Rattle.std.specs.String.{string_bytes};
 ghost use Rattle.dev_rack.specs.Rack.{State};
 ghost use Rattle.toolbox.specs.Calls.{Input, outside};
-ghost use Rattle.job_words.specs.Jobs.{IsProper, IsProperJob, NamesFiles, NamesJob};
+ghost use Rattle.job_words.specs.Jobs.{FitsMain, FitsMainOf, HasRam, HasRamOf, NamesFiles, NamesJob};
 ghost use Rattle.job_words.specs.Words.{command_of};
 ghost use Rattle.job_words.specs.declared.job.Command.TheVariants.{List as Lists, Run};
 ghost use Rattle.mix_top.specs.World.{trace_told, world};
@@ -58,7 +58,8 @@ fn do_command<F: Shelf, I: Source, O: Sink, T: Sink, D: Devices>(
 ) -> u8
     requires command { command_of (map string_bytes words.now) ≡ Ok command }
     requires named { NamesFiles (map string_bytes words.now) command }
-    requires proper { IsProper command }
+    requires ram { HasRam command }
+    requires main { FitsMain command }
     ensures contents { F.contents shelf.new ≡ F.contents shelf.old }
     ensures ends { Ends (map string_bytes words.now) (F.contents shelf.old) (F.faults shelf.old) (F.faults shelf.new)
         (world (outside (I.left input.old) (I.faults input.old) (D.state rack.old) (O.held out.old) (O.faults out.old)) (trace_told (T.held trace.old) (T.faults trace.old)))
@@ -85,7 +86,8 @@ fn run_job<F: Shelf, I: Source, O: Sink, T: Sink, D: Devices>(
 ) -> u8
     requires command { command_of (map string_bytes words.now) ≡ Ok (Run job) }
     requires named { NamesJob (map string_bytes words.now) job }
-    requires proper { IsProperJob job }
+    requires ram { HasRamOf job }
+    requires main { FitsMainOf job }
     ensures contents { F.contents shelf.new ≡ F.contents shelf.old }
     ensures ends { Ends (map string_bytes words.now) (F.contents shelf.old) (F.faults shelf.old) (F.faults shelf.new)
         (world (outside (I.left input.old) (I.faults input.old) (D.state rack.old) (O.held out.old) (O.faults out.old)) (trace_told (T.held trace.old) (T.faults trace.old)))
@@ -111,7 +113,8 @@ fn list_job<F: Shelf, O: Sink, T: Sink>(
 ) -> u8
     requires command { command_of (map string_bytes words.now) ≡ Ok (Lists job at count) }
     requires named { NamesJob (map string_bytes words.now) job }
-    requires proper { IsProperJob job }
+    requires ram { HasRamOf job }
+    requires main { FitsMainOf job }
     ensures contents { F.contents shelf.new ≡ F.contents shelf.old }
     ensures ends { (input : Input) (rack : State) → Ends (map string_bytes words.now) (F.contents shelf.old) (F.faults shelf.old) (F.faults shelf.new)
         (around input rack (trace_told (O.held out.old) (O.faults out.old)) (trace_told (T.held trace.old) (T.faults trace.old)))

@@ -1,4 +1,4 @@
--- The words are no job.
+-- The words are no command.
 use Rattle.std.proofs.Common.{◌∙◌, refl, sym}
 use Rattle.mix_top.proofs.Ways.{ends-of_words}
 use Rattle.mix_top.proofs.top.mixed_main.Goals as goal

@@ -1,15 +1,18 @@
 -- What the shelf answered decides the way.
 use Rattle.std.proofs.Common.{refl}
+use Rattle.job_words.specs.declared.job.Command.TheVariants.{Run}
 use Rattle.mix_top.proofs.Ways.{ends-of_files, ends-of_missing, loadable}
 use Rattle.mix_top.proofs.top.run_job.Goals as goal
 
 pub run_files-requires-clause-files : goal.run_files-requires-clause-files
-run_files-requires-clause-files g c = loadable _ _ c.args.job c.in-Ok.files c.requires.proper.main c.in-Ok.ensures.files
+run_files-requires-clause-files g c = loadable _ _ c.args.job c.in-Ok.files c.requires.main c.in-Ok.ensures.files
 
 pub returns-in-Ok-clause-ends : goal.returns-in-Ok-clause-ends
 returns-in-Ok-clause-ends g c =
-    ends-of_files _ _ _ _ _ _ c.args.job c.in-Ok.files _ c.requires.job c.in-Ok.ensures.files c.in-Ok.ensures.counts
+    ends-of_files _ _ _ _ _ _ (Run c.args.job) c.args.job c.in-Ok.files _ (record { command = c.requires.command; job = refl }) c.in-Ok.ensures.files c.in-Ok.ensures.counts
     c.run_files.ensures.accounted c.run_files.ensures.way
 
 pub returns-in-Err-clause-ends : goal.returns-in-Err-clause-ends
-returns-in-Err-clause-ends g c = ends-of_missing _ _ _ _ _ _ c.args.job c.in-Err.missing _ c.requires.job c.in-Err.ensures.missing refl c.close_unfetched.ensures
+returns-in-Err-clause-ends g c =
+    ends-of_missing _ _ _ _ _ _ (Run c.args.job) c.args.job c.in-Err.missing _ (record { command = c.requires.command; job = refl }) c.in-Err.ensures.missing refl
+    c.close_unfetched.ensures

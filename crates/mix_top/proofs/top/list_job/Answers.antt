@@ -1,0 +1,18 @@
+-- What the shelf answered decides the way.
+use Rattle.std.proofs.Common.{refl}
+use Rattle.job_words.specs.declared.job.Command.TheVariants.{List as Lists}
+use Rattle.mix_top.proofs.Ways.{ends-of_files, ends-of_missing, loadable}
+use Rattle.mix_top.proofs.top.list_job.Goals as goal
+
+pub list_files-requires-clause-files : goal.list_files-requires-clause-files
+list_files-requires-clause-files g c = loadable _ _ c.args.job c.in-Ok.files c.requires.main c.in-Ok.ensures.files
+
+pub returns-in-Ok-clause-ends : goal.returns-in-Ok-clause-ends
+returns-in-Ok-clause-ends g c = λ input rack.
+    ends-of_files _ _ _ _ _ _ (Lists c.args.job c.args.at c.args.count) c.args.job c.in-Ok.files _ (record { command = c.requires.command; job = refl })
+    c.in-Ok.ensures.files c.in-Ok.ensures.counts (c.list_files.ensures.accounted input rack) (c.list_files.ensures.way input rack)
+
+pub returns-in-Err-clause-ends : goal.returns-in-Err-clause-ends
+returns-in-Err-clause-ends g c = λ input rack.
+    ends-of_missing _ _ _ _ _ _ (Lists c.args.job c.args.at c.args.count) c.args.job c.in-Err.missing _ (record { command = c.requires.command; job = refl })
+    c.in-Err.ensures.missing refl c.close_unfetched.ensures
