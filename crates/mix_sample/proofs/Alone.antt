@@ -11,23 +11,23 @@ use Rattle.mixed_machine.specs.Machine.{flat}
 use Rattle.mixed_machine.specs.Outside.{At, at}
 use Rattle.mixed_machine.specs.Runs.{Ran as RanTo, Runs, sinks_of}
 use Rattle.mix_sample.specs.Samples.{Steps, nothing}
-use Rattle.mix_sample.specs.declared.sampled.Ending.TheVariants.{Exit, Fault, Limit}
+use Rattle.mix_sample.specs.declared.sampled.Ending.TheVariants.{Exit as ExitEnding, Fault as FaultEnding, Limit as LimitEnding}
 
 -- the machine, with nothing outside
 abbrev pub alone : Body → Active → At
 alone body active = at body active (outside (Some []) 0 (record { slots = []; journal = [] }) None 0) (record { held = None; faults = 0 })
 
-pub alone-exits : (b c : Body) (x y : Active) (code : ℕ) → Runs 1 (alone b x) (alone c y) (ExitStop code) → Steps (flat b x nothing) (flat c y nothing) (Exit code)
+pub alone-exits : (b c : Body) (x y : Active) (code : ℕ) → Runs 1 (alone b x) (alone c y) (ExitStop code) → Steps (flat b x nothing) (flat c y nothing) (ExitEnding code)
 alone-exits b c x y code runs =
     let ran : RanTo 0 1 runs.left (flat b x nothing) (flat c y nothing) (Exited code) (sinks_of (alone b x)) (sinks_of (alone c y)) = runs.run.each [] [] [] runs.run.told in
     record { left = runs.left; ends = ran.ends }
 
-pub alone-faults : (b c : Body) (x y : Active) (fault : Fault) → Runs 1 (alone b x) (alone c y) (FaultStop fault) → Steps (flat b x nothing) (flat c y nothing) (Fault fault)
+pub alone-faults : (b c : Body) (x y : Active) (fault : Fault) → Runs 1 (alone b x) (alone c y) (FaultStop fault) → Steps (flat b x nothing) (flat c y nothing) (FaultEnding fault)
 alone-faults b c x y fault runs =
     let ran : RanTo 0 1 runs.left (flat b x nothing) (flat c y nothing) (Faulted fault) (sinks_of (alone b x)) (sinks_of (alone c y)) = runs.run.each [] [] [] runs.run.told in
     record { left = runs.left; ends = ran.ends }
 
-pub alone-goes : (b c : Body) (x y : Active) → Runs 1 (alone b x) (alone c y) LimitStop → Steps (flat b x nothing) (flat c y nothing) Limit
+pub alone-goes : (b c : Body) (x y : Active) → Runs 1 (alone b x) (alone c y) LimitStop → Steps (flat b x nothing) (flat c y nothing) LimitEnding
 alone-goes b c x y runs =
     let ran : RanTo 0 1 runs.left (flat b x nothing) (flat c y nothing) Limited (sinks_of (alone b x)) (sinks_of (alone c y)) = runs.run.each [] [] [] runs.run.told in
     record { left = runs.left; ends = ran.ends }

@@ -1,6 +1,7 @@
 -- The sample image is loaded.
 use Rattle.std.proofs.Common.{◌≡◌, ◌≢◌, ℕ, ◌+◌, ◌-◌, ◌/◌, ◌*◌, ◌≤◌, ◌==◌, List, length, Bool, true, false, Option, Some, None, Result, Ok, Err, nat_lt, nat_eq, if◌then◌else◌, ◌^◌, sym, ap, ◌∙◌, subst, refl, arith}
 use Rattle.std.proofs.lemmas.Bool.Decides.{nat_tests}
+use Rattle.std.proofs.lemmas.List.{length-replicate}
 use Rattle.mix_bits.specs.declared.isa.Isa.TheVariants.{M68}
 use Rattle.big_memory.specs.Memory.{floor_of, zeroed}
 use Rattle.switch_frame.specs.declared.program.Program.{Program}
@@ -13,7 +14,7 @@ use Rattle.mix_load.specs.Load.{AreLoadable, flat_image, load_of, no_image, with
 use Rattle.mix_load.specs.ContainerImage.{with_container}
 use Rattle.mix_load.specs.Outcome.{◌>>=◌, unless}
 use Rattle.mix_load.specs.declared.error.File.TheVariants.{Flat, Pef, Rsrc}
-use Rattle.mix_load.specs.declared.error.LoadError.TheVariants.{Empty}
+use Rattle.mix_load.specs.declared.error.LoadError.TheVariants.{NoMemory, Empty, Rsrc as NoFork, NoCode, Far, JumpTable, Pef as NoHead, TooLarge, Reloc, Unresolved, NoMain}
 use Rattle.mix_load.specs.Pieces.{rounded_up}
 use Rattle.mix_load.specs.Start.{program_of}
 use Rattle.mix_gen.specs.Sample.{sample_files, sample_image}
@@ -48,10 +49,45 @@ sample-loads kib n depth least =
     (ap (λ floor. too_large floor (program_start + length (sample_image n depth))) (floor-zeroed (1024 * kib))
     ∙ room (1024 * kib) (length (sample_image n depth)) (omega (arith, least)) (length-sample n depth)))
 
--- so it is not refused
-pub sample-not-refused : (kib n depth : ℕ) (e : LoadError) → 128 ≤ kib → load_of (sample_files n depth) M68 (1024 * kib) ≡ Err e → ⊥
+-- what was loaded of its files is that program
+pub sample-loaded : (kib n depth : ℕ) (files : Files) (program : Program) → files ≡ sample_files n depth → load_of files M68 (1024 * kib) ≡ Ok program
+    → sample_program kib n depth ≡ Ok program
 unfolding sample_program
-sample-not-refused kib n depth e least refused = let loads = sample-loads kib n depth least in cc (loads, refused)
+sample-loaded kib n depth files program is loads = subst (λ f. load_of f M68 (1024 * kib) ≡ Ok program) is loads
+
+-- so nothing of it is refused
+never-refused : (kib n depth : ℕ) (files : Files) (e : LoadError) → 128 ≤ kib → files ≡ sample_files n depth → load_of files M68 (1024 * kib) ≡ Err e → ⊥
+unfolding sample_program
+never-refused kib n depth files e least is refused =
+    let loads = sample-loads kib n depth least in
+    let same : load_of (sample_files n depth) M68 (1024 * kib) ≡ Err e = subst (λ f. load_of f M68 (1024 * kib) ≡ Err e) is refused in
+    cc (loads, same)
+
+-- a refusal that is no want of memory
+abbrev IsOther : LoadError → Type 0
+IsOther NoMemory = ⊥
+IsOther error = Unit {0}
+
+other : (e : LoadError) → IsOther e → e ≢ NoMemory
+other e is same = subst IsOther same is
+
+memory-alone : (e : LoadError) (r : Result Program LoadError) → (r ≡ Err e → ⊥) → (e ≢ NoMemory → r ≡ Err e) → e ≡ NoMemory
+memory-alone NoMemory r never gives = refl
+memory-alone (Empty file) r never gives = absurd (never (gives (other (Empty file) tt)))
+memory-alone (NoFork e) r never gives = absurd (never (gives (other (NoFork e) tt)))
+memory-alone (NoCode id) r never gives = absurd (never (gives (other (NoCode id) tt)))
+memory-alone (Far id) r never gives = absurd (never (gives (other (Far id) tt)))
+memory-alone (JumpTable at) r never gives = absurd (never (gives (other (JumpTable at) tt)))
+memory-alone (NoHead e) r never gives = absurd (never (gives (other (NoHead e) tt)))
+memory-alone (TooLarge end) r never gives = absurd (never (gives (other (TooLarge end) tt)))
+memory-alone (Reloc e) r never gives = absurd (never (gives (other (Reloc e) tt)))
+memory-alone (Unresolved n) r never gives = absurd (never (gives (other (Unresolved n) tt)))
+memory-alone NoMain r never gives = absurd (never (gives (other NoMain tt)))
+
+-- want of memory is all that the loader can answer
+pub only-memory : (kib n depth : ℕ) (files : Files) (e : LoadError) → 128 ≤ kib → files ≡ sample_files n depth
+    → (e ≢ NoMemory → load_of files M68 (1024 * kib) ≡ Err e) → e ≡ NoMemory
+only-memory kib n depth files e least is gives = memory-alone e (load_of files M68 (1024 * kib)) (never-refused kib n depth files e least is) gives
 
 -- a file of this size can be loaded
 pub sample-loadable : (n depth : ℕ) (files : Files) → files ≡ sample_files n depth → AreLoadable files M68

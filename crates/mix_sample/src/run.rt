@@ -55,8 +55,17 @@ fn load_sample(alloc: Global, n: u32, depth: u32, kib: u32) -> Result<Program, N
     let files = sample(alloc, n, depth)?;
     match load(alloc, &files, Isa::M68, kib) {
         Ok(program) => Ok(program),
-        Err(LoadError::NoMemory) => Err(NoMemory),
-        Err(_) => unreachable!(),
+        Err(error) => Err(want_of_memory(error)),
+    }
+}
+
+/// What the loader can answer where it does not load the sample.
+fn want_of_memory(error: LoadError) -> NoMemory
+    requires { error ≡ LoadError.NoMemory }
+{
+    match error {
+        LoadError::NoMemory => NoMemory,
+        _ => unreachable!(),
     }
 }
 

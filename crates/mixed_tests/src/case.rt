@@ -10,14 +10,29 @@ use std::test::Fail;
 pub fn compare_table(rt: &impl Abort, alloc: Global, table: &str) -> Result<(), Fail> {
     for line in table.split('\n') {
         if !line.is_empty() {
-            compare_line(rt, alloc, line)?;
+            compare_line(rt, alloc, line, false)?;
+        }
+    }
+    Ok(())
+}
+
+/// The same of a table whose outputs are lines, with a stroke between.
+pub fn compare_texts(rt: &impl Abort, alloc: Global, table: &str) -> Result<(), Fail> {
+    for line in table.split('\n') {
+        if !line.is_empty() {
+            compare_line(rt, alloc, line, true)?;
         }
     }
     Ok(())
 }
 
 /// Compares what a line gives: `WORDS | FILES | OUTPUT | TRACE | STATUS`.
-fn compare_line(rt: &impl Abort, alloc: Global, line: &str) -> Result<(), Fail> {
+fn compare_line(
+    rt: &impl Abort,
+    alloc: Global,
+    line: &str,
+    has_lines: bool,
+) -> Result<(), Fail> {
     let Some((words, rest)) = line.split_once('|') else {
         return Err(Fail::new("a line without files"));
     };
@@ -38,7 +53,12 @@ fn compare_line(rt: &impl Abort, alloc: Global, line: &str) -> Result<(), Fail> 
         CALM,
         &mut standard_rack(alloc)?,
     )?;
-    assert_eq!(rt; given.out.as_slice(), out.trim().as_bytes(), "{line}");
+    let wanted = if has_lines {
+        lines(alloc, out)?
+    } else {
+        out.trim().as_bytes().to_vec(alloc)?
+    };
+    assert_eq!(rt; given.out.as_slice(), wanted.as_slice(), "{line}");
     assert_eq!(rt;
         given.trace.as_slice(),
         lines(alloc, trace)?.as_slice(),

@@ -208,6 +208,8 @@ fn an_outside_that_tells_nothing(rt: HostRuntime) -> Result<(), Fail> {
     for (words, image, status) in [
         ("run flat=a steps=9", ECHO, 11),
         ("run flat=a", "a: 7048AA80 A9F4", 0),
+        ("list flat=a at=00010000 count=2", "a: 7048AA80 A9F4", 0),
+        ("sample n=1 depth=1", "", 0),
     ] {
         let mut files = shelf(&rt, alloc, image, &[])?;
         let mut input = StdSource::new(io::empty());

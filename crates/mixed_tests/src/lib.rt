@@ -16,10 +16,14 @@ mod host;
 #[cfg(test)]
 mod image;
 #[cfg(test)]
+mod list;
+#[cfg(test)]
 mod m68;
 #[cfg(test)]
 mod outside;
 #[cfg(test)]
 mod ppc;
+#[cfg(test)]
+mod sample;
 #[cfg(test)]
 mod words;

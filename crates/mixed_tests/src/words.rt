@@ -24,6 +24,31 @@ Run flat=a | |  | words 0 | 2
 run run flat=a | |  | words 1 | 2
 run =a | |  | words 1 | 2
 run flat=a FLAT=a | |  | words 2 | 2
+list flat=a at=00010000 | |  | words 3 | 2
+list flat=a count=1 | |  | words 3 | 2
+list at=00010000 count=1 | |  | words 3 | 2
+list | |  | words 1 | 2
+list flat=a at=0001000 count=1 | |  | words 2 | 2
+list flat=a at=000100000 count=1 | |  | words 2 | 2
+list flat=a at=0001000a count=1 | |  | words 2 | 2
+list flat=a at=00010000 count=0 | |  | words 3 | 2
+list flat=a at=00010000 count=4097 | |  | words 3 | 2
+list flat=a at=00010000 count=01 | |  | words 3 | 2
+list flat=a at=00010000 count=1 steps=5 | |  | words 4 | 2
+list flat=a at=00010000 count=1 count=1 | |  | words 4 | 2
+list flat=a at=00010000 count=1 rsrc=f | |  | words 4 | 2
+list flat=a at=00010000 count=1 depth=1 | |  | words 4 | 2
+sample | |  | words 1 | 2
+sample n=1 | |  | words 2 | 2
+sample depth=1 | |  | words 2 | 2
+sample n=0 depth=1 | |  | words 1 | 2
+sample n=1001 depth=1 | |  | words 1 | 2
+sample n=1 depth=0 | |  | words 2 | 2
+sample n=1 depth=301 | |  | words 2 | 2
+sample n=1 depth=1 n=1 | |  | words 3 | 2
+sample n=1 depth=1 flat=a | |  | words 3 | 2
+sample n=1 depth=1 steps=5 | |  | words 3 | 2
+run flat=a at=00010000 | |  | words 2 | 2
 assemble set=68k text=a at=00010000 | |  | words 0 | 2
 run flat=a save=s | |  | words 2 | 2
 continue image=a | |  | words 0 | 2
