@@ -65,13 +65,3 @@ totals-length bytes p sizes is has = ap length is ∙ (ap length has.of_sizes �
 
 pub inside-at : (m : Memory) (a n b t : ℕ) → a ≡ b → n ≡ t → b + t ≤ length m.bytes → in_memory m a n ≡ true
 inside-at m a n b t a_is n_is within = let le : a + n ≤ length m.bytes = omega (arith, a_is, n_is, within) in grind (arith, nat_tests)
-
-length-part : (a n : ℕ) (xs : List ℕ) → a + n ≤ length xs → length (part a n xs) ≡ n
-length-part a n xs within = grind (arith, places)
-
-pub relocated-keeps : AddsLongs → (bytes : List ℕ) (start k : ℕ) (old new : Memory) → part (section_base bytes start k) (total_at bytes k) old.bytes ≡ contents_at bytes k → section_base bytes start k + total_at bytes k ≤ length old.bytes
-    → new ≡ with_bytes (section_base bytes start k) (relocated_bytes bytes start k) old → length new.bytes ≡ length old.bytes
-relocated-keeps law bytes start k old new stands within is =
-    let size : length (contents_at bytes k) ≡ total_at bytes k = sym (ap length stands) ∙ length-part (section_base bytes start k) (total_at bytes k) old.bytes within in
-    ap (λ (m : Memory). length m.bytes) is
-    ∙ length-put (section_base bytes start k) (relocated_bytes bytes start k) old.bytes (omega (arith, relocated-length law bytes start k, size, within))

@@ -41,7 +41,8 @@ fn put_container(
     let placement = place_sections(alloc, pef, start)?;
     put_sections(alloc, ram, pef, start)?;
     let imports = import_addresses(alloc, pef)?;
-    relocate_sections(ram, pef, &placement, &imports)?;
+    let headers = pef.reloc_headers(alloc)?;
+    relocate_sections(ram, pef, &placement, &imports, &headers)?;
     Ok(main_vector(pef, &placement))
 }
 

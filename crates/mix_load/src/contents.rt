@@ -10,9 +10,6 @@ use pef_head::Section;
 use pef_reloc::{RelocError, unpack};
 use std::alloc::Global;
 
-/// The kind of sections whose bytes are pattern data.
-const PATTERN: u8 = 2;
-
 /// Writes the bytes that a section has from the file.
 fn write_unpacked(section: Section, to: &mut [u8]) -> Result<(), RelocError>
     requires loadable { IsLoadable (parts section) }
@@ -20,7 +17,7 @@ fn write_unpacked(section: Section, to: &mut [u8]) -> Result<(), RelocError>
     ensures refusal { result_err result ≡ pattern_refusal (parts section.entry) }
     ensures written { OnOk result (to.new ≡ unpacked_bytes (parts section.entry)) }
 {
-    if section.kind == PATTERN {
+    if section.is_pattern() {
         return unpack(section.bytes, to);
     }
     to.copy_from_slice(section.bytes);

@@ -1,9 +1,10 @@
 //! Relocating the sections of a container in place.
-ghost use Rattle.std.specs.Prelude.{◌≡◌, ℕ, ◌≤◌, ◌<◌, length, option_map, OnOk};
+ghost use Rattle.std.specs.Prelude.{◌≡◌, ℕ, ◌≤◌, ◌<◌, None, length, slice_index_or, option_map, OnOk};
 ghost use Rattle.std.specs.Result.{result_err};
 ghost use Rattle.big_memory.specs.Lists.{part};
 ghost use Rattle.big_memory.specs.Memory.{with_bytes};
 ghost use Rattle.pef_head.specs.Container.{instantiated_count};
+ghost use Rattle.pef_head.specs.Parts.{reloc_header_of};
 ghost use Rattle.mix_load.specs.ContainerImage.{relocations_refusal};
 ghost use Rattle.mix_load.specs.Pieces.{with_pieces};
 ghost use Rattle.mix_load.specs.Sections.{IsPlaced, Stand, contents_at, first_refusal, relocated_bytes, relocated_pieces, relocs_refusal, section_base, sections_end, total_at};
@@ -14,15 +15,17 @@ use big_memory::Ram;
 use pef_head::Pef;
 use pef_reloc::{RelocError, relocate, run_laws};
 
-/// Relocates a section.
+/// Relocates a section, by its relocation header.
 fn relocate_section(
     ram: &mut Ram,
     pef: &Pef,
     placement: &Placement,
     imports: &[u32],
+    header: Option<u32>,
     k: u32,
 ) -> Result<(), RelocError>
     requires below { k < instantiated_count pef.now }
+    requires header { header ≡ reloc_header_of pef.now k }
     requires placed { IsPlaced pef.now placement.now imports.now }
     requires fits { sections_end pef.now placement.now.start (instantiated_count pef.now) ≤ length ram.old.bytes }
     requires stands { part (section_base pef.now placement.now.start k) (total_at pef.now k) ram.old.bytes ≡ contents_at pef.now k }
@@ -30,8 +33,7 @@ fn relocate_section(
     ensures memory { ram.new ≡ with_bytes (section_base pef.now placement.now.start k) (relocated_bytes pef.now placement.now.start k) ram.old }
     ensures len { length ram.new.bytes ≡ length ram.old.bytes }
 {
-    run_laws();
-    let words = pef.relocs(k);
+    let words = pef.relocs_by(k, header);
     relocate(ram, k, words, &placement.bases, &placement.totals, imports)
 }
 
@@ -42,10 +44,13 @@ fn relocate_first(
     pef: &Pef,
     placement: &Placement,
     imports: &[u32],
+    headers: &[Option<u32>],
     count: u32,
 ) -> Result<(), LoadError>
     requires below { count ≤ instantiated_count pef.now }
     requires placed { IsPlaced pef.now placement.now imports.now }
+    requires headers { (k : ℕ) → k < instantiated_count pef.now → slice_index_or headers.now k None ≡ reloc_header_of pef.now k }
+    requires noted { length headers.now ≡ instantiated_count pef.now }
     requires fits { sections_end pef.now placement.now.start (instantiated_count pef.now) ≤ length ram.old.bytes }
     requires sizes { (k : ℕ) → k < instantiated_count pef.now → length (contents_at pef.now k) ≡ total_at pef.now k }
     requires stand { Stand pef.now placement.now.start (contents_at pef.now) count ram.old.bytes }
@@ -55,7 +60,7 @@ fn relocate_first(
 {
     run_laws();
     for k in 0..count {
-        match relocate_section(ram, pef, placement, imports, k) {
+        match relocate_section(ram, pef, placement, imports, headers[k as usize], k) {
             Ok(()) => {}
             Err(e) => return Err(LoadError::Reloc(e)),
         }
@@ -69,8 +74,11 @@ pub fn relocate_sections(
     pef: &Pef,
     placement: &Placement,
     imports: &[u32],
+    headers: &[Option<u32>],
 ) -> Result<(), LoadError>
     requires placed { IsPlaced pef.now placement.now imports.now }
+    requires headers { (k : ℕ) → k < instantiated_count pef.now → slice_index_or headers.now k None ≡ reloc_header_of pef.now k }
+    requires noted { length headers.now ≡ instantiated_count pef.now }
     requires fits { sections_end pef.now placement.now.start (instantiated_count pef.now) ≤ length ram.old.bytes }
     requires sizes { (k : ℕ) → k < instantiated_count pef.now → length (contents_at pef.now k) ≡ total_at pef.now k }
     requires stand { Stand pef.now placement.now.start (contents_at pef.now) (instantiated_count pef.now) ram.old.bytes }
@@ -78,5 +86,5 @@ pub fn relocate_sections(
     ensures memory { OnOk result (ram.new ≡ with_pieces (relocated_pieces pef.now placement.now.start (instantiated_count pef.now)) ram.old) }
     ensures len { length ram.new.bytes ≡ length ram.old.bytes }
 {
-    relocate_first(ram, pef, placement, imports, pef.sections())
+    relocate_first(ram, pef, placement, imports, headers, pef.sections())
 }

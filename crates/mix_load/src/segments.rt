@@ -1,10 +1,11 @@
 //! The segments of a fork: its CODEs above 0.
-ghost use Rattle.std.specs.Prelude.{◌≡◌, ◌+◌, ◌*◌, ◌^◌, ◌≤◌, ◌<◌, [], length, option_map, IfSome, IfOk};
+ghost use Rattle.std.specs.Prelude.{◌≡◌, ◌+◌, ◌*◌, ◌^◌, ◌≤◌, ◌<◌, [], false, length, option_map, IfSome, IfOk};
 ghost use Rattle.std.specs.Result.{result_err};
-ghost use Rattle.pef_head.specs.Search.{any_below, least};
+ghost use Rattle.std.specs.Option.{option_map_or};
+ghost use Rattle.pef_head.specs.Search.{◌or◌, any_below, least, refused};
 ghost use Rattle.mix_load.specs.ForkImage.{segments_refusal};
 ghost use Rattle.mix_load.specs.Pieces.{rounded_up, with_pieces};
-ghost use Rattle.mix_load.specs.Segments.{added_segment, code_at, is_far, is_segment, is_short, segment_at, segment_pieces, segment_places, segments_end, with_segment};
+ghost use Rattle.mix_load.specs.Segments.{added_segment, code_at, is_far, is_far_code, is_segment, is_short, is_short_code, segment_at, segment_pieces, segment_places, segments_end, with_segment};
 
 use crate::error::LoadError;
 use crate::fields::word_at;
@@ -36,70 +37,69 @@ pub fn segment_at<'a>(fork: &Fork<'a>, id: u16) -> Option<&'a [u8]>
     code_at(fork, id)
 }
 
-fn is_segment(fork: &Fork, id: u16) -> bool
-    ensures { result ≡ is_segment fork.now id }
-{
-    segment_at(fork, id).is_some()
+/// What a walk over the segments finds.
+#[derive(Clone, Copy)]
+struct Survey {
+    /// There is a segment.
+    some: bool,
+    /// The first one of the far model.
+    far: Option<u16>,
+    /// One lacks a whole header.
+    short: bool,
 }
 
-/// Whether the segment is of the far model.
-fn is_far(fork: &Fork, id: u16) -> bool
-    ensures { result ≡ is_far fork.now id }
+/// Whether a segment is of the far model.
+fn is_far(segment: Option<&[u8]>) -> bool
+    ensures { result ≡ option_map_or is_far_code (option_map (λ code. code.now) segment.entry) false }
 {
-    match segment_at(fork, id) {
+    match segment {
         Some(code) => 4 <= code.len() && word_at(code, 0) == 0xFFFF,
         None => false,
     }
 }
 
-/// Whether the segment lacks a whole header.
-fn is_short(fork: &Fork, id: u16) -> bool
-    ensures { result ≡ is_short fork.now id }
+/// Whether a segment lacks a whole header.
+fn is_short(segment: Option<&[u8]>) -> bool
+    ensures { result ≡ option_map_or is_short_code (option_map (λ code. code.now) segment.entry) false }
 {
-    match segment_at(fork, id) {
+    match segment {
         Some(code) => code.len() < 4,
         None => false,
     }
 }
 
-/// Whether there is a segment.
-#[tactic(auto, using(crate::proofs::Searches::any_at))]
-fn has_segment(fork: &Fork, ids: u16) -> bool
-    ensures { result ≡ any_below (is_segment fork.now) ids }
+/// The first segment of the far model, once one more id is looked at.
+fn first_far(far: Option<u16>, id: u16, here: bool) -> Option<u16>
+    requires { IfSome far (λ first. first < id) }
+    ensures is { result ≡ (far or refused here id) }
+    ensures below { IfSome result (λ first. first < id + 1) }
 {
-    for id in 0..ids {
-        if is_segment(fork, id) {
-            return true;
-        }
+    match far {
+        Some(first) => Some(first),
+        None if here => Some(id),
+        None => None,
     }
-    false
 }
 
-/// The first segment of the far model.
-#[tactic(auto, using(crate::proofs::Searches::least_at))]
-fn far_segment(fork: &Fork, ids: u16) -> Option<u16>
-    ensures is { result ≡ least (is_far fork.now) ids }
-    ensures below { IfSome result (λ id. id < ids) }
+/// Looks at the segments below a count of ids, in one walk.
+fn walk_segments(fork: &Fork, ids: u16) -> Survey
+    ensures some { result.some ≡ any_below (is_segment fork.now) ids }
+    ensures far { result.far ≡ least (is_far fork.now) ids }
+    ensures below { IfSome result.far (λ id. id < ids) }
+    ensures short { result.short ≡ any_below (is_short fork.now) ids }
 {
+    let mut found = Survey {
+        some: false,
+        far: None,
+        short: false,
+    };
     for id in 0..ids {
-        if is_far(fork, id) {
-            return Some(id);
-        }
+        let segment = segment_at(fork, id);
+        found.some = found.some | segment.is_some();
+        found.far = first_far(found.far, id, is_far(segment));
+        found.short = found.short | is_short(segment);
     }
-    None
-}
-
-/// Whether a segment lacks a whole header.
-#[tactic(auto, using(crate::proofs::Searches::any_at))]
-fn has_short(fork: &Fork, ids: u16) -> bool
-    ensures { result ≡ any_below (is_short fork.now) ids }
-{
-    for id in 0..ids {
-        if is_short(fork, id) {
-            return true;
-        }
-    }
-    false
+    found
 }
 
 /// Tests the segments below a count of ids.
@@ -107,13 +107,14 @@ pub fn test_segments(fork: &Fork, ids: u16) -> Result<(), LoadError>
     requires { ids ≤ 32768 }
     ensures { result_err result ≡ segments_refusal ids fork.now }
 {
-    if !has_segment(fork, ids) {
+    let found = walk_segments(fork, ids);
+    if !found.some {
         return Err(LoadError::NoCode(1));
     }
-    if let Some(id) = far_segment(fork, ids) {
+    if let Some(id) = found.far {
         return Err(LoadError::Far(id as i16));
     }
-    if has_short(fork, ids) {
+    if found.short {
         return Err(LoadError::JumpTable(0));
     }
     Ok(())

@@ -1,4 +1,4 @@
-use Rattle.std.proofs.Common.{◌+◌, ◌≤◌, Option, ℕ, IfSome, length, take, subst, sym, ap, ◌∙◌, arith}
+use Rattle.std.proofs.Common.{◌+◌, ◌≤◌, Option, None, List, ℕ, IfSome, length, slice_index_or, take, subst, sym, ap, ◌∙◌, arith}
 use Rattle.std.proofs.lemmas.Result.{err_from_is_err_and}
 use Rattle.big_memory.specs.Memory.{Memory}
 use Rattle.pef_head.specs.Container.{instantiated_count}
@@ -38,6 +38,12 @@ pub relocate_sections-requires-clause-stand : goal.relocate_sections-requires-cl
 relocate_sections-requires-clause-stand c =
     stand-in c.args.pef.now c.args.start c.in_ok-placement.placement.start (instantiated_count c.args.pef.now) c.put_sections.new.ram c.args.ram.now
     c.in_ok-placement.ensures.start c.in_ok-put_sections.ensures.memory c.requires.fits c.in_ok-put_sections.ensures.sizes
+
+pub relocate_sections-requires-clause-headers : goal.relocate_sections-requires-clause-headers
+relocate_sections-requires-clause-headers c = λ k lt. ap (λ (xs : List (Option ℕ)). slice_index_or xs k None) c.deref-2.ensures.value ∙ c.in_ok-headers.ensures.is k lt
+
+pub relocate_sections-requires-clause-noted : goal.relocate_sections-requires-clause-noted
+relocate_sections-requires-clause-noted c = ap length c.deref-2.ensures.value ∙ c.in_ok-headers.ensures.len
 
 pub returns-in_err-relocate_sections-clause-refusal : goal.returns-in_err-relocate_sections-clause-refusal
 returns-in_err-relocate_sections-clause-refusal c =

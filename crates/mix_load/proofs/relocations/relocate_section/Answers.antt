@@ -4,7 +4,7 @@ use Rattle.pef_head.specs.Container.{instantiated_count}
 use Rattle.pef_reloc.specs.Program.{Relocated, relocated_in}
 use Rattle.mix_load.specs.Sections.{section_base, total_at}
 use Rattle.mix_load.proofs.Ends.{section_within}
-use Rattle.mix_load.proofs.Relocated.{base-at, bases-length, inside-at, relocated-in-is, relocated-keeps, total-at, totals-length}
+use Rattle.mix_load.proofs.Relocated.{base-at, bases-length, inside-at, relocated-in-is, total-at, totals-length}
 use Rattle.mix_load.proofs.relocations.relocate_section.Goals as goal
 
 pub relocate-requires-clause-paired : goal.relocate-requires-clause-paired
@@ -28,22 +28,16 @@ relocate-requires-clause-inside c =
 pub returns-clause-refusal : goal.returns-clause-refusal
 returns-clause-refusal c =
     c.relocate.ensures.refusal
-    ∙ ap (λ (r : Relocated). r.refusal) (relocated-in-is c.args.pef.now c.args.placement.now c.args.imports.now c.args.k c.relocs-words.result.now c.deref.result.now c.deref-2.result.now c.args.ram.now
-    c.deref.ensures.value c.deref-2.ensures.value c.requires.placed c.requires.below c.relocs-words.ensures.is c.requires.stands)
+    ∙ ap (λ (r : Relocated). r.refusal) (relocated-in-is c.args.pef.now c.args.placement.now c.args.imports.now c.args.k c.relocs_by-words.result.now c.deref.result.now c.deref-2.result.now c.args.ram.now
+    c.deref.ensures.value c.deref-2.ensures.value c.requires.placed c.requires.below c.relocs_by-words.ensures.is c.requires.stands)
 
 pub returns-clause-memory : goal.returns-clause-memory
 returns-clause-memory c =
     let pef = c.args.pef.now in
     let p = c.args.placement.now in
     c.relocate.ensures.memory
-    ∙ (ap (λ (b : ℕ). with_bytes b (relocated_in c.args.k c.relocs-words.result.now c.deref.result.now c.deref-2.result.now c.args.imports.now c.args.ram.now).section c.args.ram.now)
+    ∙ (ap (λ (b : ℕ). with_bytes b (relocated_in c.args.k c.relocs_by-words.result.now c.deref.result.now c.deref-2.result.now c.args.imports.now c.args.ram.now).section c.args.ram.now)
     (ap (λ (xs : List ℕ). get_or xs c.args.k 0) c.deref.ensures.value ∙ base-at pef p c.args.k c.requires.placed.bases c.requires.below)
     ∙ ap (λ (r : Relocated). with_bytes (section_base pef p.start c.args.k) r.section c.args.ram.now)
-    (relocated-in-is pef p c.args.imports.now c.args.k c.relocs-words.result.now c.deref.result.now c.deref-2.result.now c.args.ram.now
-    c.deref.ensures.value c.deref-2.ensures.value c.requires.placed c.requires.below c.relocs-words.ensures.is c.requires.stands))
-
-pub returns-clause-len : goal.returns-clause-len
-returns-clause-len c =
-    relocated-keeps c.run_laws.ensures c.args.pef.now c.args.placement.now.start c.args.k c.args.ram.now c.relocate.new.ram c.requires.stands
-    (omega (arith, section_within c.args.pef.now c.args.placement.now.start c.args.k (instantiated_count c.args.pef.now) c.requires.below, c.requires.fits))
-    (returns-clause-memory c)
+    (relocated-in-is pef p c.args.imports.now c.args.k c.relocs_by-words.result.now c.deref.result.now c.deref-2.result.now c.args.ram.now
+    c.deref.ensures.value c.deref-2.ensures.value c.requires.placed c.requires.below c.relocs_by-words.ensures.is c.requires.stands))
