@@ -17,7 +17,7 @@ use Rattle.m68_ea.specs.Places.{backward, with_address}
 use Rattle.m68_ea.specs.Operands.{sourced}
 use Rattle.m68_effects.specs.Parts.{Effect, after, goes_on}
 use Rattle.m68_effects.specs.Step.{stops}
-use Rattle.m68_effects.specs.Arithmetic.{sum, sum_with_x, difference, difference_with_x}
+use Rattle.m68_alu.specs.Sums.{sum, sum_with_x, difference, difference_with_x}
 use Rattle.m68_arithmetic.specs.declared.operation.Operation.{Operation}
 use Rattle.m68_arithmetic.specs.declared.operation.Operation.TheVariants.{Add, Addx, Sub, Subx, Neg, Negx, Abcd, Sbcd, Nbcd}
 use Rattle.m68_arithmetic.specs.declared.operation.Way.{Way}

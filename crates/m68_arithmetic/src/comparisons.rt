@@ -11,10 +11,9 @@ ghost use Rattle.m68_effects.specs.Ops.{by_op};
 ghost use Rattle.m68_effects.specs.Parts.{after};
 ghost use Rattle.m68_arithmetic.specs.Parts.{runs_with};
 
-use super::parts::go_on;
 use big_memory::{Did, Ram};
 use m68_alu::cmp;
-use m68_ea::{immediate_at, immediate_words, source};
+use m68_ea::{go_on, immediate_at, immediate_words, source};
 use m68_isa::{Ccr, Regs68};
 use m68_ops::{Op68, bit8_of, lower_of, mode_of, size_bits_of, upper_of};
 use mix_bits::{Fault, Size, sext};

@@ -9,9 +9,9 @@ ghost use Rattle.m68_effects.specs.Parts.{after, pairwise};
 ghost use Rattle.m68_arithmetic.specs.Parts.{result_of};
 
 use super::operation::{Operation, apply};
-use super::parts::{change, go_on};
+use super::parts::change;
 use big_memory::{Did, Ram};
-use m68_ea::source;
+use m68_ea::{go_on, source};
 use m68_isa::Regs68;
 use m68_ops::{Op68, is_in_memory, lower_of, size_bits_of, upper_of};
 use mix_bits::{Fault, Size, trunc, with_low};

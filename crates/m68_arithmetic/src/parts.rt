@@ -1,6 +1,5 @@
-ghost use Rattle.std.specs.Prelude.{◌≡◌, ◌≢◌, ◌+◌, ◌*◌, ◌<◌, ◌≤◌};
+ghost use Rattle.std.specs.Prelude.{◌≢◌, ◌<◌};
 ghost use Rattle.mix_bits.specs.declared.size.Size.TheVariants.{Zero};
-ghost use Rattle.mix_bits.specs.Addresses.{onward as onward_of};
 ghost use Rattle.m68_isa.specs.Operands.{operand_at};
 ghost use Rattle.big_memory.specs.Steps.{Does};
 ghost use Rattle.m68_ea.specs.Words.{words_at};
@@ -12,17 +11,6 @@ use big_memory::{Did, Ram};
 use m68_ea::{find, put, value};
 use m68_isa::Regs68;
 use mix_bits::{Fault, Size, onward};
-
-/// Lets the program go on behind the `words` words of its instruction.
-#[inline(always)]
-pub fn go_on(regs: &mut Regs68, words: u32) -> Did
-    requires { words ≤ 5 }
-    ensures next { result ≡ Did.Next }
-    ensures registers { regs.new ≡ record regs.old { pc = onward_of regs.old.pc (2 * words) } }
-{
-    regs.pc = onward(regs.pc, 2 * words);
-    Did::Next
-}
 
 /// An operand that is changed by an operation with a source. Its extension words begin with word `first`.
 #[inline(always)]

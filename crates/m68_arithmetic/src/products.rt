@@ -11,10 +11,9 @@ ghost use Rattle.m68_effects.specs.Arithmetic.{div, is_out as is_out_of, mul};
 ghost use Rattle.m68_effects.specs.Ops.{by_op};
 ghost use Rattle.m68_arithmetic.specs.Parts.{runs_with};
 
-use super::parts::go_on;
 use big_memory::{Did, Ram, stop};
 use m68_alu::{Quotient, div, mul};
-use m68_ea::source;
+use m68_ea::{go_on, source};
 use m68_isa::{Ccr, Regs68};
 use m68_ops::{Op68, lower_of, mode_of, upper_of};
 use mix_bits::{Fault, FaultKind, Size, sext};

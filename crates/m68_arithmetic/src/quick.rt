@@ -10,8 +10,9 @@ ghost use Rattle.m68_effects.specs.Parts.{after, changed, goes_on};
 ghost use Rattle.m68_arithmetic.specs.Parts.{result_of, runs_with, with_away};
 
 use super::operation::{Operation, Way, away};
-use super::parts::{change, go_on};
+use super::parts::change;
 use big_memory::{Did, Ram};
+use m68_ea::go_on;
 use m68_isa::Regs68;
 use m68_ops::{Op68, lower_of, mode_of, quick_of, size_bits_of};
 use mix_bits::{Fault, Size};

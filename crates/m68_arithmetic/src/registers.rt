@@ -11,9 +11,8 @@ ghost use Rattle.m68_effects.specs.Parts.{into_data};
 ghost use Rattle.m68_arithmetic.specs.Parts.{into_address as into_address_of, result_of, runs_with};
 
 use super::operation::{Operation, Way, apply, away};
-use super::parts::go_on;
 use big_memory::{Did, Ram};
-use m68_ea::source;
+use m68_ea::{go_on, source};
 use m68_isa::Regs68;
 use m68_ops::{Op68, bit8_of, lower_of, mode_of, size_bits_of, upper_of};
 use mix_bits::{Fault, Size, sext, with_low};

@@ -1,5 +1,5 @@
 // Branches, whose displacements count from the address behind the first word.
-ghost use Rattle.std.specs.Prelude.{◌≡◌, ◌*◌, ◌<◌, ◌≤◌};
+ghost use Rattle.std.specs.Prelude.{◌≡◌, ◌<◌};
 ghost use Rattle.mix_bits.specs.Addresses.{onward as onward_of};
 ghost use Rattle.big_memory.specs.Steps.{Does};
 ghost use Rattle.m68_effects.specs.Control.{called, counted as counted_of};
@@ -8,7 +8,7 @@ ghost use Rattle.m68_effects.specs.Ops.{by_op};
 ghost use Rattle.m68_ops.specs.Ops.{Fits};
 
 use big_memory::{Did, Ram};
-use m68_ea::{extended_word, push};
+use m68_ea::{extended_word, go_on, push};
 use m68_isa::{Regs68, holds};
 use m68_ops::{Op68, byte_of, condition_of, lower_of};
 use mix_bits::{Fault, Size, onward, with_low};
@@ -130,15 +130,4 @@ pub fn call(regs: &mut Regs68, ram: &mut Ram, fault: &mut Fault, next: u32, targ
     } else {
         Did::Stop
     }
-}
-
-/// Lets the program go on behind the `words` words of its instruction.
-#[inline(always)]
-pub fn go_on(regs: &mut Regs68, words: u32) -> Did
-    requires { words ≤ 5 }
-    ensures next { result ≡ Did.Next }
-    ensures registers { regs.new ≡ record regs.old { pc = onward_of regs.old.pc (2 * words) } }
-{
-    regs.pc = onward(regs.pc, 2 * words);
-    Did::Next
 }

@@ -3,8 +3,8 @@ ghost use Rattle.big_memory.specs.Steps.{Does};
 ghost use Rattle.m68_effects.specs.Ops.{by_op};
 ghost use Rattle.m68_ops.specs.Ops.{Fits};
 
-use super::branches::go_on;
 use big_memory::{Did, Ram, leave, stop};
+use m68_ea::go_on;
 use m68_isa::Regs68;
 use m68_ops::{Op68, trap_of};
 use mix_bits::{Fault, FaultKind};

@@ -15,5 +15,5 @@ pub use operands::{Target, control, find, put, source, value};
 pub use places::{Bad, Place68, backward, place};
 pub use stack::{pop, push};
 pub use words::{
-    extended_word, extension_words, immediate_at, immediate_words, is_second_good, word_at,
+    extended_word, extension_words, go_on, immediate_at, immediate_words, is_second_good, word_at,
 };

@@ -1,13 +1,14 @@
-ghost use Rattle.std.specs.Prelude.{◌≡◌, ℕ, ◌+◌, ◌<◌, ◌^◌, List, slice_index};
+ghost use Rattle.std.specs.Prelude.{◌≡◌, ℕ, ◌+◌, ◌*◌, ◌<◌, ◌≤◌, ◌^◌, List, slice_index};
 ghost use Rattle.big_memory.specs.Memory.{loaded};
 ghost use Rattle.mix_bits.specs.declared.size.Size.TheVariants.{Two};
 ghost use Rattle.mix_bits.specs.declared.size.Size.{Size};
+ghost use Rattle.mix_bits.specs.Addresses.{onward as onward_of};
 ghost use Rattle.m68_isa.specs.Operands.{extended_word as extended_word_of, immediate_at as immediate_at_of, immediate_words as immediate_words_of, index_of as index_of_word, is_index as is_index_word, long_at as long_at_of, operand_at, special_at};
 ghost use Rattle.m68_ea.specs.Words.{or_zero, words_at};
 
-use big_memory::Ram;
-use m68_isa::Index;
-use mix_bits::{Size, sext};
+use big_memory::{Did, Ram};
+use m68_isa::{Index, Regs68};
+use mix_bits::{Size, onward, sext};
 
 /// The word with this number of the instruction at `pc`, whose first word is 0. Behind the first one that
 /// doesn't lie in memory each is 0.
@@ -200,4 +201,15 @@ fn special_words(size: Size, lower: usize) -> u32
         3 => 1,
         _ => immediate_words(size),
     }
+}
+
+/// Lets the program go on behind the `words` words of its instruction.
+#[inline(always)]
+pub fn go_on(regs: &mut Regs68, words: u32) -> Did
+    requires { words ≤ 5 }
+    ensures next { result ≡ Did.Next }
+    ensures registers { regs.new ≡ record regs.old { pc = onward_of regs.old.pc (2 * words) } }
+{
+    regs.pc = onward(regs.pc, 2 * words);
+    Did::Next
 }

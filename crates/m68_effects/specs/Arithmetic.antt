@@ -13,7 +13,7 @@ use Rattle.m68_alu.specs.declared.sums.Out.{Out}
 use Rattle.m68_alu.specs.declared.quotients.Quotient.{Quotient}
 use Rattle.m68_alu.specs.declared.quotients.Quotient.TheVariants.{ByZero, Overflow, Done}
 use Rattle.m68_alu.specs.Sizes.{result_flags}
-use Rattle.m68_alu.specs.Sums.{sum_of, difference_of, with_old_zero, with_old_extend}
+use Rattle.m68_alu.specs.Sums.{sum, sum_with_x, difference, difference_with_x, compared}
 use Rattle.m68_alu.specs.Products.{multiplied, divided}
 use Rattle.big_memory.specs.Memory.{Memory}
 use Rattle.m68_ea.specs.Places.{backward, with_data, with_address}
@@ -21,22 +21,9 @@ use Rattle.m68_ea.specs.Operands.{sourced}
 use Rattle.mix_bits.specs.Addresses.{onward}
 use Rattle.m68_effects.specs.Parts.{Effect, goes_on, vector, with_ccr, with_result, changed, either_way, pairwise}
 
--- destination + source, and with X
-abbrev pub sum : Size → ℕ → ℕ → Out
-sum size d s = sum_of size (truncated d size) (truncated s size) false
-
-abbrev pub sum_with_x : Size → Ccr → ℕ → ℕ → Out
-sum_with_x size old d s = with_old_zero (sum_of size (truncated d size) (truncated s size) old.x) old
-
--- destination - source, with X, and in a comparison, which leaves X
-abbrev pub difference : Size → ℕ → ℕ → Out
-difference size d s = difference_of size (truncated d size) (truncated s size) false
-
-abbrev pub difference_with_x : Size → Ccr → ℕ → ℕ → Out
-difference_with_x size old d s = with_old_zero (difference_of size (truncated d size) (truncated s size) old.x) old
-
+-- destination - source in a comparison, which leaves X
 abbrev pub comparison : Size → Ccr → ℕ → ℕ → Ccr
-comparison size old d s = (with_old_extend (difference size d s) old).ccr
+comparison size old d s = (compared size old d s).ccr
 
 -- ADD, SUB: source + Dn → Dn, or Dn + destination → destination
 abbrev pub add : Regs68 → Memory → ℕ → Size → Bool → ℕ → Ea → Effect

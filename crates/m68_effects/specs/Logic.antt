@@ -11,12 +11,9 @@ use Rattle.m68_isa.specs.declared.instructions.LogicOp.{LogicOp}
 use Rattle.m68_isa.specs.declared.instructions.LogicOp.TheVariants.{And, Or, Eor}
 use Rattle.m68_alu.specs.declared.sums.Out.{Out}
 use Rattle.m68_alu.specs.Sizes.{result_flags}
-use Rattle.m68_alu.specs.Logical.{bits_of, combined}
+use Rattle.m68_alu.specs.Logical.{bits_of, combination}
 use Rattle.big_memory.specs.Memory.{Memory}
 use Rattle.m68_effects.specs.Parts.{Effect, goes_on, with_ccr, changed, either_way}
-
-abbrev pub combination : LogicOp → Size → Ccr → ℕ → ℕ → Out
-combination op size old d s = combined op size (truncated d size) (truncated s size) old
 
 -- AND, OR: source ∧ Dn → Dn, or Dn ∧ destination → destination
 abbrev pub and : Regs68 → Memory → ℕ → Size → Bool → ℕ → Ea → Effect

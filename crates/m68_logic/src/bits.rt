@@ -11,9 +11,8 @@ ghost use Rattle.m68_effects.specs.Ops.{by_op};
 ghost use Rattle.m68_effects.specs.Parts.{changed};
 ghost use Rattle.m68_logic.specs.Parts.{with_operand};
 
-use super::parts::go_on;
 use big_memory::{Did, Ram};
-use m68_ea::{find, put, source, value, word_at};
+use m68_ea::{find, go_on, put, source, value, word_at};
 use m68_isa::{BitOp, Ccr, Regs68};
 use m68_ops::{Op68, bit_op_of, lower_of, mode_of, upper_of};
 use mix_bits::{Fault, Size, digit, with_digit};

@@ -5,7 +5,6 @@
 
 mod bits;
 mod logic;
-mod parts;
 mod shifts;
 
 pub use bits::{do_bit_by_number, do_bit_by_register};

@@ -6,15 +6,15 @@ ghost use Rattle.m68_isa.specs.First.{first_of, size_of as size_bits};
 ghost use Rattle.m68_isa.specs.Operands.{immediate_at as immediate_word, immediate_words as words_of, operand_at};
 ghost use Rattle.big_memory.specs.Steps.{Does};
 ghost use Rattle.m68_ea.specs.Words.{words_at};
-ghost use Rattle.m68_effects.specs.Logic.{combination, complement as complement_out, logic_immediate, not as not_effect};
+ghost use Rattle.m68_alu.specs.Logical.{combination};
+ghost use Rattle.m68_effects.specs.Logic.{complement as complement_out, logic_immediate, not as not_effect};
 ghost use Rattle.m68_effects.specs.Ops.{by_op};
 ghost use Rattle.m68_effects.specs.Parts.{changed, either_way, into_data};
 ghost use Rattle.m68_logic.specs.Parts.{with_operand};
 
-use super::parts::go_on;
 use big_memory::{Did, Ram};
 use m68_alu::{logic, result_flags};
-use m68_ea::{find, immediate_at, immediate_words, put, source, value};
+use m68_ea::{find, go_on, immediate_at, immediate_words, put, source, value};
 use m68_isa::{LogicOp, Regs68};
 use m68_ops::{Op68, lower_of, mode_of, size_of, upper_of};
 use mix_bits::{Fault, Size, trunc, with_low};

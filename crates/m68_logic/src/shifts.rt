@@ -6,10 +6,9 @@ ghost use Rattle.big_memory.specs.Steps.{Does};
 ghost use Rattle.m68_effects.specs.Ops.{by_op};
 ghost use Rattle.m68_effects.specs.Shifts.{count_of as count_in};
 
-use super::parts::go_on;
 use big_memory::{Did, Ram};
 use m68_alu::shift;
-use m68_ea::{find, put, value};
+use m68_ea::{find, go_on, put, value};
 use m68_isa::{Regs68, ShiftCount};
 use m68_ops::{
     Op68, is_left, lower_of, memory_shift_of, mode_of, register_shift_of, shift_count_of, size_of,

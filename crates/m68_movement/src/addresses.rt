@@ -3,9 +3,8 @@ ghost use Rattle.big_memory.specs.Steps.{Does};
 ghost use Rattle.m68_effects.specs.Ops.{by_op};
 ghost use Rattle.m68_ops.specs.Ops.{Fits};
 
-use super::parts::go_on;
 use big_memory::{Did, Ram};
-use m68_ea::{backward, control, extended_word, pop, push, store};
+use m68_ea::{backward, control, extended_word, go_on, pop, push, store};
 use m68_isa::Regs68;
 use m68_ops::{Op68, lower_of, mode_of, upper_of};
 use mix_bits::{Fault, Size, onward};

@@ -8,10 +8,10 @@ ghost use Rattle.big_memory.specs.Steps.{Does};
 ghost use Rattle.m68_ea.specs.Words.{words_at};
 ghost use Rattle.m68_effects.specs.Ops.{by_op, runs_made};
 
-use super::parts::{go_on, write};
+use super::parts::write;
 use big_memory::{Did, Ram, stop};
 use m68_alu::result_flags;
-use m68_ea::{is_second_good, source};
+use m68_ea::{go_on, is_second_good, source};
 use m68_isa::Regs68;
 use m68_ops::{Op68, lower_of, mode_of, move_mode_of, upper_of};
 use mix_bits::{Fault, FaultKind, Size, sext};

@@ -10,10 +10,9 @@ ghost use Rattle.m68_ops.specs.Ops.{Fits};
 ghost use Rattle.m68_movement.specs.Along.{Loads};
 
 use super::along::{store_along, store_down};
-use super::parts::go_on;
 use arrayvec::ArrayVec;
 use big_memory::{Did, Ram};
-use m68_ea::{backward, control, load, word_at};
+use m68_ea::{backward, control, go_on, load, word_at};
 use m68_isa::Regs68;
 use m68_ops::{Op68, lower_of, mode_of, transfer_size_of};
 use mix_bits::{Fault, Size, digit, onward, sext};

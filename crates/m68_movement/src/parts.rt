@@ -1,13 +1,12 @@
-ghost use Rattle.std.specs.Prelude.{◌≡◌, ◌+◌, ◌*◌, ◌<◌, ◌≤◌};
-ghost use Rattle.mix_bits.specs.Addresses.{onward as onward_of};
+ghost use Rattle.std.specs.Prelude.{◌+◌, ◌<◌, ◌≤◌};
 ghost use Rattle.m68_isa.specs.Operands.{operand_at};
 ghost use Rattle.m68_ea.specs.Words.{words_at};
 ghost use Rattle.m68_movement.specs.Parts.{Writes};
 
-use big_memory::{Did, Ram};
+use big_memory::Ram;
 use m68_ea::{find, put};
 use m68_isa::Regs68;
-use mix_bits::{Fault, Size, onward};
+use mix_bits::{Fault, Size};
 
 /// Writes a value into an operand of any mode, and tells whether it did; its increment or decrement is
 /// applied. Its extension words begin with word `next`, which goes on behind them.
@@ -32,15 +31,4 @@ pub fn write(
         Some(target) => put(regs, ram, fault, target, size, value),
         None => false,
     }
-}
-
-/// Lets the program go on behind the `words` words of its instruction.
-#[inline(always)]
-pub fn go_on(regs: &mut Regs68, words: u32) -> Did
-    requires { words ≤ 5 }
-    ensures next { result ≡ Did.Next }
-    ensures registers { regs.new ≡ record regs.old { pc = onward_of regs.old.pc (2 * words) } }
-{
-    regs.pc = onward(regs.pc, 2 * words);
-    Did::Next
 }

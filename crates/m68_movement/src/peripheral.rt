@@ -10,9 +10,8 @@ ghost use Rattle.m68_effects.specs.Multiple.{peripheral_number, stored_along};
 ghost use Rattle.m68_effects.specs.Ops.{by_op};
 
 use super::along::store_along;
-use super::parts::go_on;
 use big_memory::{Did, Ram};
-use m68_ea::extended_word;
+use m68_ea::{extended_word, go_on};
 use m68_isa::Regs68;
 use m68_ops::{Op68, is_to_memory, lower_of, transfer_size_of, upper_of};
 use mix_bits::{Fault, Size, onward, with_low};

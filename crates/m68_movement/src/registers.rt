@@ -7,9 +7,9 @@ ghost use Rattle.m68_effects.specs.Arithmetic.{half_of as half_of_size};
 ghost use Rattle.m68_effects.specs.Movement.{halves_swapped};
 ghost use Rattle.m68_effects.specs.Ops.{by_op, runs_made};
 
-use super::parts::go_on;
 use big_memory::{Did, Ram};
 use m68_alu::result_flags;
+use m68_ea::go_on;
 use m68_isa::{Exchange, Regs68};
 use m68_ops::{Op68, byte_of, exchange_of, lower_of, size_bits_of, upper_of};
 use mix_bits::{Fault, Size, sext, trunc, with_low};

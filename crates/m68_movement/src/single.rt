@@ -7,10 +7,10 @@ ghost use Rattle.big_memory.specs.Steps.{Does};
 ghost use Rattle.m68_ea.specs.Words.{words_at};
 ghost use Rattle.m68_effects.specs.Ops.{by_op, runs_made};
 
-use super::parts::{go_on, write};
+use super::parts::write;
 use big_memory::{Did, Ram};
 use m68_alu::result_flags;
-use m68_ea::{find, put, source, value};
+use m68_ea::{find, go_on, put, source, value};
 use m68_isa::{Regs68, holds};
 use m68_ops::{Op68, condition_of, lower_of, mode_of, size_bits_of};
 use mix_bits::{Fault, Size};

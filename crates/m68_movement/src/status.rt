@@ -4,9 +4,9 @@ ghost use Rattle.big_memory.specs.Steps.{Does};
 ghost use Rattle.m68_alu.specs.Logical.{bits_of};
 ghost use Rattle.m68_effects.specs.Ops.{by_op};
 
-use super::parts::{go_on, write};
+use super::parts::write;
 use big_memory::{Did, Ram};
-use m68_ea::{immediate_at, source};
+use m68_ea::{go_on, immediate_at, source};
 use m68_isa::{Ccr, LogicOp, Regs68};
 use m68_ops::{Op68, logic_op_of, lower_of, mode_of};
 use mix_bits::{Fault, Size};
