@@ -36,9 +36,9 @@ is_any f = is_source Any (size_of f.size) f.mode f.lower
 abbrev pub is_either_way : First → Bool → Bool
 is_either_way f source = if f.bit8 == 0 then source else in_class MemoryAlterable f.mode f.lower
 
--- 1000 rrrd 00 to 10: or
--- 1000 rrrs 11: divu 0, divs 1
--- 1000 yyy1 0000 m x: sbcd
+-- 1000 rrr0 ssee eeee, 1000 rrr1 ssee eeee: or
+-- 1000 rrr0 11ee eeee: divu; 1000 rrr1 11ee eeee: divs
+-- 1000 rrr1 0000 0yyy, 1000 rrr1 0000 1yyy: sbcd
 abbrev pub rows_8 : List Row
 rows_8 =
     row (λ f. nat_lt f.size 3 && is_either_way f (is_data f)) (λ f ws. at_size (λ s e. Or s (f.bit8 == 1) f.upper e) f ws)
@@ -46,9 +46,9 @@ rows_8 =
     ∷ row (λ f. (f.bit8 == 1) && (f.size == 0) && nat_lt f.mode 2) (λ f ws. words 1 (Sbcd (f.mode == 1) f.lower f.upper))
     ∷ []
 
--- 1001 rrrd 00 to 10: sub
--- 1001 rrrz 11: suba
--- 1001 yyy1 s00 m x: subx
+-- 1001 rrr0 ssee eeee, 1001 rrr1 ssee eeee: sub
+-- 1001 rrrz 11ee eeee: suba
+-- 1001 rrr1 ss00 0yyy, 1001 rrr1 ss00 1yyy: subx
 abbrev pub rows_9 : List Row
 rows_9 =
     row (λ f. nat_lt f.size 3 && is_either_way f (is_any f)) (λ f ws. at_size (λ s e. Sub s (f.bit8 == 1) f.upper e) f ws)
@@ -56,8 +56,8 @@ rows_9 =
     ∷ row (λ f. (f.bit8 == 1) && nat_lt f.size 3 && nat_lt f.mode 2) (λ f ws. words 1 (Subx (size_of f.size) (f.mode == 1) f.lower f.upper))
     ∷ []
 
--- 1011 rrr0 00 to 10: cmp; rrrz 11: cmpa; rrr1 00 to 10: eor
--- 1011 yyy1 s001 x: cmpm
+-- 1011 rrr0 ssee eeee: cmp; 1011 rrrz 11ee eeee: cmpa; 1011 rrr1 ssee eeee: eor
+-- 1011 rrr1 ss00 1yyy: cmpm
 abbrev pub rows_B : List Row
 rows_B =
     row (λ f. (f.bit8 == 0) && nat_lt f.size 3 && is_any f) (λ f ws. at_size (λ s e. Cmp s e f.upper) f ws)
@@ -74,10 +74,10 @@ is_exchange f = (f.bit8 == 1) && (((f.size == 1) && nat_lt f.mode 2) || ((f.size
 abbrev pub exchange : First → Exchange
 exchange f = if f.size == 2 then DataAddress else if f.mode == 1 then AddressKind else DataKind
 
--- 1100 rrrd 00 to 10: and
--- 1100 rrrs 11: mulu 0, muls 1
--- 1100 yyy1 0000 m x: abcd
--- 1100 xxx1 01000 y, 01001 y, 10001 y: exg
+-- 1100 rrr0 ssee eeee, 1100 rrr1 ssee eeee: and
+-- 1100 rrr0 11ee eeee: mulu; 1100 rrr1 11ee eeee: muls
+-- 1100 rrr1 0000 0yyy, 1100 rrr1 0000 1yyy: abcd
+-- 1100 rrr1 0100 0yyy, 1100 rrr1 0100 1yyy, 1100 rrr1 1000 1yyy: exg
 abbrev pub rows_C : List Row
 rows_C =
     row (λ f. nat_lt f.size 3 && is_either_way f (is_data f)) (λ f ws. at_size (λ s e. And s (f.bit8 == 1) f.upper e) f ws)
@@ -86,9 +86,9 @@ rows_C =
     ∷ row is_exchange (λ f ws. words 1 (Exg (exchange f) f.upper f.lower))
     ∷ []
 
--- 1101 rrrd 00 to 10: add
--- 1101 rrrz 11: adda
--- 1101 yyy1 s00 m x: addx
+-- 1101 rrr0 ssee eeee, 1101 rrr1 ssee eeee: add
+-- 1101 rrrz 11ee eeee: adda
+-- 1101 rrr1 ss00 0yyy, 1101 rrr1 ss00 1yyy: addx
 abbrev pub rows_D : List Row
 rows_D =
     row (λ f. nat_lt f.size 3 && is_either_way f (is_any f)) (λ f ws. at_size (λ s e. Add s (f.bit8 == 1) f.upper e) f ws)

@@ -11,8 +11,8 @@ use Rattle.m68_isa.specs.First.{size_of, low_byte, condition_of, one_to_eight}
 use Rattle.m68_isa.specs.Operands.{extended_word}
 use Rattle.m68_isa.specs.Rows.{Row, row, words, one}
 
--- 0101 qqq0 00 to 10: addq; qqq1: subq; 0 stands for 8
--- 0101 cccc 11: scc; 11 001: dbcc
+-- 0101 qqq0 ssee eeee: addq; 0101 qqq1 ssee eeee: subq; 0 stands for 8
+-- 0101 cccc 11ee eeee: scc; 0101 cccc 1100 1yyy: dbcc
 abbrev pub rows_5 : List Row
 rows_5 =
     row (λ f. (f.bit8 == 0) && nat_lt f.size 3 && is_source Alterable (size_of f.size) f.mode f.lower) (λ f ws. one (Addq (size_of f.size) (one_to_eight f.upper)) (size_of f.size) f ws)
@@ -21,13 +21,13 @@ rows_5 =
     ∷ row (λ f. (f.size == 3) && (f.mode == 1)) (λ f ws. words 2 (Dbcc (condition_of f) f.lower (extended_word ws 1)))
     ∷ []
 
--- 0110 cccc dddddddd: bcc, with bra at 0 and bsr at 1; where the byte is 0 a word follows
+-- 0110 cccc dddd dddd: bcc, with bra at 0 and bsr at 1; where the byte is 0 a word follows
 abbrev pub rows_6 : List Row
 rows_6 =
     row (λ f. low_byte f == 0) (λ f ws. words 2 (Bcc (condition_of f) (extended_word ws 1)))
     ∷ row (λ f. not (low_byte f == 0)) (λ f ws. words 1 (Bcc (condition_of f) (sign_extended (low_byte f) One)))
     ∷ []
 
--- 0111 rrr0 dddddddd: moveq
+-- 0111 rrr0 dddd dddd: moveq
 abbrev pub rows_7 : List Row
 rows_7 = row (λ f. f.bit8 == 0) (λ f ws. words 1 (Moveq (sign_extended (low_byte f) One) f.upper)) ∷ []

@@ -66,9 +66,9 @@ bit_by_number f ws =
     let to = operand_at ws 2 One f.mode f.lower in
     taken (BitByNumber (bit_op f.size) (slice_index ws 1 % 256) to.ea) to
 
--- 0000 oooo 00 to 10: ori 0, andi 2, subi 4, addi 6, eori A, cmpi C
--- 0000 oooo 00 111100: to CCR, 0000 oooo 01 111100: to SR, of ori, andi and eori
--- 0000 1000 tt: btst, bchg, bclr, bset, the number in a word
+-- 0000 0000, 0010, 0100, 0110, 1010 and 1100, then ssee eeee: ori, andi, subi, addi, eori, cmpi
+-- those of ori, andi and eori, then 0011 1100: to CCR; then 0111 1100: to SR
+-- 0000 1000 00ee eeee to 11ee eeee: btst, bchg, bclr, bset, the number in a word
 abbrev pub rows_0_even : List Row
 rows_0_even =
     row (λ f. has_immediate f.upper && nat_lt f.size 3 && in_class DataAlterable f.mode f.lower) immediate
@@ -81,8 +81,8 @@ abbrev pub bit_by_register : First → List ℕ → Found
 bit_by_register f ws =
     let to = operand_at ws 1 One f.mode f.lower in taken (BitByRegister (bit_op f.size) f.upper to.ea) to
 
--- 0000 rrr1 tt: btst, bchg, bclr, bset, the number in Dr
--- 0000 rrr1 mm 001 y: movep, 00 word, 01 long to Dr, 10, 11 from Dr
+-- 0000 rrr1 00ee eeee to 11ee eeee: btst, bchg, bclr, bset, the number in Dr
+-- 0000 rrr1 0000 1yyy, 0100 1yyy: movep of a word, a long to Dr; 1000 1yyy, 1100 1yyy: from Dr
 abbrev pub rows_0_odd : List Row
 rows_0_odd =
     row (λ f. in_class (bit_class f.size) f.mode f.lower) bit_by_register

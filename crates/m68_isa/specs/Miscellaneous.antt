@@ -29,8 +29,8 @@ masked make f ws =
 abbrev pub is_data_alterable : First → Bool
 is_data_alterable f = in_class DataAlterable f.mode f.lower
 
--- 0100 uuu0 00 to 10: negx 0, clr 1, neg 2, not 3
--- 0100 0000 11: move from SR; 0100 0100 11: move to CCR; 0100 0110 11: move to SR
+-- 0100 0000, 0010, 0100 and 0110, then ssee eeee: negx, clr, neg, not
+-- 0100 0000 11ee eeee: move from SR; 0100 0100 11ee eeee: move to CCR; 0100 0110 11ee eeee: move to SR
 abbrev pub rows_4_one : List Row
 rows_4_one =
     row (λ f. (f.upper == 0) && (nat_lt f.size 3 && is_data_alterable f)) (sized Negx)
@@ -42,8 +42,8 @@ rows_4_one =
     ∷ row (λ f. (f.upper == 3) && (f.size == 3) && in_class Data f.mode f.lower) (λ f ws. Privileged)
     ∷ []
 
--- 0100 1000 00: nbcd; 01: swap of a data register, pea of a control place
--- 0100 1000 1z: ext of a data register, movem to a control alterable place or -(An)
+-- 0100 1000 00ee eeee: nbcd; 0100 1000 01ee eeee: swap of a data register, pea of a control place
+-- 0100 1000 1zee eeee: ext of a data register, movem to a control alterable place or -(An)
 abbrev pub rows_4_8 : List Row
 rows_4_8 =
     row (λ f. (f.size == 0) && is_data_alterable f) (one Nbcd One)
@@ -53,8 +53,8 @@ rows_4_8 =
     ∷ row (λ f. nat_lt 1 f.size && (in_class ControlAlterable f.mode f.lower || (f.mode == 4))) (masked MovemToMemory)
     ∷ []
 
--- 0100 1010 00 to 10: tst; 11: tas; $4AFC: illegal
--- 0100 1100 1z: movem from a control place or (An)+
+-- 0100 1010 ssee eeee: tst; 0100 1010 11ee eeee: tas; $4AFC: illegal
+-- 0100 1100 1zee eeee: movem from a control place or (An)+
 abbrev pub rows_4_test : List Row
 rows_4_test =
     row (λ f. (f.upper == 5) && nat_lt f.size 3 && is_data_alterable f) (sized Tst)
@@ -63,7 +63,7 @@ rows_4_test =
     ∷ row (λ f. (f.upper == 6) && nat_lt 1 f.size && (in_class Control f.mode f.lower || (f.mode == 3))) (masked MovemFromMemory)
     ∷ []
 
--- 0100 1110 0100 vvvv: trap; 0101 0: link; 0101 1: unlk; 0110: move usp
+-- 0100 1110 0100 vvvv: trap; 0101 0yyy: link; 0101 1yyy: unlk; 0110 xxxx: move usp
 -- $4E70 reset, $4E71 nop, $4E72 stop, $4E73 rte, $4E75 rts, $4E76 trapv, $4E77 rtr
 abbrev pub rows_4_control : List Row
 rows_4_control =
@@ -78,14 +78,14 @@ rows_4_control =
     ∷ row (λ f. (f.mode == 6) && (f.lower == 7)) (λ f ws. words 1 Rtr)
     ∷ []
 
--- 0100 1110 10: jsr; 11: jmp
+-- 0100 1110 10ee eeee: jsr; 0100 1110 11ee eeee: jmp
 abbrev pub rows_4_jump : List Row
 rows_4_jump =
     row (λ f. (f.size == 2) && in_class Control f.mode f.lower) (one Jsr Four)
     ∷ row (λ f. (f.size == 3) && in_class Control f.mode f.lower) (one Jmp Four)
     ∷ []
 
--- 0100 rrr1 10: chk; 11: lea
+-- 0100 rrr1 10ee eeee: chk; 0100 rrr1 11ee eeee: lea
 abbrev pub rows_4_odd : List Row
 rows_4_odd =
     row (λ f. (f.size == 2) && in_class Data f.mode f.lower) (λ f ws. one (λ e. Chk e f.upper) Two f ws)

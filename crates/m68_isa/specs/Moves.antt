@@ -36,8 +36,8 @@ moved_to_address f ws =
     let from = operand_at ws 1 s f.mode f.lower in
     taken (Movea s from.ea f.upper) from
 
--- 00ss ddd mmm e: move, from any to a data alterable place
--- 00ss ddd 001 e: movea, word or long
+-- 0001, 0011 and 0010, then rrrm mmee eeee: move, from any to a data alterable place
+-- 0011 rrr0 01ee eeee, 0010 rrr0 01ee eeee: movea, word or long
 abbrev pub rows_move : List Row
 rows_move =
     row (λ f. is_source Any (move_size f.line) f.mode f.lower && in_class DataAlterable (move_mode f) f.upper) moved

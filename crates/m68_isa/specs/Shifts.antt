@@ -21,8 +21,8 @@ shift_op bits = if bits == 0 then As else if bits == 1 then Ls else if bits == 2
 abbrev pub shift_count : First → ShiftCount
 shift_count f = if nat_lt f.mode 4 then Number (one_to_eight f.upper) else Register f.upper
 
--- 1110 cccd s i tt r: a register by a count, to the left where d is 1
--- 1110 0ttd 11 e: a word in memory by one
+-- 1110 cccd ss0t tyyy, 1110 cccd ss1t tyyy: a register by a count, to the left where d is 1
+-- 1110 0ttd 11ee eeee: a word in memory by one
 abbrev pub rows_E : List Row
 rows_E =
     row (λ f. nat_lt f.size 3) (λ f ws. words 1 (Shift (shift_op (f.mode % 4)) (f.bit8 == 1) (size_of f.size) (shift_count f) f.lower))
