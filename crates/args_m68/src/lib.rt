@@ -1,6 +1,8 @@
 //! The arguments and results of calls in 68K code: where each convention of the Mixed Mode Manager has
 //! them, how they are read, and how they are handed over (Inside Macintosh: PowerPC System Software,
 //! chapter 2).
+//!
+//! What was handed over reads back as the arguments, cut to their sizes, and no byte beside it changes.
 #![tactic(auto)]
 
 mod deliver;

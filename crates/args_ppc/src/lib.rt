@@ -1,5 +1,7 @@
 //! The arguments and results of calls in PowerPC code: where they are, how they are read, and how they are
 //! handed over (Inside Macintosh: PowerPC System Software, chapters 1 and 2).
+//!
+//! What was handed over reads back as the arguments, cut to their sizes, and no byte beside it changes.
 #![tactic(auto)]
 
 mod deliver;

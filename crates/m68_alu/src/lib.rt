@@ -1,4 +1,6 @@
 //! 68000 arithmetic: values and condition codes.
+//!
+//! They are those of unbounded integers, cut to their size.
 #![tactic(auto)]
 
 mod decimal;

@@ -1,6 +1,8 @@
 //! A step of 68K code: every user-mode instruction of the 68000 over guarded memory
 //! (M68000 Family Programmer's Reference Manual, section 4). Program control stands here; the other
 //! instructions in the crates below.
+//!
+//! `step68` does what the definition `stepped` says, and a fault changes nothing.
 #![tactic(auto)]
 
 mod branches;

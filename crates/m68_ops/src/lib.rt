@@ -1,5 +1,7 @@
 //! What a first word of the 68000 asks for, as an operation without fields, and the fields of the
 //! word one by one.
+//!
+//! `op_of` is tied to decoding: what decoding makes of a word, the operation makes of its fields (`Reads`).
 #![tactic(auto)]
 
 mod arithmetic;

@@ -1,6 +1,8 @@
 //! Runs the mixed machine: two interpreters that call each other at crossings, over one lent memory.
 //!
 //! Suspended callers stand in the machine's memory alone, so a run can be cut after any step and continued.
+//!
+//! `run` is, for every whole machine, the definition's run from the state that the machine stands for.
 #![tactic(auto)]
 
 mod machine;

@@ -1,5 +1,7 @@
 //! One step of the mixed machine in memory: an instruction of either set, a call from one set into the
 //! other, a return, or a call of the host.
+//!
+//! `one` does the definition's `step`, or tells why not: a fault, an exit, or a failure of the outside (`Acts`).
 #![tactic(auto)]
 
 mod active;

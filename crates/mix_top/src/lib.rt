@@ -1,4 +1,6 @@
 //! The whole program as one call over traits: words, a shelf of files, an input, an output, a trace and devices.
+//!
+//! `mixed_main` carries the promise of the program: a call ends in one of the ways of `specs/Ends`, with its cause.
 #![tactic(auto)]
 
 mod close;

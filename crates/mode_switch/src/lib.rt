@@ -2,6 +2,8 @@
 //! and passes to it, what a callee is handed, and what its return gives back
 //! (Inside Macintosh: PowerPC System Software, chapter 2). It knows registers and memory, and no chain of
 //! suspended callers.
+//!
+//! Each call answers the definition's value, and one that is refused has changed nothing.
 #![tactic(auto)]
 
 mod callee;

@@ -1,4 +1,6 @@
 //! A step of PowerPC code: the user-mode integer instructions of the 601 over guarded memory.
+//!
+//! `step_ppc` does what the definition `stepped` says, and a fault changes nothing.
 #![tactic(auto)]
 
 mod run_word;

@@ -67,7 +67,7 @@ type_count bytes list = (word_at bytes list + 1) % 65536
 abbrev pub with_types : List ℕ → Areas → ℕ → ℕ → Result (List Resource) RsrcError
 with_types bytes areas list count = each_below (with_type bytes areas list) [] count
 
--- the resources of a fork, or its first refusal in the order of the file
+-- the resources of a fork, or its first refusal in the order of the type list
 abbrev pub resources_of : List ℕ → Result (List Resource) RsrcError
 resources_of bytes =
     areas_of bytes >>= λ areas. list_of bytes areas >>= λ list. with_types bytes areas list (type_count bytes list)

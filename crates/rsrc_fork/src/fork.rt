@@ -5,8 +5,8 @@ use crate::references::{Resources, resources_of};
 use std::alloc::Global;
 use std::marker::Model;
 
-/// A resource fork that was read. Contracts see it as its resources in the order of the file: the name
-/// and the bytes of each.
+/// A resource fork that was read. Contracts see it as its resources in the order of the type list: the
+/// name and the bytes of each.
 #[derive(Drop)]
 pub struct Fork<'a> {
     resources: Resources<'a>,
@@ -31,8 +31,8 @@ impl<'a> Fork<'a> {
     ghost use Rattle.rsrc_fork.specs.Resources.{Resource, bytes_of, named, next_id, IsNextId};
     ghost use Rattle.rsrc_fork.specs.Walk.{ComesToEnd, FindsAll};
 
-    /// Reads the fork in a file's bytes. A refusal is the first in the order of the file: the header,
-    /// the place of the type list, and then each type and its references in turn. It keeps an entry for
+    /// Reads the fork in a file's bytes. A refusal is the first in this order: the header, the place
+    /// of the type list, and then each type and its references in turn, as they are listed. It keeps an entry for
     /// each resource, and copies no bytes.
     pub fn read(alloc: Global, bytes: &'a [u8]) -> Result<Fork<'a>, RsrcError>
         requires { length bytes.now ≤ 2 ^ 24 }

@@ -12,7 +12,7 @@ use crate::name::Name;
 use indexmap::IndexMap;
 use std::alloc::Global;
 
-/// The resources so far, in the order of the file.
+/// The resources so far, in the order of the type list.
 pub type Resources<'a> = IndexMap<Name, &'a [u8]>;
 
 /// A type's entry in the type list.

@@ -2,6 +2,8 @@
 //! else. Layout and placement of the frames are this project's own.
 //!
 //! Definitions and laws speak of the chain's records, innermost first, read from the bytes.
+//!
+//! `push` adds a record and `pop` gives it back; what loads and stores see of the chain is a law of `chain_laws`.
 #![tactic(auto)]
 
 mod active;
