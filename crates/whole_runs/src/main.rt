@@ -18,7 +18,7 @@
 //! The answers that are stored beside this program were not made by it. They were worked out from the rules
 //! in `docs/`: by hand the addresses, steps and lines of each small program, and by a reader of forks and
 //! containers that was written from `docs/files.md` alone what each file that is cut or changed is refused
-//! for.
+//! for. What the samples of this repository give was worked out from their sources.
 #![tactic(auto)]
 
 mod case;
