@@ -13,8 +13,11 @@ use std::process::ExitCode;
 const HELP: &str = "\
 mixedrun runs programs that mix 68K and PowerPC code.
 
-usage: mixedrun run flat=FILE | rsrc=FILE | pef=FILE | rsrc=FILE pef=FILE
-                    [main=68k|ppc] [ram=KIB] [steps=N]
+usage: mixedrun run FILES [main=68k|ppc] [ram=KIB] [steps=N]
+       mixedrun list FILES at=ADDRESS count=N [main=68k|ppc] [ram=KIB]
+       mixedrun sample n=N depth=D
+
+FILES is flat=FILE, rsrc=FILE, pef=FILE, or rsrc=FILE pef=FILE.
 
   flat=FILE   a flat image, put at address $10000 and started there
   rsrc=FILE   a resource fork with CODE segments of 68K code
@@ -24,9 +27,16 @@ usage: mixedrun run flat=FILE | rsrc=FILE | pef=FILE | rsrc=FILE pef=FILE
   ram=KIB     the size of RAM, 128 to 16384 KiB (default 1024)
   steps=N     how many steps are done at most, 0 to 4294967295
               (default 1000000)
+  at=ADDRESS  where a listing begins, in eight upper-case hexadecimal digits
+  count=N     how many instructions it has at most, 1 to 4096
+  n=N         how many calls the sample makes, 1 to 1000
+  depth=D     how deep each of them goes, 1 to 300
 
-The words stand in any order behind run. A flat file stands alone; main=68k
-needs a flat file or a fork, and main=ppc a flat file or a container.
+run runs a program; list writes its instructions as text, a line for each;
+sample runs a program of its own whose 68K and PowerPC code call each other,
+and counts what crosses. The words stand in any order behind the command.
+A flat file stands alone; main=68k needs a flat file or a fork, and main=ppc a
+flat file or a container.
 
 Input comes from standard input, output goes to standard output, and the trace
 of calls, returns, device asks and the end goes to standard error. Slot 0 holds
@@ -43,6 +53,7 @@ Status:
 Examples:
   mixedrun run flat=samples/hello.bin
   mixedrun run rsrc=program.rsrc pef=program.pef main=ppc ram=4096 steps=50000
+  mixedrun list flat=samples/hello.bin at=00010000 count=4
 
 The folder docs/ says what the machine is and what the lines of the trace mean.
 ";
