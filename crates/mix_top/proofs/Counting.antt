@@ -1,9 +1,9 @@
 -- Whose count of faults rose, by the status.
-use Rattle.std.proofs.Common.{◌≡◌, ℕ, ◌==◌, true, false, Bool, inl, inr, List, [], if◌then◌else◌, sym, ap, subst, ◌∙◌, refl}
+use Rattle.std.proofs.Common.{◌≡◌, ℕ, ◌==◌, true, false, Bool, inl, inr, List, [], if◌then◌else◌, sym, ap, subst, ◌∙◌, refl, append-nil}
 use Rattle.std.specs.Prelude.{MatchBool}
 use Rattle.mix_bits.specs.declared.isa.Isa.{Isa}
 use Rattle.mix_io.specs.Counts.{Rose}
-use Rattle.mix_io.specs.Streams.{Output}
+use Rattle.mix_io.specs.Streams.{Output, Breaks}
 use Rattle.dev_rack.specs.Accounts.{Accounts}
 use Rattle.dev_rack.proofs.Steps.{accounts-none}
 use Rattle.mixed_machine.specs.Counts.{Counts, Blames, Calm, InputRose, OutRose, TraceRose}
@@ -69,6 +69,11 @@ accounted-puts old new text status result plain only (inr (stops, same)) =
       trace = quiet 7 6 result old.trace.faults new.trace.faults refl same (ap (λ t. t.faults) only.trace);
       devices = subst (Accounts old.outside.rack) (sym only.rack) (accounts-none old.outside.rack);
     }
+
+-- the put of a line failed
+pub puts-broke : (old new : Output) (line piece : List ℕ) (status : ℕ) → piece ≡ line → Breaks old new [] piece → PutsText old new line status 6
+puts-broke old new line piece status same breaks =
+    inr (record { before = []; line = line; rest = []; order = sym (append-nil line); breaks = subst (λ l. Breaks old new [] l) same breaks }, refl)
 
 -- nothing on it
 pub accounted-quiet : (old new : World) (status result : ℕ) → IsPlain status → OnlyPuts old new → new.outside.out ≡ old.outside.out → result ≡ status → Accounted old new result

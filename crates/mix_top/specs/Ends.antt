@@ -1,7 +1,7 @@
 -- The ways in which a call of the program ends, each with its cause. This is the whole promise of the public call:
 -- whatever the words, the files, the input, the answers of the devices and the failures of the outside are, one of
 -- these holds.
-use Rattle.std.specs.Prelude.{◌≡◌, ℕ, suc, ◌-◌, ◌<◌, ◌≤◌, ◌==◌, List, [], ◌∷◌, ◌++◌, Option, Result, Ok, Err, if◌then◌else◌}
+use Rattle.std.specs.Prelude.{◌≡◌, ℕ, suc, ◌-◌, ◌<◌, ◌≤◌, ◌==◌, List, [], ◌∷◌, ◌++◌, Option, Some, Result, Ok, Err, if◌then◌else◌}
 use Rattle.mix_bits.specs.declared.isa.Isa.{Isa}
 use Rattle.mix_io.specs.Counts.{CountsStay, CountRose}
 use Rattle.mix_io.specs.Streams.{Output, Grows, Breaks}
@@ -141,10 +141,17 @@ pub data SampleWay (calls depth : ℕ) (old new : World) (result : ℕ) : Type 0
   -- it ran
   sample_ran : SampleRan calls depth old new result → SampleWay calls depth old new result
 
+-- a file is the next to be fetched, after others that were
+pub record IsNext (words : List (List ℕ)) (contents : Contents) (job : Job) (key : Key) : Type 0 where
+  pub before : List Key
+  pub after : List Key
+  pub order : wanted job ≡ before ++ (key ∷ after)
+  pub fetched : AreFetched words contents job before
+
 -- the words are a command that loads the program of a job
 pub record Loads (words : List (List ℕ)) (command : Command) (job : Job) : Type 0 where
-  pub command : command_of words ≡ Ok command
-  pub job : job_of command ≡ Some job
+  pub is : command_of words ≡ Ok command
+  pub loads : job_of command ≡ Some job
 
 -- the ways to end, for the counts of faults of the shelf's names before and after
 pub data Way (words : List (List ℕ)) (contents : Contents) (faults_old faults_new : List ℕ → ℕ) (old new : World) (result : ℕ) : Type 0 where

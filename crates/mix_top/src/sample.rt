@@ -1,5 +1,5 @@
 // The sample, from its run to its line.
-ghost use Rattle.std.specs.Prelude.{◌≡◌, ◌≤◌, ◌++◌, length};
+ghost use Rattle.std.specs.Prelude.{◌≡◌, ◌+◌, ◌≤◌, ◌++◌, length};
 ghost use Rattle.dev_rack.specs.Rack.{State};
 ghost use Rattle.toolbox.specs.Calls.{Input};
 ghost use Rattle.call_trace.specs.Names.{fault_name as name_of_fault};

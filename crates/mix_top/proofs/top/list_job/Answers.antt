@@ -9,10 +9,10 @@ list_files-requires-clause-files g c = loadable _ _ c.args.job c.in-Ok.files c.r
 
 pub returns-in-Ok-clause-ends : goal.returns-in-Ok-clause-ends
 returns-in-Ok-clause-ends g c = λ input rack.
-    ends-of_files _ _ _ _ _ _ (Lists c.args.job c.args.at c.args.count) c.args.job c.in-Ok.files _ (record { command = c.requires.command; job = refl })
+    ends-of_files _ _ _ _ _ _ (Lists c.args.job c.args.at c.args.count) c.args.job c.in-Ok.files _ (record { is = c.requires.command; loads = refl })
     c.in-Ok.ensures.files c.in-Ok.ensures.counts (c.list_files.ensures.accounted input rack) (c.list_files.ensures.way input rack)
 
 pub returns-in-Err-clause-ends : goal.returns-in-Err-clause-ends
 returns-in-Err-clause-ends g c = λ input rack.
-    ends-of_missing _ _ _ _ _ _ (Lists c.args.job c.args.at c.args.count) c.args.job c.in-Err.missing _ (record { command = c.requires.command; job = refl })
+    ends-of_missing _ _ _ _ _ _ (Lists c.args.job c.args.at c.args.count) c.args.job c.in-Err.missing _ (record { is = c.requires.command; loads = refl })
     c.in-Err.ensures.missing refl c.close_unfetched.ensures

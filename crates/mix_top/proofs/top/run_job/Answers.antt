@@ -9,10 +9,10 @@ run_files-requires-clause-files g c = loadable _ _ c.args.job c.in-Ok.files c.re
 
 pub returns-in-Ok-clause-ends : goal.returns-in-Ok-clause-ends
 returns-in-Ok-clause-ends g c =
-    ends-of_files _ _ _ _ _ _ (Run c.args.job) c.args.job c.in-Ok.files _ (record { command = c.requires.command; job = refl }) c.in-Ok.ensures.files c.in-Ok.ensures.counts
+    ends-of_files _ _ _ _ _ _ (Run c.args.job) c.args.job c.in-Ok.files _ (record { is = c.requires.command; loads = refl }) c.in-Ok.ensures.files c.in-Ok.ensures.counts
     c.run_files.ensures.accounted c.run_files.ensures.way
 
 pub returns-in-Err-clause-ends : goal.returns-in-Err-clause-ends
 returns-in-Err-clause-ends g c =
-    ends-of_missing _ _ _ _ _ _ (Run c.args.job) c.args.job c.in-Err.missing _ (record { command = c.requires.command; job = refl }) c.in-Err.ensures.missing refl
+    ends-of_missing _ _ _ _ _ _ (Run c.args.job) c.args.job c.in-Err.missing _ (record { is = c.requires.command; loads = refl }) c.in-Err.ensures.missing refl
     c.close_unfetched.ensures
