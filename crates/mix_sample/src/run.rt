@@ -29,13 +29,7 @@ pub fn run_sample(alloc: Global, n: u32, depth: u32) -> Result<Sampled, NoMemory
 }
 
 /// Runs the sample image in `kib` KiB of RAM for at most `steps` steps.
-fn run_in(
-    alloc: Global,
-    n: u32,
-    depth: u32,
-    kib: u32,
-    steps: u32,
-) -> Result<Sampled, NoMemory>
+fn run_in(alloc: Global, n: u32, depth: u32, kib: u32, steps: u32) -> Result<Sampled, NoMemory>
     requires least { 128 ≤ kib }
     requires most { kib ≤ 16384 }
     ensures { IfOk result (IsSample kib steps n depth) }
@@ -118,7 +112,14 @@ fn step_alone(machine: &mut Machine) -> Ending
     ensures whole { IsWhole machine.new.body (isa_of machine.new.active) }
     ensures step { Steps (flat machine.old.body machine.old.active nothing) (flat machine.new.body machine.new.active nothing) result }
 {
-    match run(machine, &mut NoInput, &mut Nowhere, &mut Nowhere, &mut NoDevices, 1) {
+    match run(
+        machine,
+        &mut NoInput,
+        &mut Nowhere,
+        &mut Nowhere,
+        &mut NoDevices,
+        1,
+    ) {
         Stop::Exit(code) => Ending::Exit(code),
         Stop::Fault(fault) => Ending::Fault(fault),
         Stop::Limit => Ending::Limit,

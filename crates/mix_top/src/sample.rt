@@ -42,12 +42,8 @@ fn put_sample<O: Sink>(calls: u32, depth: u32, sampled: Sampled, out: &mut O) ->
     ensures { PutsSample calls depth sampled sampled.end (trace_told (O.held out.old) (O.faults out.old)) (trace_told (O.held out.new) (O.faults out.new)) result }
 {
     match sampled.end {
-        Ending::Exit(code) => {
-            put_line(&exit_line(calls, depth, sampled, code), 0, out)
-        }
-        Ending::Fault(fault) => {
-            put_line(&fault_line(calls, depth, sampled, fault), 10, out)
-        }
+        Ending::Exit(code) => { put_line(&exit_line(calls, depth, sampled, code), 0, out) }
+        Ending::Fault(fault) => { put_line(&fault_line(calls, depth, sampled, fault), 10, out) }
         Ending::Limit => 11,
     }
 }

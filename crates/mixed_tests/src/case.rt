@@ -27,12 +27,7 @@ pub fn compare_texts(rt: &impl Abort, alloc: Global, table: &str) -> Result<(), 
 }
 
 /// Compares what a line gives: `WORDS | FILES | OUTPUT | TRACE | STATUS`.
-fn compare_line(
-    rt: &impl Abort,
-    alloc: Global,
-    line: &str,
-    has_lines: bool,
-) -> Result<(), Fail> {
+fn compare_line(rt: &impl Abort, alloc: Global, line: &str, has_lines: bool) -> Result<(), Fail> {
     let Some((words, rest)) = line.split_once('|') else {
         return Err(Fail::new("a line without files"));
     };
