@@ -5,16 +5,28 @@ use Rattle.switch_frame.specs.Records.{Record}
 use Rattle.mixed_machine.specs.Counts.{Blames, Calm, Counts}
 use Rattle.mixed_machine.specs.Events.{CameBackAt, StopsAt}
 use Rattle.mixed_machine.specs.Outside.{At}
+use Rattle.mix_steps.specs.declared.outside.Outside.{Outside}
+use Rattle.mix_engine.specs.declared.turn.End.{End}
+use Rattle.mix_engine.specs.declared.turn.End.TheVariants.{Back as IsBack, Stop as IsStop}
 use Rattle.mix_engine.specs.declared.turn.Turn.{Turn}
 use Rattle.mix_engine.specs.declared.turn.Turn.TheVariants.{Back, Stop as Stopped}
 
 abbrev pub counts : ℕ → ℕ → ℕ → Counts
 counts input out trace = record { input = input; out = out; trace = trace }
 
+-- those of what lies outside
+abbrev pub counts_in : {I O T D : Type 0} → (I → ℕ) → (O → ℕ) → (T → ℕ) → Outside I O T D → Counts
+counts_in input out trace o = counts (input o.input.now) (out o.out.now) (trace o.trace.now)
+
 -- the registers that it hands back
 abbrev pub file_of : Turn → Active
 file_of (Back file) = file
 file_of (Stopped file stop) = file
+
+-- an end with the registers
+abbrev pub turn_of : Active → End → Turn
+turn_of file IsBack = Back file
+turn_of file (IsStop stop) = Stopped file stop
 
 -- a run down to d callers of at most n steps, with `left` steps left at its end
 abbrev pub TurnsAt : ℕ → ℕ → ℕ → At → At → Turn → Type 0

@@ -3,22 +3,24 @@ ghost use Rattle.std.specs.Prelude.{◌≡◌, IfOk};
 ghost use Rattle.switch_frame.specs.Program.{IsProgram};
 ghost use Rattle.switch_frame.specs.Records.{isa_of};
 ghost use Rattle.dev_rack.specs.Accounts.{Accounts};
-ghost use Rattle.toolbox.specs.Calls.{outside};
+ghost use Rattle.toolbox.specs.Calls.{outside as outside_of};
 ghost use Rattle.toolbox.specs.Effects.{Around};
 ghost use Rattle.mixed_machine.specs.Counts.{Blames};
 ghost use Rattle.mixed_machine.specs.Machine.{IsWhole, flat};
 ghost use Rattle.mixed_machine.specs.Outside.{at};
 ghost use Rattle.mixed_machine.specs.Runs.{Runs};
+ghost use Rattle.mix_steps.specs.Beside.{AreSame, machine_beside};
 ghost use Rattle.mix_steps.specs.Does.{output};
 ghost use Rattle.mix_engine.specs.Start.{start_of};
-ghost use Rattle.mix_engine.specs.Turns.{counts};
+ghost use Rattle.mix_engine.specs.Turns.{counts, counts_in};
 
-use crate::runs::run_set;
-use crate::turn::Turn;
+use crate::runs::run_turns;
+use crate::turn::End;
 use big_memory::NoMemory;
 use dev_rack::Devices;
 use host_heap::Heap;
 use mix_io::{Sink, Source};
+use mix_steps::Outside;
 use mixed_machine::{Body, Stop};
 use std::alloc::Global;
 use switch_frame::{Active, Program};
@@ -75,19 +77,41 @@ pub fn run<I: Source, O: Sink, T: Sink, D: Devices>(
     requires { IsWhole m.old.body (isa_of m.old.active) }
     ensures whole { IsWhole m.new.body (isa_of m.new.active) }
     ensures run { Runs steps
-        (at m.old.body m.old.active (outside (I.left input.old) (I.faults input.old) (D.state rack.old) (O.held out.old) (O.faults out.old)) (output (T.held trace.old) (T.faults trace.old)))
-        (at m.new.body m.new.active (outside (I.left input.new) (I.faults input.new) (D.state rack.new) (O.held out.new) (O.faults out.new)) (output (T.held trace.new) (T.faults trace.new))) result }
+        (at m.old.body m.old.active (outside_of (I.left input.old) (I.faults input.old) (D.state rack.old) (O.held out.old) (O.faults out.old)) (output (T.held trace.old) (T.faults trace.old)))
+        (at m.new.body m.new.active (outside_of (I.left input.new) (I.faults input.new) (D.state rack.new) (O.held out.new) (O.faults out.new)) (output (T.held trace.new) (T.faults trace.new))) result }
     ensures blames { Blames result (counts (I.faults input.old) (O.faults out.old) (T.faults trace.old)) (counts (I.faults input.new) (O.faults out.new) (T.faults trace.new)) }
     ensures devices { Accounts (D.state rack.old) (D.state rack.new) }
 {
+    let mut outside = Outside {
+        input,
+        out,
+        trace,
+        rack,
+    };
+    run_beside(&mut m.body, &mut m.active, &mut outside, steps)
+}
+
+/// The same beside what lies outside. Each turn but the last gives up a suspended caller.
+fn run_beside<'i, 'o, 't, 'd, I: Source, O: Sink, T: Sink, D: Devices>(
+    body: &mut Body,
+    active: &mut Active,
+    outside: &mut Outside<'i, 'o, 't, 'd, I, O, T, D>,
+    steps: u32,
+) -> Stop
+    requires { IsWhole body.old (isa_of active.old) }
+    ensures whole { IsWhole body.new (isa_of active.new) }
+    ensures run { Runs steps
+        (machine_beside I.left I.faults O.held O.faults T.held T.faults D.state body.old active.old outside.old)
+        (machine_beside I.left I.faults O.held O.faults T.held T.faults D.state body.new active.new outside.new) result }
+    ensures blames { Blames result (counts_in I.faults O.faults T.faults outside.old) (counts_in I.faults O.faults T.faults outside.new) }
+    ensures devices { Accounts (D.state outside.old.rack.now) (D.state outside.new.rack.now) }
+    ensures same { AreSame outside.old outside.new }
+{
     let mut left = steps;
     'turns: loop {
-        match run_set(&mut m.body, m.active, input, out, trace, rack, &mut left) {
-            Turn::Back(file) => m.active = file,
-            Turn::Stop(file, stop) => {
-                m.active = file;
-                return stop;
-            }
+        match run_turns(body, active, outside, &mut left) {
+            End::Back => {}
+            End::Stop(stop) => return stop,
         }
     }
 }

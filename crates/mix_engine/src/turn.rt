@@ -1,3 +1,6 @@
+ghost use Rattle.std.specs.Prelude.{◌≡◌};
+ghost use Rattle.mix_engine.specs.Turns.{turn_of};
+
 use mixed_machine::Stop;
 use switch_frame::Active;
 
@@ -8,4 +11,23 @@ pub enum Turn {
     Back(Active),
     /// The machine stops, with these registers.
     Stop(Active, Stop),
+}
+
+/// The same without the registers.
+#[derive(Clone, Copy)]
+pub enum End {
+    Back,
+    Stop(Stop),
+}
+
+impl End {
+    /// With the registers.
+    pub fn turn(self, active: Active) -> Turn
+        ensures { result ≡ turn_of active self }
+    {
+        match self {
+            End::Back => Turn::Back(active),
+            End::Stop(stop) => Turn::Stop(active, stop),
+        }
+    }
 }

@@ -5,3 +5,4 @@ pub mod Cores
 pub mod Does
 pub mod Frames
 pub mod Called
+pub mod Beside

@@ -4,7 +4,6 @@ ghost use Rattle.mix_bits.specs.declared.fault.FaultKind.TheVariants.{NoTrap};
 ghost use Rattle.big_memory.specs.Faults.{fault_at};
 ghost use Rattle.mix_bits.specs.declared.isa.Isa.TheVariants.{M68 as set_m68};
 ghost use Rattle.switch_frame.specs.Records.{isa_of};
-ghost use Rattle.toolbox.specs.Calls.{outside};
 ghost use Rattle.toolbox.specs.Functions.{trap_number};
 ghost use Rattle.toolbox.specs.Host.{host as host_at};
 ghost use Rattle.toolbox.specs.Host.Hosted.{Crosses};
@@ -12,7 +11,7 @@ ghost use Rattle.mixed_machine.specs.Acts.{Acts};
 ghost use Rattle.mixed_machine.specs.Host.{host_of, traps_to};
 ghost use Rattle.mixed_machine.specs.Machine.{IsWhole};
 ghost use Rattle.mixed_machine.specs.State.{pc_of};
-ghost use Rattle.mixed_machine.specs.Outside.{at};
+ghost use Rattle.mix_steps.specs.Beside.{AreSame, machine_beside};
 ghost use Rattle.mix_steps.specs.Called.{IsCalled, hosted_in};
 ghost use Rattle.mix_steps.specs.Cores.{IsNumber, leaves_code};
 ghost use Rattle.mix_steps.specs.Does.{Does, output};
@@ -20,6 +19,7 @@ ghost use Rattle.mix_steps.specs.Does.{Does, output};
 use crate::active::pc;
 use crate::enter::cross;
 use crate::laws::body_laws;
+use crate::outside::Outside;
 use call_trace::put_ask;
 use dev_rack::Devices;
 use mix_bits::{Fault, FaultKind};
@@ -44,20 +44,18 @@ pub enum Called {
 /// The host goes on: with a word of line A of 68K code, or with a host function of PowerPC code, as the
 /// cell's detail tells.
 #[inline(never)]
-pub fn leave_code<I: Source, O: Sink, T: Sink, D: Devices>(
+pub fn leave_code<'i, 'o, 't, 'd, I: Source, O: Sink, T: Sink, D: Devices>(
     body: &mut Body,
     active: &mut Active,
-    input: &mut I,
-    out: &mut O,
-    trace: &mut T,
-    rack: &mut D,
+    outside: &mut Outside<'i, 'o, 't, 'd, I, O, T, D>,
     fault: &mut Fault,
 ) -> Did
     requires whole { IsWhole body.old (isa_of active.old) }
     requires number { IsNumber active.old fault.old.detail }
-    ensures { Acts (λ s. leaves_code active.old s fault.old.detail) result fault.new
-        (at body.old active.old (outside (I.left input.old) (I.faults input.old) (D.state rack.old) (O.held out.old) (O.faults out.old)) (output (T.held trace.old) (T.faults trace.old)))
-        (at body.new active.new (outside (I.left input.new) (I.faults input.new) (D.state rack.new) (O.held out.new) (O.faults out.new)) (output (T.held trace.new) (T.faults trace.new))) }
+    ensures does { Acts (λ s. leaves_code active.old s fault.old.detail) result fault.new
+        (machine_beside I.left I.faults O.held O.faults T.held T.faults D.state body.old active.old outside.old)
+        (machine_beside I.left I.faults O.held O.faults T.held T.faults D.state body.new active.new outside.new) }
+    ensures same { AreSame outside.old outside.new }
 {
     body_laws();
     let number = fault.detail;
@@ -65,37 +63,35 @@ pub fn leave_code<I: Source, O: Sink, T: Sink, D: Devices>(
         Active::M68(regs) => {
             if number == MIXED_MODE_MAGIC {
                 let wanted = wants_68k(&body.ram, regs);
-                cross(body, active, &wanted, trace, fault)
+                cross(body, active, &wanted, outside.trace, fault)
             } else {
-                trap(number, body, active, input, out, trace, rack, fault)
+                trap(number, body, active, outside, fault)
             }
         }
-        Active::Ppc(_) => call_function(number, 0, body, active, input, out, trace, rack, fault),
+        Active::Ppc(_) => call_function(number, 0, body, active, outside, fault),
     }
 }
 
 /// The trap with this word.
-fn trap<I: Source, O: Sink, T: Sink, D: Devices>(
+fn trap<'i, 'o, 't, 'd, I: Source, O: Sink, T: Sink, D: Devices>(
     word: u32,
     body: &mut Body,
     active: &mut Active,
-    input: &mut I,
-    out: &mut O,
-    trace: &mut T,
-    rack: &mut D,
+    outside: &mut Outside<'i, 'o, 't, 'd, I, O, T, D>,
     fault: &mut Fault,
 ) -> Did
     requires whole { IsWhole body.old (isa_of active.old) }
     requires set { isa_of active.old ≡ set_m68 }
     requires word { word < 2 ^ 16 }
-    ensures { Acts (λ s. traps_to s word (trap_number word)) result fault.new
-        (at body.old active.old (outside (I.left input.old) (I.faults input.old) (D.state rack.old) (O.held out.old) (O.faults out.old)) (output (T.held trace.old) (T.faults trace.old)))
-        (at body.new active.new (outside (I.left input.new) (I.faults input.new) (D.state rack.new) (O.held out.new) (O.faults out.new)) (output (T.held trace.new) (T.faults trace.new))) }
+    ensures does { Acts (λ s. traps_to s word (trap_number word)) result fault.new
+        (machine_beside I.left I.faults O.held O.faults T.held T.faults D.state body.old active.old outside.old)
+        (machine_beside I.left I.faults O.held O.faults T.held T.faults D.state body.new active.new outside.new) }
+    ensures same { AreSame outside.old outside.new }
 {
     body_laws();
     trap_laws();
     match trap_index(word as u16) {
-        Some(index) => call_function(index, word, body, active, input, out, trace, rack, fault),
+        Some(index) => call_function(index, word, body, active, outside, fault),
         None => no_trap(word, active, fault),
     }
 }
@@ -115,48 +111,44 @@ fn no_trap(word: u32, active: &Active, fault: &mut Fault) -> Did
 }
 
 /// Calls a host function, from the trap with this word in 68K code.
-fn call_function<I: Source, O: Sink, T: Sink, D: Devices>(
+fn call_function<'i, 'o, 't, 'd, I: Source, O: Sink, T: Sink, D: Devices>(
     index: u32,
     word: u32,
     body: &mut Body,
     active: &mut Active,
-    input: &mut I,
-    out: &mut O,
-    trace: &mut T,
-    rack: &mut D,
+    outside: &mut Outside<'i, 'o, 't, 'd, I, O, T, D>,
     fault: &mut Fault,
 ) -> Did
     requires whole { IsWhole body.old (isa_of active.old) }
     requires index { index < 16 }
-    ensures { Acts (λ s. hosted_in active.old word s (host_at index (host_of s))) result fault.new
-        (at body.old active.old (outside (I.left input.old) (I.faults input.old) (D.state rack.old) (O.held out.old) (O.faults out.old)) (output (T.held trace.old) (T.faults trace.old)))
-        (at body.new active.new (outside (I.left input.new) (I.faults input.new) (D.state rack.new) (O.held out.new) (O.faults out.new)) (output (T.held trace.new) (T.faults trace.new))) }
+    ensures does { Acts (λ s. hosted_in active.old word s (host_at index (host_of s))) result fault.new
+        (machine_beside I.left I.faults O.held O.faults T.held T.faults D.state body.old active.old outside.old)
+        (machine_beside I.left I.faults O.held O.faults T.held T.faults D.state body.new active.new outside.new) }
+    ensures same { AreSame outside.old outside.new }
 {
     body_laws();
-    match call(index, body, active, input, out, trace, rack, fault) {
+    match call(index, body, active, outside, fault) {
         Called::Went(did) => did,
         Called::Cross { pointer, info } => {
-            cross_by(pointer, info, word, body, active, trace, fault)
+            cross_by(pointer, info, word, body, active, outside.trace, fault)
         }
     }
 }
 
 /// Calls a host function.
-fn call<I: Source, O: Sink, T: Sink, D: Devices>(
+fn call<'i, 'o, 't, 'd, I: Source, O: Sink, T: Sink, D: Devices>(
     index: u32,
     body: &mut Body,
     active: &mut Active,
-    input: &mut I,
-    out: &mut O,
-    trace: &mut T,
-    rack: &mut D,
+    outside: &mut Outside<'i, 'o, 't, 'd, I, O, T, D>,
     fault: &mut Fault,
 ) -> Called
     requires whole { IsWhole body.old (isa_of active.old) }
     requires index { index < 16 }
-    ensures { IsCalled index result fault.new
-        (at body.old active.old (outside (I.left input.old) (I.faults input.old) (D.state rack.old) (O.held out.old) (O.faults out.old)) (output (T.held trace.old) (T.faults trace.old)))
-        (at body.new active.new (outside (I.left input.new) (I.faults input.new) (D.state rack.new) (O.held out.new) (O.faults out.new)) (output (T.held trace.new) (T.faults trace.new))) }
+    ensures does { IsCalled index result fault.new
+        (machine_beside I.left I.faults O.held O.faults T.held T.faults D.state body.old active.old outside.old)
+        (machine_beside I.left I.faults O.held O.faults T.held T.faults D.state body.new active.new outside.new) }
+    ensures same { AreSame outside.old outside.new }
 {
     body_laws();
     match host_call(
@@ -164,12 +156,12 @@ fn call<I: Source, O: Sink, T: Sink, D: Devices>(
         active,
         &mut body.ram,
         &mut body.heap,
-        rack,
-        input,
-        out,
+        outside.rack,
+        outside.input,
+        outside.out,
     ) {
         HostOut::Done => Called::Went(Did::Next),
-        HostOut::Asked { slot, word, answer } => match put_ask(trace, slot, word, answer) {
+        HostOut::Asked { slot, word, answer } => match put_ask(outside.trace, slot, word, answer) {
             Ok(()) => Called::Went(Did::Next),
             Err(_) => Called::Went(Did::TraceFault),
         },

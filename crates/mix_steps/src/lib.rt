@@ -13,7 +13,9 @@ mod frames;
 mod host;
 mod laws;
 mod leave;
+mod outside;
 mod refuse;
 mod step;
 
+pub use outside::Outside;
 pub use step::one;

@@ -8,12 +8,12 @@ use Rattle.mix_steps.proofs.Amid.{acts-from}
 use Rattle.mix_steps.proofs.Leavings.{no-trap, trap-hosts}
 use Rattle.mix_steps.proofs.host.trap.Goals as goal
 
-pub returns-in-Some : goal.returns-in-Some
-returns-in-Some g c =
+pub returns-in-Some-clause-does : goal.returns-in-Some-clause-does
+returns-in-Some-clause-does g c =
     acts-from (λ s. traps_to s c.args.word (trap_number c.args.word)) (λ s. hosted_in c.args.active.now c.args.word s (host c.in-Some.index (host_of s))) _ _ _ _ _ refl
     (λ around. trap-hosts c.args.active.now c.args.word c.in-Some.index (flat c.args.body.now c.args.active.now around) c.requires.set (c.trap_laws.ensures c.args.word (Some c.in-Some.index) c.in-Some.ensures))
-    c.call_function.ensures
+    c.call_function.ensures.does
 
-pub returns-in-None : goal.returns-in-None
-returns-in-None g c =
+pub returns-in-None-clause-does : goal.returns-in-None-clause-does
+returns-in-None-clause-does g c =
     rw c.no_trap.ensures.did (no-trap c.body_laws.ensures c.args.word _ _ _ _ _ c.requires.whole (c.trap_laws.ensures c.args.word None c.in-None.ensures) c.no_trap.ensures.cell)
