@@ -21,6 +21,7 @@ use Rattle.args_m68.specs.Places.{params_bytes, result_bytes, route_of, selector
 use Rattle.args_m68.specs.Values.{above_sp}
 use Rattle.args_m68.specs.Gather.{values_at}
 use Rattle.args_m68.specs.Deliver.{below, pascal_slot, selector_slot, slots, stack_of}
+use Rattle.args_m68.specs.Laws.{FillsItsStack}
 
 -- lengths of the parts of a stack
 pub length-slot : (s : Size) (v : ℕ) → length (pascal_slot s v) ≡ width s
@@ -83,7 +84,7 @@ long-back Two v rest = omega arith
 long-back Four v rest = omega arith
 
 -- a stack has as many bytes as it takes
-pub length-stack : (sig : Signature) (selector : Option ℕ) (values : List ℕ) → length values ≡ length sig.params → length (stack_of sig selector values) ≡ below sig (is_some selector)
+pub length-stack : FillsItsStack
 length-stack sig selector values same =
     let route = route_of sig.conv in
     let chosen = selector_slot sig.conv sig.selector selector in

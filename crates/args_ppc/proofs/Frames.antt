@@ -11,6 +11,7 @@ use Rattle.proc_info.specs.declared.param.Param.{Param}
 use Rattle.proc_info.specs.Cut.{cut}
 use Rattle.proc_info.specs.Signature.{Signature}
 use Rattle.args_ppc.specs.Deliver.{below, callee_words, first_param, frame_bytes, frame_of, longs, registers_with, zeros}
+use Rattle.args_ppc.specs.Laws.{FillsItsStack}
 
 -- how many bytes so many zeros are
 pub length-zeros : (n : ℕ) → length (zeros n) ≡ n
@@ -43,7 +44,7 @@ pub length-words : (sig : Signature) (selector : Option ℕ) (values : List ℕ)
 length-words sig None values same = length-cut sig.params values same ∙ omega arith
 length-words sig (Some v) values same = omega (arith, length-cut sig.params values same)
 
-pub length-stack : (sig : Signature) (selector : Option ℕ) (values : List ℕ) → length values ≡ length sig.params → length (frame_of (callee_words sig selector values)) ≡ below sig (is_some selector)
+pub length-stack : FillsItsStack
 length-stack sig selector values same = length-frame (callee_words sig selector values) ∙ ap frame_bytes (length-words sig selector values same)
 
 -- words in bytes, from the k-th on

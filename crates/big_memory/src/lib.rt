@@ -9,8 +9,6 @@ mod marks;
 mod ram;
 mod refusals;
 mod steps;
-#[cfg(test)]
-mod tests;
 
 pub use laws::{memory_laws, put_laws};
 pub use map::{

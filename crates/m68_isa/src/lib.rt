@@ -19,8 +19,6 @@ mod moves;
 mod operand;
 mod registers;
 mod shifts;
-#[cfg(test)]
-mod tests;
 
 pub use conditions::{condition_law, holds};
 pub use decode::decode68;

@@ -15,8 +15,6 @@ mod script_device;
 mod std_sink;
 mod std_source;
 mod tape;
-#[cfg(test)]
-mod tests;
 mod traits;
 
 pub use counter::Counter;

@@ -20,8 +20,6 @@ mod read;
 mod relocations;
 mod section;
 mod table;
-#[cfg(test)]
-mod tests;
 
 pub use error::PefError;
 pub use import::Import;

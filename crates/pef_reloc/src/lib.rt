@@ -16,8 +16,6 @@ mod piece;
 mod program;
 mod rows;
 mod section;
-#[cfg(test)]
-mod tests;
 mod words;
 mod writing;
 

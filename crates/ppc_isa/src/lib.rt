@@ -15,8 +15,6 @@ mod registers;
 mod rotate;
 mod special;
 mod strings;
-#[cfg(test)]
-mod tests;
 mod validity;
 
 pub use decode::decode_ppc;

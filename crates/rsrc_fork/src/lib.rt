@@ -14,8 +14,6 @@ mod header;
 mod lookup;
 mod name;
 mod references;
-#[cfg(test)]
-mod tests;
 
 pub use error::RsrcError;
 pub use fork::Fork;

@@ -5,7 +5,8 @@ use Rattle.std.proofs.lemmas.Bool.Decides.{nat_tests}
 use Rattle.big_memory.specs.Lists.{put}
 use Rattle.big_memory.specs.Memory.{Memory, IsFree, meets_guard, with_bytes}
 use Rattle.big_memory.proofs.Lists.{length-put, put-nil}
-use Rattle.big_memory.proofs.Guarded.{Passes, passes, free_from_test, test_from_free}
+use Rattle.big_memory.specs.Laws.{Passes}
+use Rattle.big_memory.proofs.Guarded.{passes, free_from_test, test_from_free}
 use Rattle.mix_bits.specs.declared.isa.Isa.{Isa}
 use Rattle.mix_bits.specs.declared.isa.Isa.TheVariants.{M68, Ppc}
 use Rattle.switch_frame.specs.Sets.{frame_size}

@@ -7,7 +7,8 @@ use Rattle.std.proofs.lemmas.List.{places}
 use Rattle.big_memory.specs.Lists.{part}
 use Rattle.big_memory.specs.Memory.{Memory, meets_gate, meets_guard, refusal}
 use Rattle.big_memory.proofs.Free.{free_ram}
-use Rattle.big_memory.proofs.Guarded.{Passes, passes, refusal-none, test_from_free}
+use Rattle.big_memory.specs.Laws.{Passes}
+use Rattle.big_memory.proofs.Guarded.{passes, refusal-none, test_from_free}
 use Rattle.switch_frame.specs.Records.{Record}
 use Rattle.switch_frame.specs.Chain.{Apart, Chain, Frames}
 use Rattle.switch_frame.specs.Calls.{is_crossed}

@@ -1,4 +1,4 @@
-use crate::{
+use ppc_isa::{
     BranchRegister, CarryUse, ExtendedOperand, ImmediateOp, InstrPpc, LoadKind, LogicalOp, MaskUse,
     ReversedKind, ShiftOp, SpecialRegister, StoreKind, UnaryOp, decode_ppc,
 };

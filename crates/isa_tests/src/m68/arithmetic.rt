@@ -1,5 +1,5 @@
 use super::{data, makes};
-use crate::{Ea, Exchange, Instr68};
+use m68_isa::{Ea, Exchange, Instr68};
 use mix_bits::Size;
 
 #[test]

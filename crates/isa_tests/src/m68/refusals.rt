@@ -1,4 +1,4 @@
-use crate::{Decoded68, decode68};
+use m68_isa::{Decoded68, decode68};
 
 /// Whether a first word, with words of zeros behind it, has a row of its own.
 fn is_in_a_row(word: u16) -> bool {

@@ -1,7 +1,7 @@
 // What no clause says: that the calls succeed with ample memory, and that the adapters reach the outside.
 ghost use Rattle.std.specs.Prelude.{◌≤◌, IfOk};
 
-use super::{
+use mix_io::{
     Counter, Device, Failed, FetchError, FileShelf, MemShelf, MemSink, MemSource, ScriptDevice,
     Shelf, Sink, Source, StdSink, StdSource, Tape, have_distinct_names,
 };

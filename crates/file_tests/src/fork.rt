@@ -1,4 +1,4 @@
-use super::*;
+use rsrc_fork::{Fork, RsrcError};
 use std::ops::Range;
 use std::process::Abort;
 use std::test::Fail;

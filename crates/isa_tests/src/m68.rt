@@ -8,7 +8,7 @@ mod moves;
 mod refusals;
 mod shifts;
 
-use crate::{Decoded68, Index, Instr68, decode68};
+use m68_isa::{Decoded68, Index, Instr68, decode68};
 
 /// Whether the words are this one instruction.
 fn makes(words: &[u16], wanted: Instr68) -> bool {

@@ -1,5 +1,5 @@
 use super::makes;
-use crate::{Ea, Instr68, ShiftCount, ShiftOp};
+use m68_isa::{Ea, Instr68, ShiftCount, ShiftOp};
 use mix_bits::Size;
 
 #[test]

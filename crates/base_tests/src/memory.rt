@@ -1,6 +1,6 @@
 ghost use Rattle.std.specs.Prelude.{◌≡◌, ◌%◌, ◌^◌, ◌<◌, ◌≤◌, length};
 
-use crate::{Access, Did, NoMemory, Ram, leave, refuse, stop};
+use big_memory::{Access, Did, NoMemory, Ram, leave, refuse, stop};
 use mix_bits::{Fault, FaultKind, Size};
 use std::process::Abort;
 use std::test::Fail;

@@ -1,6 +1,6 @@
 ghost use Rattle.std.specs.Prelude.{◌≤◌};
 
-use crate::{RelocError, relocate, unpack};
+use pef_reloc::{RelocError, relocate, unpack};
 use big_memory::{Access, Ram};
 use mix_bits::Size;
 use std::alloc::{AllocError, Global};

@@ -1,4 +1,4 @@
-use super::*;
+use pef_head::{Import, Pef, PefError, Section};
 use std::process::Abort;
 
 /// A program that writes `H`: code, data that is relocated, and an import. The loader section stands at

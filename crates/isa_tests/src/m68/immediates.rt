@@ -1,5 +1,5 @@
 use super::{address, data, makes};
-use crate::{BitOp, Ea, ImmediateOp, Instr68, LogicOp};
+use m68_isa::{BitOp, Ea, ImmediateOp, Instr68, LogicOp};
 use mix_bits::Size;
 
 #[test]

@@ -1,5 +1,5 @@
 use super::{address, data, makes};
-use crate::{Ea, Instr68};
+use m68_isa::{Ea, Instr68};
 use mix_bits::Size;
 
 #[test]

@@ -1,0 +1,7 @@
+//! Tests of memory, and of the objects that stand for what lies outside.
+#![tactic(auto)]
+
+#[cfg(test)]
+mod memory;
+#[cfg(test)]
+mod outside;

@@ -1,0 +1,9 @@
+//! Tests of the readers of resource forks and containers, with files made by hand.
+#![tactic(auto)]
+
+#[cfg(test)]
+mod container;
+#[cfg(test)]
+mod fork;
+#[cfg(test)]
+mod relocations;
