@@ -19,7 +19,7 @@ pub struct Rec {
 }
 
 impl Rec {
-    /// A record of nothing, which stands past the last one.
+    /// A record of nothing.
     pub const NONE: Rec = Rec {
         info: 0,
         isa: Isa::M68,
