@@ -1,9 +1,10 @@
 -- Decimal arithmetic of two digits in a byte. What it gives for digits above 9, and N and V, are this
 -- project's own (M68000 Family Programmer's Reference Manual, ABCD and SBCD in section 4).
 use Rattle.std.specs.Prelude.{ℕ, ℤ, ◌+◌, ◌*◌, ◌/◌, ◌%◌, ◌==◌, ◌&&◌, pos, ◌+ℤ◌, ◌-ℤ◌, nat_lt, int_lt, Bool, false, if◌then◌else◌}
-use Rattle.std.specs.Int.{cast_unsigned, from_bool, w32}
+use Rattle.std.specs.Int.{from_bool}
 use Rattle.m68_isa.specs.declared.registers.Ccr.{Ccr}
 use Rattle.m68_alu.specs.declared.sums.Out.{Out}
+use Rattle.m68_alu.specs.Products.{residue}
 
 abbrev pub low_digit : ℕ → ℕ
 low_digit v = v % 16
@@ -41,5 +42,5 @@ decimal_added d s old =
 abbrev pub decimal_subtracted : ℕ → ℕ → Ccr → Out
 decimal_subtracted d s old =
     let t = decimal_difference d s old.x in
-    if int_lt t (pos 0) then decimal_out (cast_unsigned w32 (t -ℤ pos 0x60) % 256) (int_lt t (pos 0)) old
-    else decimal_out (cast_unsigned w32 t % 256) (int_lt t (pos 0)) old
+    if int_lt t (pos 0) then decimal_out (residue (t -ℤ pos 0x60) 256) (int_lt t (pos 0)) old
+    else decimal_out (residue t 256) (int_lt t (pos 0)) old

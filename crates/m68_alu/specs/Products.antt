@@ -1,7 +1,7 @@
 -- Products of words, and quotients of a long by a word
 -- (M68000 Family Programmer's Reference Manual, MULS, MULU, DIVS and DIVU in section 4).
-use Rattle.std.specs.Prelude.{ℕ, ℤ, ◌+◌, ◌*◌, ◌/◌, ◌%◌, ◌^◌, ◌==◌, ◌*ℤ◌, nat_le, int_div, int_rem, Bool, true, false, if◌then◌else◌}
-use Rattle.std.specs.Int.{cast_unsigned, w64}
+use Rattle.std.specs.Prelude.{ℕ, ℤ, ◌+◌, ◌*◌, ◌/◌, ◌%◌, ◌^◌, ◌==◌, ◌*ℤ◌, pos, unsigned_abs, nat_le, int_div, int_rem, Bool, true, false, if◌then◌else◌}
+use Rattle.std.specs.Int.{int_rem_euclid}
 use Rattle.mix_bits.specs.Sizes.{signed_of, truncated}
 use Rattle.mix_bits.specs.declared.size.Size.TheVariants.{Two, Four}
 use Rattle.m68_isa.specs.declared.registers.Ccr.{Ccr}
@@ -10,8 +10,12 @@ use Rattle.m68_alu.specs.declared.quotients.Quotient.{Quotient}
 use Rattle.m68_alu.specs.declared.quotients.Quotient.TheVariants.{ByZero, Overflow, Done}
 use Rattle.m68_alu.specs.Sizes.{leaves, result_flags}
 
+-- a number modulo n, from 0 on
+abbrev pub residue : ℤ → ℕ → ℕ
+residue z n = unsigned_abs (int_rem_euclid z (pos n))
+
 abbrev pub product : Bool → ℕ → ℕ → ℕ
-product true a b = cast_unsigned w64 (signed_of a Two *ℤ signed_of b Two) % 2 ^ 32
+product true a b = residue (signed_of a Two *ℤ signed_of b Two) (2 ^ 32)
 product false a b = truncated a Two * truncated b Two
 
 abbrev pub multiplied : Bool → ℕ → ℕ → Ccr → Out
@@ -27,7 +31,7 @@ packed quotient remainder old = Done (record { value = remainder * 2 ^ 16 + quot
 
 -- the low word of a number
 abbrev pub word_of : ℤ → ℕ
-word_of z = cast_unsigned w64 z % 2 ^ 16
+word_of z = residue z (2 ^ 16)
 
 abbrev pub unsigned_quotient : ℕ → ℕ → Ccr → Quotient
 unsigned_quotient a b old = if nat_le (2 ^ 16) (a / b) then Overflow (overflowed old) else packed (a / b) (a % b) old

@@ -26,9 +26,9 @@ pub fn sbcd(dst: u32, src: u32, old: Ccr) -> Out
 {
     let total = difference(dst, src, old.x);
     if total < 0 {
-        decimal_out((total - 0x60).cast_unsigned() % 256, true, old)
+        decimal_out((total - 0x60).rem_euclid(256).unsigned_abs(), true, old)
     } else {
-        decimal_out(total.cast_unsigned() % 256, false, old)
+        decimal_out(total.rem_euclid(256).unsigned_abs(), false, old)
     }
 }
 

@@ -26,7 +26,9 @@ fn product(is_signed: bool, a: u32, b: u32) -> u32
     ensures { result ≡ product_lem is_signed a b }
 {
     if is_signed {
-        (signed_product(a, b).cast_unsigned() % 0x1_0000_0000) as u32
+        signed_product(a, b)
+            .rem_euclid(0x1_0000_0000)
+            .unsigned_abs() as u32
     } else {
         trunc(a, Size::Two) * trunc(b, Size::Two)
     }

@@ -112,7 +112,7 @@ fn word(z: i64) -> u32
     ensures value { result ≡ word_of_lem z }
     ensures below { result < 2 ^ 16 }
 {
-    (z.cast_unsigned() % 0x1_0000) as u32
+    z.rem_euclid(0x1_0000).unsigned_abs() as u32
 }
 
 /// A quotient and a remainder in one long, with the flags of the quotient.

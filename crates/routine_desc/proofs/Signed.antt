@@ -9,9 +9,9 @@ use Rattle.proc_info.specs.declared.bad_info.BadInfo.TheVariants.{TopBit, Place,
 use Rattle.proc_info.specs.declared.conv.Conv.{Conv}
 use Rattle.proc_info.specs.declared.conv.Conv.TheVariants.{Pascal, C, Register, D0Pascal, D0C, D1Pascal, StackPascal}
 use Rattle.proc_info.specs.declared.param.Param.{Param}
-use Rattle.proc_info.specs.Codes.{conv_at, conv_code, shape_of, size_at, is_dispatched, is_place}
+use Rattle.proc_info.specs.Codes.{conv_at, shape_of, size_at, is_dispatched, is_place}
 use Rattle.proc_info.specs.Signature.{Signature, is_twice, in_registers, most_params, on_stack, params_at, signature_by, signature_of, unless_twice, with_selector}
-use Rattle.routine_desc.specs.Read.{is_alike, is_dispatched_code}
+use Rattle.routine_desc.specs.Read.{is_alike, is_dispatched_in}
 use Rattle.routine_desc.specs.Laws.{IsCalledLike}
 use Rattle.routine_desc.proofs.Chains.{chain_done, if_refused, ok_same, same_parts}
 
@@ -84,18 +84,6 @@ tells w s h =
       selector_is = says.selector_is ∙ ap (λ c. selector_by c w) (sym says.conv_is);
     }
 
-code_is : (code : ℕ) (conv : Conv) → conv_at code ≡ Ok conv → code ≡ conv_code conv
-code_is code conv h = grind (arith, nat_tests)
-
-dispatched_code : (conv : Conv) → is_dispatched_code (conv_code conv) ≡ is_dispatched conv
-dispatched_code Pascal = refl
-dispatched_code C = refl
-dispatched_code Register = refl
-dispatched_code D0Pascal = refl
-dispatched_code D0C = refl
-dispatched_code D1Pascal = refl
-dispatched_code StackPascal = refl
-
 same_size : (conv : Conv) (w v : ℕ) → (is_dispatched conv ≡ true → w / 64 % 4 ≡ v / 64 % 4) → selector_by conv w ≡ selector_by conv v
 same_size Pascal w v h = refl
 same_size C w v h = refl
@@ -108,14 +96,14 @@ same_size StackPascal w v h = ap size_at (h refl)
 -- words like a third one have signatures that are called alike
 pub called-alike : (u w v : ℕ) (s t : Signature) → is_alike u w ≡ true → is_alike u v ≡ true → signature_of w ≡ Ok s → signature_of v ≡ Ok t → IsCalledLike s t
 called-alike u w v s t like also is_s is_t =
-    let a = same_parts (u % 16 == w % 16) (is_dispatched_code (u % 16)) (u / 64 % 4) (w / 64 % 4) u w like in
-    let b = same_parts (u % 16 == v % 16) (is_dispatched_code (u % 16)) (u / 64 % 4) (v / 64 % 4) u v also in
+    let a = same_parts (u % 16 == w % 16) (is_dispatched_in (conv_at (u % 16))) (u / 64 % 4) (w / 64 % 4) u w like in
+    let b = same_parts (u % 16 == v % 16) (is_dispatched_in (conv_at (u % 16))) (u / 64 % 4) (v / 64 % 4) u v also in
     let here : u % 16 ≡ w % 16 = (Decides-eqb (u % 16) (w % 16)).0 a.0 in
     let there : u % 16 ≡ v % 16 = (Decides-eqb (u % 16) (v % 16)).0 b.0 in
     let p = tells w s is_s in
     let q = tells v t is_t in
     let same : s.conv ≡ t.conv = ok_same s.conv t.conv (conv_at (w % 16)) p.conv_is (ap conv_at (sym here ∙ there) ∙ q.conv_is) in
-    let test : is_dispatched_code (u % 16) ≡ is_dispatched s.conv = ap is_dispatched_code (here ∙ code_is (w % 16) s.conv p.conv_is) ∙ dispatched_code s.conv in
+    let test : is_dispatched_in (conv_at (u % 16)) ≡ is_dispatched s.conv = ap is_dispatched_in (ap conv_at here ∙ p.conv_is) in
     record {
       conv = same;
       selector = p.selector_is ∙ same_size s.conv w v (λ yes. sym (a.1 (test ∙ yes)) ∙ b.1 (test ∙ yes)) ∙ ap (λ c. selector_by c v) same ∙ sym q.selector_is;

@@ -1,9 +1,11 @@
 -- What a descriptor says, or the first rule that it breaks.
-use Rattle.std.specs.Prelude.{ℕ, zero, suc, ◌≡◌, ◌+◌, ◌*◌, ◌/◌, ◌%◌, ◌==◌, ◌≤◌, Bool, true, ◌&&◌, if◌then◌else◌, List, [], ◌∷◌, ◌++◌, length, take, Option, Some, None, Result, Ok, Err}
+use Rattle.std.specs.Prelude.{ℕ, zero, suc, ◌≡◌, ◌+◌, ◌*◌, ◌/◌, ◌%◌, ◌==◌, ◌≤◌, Bool, true, false, ◌&&◌, if◌then◌else◌, List, [], ◌∷◌, ◌++◌, length, take, Option, Some, None, Result, Ok, Err}
 use Rattle.std.specs.List.{list_all}
 use Rattle.mix_bits.specs.Results.{◌>>=◌}
 use Rattle.big_memory.specs.Memory.{Memory}
+use Rattle.proc_info.specs.Codes.{conv_at, is_dispatched}
 use Rattle.proc_info.specs.Signature.{Signature, signature_of}
+use Rattle.proc_info.specs.declared.conv.Conv.{Conv}
 use Rattle.proc_info.specs.declared.bad_info.BadInfo.{BadInfo}
 use Rattle.routine_desc.specs.declared.record.Rec.{Rec}
 use Rattle.routine_desc.specs.declared.record.Desc.{Desc}
@@ -29,14 +31,15 @@ unfoldable pub first_records : Memory → ℕ → ℕ → Result (List Rec) BadD
 first_records m a zero = Ok []
 first_records m a (suc k) = first_records m a k >>= λ rs. read_record m a (a + 12 + 20 * k) >>= λ r. Ok (rs ++ r ∷ [])
 
--- whether a convention, by its number, is dispatched
-abbrev pub is_dispatched_code : ℕ → Bool
-is_dispatched_code code = if code == 8 then true else (if code == 9 then true else (if code == 12 then true else code == 14))
+-- whether a convention is there and is dispatched
+abbrev pub is_dispatched_in : Result Conv BadInfo → Bool
+is_dispatched_in (Ok conv) = is_dispatched conv
+is_dispatched_in (Err e) = false
 
 -- the records are called alike: in one convention, and with one procInfo, or, where it is dispatched, one selector size
 abbrev pub is_alike : ℕ → ℕ → Bool
 is_alike info other =
-    (info % 16 == other % 16) && (if is_dispatched_code (info % 16) then info / 64 % 4 == other / 64 % 4 else info == other)
+    (info % 16 == other % 16) && (if is_dispatched_in (conv_at (info % 16)) then info / 64 % 4 == other / 64 % 4 else info == other)
 
 abbrev pub all_alike : List Rec → Bool
 all_alike [] = true

@@ -5,7 +5,8 @@ ghost use Rattle.std.specs.List.{list_all};
 ghost use Rattle.mix_bits.specs.Sizes.{bytes_of};
 ghost use Rattle.big_memory.specs.Memory.{in_memory};
 ghost use Rattle.routine_desc.specs.Layout.{are_good_flags, bad_header, bad_record, isa_of, number_at, record_at, target_of};
-ghost use Rattle.routine_desc.specs.Read.{Counts, FillsBody, FillsRecords, Reads, ReadsBody, all_alike as all_alike_lem, is_alike as is_alike_lem, is_dispatched_code, read_record as read_record_lem};
+ghost use Rattle.proc_info.specs.Codes.{conv_at};
+ghost use Rattle.routine_desc.specs.Read.{Counts, FillsBody, FillsRecords, Reads, ReadsBody, all_alike as all_alike_lem, is_alike as is_alike_lem, is_dispatched_in, read_record as read_record_lem};
 
 use super::flags::RoutineFlags;
 use super::record::{BadDesc, Desc, Rec};
@@ -226,7 +227,7 @@ fn is_alike(info: u32, other: u32) -> bool
 
 /// Whether the convention of this number is dispatched.
 fn is_dispatched(code: u32) -> bool
-    ensures { result ≡ is_dispatched_code code }
+    ensures { result ≡ is_dispatched_in (conv_at code) }
 {
     matches!(code, 8 | 9 | 12 | 14)
 }
