@@ -5,6 +5,7 @@ ghost use Rattle.call_trace.specs.Names.{fault_name as name_of_fault, set_name a
 use mix_bits::{FaultKind, Isa};
 use switch_frame::Kind;
 
+/// The word for a set of instructions.
 pub fn set_name(set: Isa) -> &'static str
     ensures name { result.now ≡ name_of_set set }
     ensures length { length result.now ≡ 3 }
@@ -27,6 +28,7 @@ pub fn set_names(kind: Kind) -> &'static str
     }
 }
 
+/// The word by which a trace's last line and a sample's line name a fault, of at most 12 letters.
 pub fn fault_name(kind: FaultKind) -> &'static str
     ensures name { result.now ≡ name_of_fault kind }
     ensures short { length result.now ≤ 12 }
