@@ -12,11 +12,11 @@ use Rattle.rsrc_fork.specs.declared.error.RsrcError.TheVariants.{Short, Overlap,
 use Rattle.rsrc_fork.specs.declared.header.Areas.{Areas}
 use Rattle.rsrc_fork.specs.declared.name.Name.{Name}
 use Rattle.rsrc_fork.specs.declared.references.TypeEntry.{TypeEntry}
-use Rattle.rsrc_fork.specs.Fields.{long_at, id_at}
+use Rattle.file_fields.specs.Fields.{long_at}
 use Rattle.rsrc_fork.specs.Outcome.{◌>>=◌, each_below}
 use Rattle.rsrc_fork.specs.Header.{areas_at, areas_of, list_of}
 use Rattle.rsrc_fork.specs.Resources.{Resource, same_name, bytes_of, with_resource}
-use Rattle.rsrc_fork.specs.References.{data_at, is_compressed, with_reference, with_numbered, with_references, with_type, with_types, type_count, resources_of}
+use Rattle.rsrc_fork.specs.References.{data_at, id_at, is_compressed, with_reference, with_numbered, with_references, with_type, with_types, type_count, resources_of}
 use Rattle.rsrc_fork.specs.Listing.{Reference, reference_in, references_in, references_below, list_at, numbered_entry, name_at, start_at, end_at, resource_at, IsSound, HasAreas, AreSound, IsFork}
 
 -- what an answer says of the tests and steps before it

@@ -1,4 +1,3 @@
-pub mod Fields
 pub mod Outcome
 pub mod Header
 pub mod Resources

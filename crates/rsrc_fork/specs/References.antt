@@ -8,15 +8,20 @@
 -- the data's start, and four bytes that the file leaves unused. At its place in the data a resource has
 -- a long, its length, and then its bytes. In the attributes the bit of value 1 says that the bytes are
 -- compressed.
-use Rattle.std.specs.Prelude.{ℕ, ◌+◌, ◌*◌, ◌%◌, Bool, ◌||◌, ◌==◌, nat_lt, if◌then◌else◌, List, [], slice_index, slice_range, Result, Ok, Err}
+use Rattle.std.specs.Prelude.{ℕ, ℤ, ◌+◌, ◌*◌, ◌%◌, Bool, ◌||◌, ◌==◌, nat_lt, if◌then◌else◌, List, [], slice_index, slice_range, Result, Ok, Err}
 use Rattle.rsrc_fork.specs.declared.error.RsrcError.{RsrcError}
 use Rattle.rsrc_fork.specs.declared.error.RsrcError.TheVariants.{BadOffset, Compressed}
 use Rattle.rsrc_fork.specs.declared.header.Areas.{Areas}
 use Rattle.rsrc_fork.specs.declared.references.TypeEntry.{TypeEntry}
-use Rattle.rsrc_fork.specs.Fields.{word_at, three_at, long_at, id_at}
+use Rattle.byteorder.specs.Endian.{twos_complement}
+use Rattle.file_fields.specs.Fields.{word_at, three_at, long_at}
 use Rattle.rsrc_fork.specs.Header.{areas_of, list_of}
 use Rattle.rsrc_fork.specs.Outcome.{◌>>=◌, each_below}
 use Rattle.rsrc_fork.specs.Resources.{Resource, named, with_resource}
+
+-- the id in a reference, a signed word
+abbrev pub id_at : List ℕ → ℕ → ℤ
+id_at bytes place = twos_complement 2 (word_at bytes place)
 
 -- the bytes of the resource whose reference stands at a place
 abbrev pub data_at : List ℕ → Areas → ℕ → Result (List ℕ) RsrcError

@@ -8,7 +8,6 @@
 #![tactic(auto)]
 
 mod error;
-mod fields;
 mod fork;
 mod header;
 mod lookup;

@@ -3,12 +3,13 @@ ghost use Rattle.std.specs.Result.{result_map_both};
 ghost use Rattle.rsrc_fork.specs.Header.{IsWithin};
 ghost use Rattle.rsrc_fork.specs.Outcome.{Gives};
 ghost use Rattle.rsrc_fork.specs.Resources.{seen, with_resource};
-ghost use Rattle.rsrc_fork.specs.References.{data_at, entry_at, resources_of, with_reference, with_references, with_type, with_types};
+ghost use Rattle.rsrc_fork.specs.References.{data_at, entry_at, id_at, resources_of, with_reference, with_references, with_type, with_types};
 
 use crate::error::RsrcError;
-use crate::fields::{id_at, long_at, three_at, word_at};
 use crate::header::{Areas, areas_of, list_of};
 use crate::name::Name;
+use byteorder::{BigEndian, ByteOrder};
+use file_fields::{long_at, three_at, word_at};
 use indexmap::IndexMap;
 use std::alloc::Global;
 
@@ -56,6 +57,15 @@ fn put<'a>(resources: &mut Resources<'a>, name: Name, piece: &'a [u8]) -> Result
         Some(_) => Err(RsrcError::Twice(name.kind, name.id)),
         None => Ok(()),
     }
+}
+
+/// The id in a reference that stands at a place.
+fn id_at(bytes: &[u8], place: u32) -> i16
+    requires { place + 2 ≤ length bytes.now }
+    ensures { result ≡ id_at bytes.now place }
+{
+    let start = place as usize;
+    BigEndian::read_i16(&bytes[start..start + 2])
 }
 
 /// Keeps the resource whose reference stands at a place.

@@ -1,6 +1,6 @@
--- The fields of a fork: big-endian numbers, each at the place of its first byte.
-use Rattle.std.specs.Prelude.{ℕ, ◌+◌, ℤ, List, slice_range}
-use Rattle.byteorder.specs.Endian.{big_number, twos_complement}
+-- The fields of a file: big-endian numbers, each at the place of its first byte.
+use Rattle.std.specs.Prelude.{ℕ, ◌+◌, List, slice_range}
+use Rattle.byteorder.specs.Endian.{big_number}
 
 abbrev pub word_at : List ℕ → ℕ → ℕ
 word_at bytes place = big_number 2 (slice_range bytes place (place + 2))
@@ -10,7 +10,3 @@ three_at bytes place = big_number 3 (slice_range bytes place (place + 3))
 
 abbrev pub long_at : List ℕ → ℕ → ℕ
 long_at bytes place = big_number 4 (slice_range bytes place (place + 4))
-
--- a signed word
-abbrev pub id_at : List ℕ → ℕ → ℤ
-id_at bytes place = twos_complement 2 (word_at bytes place)
