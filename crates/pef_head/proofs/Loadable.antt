@@ -4,7 +4,7 @@ use Rattle.std.proofs.Math.Nat.{mul-mod_right}
 use Rattle.std.proofs.lemmas.Bool.Decides.{nat_tests}
 use Rattle.pef_head.specs.declared.loader.Loader.{Loader}
 use Rattle.pef_head.specs.Container.{IsSection, exponent_of, packed_of, offset_of}
-use Rattle.pef_head.specs.Fields.{long_at}
+use Rattle.file_fields.specs.Fields.{long_at}
 use Rattle.pef_head.specs.Parts.{IsLoadable, relocs_at, section_at}
 use Rattle.pef_head.specs.Places.{is_for, relocation, words_end, words_start}
 use Rattle.pef_head.specs.Search.{◌or◌, refused, least}

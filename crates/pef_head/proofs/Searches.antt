@@ -1,5 +1,5 @@
 -- Searches below a bound: where they end, and what they say of each number.
-use Rattle.std.proofs.Common.{◌≡◌, subst, sym, refl, ℕ, zero, suc, ◌<◌, Bool, true, false, nat_lt, Option, Some, None, slice_index_or, replicate, arith}
+use Rattle.std.proofs.Common.{◌≡◌, subst, sym, refl, ℕ, zero, suc, ◌<◌, Bool, true, false, nat_lt, Option, Some, None, arith}
 use Rattle.std.proofs.lemmas.Bool.Decides.{nat_tests}
 use Rattle.pef_head.specs.Search.{◌or◌, refused, count_below, least}
 
@@ -13,11 +13,6 @@ least_at test (suc n) k lt before passes = by (nat_lt k n) refl (λ h. least_at 
     by false q earlier =
         let same : k ≡ n = grind (arith, nat_tests) in
         subst (λ (m : ℕ). least test (suc m) ≡ Some k) same (rw before (rw passes))
-
-pub unmarked : (n k : ℕ) → slice_index_or (replicate n false) k false ≡ false
-unmarked zero k = refl
-unmarked (suc n) zero = refl
-unmarked (suc n) (suc k) = unmarked n k
 
 -- no number passes
 pub least_none : (test : ℕ → Bool) (n : ℕ) → ((k : ℕ) → k < n → test k ≡ false) → least test n ≡ None

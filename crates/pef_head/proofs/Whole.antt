@@ -5,7 +5,7 @@ use Rattle.pef_head.specs.declared.error.PefError.{PefError}
 use Rattle.pef_head.specs.declared.loader.Loader.{Loader}
 use Rattle.pef_head.specs.declared.error.PefError.TheVariants.{Loader as Table}
 use Rattle.std.specs.Option.{option_map}
-use Rattle.pef_head.specs.Fields.{long_at}
+use Rattle.file_fields.specs.Fields.{long_at}
 use Rattle.pef_head.specs.Container.{is_bad_section, is_malformed, is_pattern, kind_of, total_of, unpacked_of, packed_of, offset_of, exponent_of, section_count, section_header, instantiated_count, loader_section}
 use Rattle.pef_head.specs.Loader.{loader_in, loader_of}
 use Rattle.pef_head.specs.Places.{holds, is_for, library, relocated, relocation, symbol, symbols_end, words_end}

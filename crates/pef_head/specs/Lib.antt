@@ -1,5 +1,5 @@
-pub mod Fields
 pub mod Search
+pub mod Marks
 pub mod Container
 pub mod Loader
 pub mod Places

@@ -1,7 +1,9 @@
 -- Which libraries have a symbol, and what a search of a range of symbols keeps.
-use Rattle.std.specs.Prelude.{◌≡◌, ◌≢◌, ℕ, ◌-◌, ◌<◌, ◌≤◌, Bool, false, ◌==◌, not, List, slice_index, slice_index_or, Option, Some, None, unwrap_or}
+use Rattle.std.specs.Prelude.{◌≡◌, ◌≢◌, ℕ, ◌-◌, ◌<◌, ◌≤◌, Bool, ◌==◌, not, List, slice_index, Option, Some, None, unwrap_or}
 use Rattle.std.specs.Int.{from_bool}
 use Rattle.pef_head.specs.declared.loader.Loader.{Loader}
+use Rattle.pef_head.specs.declared.marks.Marks.{Marks}
+use Rattle.pef_head.specs.Marks.{is_marked}
 use Rattle.pef_head.specs.Places.{holds}
 use Rattle.pef_head.specs.Search.{count_below, least}
 
@@ -23,9 +25,9 @@ is_lost bytes l i = not (owners bytes l l.libraries i == 1)
 
 -- the marks of the symbols from `from` on say, below the limit, which of them are in the first n libraries,
 -- and none of them is in two of these
-abbrev pub Marked : List ℕ → Loader → ℕ → ℕ → ℕ → List Bool → Type 0
+abbrev pub Marked : List ℕ → Loader → ℕ → ℕ → ℕ → Marks → Type 0
 Marked bytes l n from limit marks =
-    (i : ℕ) → from ≤ i → i < limit → owners bytes l n i ≡ from_bool (slice_index_or marks (i - from) false)
+    (i : ℕ) → from ≤ i → i < limit → owners bytes l n i ≡ from_bool (is_marked marks (i - from))
 
 -- each of these symbols is in one library
 abbrev pub AllOwned : List ℕ → Loader → ℕ → ℕ → Type 0

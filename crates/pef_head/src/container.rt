@@ -6,7 +6,7 @@ ghost use Rattle.pef_head.specs.Container.{HasHeaders, HasSections, exponent_of,
 ghost use Rattle.pef_head.specs.Refusals.{has_architecture, has_magic, header_refusal, sections_refusal};
 
 use crate::error::PefError;
-use crate::fields::{long_at, word_at};
+use file_fields::{long_at, word_at};
 
 const JOY: u32 = 0x4A6F_7921;
 

@@ -9,9 +9,9 @@
 
 mod container;
 mod error;
-mod fields;
 mod import;
 mod loader;
+mod marks;
 mod names;
 mod owners;
 mod pef;

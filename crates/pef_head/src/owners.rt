@@ -2,12 +2,13 @@
 //!
 //! The libraries may stand in any order and there may be millions of symbols, so a walk over the libraries
 //! marks the symbols of one block at a time.
-ghost use Rattle.std.specs.Prelude.{◌≡◌, ℕ, ◌+◌, ◌-◌, ◌^◌, ◌≤◌, ◌<◌, List, length, false, IfSome};
+ghost use Rattle.std.specs.Prelude.{◌≡◌, ℕ, ◌+◌, ◌-◌, ◌^◌, ◌≤◌, ◌<◌, List, length, IfSome};
 ghost use Rattle.pef_head.specs.Places.{HasTables, holds, symbols_end, symbols_start};
 ghost use Rattle.pef_head.specs.Owners.{AllOwned, IsFirstLost, Marked, is_lost, owners};
 ghost use Rattle.pef_head.specs.Search.{least};
 
 use crate::loader::Loader;
+use crate::marks::Marks;
 use crate::places::{holds, symbols_end, symbols_start};
 
 /// How many symbols are marked at a time.
@@ -15,11 +16,11 @@ const BLOCK: u32 = 65536;
 
 /// Marks the symbols from `from` on that a library has, up to the first that is marked already. That one
 /// is the new limit.
-fn mark(marks: &mut [bool], bytes: &[u8], l: Loader, j: u32, from: u32, limit: u32) -> u32
+fn mark(marks: &mut Marks, bytes: &[u8], l: Loader, j: u32, from: u32, limit: u32) -> u32
     requires tables { HasTables bytes.now l }
     requires below { j < l.libraries }
     requires order { from ≤ limit }
-    requires room { limit ≤ from + length marks.old }
+    requires short { limit ≤ from + BLOCK }
     requires marked { Marked bytes.now l j from limit marks.old }
     ensures marked { Marked bytes.now l (j + 1) from result marks.new }
     ensures low { from ≤ result }
@@ -29,34 +30,27 @@ fn mark(marks: &mut [bool], bytes: &[u8], l: Loader, j: u32, from: u32, limit: u
     let first = symbols_start(bytes, l, j).max(from);
     let end = symbols_end(bytes, l, j).min(limit as u64) as u32;
     for i in first..end {
-        let place = (i - from) as usize;
-        if marks[place] {
+        let place = (i - from) as u16;
+        if marks.is_set(place) {
             return i;
         }
-        marks[place] = true;
+        marks.set(place);
     }
     limit
 }
 
 /// The first symbol of a block that is not in one library, by the marks below the limit and the fact that
 /// a symbol at a limit before the block's end is in two.
-fn first_lost(
-    marks: &[bool],
-    bytes: &[u8],
-    l: Loader,
-    from: u32,
-    to: u32,
-    limit: u32,
-) -> Option<u32>
+fn first_lost(marks: &Marks, bytes: &[u8], l: Loader, from: u32, to: u32, limit: u32) -> Option<u32>
     requires low { from ≤ limit }
     requires high { limit ≤ to }
-    requires room { to ≤ from + length marks.now }
+    requires short { to ≤ from + BLOCK }
     requires marked { Marked bytes.now l l.libraries from limit marks.now }
     requires twice { limit < to → 2 ≤ owners bytes.now l l.libraries limit }
     ensures { IsFirstLost bytes.now l from to result }
 {
     for i in from..limit {
-        if !marks[(i - from) as usize] {
+        if !marks.is_set((i - from) as u16) {
             return Some(i);
         }
     }
@@ -70,7 +64,7 @@ fn lost_in(bytes: &[u8], l: Loader, from: u32, to: u32) -> Option<u32>
     requires short { to ≤ from + BLOCK }
     ensures { IsFirstLost bytes.now l from to result }
 {
-    let mut marks = [false; BLOCK as usize];
+    let mut marks = Marks::none();
     let mut limit = to;
     for j in 0..l.libraries {
         limit = mark(&mut marks, bytes, l, j, from, limit);

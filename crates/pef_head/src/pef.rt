@@ -1,12 +1,12 @@
 use crate::container::instantiated_count;
 use crate::error::PefError;
-use crate::fields::long_at;
 use crate::import::{Import, import_at, import_within};
 use crate::loader::Loader;
 use crate::read::{NO_SECTION, read_head};
 use crate::relocations::{header_for, header_table, relocs_at};
 use crate::section::{Section, section_at};
 use crate::table::owner_table;
+use file_fields::long_at;
 use std::alloc::{AllocError, Global};
 use std::marker::Model;
 

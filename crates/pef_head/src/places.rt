@@ -4,8 +4,8 @@ ghost use Rattle.pef_head.specs.Places.{HasTables, holds, library, library_name,
 ghost use Rattle.pef_head.specs.Refusals.{leaves_symbols};
 ghost use Rattle.pef_head.specs.Search.{least};
 
-use crate::fields::{long_at, three_at};
 use crate::loader::Loader;
+use file_fields::{long_at, three_at};
 
 /// The place of a library.
 pub fn library(l: Loader, j: u32) -> u32

@@ -8,12 +8,12 @@ ghost use Rattle.pef_head.specs.Refusals.{entries_refusal, init_refusal, loader_
 
 use crate::container::{loader_section, section_count, test_header, test_sections};
 use crate::error::PefError;
-use crate::fields::long_at;
 use crate::loader::{Loader, read_loader};
 use crate::names::test_names;
 use crate::owners::lost_symbol;
 use crate::places::{bad_library, library, relocation, symbol};
 use crate::relocations::bad_relocation;
+use file_fields::long_at;
 
 /// The section number that stands for no section.
 pub const NO_SECTION: u32 = 0xFFFF_FFFF;

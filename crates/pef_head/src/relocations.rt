@@ -8,13 +8,11 @@ ghost use Rattle.pef_head.specs.Parts.{header_for, relocs_at};
 ghost use Rattle.pef_head.specs.Search.{least};
 
 use crate::container::instantiated_count;
-use crate::fields::{long_at, word_at};
 use crate::loader::Loader;
+use crate::marks::Marks;
 use crate::places::relocation;
+use file_fields::{long_at, word_at};
 use std::alloc::{AllocError, Global};
-
-/// How many numbers a section may have.
-const NUMBERS: usize = 65536;
 
 /// The section that a header is for.
 fn relocated(bytes: &[u8], l: Loader, h: u32) -> u16
@@ -45,25 +43,23 @@ fn words_end(bytes: &[u8], l: Loader, h: u32) -> u64
 }
 
 /// An earlier header is for the same section. Marks the section of this one.
-fn is_repeated(seen: &mut [bool], bytes: &[u8], l: Loader, h: u32) -> bool
+fn is_repeated(seen: &mut Marks, bytes: &[u8], l: Loader, h: u32) -> bool
     requires tables { HasTables bytes.now l }
     requires below { h < l.headers }
-    requires room { NUMBERS ≤ length seen.old }
     requires seen { Seen bytes.now l h seen.old }
     ensures is { result ≡ is_repeated bytes.now l h }
     ensures seen { Seen bytes.now l (h + 1) seen.new }
 {
-    let section = relocated(bytes, l, h) as usize;
-    let repeated = seen[section];
-    seen[section] = true;
+    let section = relocated(bytes, l, h);
+    let repeated = seen.is_set(section);
+    seen.set(section);
     repeated
 }
 
 /// The header breaks a rule. Marks its section.
-fn is_bad_relocation(seen: &mut [bool], bytes: &[u8], l: Loader, h: u32) -> bool
+fn is_bad_relocation(seen: &mut Marks, bytes: &[u8], l: Loader, h: u32) -> bool
     requires tables { HasTables bytes.now l }
     requires below { h < l.headers }
-    requires room { NUMBERS ≤ length seen.old }
     requires seen { Seen bytes.now l h seen.old }
     ensures is { result ≡ is_bad_relocation bytes.now l h }
     ensures seen { Seen bytes.now l (h + 1) seen.new }
@@ -80,7 +76,7 @@ pub fn bad_relocation(bytes: &[u8], l: Loader) -> Option<u32>
     ensures is { result ≡ least (is_bad_relocation bytes.now l) l.headers }
     ensures below { IfSome result (λ h. h < l.headers) }
 {
-    let mut seen = [false; NUMBERS];
+    let mut seen = Marks::none();
     for h in 0..l.headers {
         if is_bad_relocation(&mut seen, bytes, l, h) {
             return Some(h);
