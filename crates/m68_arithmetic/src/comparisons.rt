@@ -16,7 +16,7 @@ use m68_alu::cmp;
 use m68_ea::{go_on, immediate_at, immediate_words, source};
 use m68_isa::{Ccr, Regs68};
 use m68_ops::{Op68, bit8_of, lower_of, mode_of, size_bits_of, upper_of};
-use mix_bits::{Fault, Size, sext};
+use mix_bits::{Fault, Size, sext, trunc};
 
 /// The flags of a destination less a source, X as it was.
 #[inline(always)]
@@ -30,6 +30,53 @@ fn compare(size: Size, destination: u32, source: u32, old: Ccr) -> Ccr
 /// cmp: a data register less an operand.
 #[inline(never)]
 pub fn do_cmp(regs: &mut Regs68, ram: &Ram, fault: &mut Fault, word: u32) -> Did
+    ensures { Does (by_op Op68.Cmp regs.old ram.now word) result fault.new regs.old regs.new ram.now ram.now }
+{
+    if mode_of(word) == 0 {
+        compare_registers(regs, ram, fault, word)
+    } else {
+        compare_operand(regs, ram, fault, word)
+    }
+}
+
+/// cmp of a data register and another one.
+#[inline(always)]
+fn compare_registers(regs: &mut Regs68, ram: &Ram, fault: &mut Fault, word: u32) -> Did
+    requires { (first_of word).mode ≡ 0 }
+    ensures { Does (by_op Op68.Cmp regs.old ram.now word) result fault.new regs.old regs.new ram.now ram.now }
+{
+    let (lower, upper) = (lower_of(word), upper_of(word));
+    match size_bits_of(word) {
+        0 => with_other(regs, ram, fault, word, Size::One, lower, upper),
+        1 => with_other(regs, ram, fault, word, Size::Two, lower, upper),
+        _ => with_other(regs, ram, fault, word, Size::Four, lower, upper),
+    }
+}
+
+/// A data register less another one, of this size.
+#[inline(always)]
+fn with_other(
+    regs: &mut Regs68,
+    ram: &Ram,
+    fault: &mut Fault,
+    word: u32,
+    size: Size,
+    lower: usize,
+    upper: usize,
+) -> Did
+    requires some { size ≢ Zero }
+    requires from { lower < 8 }
+    requires to { upper < 8 }
+    ensures { let from = operand_at (words_at ram.now regs.old.pc) 1 size 0 lower in
+        Does (runs_with regs.old word from (λ next. cmp regs.old ram.now next size from.ea upper)) result fault.new regs.old regs.new ram.now ram.now }
+{
+    regs.ccr = compare(size, regs.d[upper], trunc(regs.d[lower], size), regs.ccr);
+    go_on(regs, 1)
+}
+
+/// cmp of a data register and any other operand.
+#[inline(never)]
+fn compare_operand(regs: &mut Regs68, ram: &Ram, fault: &mut Fault, word: u32) -> Did
     ensures { Does (by_op Op68.Cmp regs.old ram.now word) result fault.new regs.old regs.new ram.now ram.now }
 {
     let (mode, lower, upper) = (mode_of(word), lower_of(word), upper_of(word));

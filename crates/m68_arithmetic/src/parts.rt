@@ -8,9 +8,9 @@ ghost use Rattle.m68_arithmetic.specs.Parts.{result_of, runs_with};
 
 use super::operation::{Operation, apply};
 use big_memory::{Did, Ram};
-use m68_ea::{find, put, value};
+use m68_ea::{find, go_on, put, value};
 use m68_isa::Regs68;
-use mix_bits::{Fault, Size, onward};
+use mix_bits::{Fault, Size, onward, trunc, with_low};
 
 /// An operand that is changed by an operation with a source. Its extension words begin with word `first`.
 #[inline(always)]
@@ -47,4 +47,27 @@ pub fn change(
     regs.ccr = out.ccr;
     regs.pc = behind;
     Did::Next
+}
+
+/// The same where the operand is a data register, behind which the program goes on at word 1.
+#[inline(always)]
+pub fn change_register(
+    regs: &mut Regs68,
+    ram: &Ram,
+    fault: &mut Fault,
+    word: u32,
+    size: Size,
+    lower: usize,
+    op: Operation,
+    by: u32,
+) -> Did
+    requires some { size ≢ Zero }
+    requires number { lower < 8 }
+    ensures { let to = operand_at (words_at ram.now regs.old.pc) 1 size 0 lower in
+        Does (runs_with regs.old word to (λ next. changed regs.old ram.now next size to.ea (λ d. result_of op size regs.old.ccr d by))) result fault.new regs.old regs.new ram.now ram.now }
+{
+    let out = apply(op, size, trunc(regs.d[lower], size), by, regs.ccr);
+    regs.d[lower] = with_low(regs.d[lower], out.value, size);
+    regs.ccr = out.ccr;
+    go_on(regs, 1)
 }

@@ -10,7 +10,7 @@ ghost use Rattle.m68_effects.specs.Parts.{after, changed, goes_on};
 ghost use Rattle.m68_arithmetic.specs.Parts.{result_of, runs_with, with_away};
 
 use super::operation::{Operation, Way, away};
-use super::parts::change;
+use super::parts::{change, change_register};
 use big_memory::{Did, Ram};
 use m68_ea::go_on;
 use m68_isa::Regs68;
@@ -22,10 +22,10 @@ use mix_bits::{Fault, Size};
 pub fn do_addq(regs: &mut Regs68, ram: &mut Ram, fault: &mut Fault, word: u32) -> Did
     ensures { Does (by_op Op68.Addq regs.old ram.old word) result fault.new regs.old regs.new ram.old ram.new }
 {
-    if mode_of(word) == 1 {
-        move_address(regs, ram, fault, word, Way::Onward)
-    } else {
-        by_number(regs, ram, fault, word, Operation::Add)
+    match mode_of(word) {
+        0 => register_by_number(regs, ram, fault, word, Operation::Add),
+        1 => move_address(regs, ram, fault, word, Way::Onward),
+        _ => by_number(regs, ram, fault, word, Operation::Add),
     }
 }
 
@@ -34,10 +34,10 @@ pub fn do_addq(regs: &mut Regs68, ram: &mut Ram, fault: &mut Fault, word: u32) -
 pub fn do_subq(regs: &mut Regs68, ram: &mut Ram, fault: &mut Fault, word: u32) -> Did
     ensures { Does (by_op Op68.Subq regs.old ram.old word) result fault.new regs.old regs.new ram.old ram.new }
 {
-    if mode_of(word) == 1 {
-        move_address(regs, ram, fault, word, Way::Backward)
-    } else {
-        by_number(regs, ram, fault, word, Operation::Sub)
+    match mode_of(word) {
+        0 => register_by_number(regs, ram, fault, word, Operation::Sub),
+        1 => move_address(regs, ram, fault, word, Way::Backward),
+        _ => by_number(regs, ram, fault, word, Operation::Sub),
     }
 }
 
@@ -52,8 +52,31 @@ fn move_address(regs: &mut Regs68, ram: &Ram, fault: &mut Fault, word: u32, way:
     go_on(regs, 1)
 }
 
-/// An operation on an operand of the size in bits 7 and 6 and the number.
+/// An operation on a data register of the size in bits 7 and 6 and the number.
 #[inline(always)]
+fn register_by_number(
+    regs: &mut Regs68,
+    ram: &Ram,
+    fault: &mut Fault,
+    word: u32,
+    op: Operation,
+) -> Did
+    requires { (first_of word).mode ≡ 0 }
+    ensures { let f = first_of word in
+        let size = size_of_bits f.size in
+        let to = operand_at (words_at ram.now regs.old.pc) 1 size f.mode f.lower in
+        Does (runs_with regs.old word to (λ next. changed regs.old ram.now next size to.ea (λ d. result_of op size regs.old.ccr d (one_to_eight f.upper)))) result fault.new regs.old regs.new ram.now ram.now }
+{
+    let (lower, by) = (lower_of(word), quick_of(word));
+    match size_bits_of(word) {
+        0 => change_register(regs, ram, fault, word, Size::One, lower, op, by),
+        1 => change_register(regs, ram, fault, word, Size::Two, lower, op, by),
+        _ => change_register(regs, ram, fault, word, Size::Four, lower, op, by),
+    }
+}
+
+/// An operation on an operand of the size in bits 7 and 6 and the number.
+#[inline(never)]
 fn by_number(regs: &mut Regs68, ram: &mut Ram, fault: &mut Fault, word: u32, op: Operation) -> Did
     ensures { let f = first_of word in
         let size = size_of_bits f.size in

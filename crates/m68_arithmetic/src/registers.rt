@@ -15,14 +15,18 @@ use big_memory::{Did, Ram};
 use m68_ea::{go_on, source};
 use m68_isa::Regs68;
 use m68_ops::{Op68, bit8_of, lower_of, mode_of, size_bits_of, upper_of};
-use mix_bits::{Fault, Size, sext, with_low};
+use mix_bits::{Fault, Size, sext, trunc, with_low};
 
 /// add of an operand to a data register.
 #[inline(never)]
 pub fn do_add_to_register(regs: &mut Regs68, ram: &Ram, fault: &mut Fault, word: u32) -> Did
     ensures { Does (by_op Op68.AddToRegister regs.old ram.now word) result fault.new regs.old regs.new ram.now ram.now }
 {
-    add_or_sub(regs, ram, fault, word, Operation::Add)
+    if mode_of(word) == 0 {
+        between_registers(regs, ram, fault, word, Operation::Add)
+    } else {
+        add_or_sub(regs, ram, fault, word, Operation::Add)
+    }
 }
 
 /// sub of an operand from a data register.
@@ -30,11 +34,68 @@ pub fn do_add_to_register(regs: &mut Regs68, ram: &Ram, fault: &mut Fault, word:
 pub fn do_sub_to_register(regs: &mut Regs68, ram: &Ram, fault: &mut Fault, word: u32) -> Did
     ensures { Does (by_op Op68.SubToRegister regs.old ram.now word) result fault.new regs.old regs.new ram.now ram.now }
 {
-    add_or_sub(regs, ram, fault, word, Operation::Sub)
+    if mode_of(word) == 0 {
+        between_registers(regs, ram, fault, word, Operation::Sub)
+    } else {
+        add_or_sub(regs, ram, fault, word, Operation::Sub)
+    }
+}
+
+/// An operation on two data registers of the size in bits 7 and 6.
+#[inline(always)]
+fn between_registers(
+    regs: &mut Regs68,
+    ram: &Ram,
+    fault: &mut Fault,
+    word: u32,
+    op: Operation,
+) -> Did
+    requires { (first_of word).mode ≡ 0 }
+    ensures { let f = first_of word in
+        let size = size_of_bits f.size in
+        let from = operand_at (words_at ram.now regs.old.pc) 1 size f.mode f.lower in
+        Does (runs_with regs.old word from (λ next. into_data regs.old ram.now next size from.ea f.upper (result_of op size regs.old.ccr))) result fault.new regs.old regs.new ram.now ram.now }
+{
+    let (lower, upper) = (lower_of(word), upper_of(word));
+    match size_bits_of(word) {
+        0 => on_registers(regs, ram, fault, word, Size::One, lower, op, upper),
+        1 => on_registers(regs, ram, fault, word, Size::Two, lower, op, upper),
+        _ => on_registers(regs, ram, fault, word, Size::Four, lower, op, upper),
+    }
+}
+
+/// An operation on two data registers of this size.
+#[inline(always)]
+fn on_registers(
+    regs: &mut Regs68,
+    ram: &Ram,
+    fault: &mut Fault,
+    word: u32,
+    size: Size,
+    lower: usize,
+    op: Operation,
+    upper: usize,
+) -> Did
+    requires some { size ≢ Zero }
+    requires from { lower < 8 }
+    requires to { upper < 8 }
+    ensures { let from = operand_at (words_at ram.now regs.old.pc) 1 size 0 lower in
+        Does (runs_with regs.old word from (λ next. into_data regs.old ram.now next size from.ea upper (result_of op size regs.old.ccr))) result fault.new regs.old regs.new ram.now ram.now }
+{
+    let out = apply(
+        op,
+        size,
+        regs.d[upper],
+        trunc(regs.d[lower], size),
+        regs.ccr,
+    );
+    regs.d[upper] = with_low(regs.d[upper], out.value, size);
+    regs.ccr = out.ccr;
+    go_on(regs, 1)
 }
 
 /// An operation on a data register and an operand of the size in bits 7 and 6.
-#[inline(always)]
+#[inline(never)]
 fn add_or_sub(regs: &mut Regs68, ram: &Ram, fault: &mut Fault, word: u32, op: Operation) -> Did
     ensures { let f = first_of word in
         let size = size_of_bits f.size in

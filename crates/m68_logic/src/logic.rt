@@ -16,7 +16,7 @@ use big_memory::{Did, Ram};
 use m68_alu::{logic, result_flags};
 use m68_ea::{find, go_on, immediate_at, immediate_words, put, source, value};
 use m68_isa::{LogicOp, Regs68};
-use m68_ops::{Op68, lower_of, mode_of, size_of, upper_of};
+use m68_ops::{Op68, lower_of, mode_of, size_bits_of, size_of, upper_of};
 use mix_bits::{Fault, Size, trunc, with_low};
 
 /// ori: immediate data into an operand, by OR.
@@ -48,7 +48,11 @@ pub fn do_eori(regs: &mut Regs68, ram: &mut Ram, fault: &mut Fault, word: u32) -
 pub fn do_or_to_register(regs: &mut Regs68, ram: &Ram, fault: &mut Fault, word: u32) -> Did
     ensures { Does (by_op Op68.OrToRegister regs.old ram.now word) result fault.new regs.old regs.new ram.now ram.now }
 {
-    to_register(regs, ram, fault, word, LogicOp::Or)
+    if mode_of(word) == 0 {
+        between_registers(regs, ram, fault, word, LogicOp::Or)
+    } else {
+        to_register(regs, ram, fault, word, LogicOp::Or)
+    }
 }
 
 /// and: an operand into a data register.
@@ -56,7 +60,11 @@ pub fn do_or_to_register(regs: &mut Regs68, ram: &Ram, fault: &mut Fault, word: 
 pub fn do_and_to_register(regs: &mut Regs68, ram: &Ram, fault: &mut Fault, word: u32) -> Did
     ensures { Does (by_op Op68.AndToRegister regs.old ram.now word) result fault.new regs.old regs.new ram.now ram.now }
 {
-    to_register(regs, ram, fault, word, LogicOp::And)
+    if mode_of(word) == 0 {
+        between_registers(regs, ram, fault, word, LogicOp::And)
+    } else {
+        to_register(regs, ram, fault, word, LogicOp::And)
+    }
 }
 
 /// or: a data register into memory.
@@ -80,12 +88,41 @@ pub fn do_and_to_memory(regs: &mut Regs68, ram: &mut Ram, fault: &mut Fault, wor
 pub fn do_eor(regs: &mut Regs68, ram: &mut Ram, fault: &mut Fault, word: u32) -> Did
     ensures { Does (by_op Op68.Eor regs.old ram.old word) result fault.new regs.old regs.new ram.old ram.new }
 {
-    from_register(regs, ram, fault, word, LogicOp::Eor)
+    if mode_of(word) == 0 {
+        onto_register(regs, ram, fault, word, LogicOp::Eor)
+    } else {
+        from_register(regs, ram, fault, word, LogicOp::Eor)
+    }
 }
 
 /// not: the ones complement of an operand.
 #[inline(never)]
 pub fn do_not(regs: &mut Regs68, ram: &mut Ram, fault: &mut Fault, word: u32) -> Did
+    ensures { Does (by_op Op68.Not regs.old ram.old word) result fault.new regs.old regs.new ram.old ram.new }
+{
+    if mode_of(word) == 0 {
+        not_register(regs, ram, fault, word)
+    } else {
+        not_operand(regs, ram, fault, word)
+    }
+}
+
+/// not of a data register.
+#[inline(always)]
+fn not_register(regs: &mut Regs68, ram: &Ram, fault: &mut Fault, word: u32) -> Did
+    requires { (first_of word).mode ≡ 0 }
+    ensures { Does (by_op Op68.Not regs.old ram.now word) result fault.new regs.old regs.new ram.now ram.now }
+{
+    match size_bits_of(word) {
+        0 => invert_register(regs, ram, fault, word, Size::One),
+        1 => invert_register(regs, ram, fault, word, Size::Two),
+        _ => invert_register(regs, ram, fault, word, Size::Four),
+    }
+}
+
+/// not of any other operand.
+#[inline(never)]
+fn not_operand(regs: &mut Regs68, ram: &mut Ram, fault: &mut Fault, word: u32) -> Did
     ensures { Does (by_op Op68.Not regs.old ram.old word) result fault.new regs.old regs.new ram.old ram.new }
 {
     let (mode, lower) = (mode_of(word), lower_of(word));
@@ -120,8 +157,46 @@ fn from_register(regs: &mut Regs68, ram: &mut Ram, fault: &mut Fault, word: u32,
     combine_sized(regs, ram, fault, word, op, 1, bits)
 }
 
-/// A value into an operand, whose words begin with word `first`.
+/// A data register into another one.
 #[inline(always)]
+fn onto_register(regs: &mut Regs68, ram: &Ram, fault: &mut Fault, word: u32, op: LogicOp) -> Did
+    requires { (first_of word).mode ≡ 0 }
+    ensures { let size = size_bits (first_of word).size in
+        let to = operand_at (words_at ram.now regs.old.pc) 1 size (first_of word).mode (first_of word).lower in
+        Does (with_operand regs.old word to (λ next. changed regs.old ram.now next size to.ea (λ d. combination op size regs.old.ccr d (slice_index regs.old.d (first_of word).upper)))) result fault.new regs.old regs.new ram.now ram.now }
+{
+    let bits = regs.d[upper_of(word)];
+    match size_bits_of(word) {
+        0 => combine_register(regs, ram, fault, word, op, Size::One, bits),
+        1 => combine_register(regs, ram, fault, word, op, Size::Two, bits),
+        _ => combine_register(regs, ram, fault, word, op, Size::Four, bits),
+    }
+}
+
+/// A value of this size into a data register.
+#[inline(always)]
+fn combine_register(
+    regs: &mut Regs68,
+    ram: &Ram,
+    fault: &mut Fault,
+    word: u32,
+    op: LogicOp,
+    size: Size,
+    bits: u32,
+) -> Did
+    requires { size ≢ Zero }
+    ensures { let to = operand_at (words_at ram.now regs.old.pc) 1 size 0 (first_of word).lower in
+        Does (with_operand regs.old word to (λ next. changed regs.old ram.now next size to.ea (λ d. combination op size regs.old.ccr d bits))) result fault.new regs.old regs.new ram.now ram.now }
+{
+    let lower = lower_of(word);
+    let out = logic(op, size, trunc(regs.d[lower], size), bits, regs.ccr);
+    regs.d[lower] = with_low(regs.d[lower], out.value, size);
+    regs.ccr = out.ccr;
+    go_on(regs, 1)
+}
+
+/// A value into an operand, whose words begin with word `first`.
+#[inline(never)]
 fn combine_sized(
     regs: &mut Regs68,
     ram: &mut Ram,
@@ -176,8 +251,50 @@ fn combine(
     go_on(regs, next)
 }
 
-/// An operand into a data register.
+/// A data register into another one, as an operand.
 #[inline(always)]
+fn between_registers(regs: &mut Regs68, ram: &Ram, fault: &mut Fault, word: u32, op: LogicOp) -> Did
+    requires { (first_of word).mode ≡ 0 }
+    ensures { let size = size_bits (first_of word).size in
+        let from = operand_at (words_at ram.now regs.old.pc) 1 size (first_of word).mode (first_of word).lower in
+        Does (with_operand regs.old word from (λ next. into_data regs.old ram.now next size from.ea (first_of word).upper (combination op size regs.old.ccr))) result fault.new regs.old regs.new ram.now ram.now }
+{
+    match size_bits_of(word) {
+        0 => take_register(regs, ram, fault, word, op, Size::One),
+        1 => take_register(regs, ram, fault, word, op, Size::Two),
+        _ => take_register(regs, ram, fault, word, op, Size::Four),
+    }
+}
+
+/// A data register of this size into another one.
+#[inline(always)]
+fn take_register(
+    regs: &mut Regs68,
+    ram: &Ram,
+    fault: &mut Fault,
+    word: u32,
+    op: LogicOp,
+    size: Size,
+) -> Did
+    requires { size ≢ Zero }
+    ensures { let from = operand_at (words_at ram.now regs.old.pc) 1 size 0 (first_of word).lower in
+        Does (with_operand regs.old word from (λ next. into_data regs.old ram.now next size from.ea (first_of word).upper (combination op size regs.old.ccr))) result fault.new regs.old regs.new ram.now ram.now }
+{
+    let (lower, upper) = (lower_of(word), upper_of(word));
+    let out = logic(
+        op,
+        size,
+        regs.d[upper],
+        trunc(regs.d[lower], size),
+        regs.ccr,
+    );
+    regs.d[upper] = with_low(regs.d[upper], out.value, size);
+    regs.ccr = out.ccr;
+    go_on(regs, 1)
+}
+
+/// An operand into a data register.
+#[inline(never)]
 fn to_register(regs: &mut Regs68, ram: &Ram, fault: &mut Fault, word: u32, op: LogicOp) -> Did
     ensures { let size = size_bits (first_of word).size in
         let from = operand_at (words_at ram.now regs.old.pc) 1 size (first_of word).mode (first_of word).lower in
@@ -238,6 +355,20 @@ fn invert(
     }
     regs.ccr = result_flags(size, inverted, regs.ccr);
     go_on(regs, next)
+}
+
+/// The ones complement of a data register of this size.
+#[inline(always)]
+fn invert_register(regs: &mut Regs68, ram: &Ram, fault: &mut Fault, word: u32, size: Size) -> Did
+    requires { size ≢ Zero }
+    ensures { let to = operand_at (words_at ram.now regs.old.pc) 1 size 0 (first_of word).lower in
+        Does (with_operand regs.old word to (λ next. not_effect regs.old ram.now next size to.ea)) result fault.new regs.old regs.new ram.now ram.now }
+{
+    let lower = lower_of(word);
+    let inverted = complement(size, trunc(regs.d[lower], size));
+    regs.d[lower] = with_low(regs.d[lower], inverted, size);
+    regs.ccr = result_flags(size, inverted, regs.ccr);
+    go_on(regs, 1)
 }
 
 /// The ones complement of the low bytes of a value.

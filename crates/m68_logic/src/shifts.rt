@@ -1,17 +1,21 @@
 // Shifts and rotates.
-ghost use Rattle.std.specs.Prelude.{◌≡◌, ◌<◌};
+ghost use Rattle.std.specs.Prelude.{◌≡◌, ◌≢◌, ◌<◌, ◌==◌, ◌%◌};
+ghost use Rattle.mix_bits.specs.Addresses.{onward as onward_of};
+ghost use Rattle.mix_bits.specs.declared.size.Size.TheVariants.{Zero};
 ghost use Rattle.m68_isa.specs.First.{first_of};
-ghost use Rattle.m68_isa.specs.Shifts.{shift_count};
+ghost use Rattle.m68_isa.specs.Shifts.{shift_count, shift_op};
 ghost use Rattle.big_memory.specs.Steps.{Does};
 ghost use Rattle.m68_effects.specs.Ops.{by_op};
-ghost use Rattle.m68_effects.specs.Shifts.{count_of as count_in};
+ghost use Rattle.m68_effects.specs.Parts.{after};
+ghost use Rattle.m68_effects.specs.Shifts.{count_of as count_in, shift as shift_effect};
 
 use big_memory::{Did, Ram};
 use m68_alu::shift;
 use m68_ea::{find, go_on, put, value};
-use m68_isa::{Regs68, ShiftCount};
+use m68_isa::{Regs68, ShiftCount, ShiftOp};
 use m68_ops::{
-    Op68, is_left, lower_of, memory_shift_of, mode_of, register_shift_of, shift_count_of, size_of,
+    Op68, is_left, lower_of, memory_shift_of, mode_of, register_shift_of, shift_count_of,
+    size_bits_of,
 };
 use mix_bits::{Fault, Size, with_low};
 
@@ -20,8 +24,65 @@ use mix_bits::{Fault, Size, with_low};
 pub fn do_shift(regs: &mut Regs68, ram: &Ram, fault: &mut Fault, word: u32) -> Did
     ensures { Does (by_op Op68.Shift regs.old ram.now word) result fault.new regs.old regs.new ram.now ram.now }
 {
+    match size_bits_of(word) {
+        0 => shift_sized(regs, ram, fault, word, Size::One),
+        1 => shift_sized(regs, ram, fault, word, Size::Two),
+        _ => shift_sized(regs, ram, fault, word, Size::Four),
+    }
+}
+
+/// A data register of this size by the kind of shift in bits 4 and 3.
+#[inline(always)]
+fn shift_sized(regs: &mut Regs68, ram: &Ram, fault: &mut Fault, word: u32, size: Size) -> Did
+    requires { size ≢ Zero }
+    ensures { let f = first_of word in
+        Does (after (shift_effect regs.old ram.now (onward_of regs.old.pc 2) (shift_op (f.mode % 4)) (f.bit8 == 1) size (shift_count f) f.lower)) result fault.new regs.old regs.new ram.now ram.now }
+{
+    match register_shift_of(word) {
+        ShiftOp::As => shift_either_way(regs, ram, fault, word, ShiftOp::As, size),
+        ShiftOp::Ls => shift_either_way(regs, ram, fault, word, ShiftOp::Ls, size),
+        ShiftOp::Rox => shift_either_way(regs, ram, fault, word, ShiftOp::Rox, size),
+        ShiftOp::Ro => shift_either_way(regs, ram, fault, word, ShiftOp::Ro, size),
+    }
+}
+
+/// The same by one kind of shift, to the left or to the right by bit 8.
+#[inline(always)]
+fn shift_either_way(
+    regs: &mut Regs68,
+    ram: &Ram,
+    fault: &mut Fault,
+    word: u32,
+    op: ShiftOp,
+    size: Size,
+) -> Did
+    requires { size ≢ Zero }
+    ensures { let f = first_of word in
+        Does (after (shift_effect regs.old ram.now (onward_of regs.old.pc 2) op (f.bit8 == 1) size (shift_count f) f.lower)) result fault.new regs.old regs.new ram.now ram.now }
+{
+    if is_left(word) {
+        shift_register(regs, ram, fault, word, op, true, size)
+    } else {
+        shift_register(regs, ram, fault, word, op, false, size)
+    }
+}
+
+/// The same one way.
+#[inline(always)]
+fn shift_register(
+    regs: &mut Regs68,
+    ram: &Ram,
+    fault: &mut Fault,
+    word: u32,
+    op: ShiftOp,
+    left: bool,
+    size: Size,
+) -> Did
+    requires { size ≢ Zero }
+    ensures { let f = first_of word in
+        Does (after (shift_effect regs.old ram.now (onward_of regs.old.pc 2) op left size (shift_count f) f.lower)) result fault.new regs.old regs.new ram.now ram.now }
+{
     let n = lower_of(word);
-    let (op, left, size) = (register_shift_of(word), is_left(word), size_of(word));
     let out = shift(op, left, size, regs.d[n], count_of(regs, word), regs.ccr);
     regs.d[n] = with_low(regs.d[n], out.value, size);
     regs.ccr = out.ccr;

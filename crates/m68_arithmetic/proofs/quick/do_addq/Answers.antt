@@ -1,9 +1,14 @@
-use Rattle.std.proofs.Common.{◌≢◌, ◌∙◌}
+use Rattle.std.proofs.Common.{◌≢◌, arith}
 use Rattle.mix_bits.specs.Digits.{digit_of}
 use Rattle.m68_arithmetic.proofs.Alike.{addq_else}
 use Rattle.m68_arithmetic.proofs.quick.do_addq.Goals as goal
 
-pub returns-else-mode_of-eq1 : goal.returns-else-mode_of-eq1
-returns-else-mode_of-eq1 c =
-    let other : digit_of c.args.word 3 3 ≢ 1 = λ e. c.if-mode_of-eq1.false (c.mode_of.ensures.is ∙ e) in
+pub returns-in-0 : goal.returns-in-0
+returns-in-0 c =
+    let other : digit_of c.args.word 3 3 ≢ 1 = omega arith in
+    rw addq_else c.register_by_number.ensures
+
+pub returns-in_default : goal.returns-in_default
+returns-in_default c =
+    let other : digit_of c.args.word 3 3 ≢ 1 = omega arith in
     rw addq_else c.by_number.ensures
