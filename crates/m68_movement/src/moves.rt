@@ -14,7 +14,7 @@ use m68_alu::result_flags;
 use m68_ea::{go_on, is_second_good, source};
 use m68_isa::Regs68;
 use m68_ops::{Op68, lower_of, mode_of, move_mode_of, upper_of};
-use mix_bits::{Fault, FaultKind, Size, sext};
+use mix_bits::{Fault, FaultKind, Size, sext, trunc, with_low};
 
 /// move.b: any operand but an address register into one that can be written.
 #[inline(never)]
@@ -23,7 +23,13 @@ pub fn do_move_byte(regs: &mut Regs68, ram: &mut Ram, fault: &mut Fault, word: u
 {
     let from = (mode_of(word), lower_of(word));
     let to = (move_mode_of(word), upper_of(word));
-    move_between(regs, ram, fault, word, Size::One, from, to)
+    if to.0 == 0 {
+        move_to_register(regs, ram, fault, word, Size::One, from, to.1)
+    } else if from.0 == 0 {
+        move_from_register(regs, ram, fault, word, Size::One, from.1, to)
+    } else {
+        move_between(regs, ram, fault, word, Size::One, from, to)
+    }
 }
 
 /// move.w
@@ -33,7 +39,13 @@ pub fn do_move_word(regs: &mut Regs68, ram: &mut Ram, fault: &mut Fault, word: u
 {
     let from = (mode_of(word), lower_of(word));
     let to = (move_mode_of(word), upper_of(word));
-    move_between(regs, ram, fault, word, Size::Two, from, to)
+    if to.0 == 0 {
+        move_to_register(regs, ram, fault, word, Size::Two, from, to.1)
+    } else if from.0 == 0 {
+        move_from_register(regs, ram, fault, word, Size::Two, from.1, to)
+    } else {
+        move_between(regs, ram, fault, word, Size::Two, from, to)
+    }
 }
 
 /// move.l
@@ -43,12 +55,70 @@ pub fn do_move_long(regs: &mut Regs68, ram: &mut Ram, fault: &mut Fault, word: u
 {
     let from = (mode_of(word), lower_of(word));
     let to = (move_mode_of(word), upper_of(word));
-    move_between(regs, ram, fault, word, Size::Four, from, to)
+    if to.0 == 0 {
+        move_to_register(regs, ram, fault, word, Size::Four, from, to.1)
+    } else if from.0 == 0 {
+        move_from_register(regs, ram, fault, word, Size::Four, from.1, to)
+    } else {
+        move_between(regs, ram, fault, word, Size::Four, from, to)
+    }
+}
+
+/// A move of this size from an operand, a mode and a register, to a data register.
+#[inline(always)]
+fn move_to_register(
+    regs: &mut Regs68,
+    ram: &Ram,
+    fault: &mut Fault,
+    word: u32,
+    size: Size,
+    from: (u32, usize),
+    to: usize,
+) -> Did
+    requires from { from.1 < 8 }
+    requires to { to < 8 }
+    ensures { let source = operand_at (words_at ram.now regs.old.pc) 1 size from.0 from.1 in
+        let target = operand_at (words_at ram.now regs.old.pc) source.next size 0 to in
+        Does (runs_made regs.old ram.now word (Made (Move size source.ea target.ea) target.next (source.good && target.good))) result fault.new regs.old regs.new ram.now ram.now }
+{
+    let mut next = 1;
+    let Some(value) = source(regs, ram, fault, word, &mut next, size, from.0, from.1) else {
+        return Did::Stop;
+    };
+    regs.d[to] = with_low(regs.d[to], value, size);
+    regs.ccr = result_flags(size, value, regs.ccr);
+    go_on(regs, next)
+}
+
+/// A move of this size from a data register to an operand, a mode and a register.
+#[inline(always)]
+fn move_from_register(
+    regs: &mut Regs68,
+    ram: &mut Ram,
+    fault: &mut Fault,
+    word: u32,
+    size: Size,
+    from: usize,
+    to: (u32, usize),
+) -> Did
+    requires from { from < 8 }
+    requires to { to.1 < 8 }
+    ensures { let source = operand_at (words_at ram.old regs.old.pc) 1 size 0 from in
+        let target = operand_at (words_at ram.old regs.old.pc) source.next size to.0 to.1 in
+        Does (runs_made regs.old ram.old word (Made (Move size source.ea target.ea) target.next (source.good && target.good))) result fault.new regs.old regs.new ram.old ram.new }
+{
+    let value = trunc(regs.d[from], size);
+    let mut next = 1;
+    if !write(regs, ram, fault, word, &mut next, size, to.0, to.1, value) {
+        return Did::Stop;
+    }
+    regs.ccr = result_flags(size, value, regs.ccr);
+    go_on(regs, next)
 }
 
 /// A move of this size from an operand to another one, each a mode and a register. The index words of
 /// both are tested before any access.
-#[inline(always)]
+#[inline(never)]
 fn move_between(
     regs: &mut Regs68,
     ram: &mut Ram,
