@@ -1,8 +1,9 @@
 -- A loop that steps, and at each crossing runs the callee, one event at a time.
-use Rattle.std.proofs.Common.{◌≡◌, ℕ, suc, ◌-◌, ◌<◌, ◌≤◌, List, ◌∷◌, length, arith, refl, sym, ap, ◌∙◌}
+use Rattle.std.proofs.Common.{◌≡◌, ℕ, zero, suc, ◌-◌, ◌<◌, ◌≤◌, List, ◌∷◌, length, arith, refl, sym, ap, ◌∙◌, subst}
 use Rattle.mix_bits.specs.declared.fault.Fault.{Fault}
 use Rattle.switch_frame.specs.Records.{Record, isa_of}
 use Rattle.dev_rack.proofs.Steps.{accounts-join}
+use Rattle.mixed_machine.specs.declared.did.Did.{Did}
 use Rattle.mixed_machine.specs.declared.did.Did.TheVariants.{Next, Call, Return, Exit, Fault as FaultDid, ReadFault, OutFault, TraceFault}
 use Rattle.mixed_machine.specs.declared.stop.Stop.{Stop}
 use Rattle.mixed_machine.specs.declared.stop.Stop.TheVariants.{Exit as ExitStop, Fault as FaultStop, Limit, ReadFault as ReadStop, OutFault as OutStop, TraceFault as TraceStop}
@@ -11,6 +12,7 @@ use Rattle.mixed_machine.specs.Counts.{counts_of}
 use Rattle.mixed_machine.specs.Machine.{IsWhole, callers_of}
 use Rattle.mixed_machine.specs.Outside.{At}
 use Rattle.mixed_machine.specs.Step.{step}
+use Rattle.mix_steps.specs.Advances.{Advances, GoesOn}
 use Rattle.mixed_machine.proofs.Machines.{comes-back-at, exits-at, faults-at, limit-at, out-breaks-at, read-breaks-at, trace-breaks-at}
 use Rattle.mix_engine.proofs.Counting.{calm-more}
 use Rattle.mix_engine.proofs.Ways.{Ended, Returned, Way, way-back, way-begins, way-ends, way-on, way-stopped}
@@ -32,6 +34,20 @@ goes-on n left cell a b c some turning acts =
     let kept : callers_of c.body ≡ callers_of a.body = acts.callers ∙ turning.callers in
     let count : length (callers_of c.body) ≡ length (callers_of a.body) = ap length kept in
     record { callers = kept; way = way-on (depth_of a) n left Next cell a b c some tt turning.way acts acts.blames (omega (arith, count)) }
+
+-- several of them
+several : (k n left : ℕ) (cell : Fault) (a b c : At) → k < left → Turning n left a b → GoesOn k b c → Turning n (left - k) a c
+several zero n left cell a b c some turning goes =
+    let none : left ≡ left - 0 = omega arith in subst (λ l. Turning n l a c) none (subst (Turning n left a) (sym goes) turning)
+several (suc k) n left cell a b c some turning goes =
+    let one : (left - k) - 1 ≡ left - suc k = omega (arith, some) in
+    subst (λ l. Turning n l a c) one (goes-on n (left - k) cell a goes.0 c (omega (arith, some)) (several k n left cell a b goes.0 (omega (arith, some)) turning goes.1) (goes.2 cell))
+
+-- until one that may end something
+pub turned : (n left now : ℕ) (did : Did) (cell : Fault) (a b c : At) → 0 < now → now ≤ left → Turning n left a b → (it : Advances (left - now) did cell b c) → Turning n now a it.last
+turned n left now did cell a b c some fewer turning it =
+    let rest : left - (left - now) ≡ now = omega (arith, fewer) in
+    subst (λ l. Turning n l a it.last) rest (several (left - now) n left cell a b it.last (omega (arith, some, fewer)) turning it.goes)
 
 -- a crossing
 deeper : (a b c : At) (r : Record) → callers_of b.body ≡ callers_of a.body → callers_of c.body ≡ r ∷ callers_of b.body → depth_of c ≡ suc (depth_of a)

@@ -16,7 +16,7 @@ use dev_rack::Devices;
 use m68_isa::Regs68;
 use mix_bits::{Fault, FaultKind};
 use mix_io::{Sink, Source};
-use mix_steps::{Outside, one};
+use mix_steps::{Outside, advance};
 use mixed_machine::{Body, Did, Stop};
 use ppc_isa::RegsPpc;
 use switch_frame::Active;
@@ -109,7 +109,7 @@ pub fn run_turns<'i, 'o, 't, 'd, I: Source, O: Sink, T: Sink, D: Devices>(
         also: 0,
     };
     'steps: while *steps > 0 {
-        match one(body, active, outside, &mut fault) {
+        match advance(body, active, outside, &mut fault, steps) {
             Did::Next => *steps -= 1,
             Did::Call => {
                 *steps -= 1;

@@ -9,3 +9,4 @@ pub mod Leavings
 pub mod Framing
 pub mod Entering
 pub mod Returning
+pub mod Advancing

@@ -1,5 +1,5 @@
 -- What code does by itself, without a gate or the host.
-use Rattle.std.specs.Prelude.{◌≡◌, ℕ, ◌<◌, ◌^◌}
+use Rattle.std.specs.Prelude.{◌≡◌, ℕ, zero, suc, ◌<◌, ◌^◌}
 use Rattle.mix_bits.specs.declared.isa.Isa.{Isa}
 use Rattle.mix_bits.specs.declared.fault.Fault.{Fault}
 use Rattle.big_memory.specs.declared.steps.Did.{Did}
@@ -39,11 +39,27 @@ abbrev pub IsNumber : Active → ℕ → Type 0
 IsNumber (M68 r) number = number < 2 ^ 16
 IsNumber (Ppc r) number = number < host_functions
 
--- whatever is around: the step is the code's own, or one of the host or of a gate, before which nothing has changed
-abbrev pub Codes : Code → Fault → Active → Active → Body → Body → Type 0
-Codes Goes_on cell before after b new =
+-- whatever is around: the step is the code's own
+abbrev pub IsOwn : Active → Active → Body → Body → Type 0
+IsOwn before after b new =
     ((around : Around) → step (flat b before around) ≡ Goes (flat new after around) quiet) × IsWhole new (isa_of after) × (callers_of new ≡ callers_of b)
+
+-- or one of the host or of a gate, before which nothing has changed
+abbrev pub Codes : Code → Fault → Active → Active → Body → Body → Type 0
+Codes Goes_on cell before after b new = IsOwn before after b new
 Codes Leave cell before after b new =
     ((around : Around) → step (flat b before around) ≡ leaves_code before (flat b before around) cell.detail) × IsNumber before cell.detail × (after ≡ before) × (new ≡ b)
 Codes Stop cell before after b new = ((around : Around) → step (flat b before around) ≡ Faults cell) × (after ≡ before) × (new ≡ b)
 Codes Gate cell before after b new = ((around : Around) → step (flat b before around) ≡ at_gate (flat b before around)) × (after ≡ before) × (new ≡ b)
+
+-- so many steps, each the code's own
+abbrev pub AreOwn : ℕ → Active → Active → Body → Body → Type 0
+AreOwn zero before after b new = (after ≡ before) × (new ≡ b)
+AreOwn (suc k) before after b new = (mid : Active) × (at : Body) × AreOwn k before mid b at × IsOwn mid after at new
+
+-- what the code did after so many of them
+pub record CodesAfter (k : ℕ) (code : Code) (cell : Fault) (before after : Active) (b new : Body) : Type 0 where
+  pub active : Active
+  pub body : Body
+  pub own : AreOwn k before active b body
+  pub last : Codes code cell active after body new

@@ -6,3 +6,4 @@ pub mod Does
 pub mod Frames
 pub mod Called
 pub mod Beside
+pub mod Advances

@@ -1,12 +1,12 @@
 // What code of the active set does by itself.
-ghost use Rattle.std.specs.Prelude.{◌≡◌, true};
+ghost use Rattle.std.specs.Prelude.{◌≡◌, ◌<◌, ◌≤◌, ◌-◌, true};
 ghost use Rattle.big_memory.specs.Faults.{fault_at};
 ghost use Rattle.big_memory.specs.Map.{in_gate_page as in_gate_page_of};
 ghost use Rattle.mix_bits.specs.declared.isa.Isa.TheVariants.{M68 as set_m68, Ppc as set_ppc};
 ghost use Rattle.switch_frame.specs.declared.active.Active.TheVariants.{M68, Ppc};
 ghost use Rattle.switch_frame.specs.Records.{isa_of};
 ghost use Rattle.mixed_machine.specs.Machine.{IsWhole};
-ghost use Rattle.mix_steps.specs.Cores.{Codes};
+ghost use Rattle.mix_steps.specs.Cores.{Codes, CodesAfter};
 
 use crate::cores::{core_68k, core_ppc};
 use big_memory::{Did, host_code, in_gate_page, is_gate};
@@ -30,15 +30,62 @@ pub enum Code {
     Gate,
 }
 
-/// The instruction at pc, or why the host is to go on.
+/// Instructions from pc on: what the last of them did, or why the host is to go on there. It is the first
+/// that is not done, or the last that `left` allows; each before it lowers `left`.
 #[inline(always)]
-pub fn run_code(body: &mut Body, active: &mut Active, fault: &mut Fault) -> Code
-    requires { IsWhole body.old (isa_of active.old) }
-    ensures { Codes result fault.new active.old active.new body.old body.new }
+pub fn run_code(body: &mut Body, active: &mut Active, fault: &mut Fault, left: &mut u32) -> Code
+    requires whole { IsWhole body.old (isa_of active.old) }
+    requires some { 0 < left.old }
+    ensures whole { IsWhole body.new (isa_of active.new) }
+    ensures some { 0 < left.new }
+    ensures fewer { left.new ≤ left.old }
+    ensures codes { CodesAfter (left.old - left.new) result fault.new active.old active.new body.old body.new }
 {
     match active {
-        Active::M68(regs) => code_68k(body, regs, fault),
-        Active::Ppc(regs) => code_ppc(body, regs, fault),
+        Active::M68(regs) => run_68k(body, regs, fault, left),
+        Active::Ppc(regs) => run_ppc(body, regs, fault, left),
+    }
+}
+
+#[inline(always)]
+fn run_68k(body: &mut Body, regs: &mut Regs68, fault: &mut Fault, left: &mut u32) -> Code
+    requires whole { IsWhole body.old set_m68 }
+    requires some { 0 < left.old }
+    ensures whole { IsWhole body.new set_m68 }
+    ensures some { 0 < left.new }
+    ensures fewer { left.new ≤ left.old }
+    ensures codes { CodesAfter (left.old - left.new) result fault.new (M68 regs.old) (M68 regs.new) body.old body.new }
+{
+    let mut count = *left;
+    'codes: loop {
+        match code_68k(body, regs, fault) {
+            Code::Next if count > 1 => count -= 1,
+            code => {
+                *left = count;
+                return code;
+            }
+        }
+    }
+}
+
+#[inline(always)]
+fn run_ppc(body: &mut Body, regs: &mut RegsPpc, fault: &mut Fault, left: &mut u32) -> Code
+    requires whole { IsWhole body.old set_ppc }
+    requires some { 0 < left.old }
+    ensures whole { IsWhole body.new set_ppc }
+    ensures some { 0 < left.new }
+    ensures fewer { left.new ≤ left.old }
+    ensures codes { CodesAfter (left.old - left.new) result fault.new (Ppc regs.old) (Ppc regs.new) body.old body.new }
+{
+    let mut count = *left;
+    'codes: loop {
+        match code_ppc(body, regs, fault) {
+            Code::Next if count > 1 => count -= 1,
+            code => {
+                *left = count;
+                return code;
+            }
+        }
     }
 }
 

@@ -1,7 +1,8 @@
-//! One step of the mixed machine in memory: an instruction of either set, a call from one set into the
-//! other, a return, or a call of the host.
+//! Steps of the mixed machine in memory: an instruction of either set, a call from one set into the other, a
+//! return, or a call of the host.
 //!
-//! `one` does the definition's `step`, or tells why not: a fault, an exit, or a failure of the outside (`Acts`).
+//! `advance` does the definition's `step` so many times, and tells what the last one did, or why it is not done: a
+//! fault, an exit, or a failure of the outside (`Advances`).
 #![tactic(auto)]
 
 mod active;
@@ -18,4 +19,4 @@ mod refuse;
 mod step;
 
 pub use outside::Outside;
-pub use step::one;
+pub use step::advance;

@@ -1,9 +1,8 @@
-// One step of the machine.
-ghost use Rattle.std.specs.Prelude.{◌≡◌};
+// Steps of the machine.
+ghost use Rattle.std.specs.Prelude.{◌≡◌, ◌<◌, ◌≤◌, ◌-◌};
 ghost use Rattle.switch_frame.specs.Records.{isa_of};
-ghost use Rattle.mixed_machine.specs.Acts.{Acts};
 ghost use Rattle.mixed_machine.specs.Machine.{IsWhole};
-ghost use Rattle.mixed_machine.specs.Step.{step};
+ghost use Rattle.mix_steps.specs.Advances.{Advances};
 ghost use Rattle.mix_steps.specs.Beside.{AreSame, machine_beside};
 
 use crate::code::{Code, run_code};
@@ -17,23 +16,29 @@ use mix_io::{Sink, Source};
 use mixed_machine::{Body, Did};
 use switch_frame::Active;
 
-/// One step of the active set, with all rules in their order. The registers are those of the set that is
-/// active afterwards. A fault stands in the cell; where there is none, the cell means nothing.
+/// Steps of the active set, with all rules in their order, and what the last of them did. It is the first that
+/// is more than an instruction done by the same code, or the last that `left` allows; each before it lowers
+/// `left`. The registers are those of the set that is active afterwards. A fault stands in the cell; where
+/// there is none, the cell means nothing.
 #[inline(always)]
-pub fn one<'i, 'o, 't, 'd, I: Source, O: Sink, T: Sink, D: Devices>(
+pub fn advance<'i, 'o, 't, 'd, I: Source, O: Sink, T: Sink, D: Devices>(
     body: &mut Body,
     active: &mut Active,
     outside: &mut Outside<'i, 'o, 't, 'd, I, O, T, D>,
     fault: &mut Fault,
+    left: &mut u32,
 ) -> Did
-    requires { IsWhole body.old (isa_of active.old) }
-    ensures does { Acts step result fault.new
+    requires whole { IsWhole body.old (isa_of active.old) }
+    requires some { 0 < left.old }
+    ensures does { Advances (left.old - left.new) result fault.new
         (machine_beside I.left I.faults O.held O.faults T.held T.faults D.state body.old active.old outside.old)
         (machine_beside I.left I.faults O.held O.faults T.held T.faults D.state body.new active.new outside.new) }
+    ensures some { 0 < left.new }
+    ensures fewer { left.new ≤ left.old }
     ensures same { AreSame outside.old outside.new }
 {
     body_laws();
-    match run_code(body, active, fault) {
+    match run_code(body, active, fault, left) {
         Code::Next => Did::Next,
         Code::Stop => Did::Fault,
         Code::Gate => leave(body, active, outside.trace, fault),

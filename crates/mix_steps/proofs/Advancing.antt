@@ -1,0 +1,85 @@
+-- Steps that code does by itself, one after another, and the step behind them.
+use Rattle.std.proofs.Common.{◌≡◌, ℕ, zero, suc, ◌-◌, ◌<◌, ◌≤◌, arith, refl, sym, ap, ◌∙◌, subst}
+use Rattle.mix_bits.specs.declared.fault.Fault.{Fault as AFault}
+use Rattle.mix_io.specs.Streams.{Output}
+use Rattle.switch_frame.specs.declared.active.Active.{Active}
+use Rattle.switch_frame.specs.Records.{isa_of}
+use Rattle.toolbox.specs.Calls.{Outside}
+use Rattle.mixed_machine.specs.declared.body.Body.{Body}
+use Rattle.mixed_machine.specs.declared.did.Did.{Did}
+use Rattle.mixed_machine.specs.declared.did.Did.TheVariants.{Next, Fault}
+use Rattle.mixed_machine.specs.Leave.{at_gate}
+use Rattle.mixed_machine.specs.Step.{step}
+use Rattle.mixed_machine.specs.Machine.{IsWhole, flat}
+use Rattle.mixed_machine.specs.Outside.{At, at}
+use Rattle.mixed_machine.specs.Acts.{Acts}
+use Rattle.mix_steps.specs.declared.code.Code.TheVariants.{Next as Goes_on, Leave, Stop, Gate}
+use Rattle.mix_steps.specs.Laws.{AreLaws}
+use Rattle.mix_steps.specs.Cores.{AreOwn, CodesAfter, IsOwn, leaves_code}
+use Rattle.mix_steps.specs.Does.{Does}
+use Rattle.mix_steps.specs.Advances.{Advances, GoesOn}
+use Rattle.mix_steps.proofs.Amid.{acts-from, amid, does-change}
+use Rattle.mix_steps.proofs.Leavings.{same-at, stopped}
+
+-- none yet
+pub own-none : (n : ℕ) (before : Active) (b : Body) → AreOwn (n - n) before before b b
+own-none n before b = let none : 0 ≡ n - n = omega arith in subst (λ k. AreOwn k before before b b) none (refl, refl)
+
+-- one more
+pub own-more : (n left : ℕ) (before mid after : Active) (b body new : Body) → 0 < left → left ≤ n → AreOwn (n - left) before mid b body → IsOwn mid after body new
+    → AreOwn (n - (left - 1)) before after b new
+own-more n left before mid after b body new some fewer own more =
+    let one : suc (n - left) ≡ n - (left - 1) = omega (arith, some, fewer) in subst (λ k. AreOwn k before after b new) one (mid, body, own, more)
+
+-- amid any outside
+own-acts : AreLaws → (cell : AFault) (before after : Active) (b new : Body) (o : Outside) (a : Output) → IsOwn before after b new → Acts step Next cell (at b before o a) (at new after o a)
+own-acts laws cell before after b new o a own = amid laws step Next cell b new before after o a a (does-change step cell b new before after a own.1 own.2 own.0)
+
+own-goes : AreLaws → (k : ℕ) (before after : Active) (b new : Body) (o : Outside) (a : Output) → AreOwn k before after b new → GoesOn k (at b before o a) (at new after o a)
+own-goes laws zero before after b new o a own = same-at b new before after o a own.0 own.1
+own-goes laws (suc k) before after b new o a own =
+    (at own.1 own.0 o a, own-goes laws k before own.0 b own.1 o a own.2, λ cell. own-acts laws cell own.0 after own.1 new o a own.3)
+
+-- the step behind them is the code's own, too
+pub advances-next : AreLaws → (k : ℕ) (cell : AFault) (before after : Active) (b new : Body) (o : Outside) (a : Output) → CodesAfter k Goes_on cell before after b new
+    → Advances k Next cell (at b before o a) (at new after o a)
+advances-next laws k cell before after b new o a codes =
+    record {
+      last = at codes.body codes.active o a;
+      goes = own-goes laws k before codes.active b codes.body o a codes.own;
+      acts = own-acts laws cell codes.active after codes.body new o a codes.last;
+    }
+
+-- or a fault
+pub advances-stop : AreLaws → (k : ℕ) (cell : AFault) (before after : Active) (b new : Body) (o : Outside) (a : Output) → IsWhole new (isa_of after) → CodesAfter k Stop cell before after b new
+    → Advances k Fault cell (at b before o a) (at new after o a)
+advances-stop laws k cell before after b new o a whole codes =
+    let first : IsWhole codes.body (isa_of codes.active) = subst (λ x. IsWhole x (isa_of codes.active)) codes.last.2 (subst (λ w. IsWhole new (isa_of w)) codes.last.1 whole) in
+    record {
+      last = at codes.body codes.active o a;
+      goes = own-goes laws k before codes.active b codes.body o a codes.own;
+      acts = stopped laws step cell codes.body new codes.active after o a first codes.last.0 codes.last.1 codes.last.2;
+    }
+
+-- or one at a gate
+pub advances-gate : AreLaws → (k : ℕ) (did : Did) (told cell : AFault) (before mid after : Active) (b body new : Body) (o : Outside) (a t : Output) → CodesAfter k Gate told before mid b body
+    → Does at_gate did cell body new mid after a t → Advances k did cell (at b before o a) (at new after o t)
+advances-gate laws k did told cell before mid after b body new o a t codes does =
+    record {
+      last = at codes.body codes.active o a;
+      goes = own-goes laws k before codes.active b codes.body o a codes.own;
+      acts = acts-from step at_gate did cell (at codes.body codes.active o a) (at body mid o a) (at new after o t)
+          (same-at codes.body body codes.active mid o a codes.last.1 codes.last.2) codes.last.0 (amid laws at_gate did cell body new mid after o a t does);
+    }
+
+-- or one of the host
+pub advances-leave : AreLaws → (k : ℕ) (did : Did) (told cell : AFault) (before mid : Active) (b body : Body) (o : Outside) (a : Output) (c : At) → CodesAfter k Leave told before mid b body
+    → Acts (λ s. leaves_code mid s told.detail) did cell (at body mid o a) c → Advances k did cell (at b before o a) c
+advances-leave laws k did told cell before mid b body o a c codes acts =
+    record {
+      last = at codes.body codes.active o a;
+      goes = own-goes laws k before codes.active b codes.body o a codes.own;
+      acts = acts-from step (λ s. leaves_code mid s told.detail) did cell (at codes.body codes.active o a) (at body mid o a) c
+          (same-at codes.body body codes.active mid o a codes.last.2 codes.last.3)
+          (λ around. codes.last.0 around ∙ ap (λ w. leaves_code w (flat codes.body codes.active around) told.detail) (sym codes.last.2)) acts;
+    }

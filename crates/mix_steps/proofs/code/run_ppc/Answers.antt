@@ -1,0 +1,15 @@
+use Rattle.std.proofs.Common.{arith}
+use Rattle.switch_frame.specs.declared.active.Active.TheVariants.{Ppc}
+use Rattle.mix_steps.proofs.Advancing.{own-more}
+use Rattle.mix_steps.proofs.code.run_ppc.Goals as goal
+
+pub codes-preserved : goal.codes-preserved
+codes-preserved c =
+    let codes = c.codes in
+    let new = c.code_ppc.new in
+    record {
+      whole = c.in-Next.ensures.1;
+      some = omega arith;
+      fewer = omega arith;
+      own = own-more c.args.left.now codes.count (Ppc c.args.regs.now) (Ppc codes.regs) (Ppc new.regs) c.args.body.now codes.body new.body codes.invariant.some codes.invariant.fewer codes.invariant.own c.in-Next.ensures;
+    }

@@ -1,0 +1,19 @@
+-- The steps done so far are the code's own.
+use Rattle.std.proofs.Common.{◌-◌, ◌<◌, ◌≤◌}
+use Rattle.mix_bits.specs.declared.isa.Isa.TheVariants.{Ppc as set_ppc}
+use Rattle.switch_frame.specs.declared.active.Active.TheVariants.{Ppc}
+use Rattle.mixed_machine.specs.Machine.{IsWhole}
+use Rattle.mix_steps.specs.Cores.{AreOwn}
+use Rattle.mix_steps.proofs.code.run_ppc.Given as goal
+
+abbrev pub decreases-codes : goal.decreases-codes
+decreases-codes l = l.count
+
+abbrev pub invariant-codes : goal.invariant-codes
+invariant-codes l =
+    record {
+      whole : IsWhole l.body set_ppc;
+      some : 0 < l.count;
+      fewer : l.count ≤ l.initial.count;
+      own : AreOwn (l.initial.count - l.count) (Ppc l.initial.regs) (Ppc l.regs) l.initial.body l.body;
+    }
