@@ -6,7 +6,7 @@ use Rattle.mix_io.specs.Counts.{Rose}
 use Rattle.mix_io.specs.Streams.{Output, Breaks}
 use Rattle.dev_rack.specs.Accounts.{Accounts}
 use Rattle.dev_rack.proofs.Steps.{accounts-none}
-use Rattle.mixed_machine.specs.Counts.{Counts, Blames, Calm, InputRose, OutRose, TraceRose}
+use Rattle.mixed_machine.specs.Counts.{Counts, Blames}
 use Rattle.mixed_machine.specs.declared.stop.Stop.{Stop}
 use Rattle.mixed_machine.specs.declared.stop.Stop.TheVariants.{Exit, Fault, Limit, ReadFault, OutFault, TraceFault}
 use Rattle.mix_top.specs.World.{World, Accounted, Closes, Early, OnlyPuts, PutsText, RoseAt}

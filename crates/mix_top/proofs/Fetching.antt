@@ -1,12 +1,12 @@
 -- The files of a job, one after the other.
-use Rattle.std.proofs.Common.{◌≡◌, ℕ, ◌<◌, ◌≤◌, List, [], ◌∷◌, ◌++◌, length, Option, Some, None, IsSomeAnd, Ok, Err, sym, ap, subst, ◌∙◌, refl, append_assoc, append-nil}
+use Rattle.std.proofs.Common.{◌≡◌, ℕ, ◌<◌, ◌≤◌, List, [], ◌∷◌, ◌++◌, length, Option, Some, None, IsSomeAnd, Ok, Err, sym, ap, subst, ◌∙◌, refl, append_assoc}
 use Rattle.std.specs.Prelude.{Vec}
 use Rattle.std.specs.Option.{option_map, option_map_or}
-use Rattle.mix_io.specs.Counts.{CountsStay, CountRose, FetchCause, Rose}
+use Rattle.mix_io.specs.Counts.{CountsStay, FetchCause, Rose}
 use Rattle.mix_io.specs.Told.{Fetches, FetchesFile}
 use Rattle.mix_io.specs.declared.errors.FetchError.{FetchError}
 use Rattle.mix_io.specs.declared.errors.FetchError.TheVariants.{NoMemory, Failed, TooLong}
-use Rattle.job_words.specs.Jobs.{place_of, wanted, wanted_if}
+use Rattle.job_words.specs.Jobs.{place_of, wanted_if}
 use Rattle.job_words.specs.Words.{name_at, name_of}
 use Rattle.job_words.specs.declared.job.Job.{Job}
 use Rattle.job_words.specs.declared.job.Key.{Key}

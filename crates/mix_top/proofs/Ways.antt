@@ -1,5 +1,5 @@
 -- How the answers of the parts make up a way to end.
-use Rattle.std.proofs.Common.{◌≡◌, ◌≢◌, ℕ, suc, ◌-◌, ◌<◌, ◌≤◌, inl, inr, List, [], ◌++◌, length, Option, Some, None, Result, Ok, Err, arith, sym, ap, subst, ◌∙◌, refl, append-nil}
+use Rattle.std.proofs.Common.{◌≡◌, ◌≢◌, ℕ, suc, ◌-◌, ◌<◌, ◌≤◌, inl, inr, List, [], ◌++◌, Option, Some, None, Ok, Err, arith, sym, subst, refl, append-nil}
 use Rattle.mix_bits.specs.declared.isa.Isa.{Isa}
 use Rattle.mix_bits.specs.declared.isa.Isa.TheVariants.{M68, Ppc}
 use Rattle.mix_io.specs.Counts.{CountsStay}
@@ -9,7 +9,6 @@ use Rattle.mix_io.specs.declared.errors.FetchError.{FetchError}
 use Rattle.mix_io.specs.declared.errors.FetchError.TheVariants.{NoMemory as NoRoom, Failed, TooLong}
 use Rattle.switch_frame.specs.declared.program.Program.{Program}
 use Rattle.switch_frame.specs.Records.{isa_of}
-use Rattle.toolbox.specs.Calls.{Outside}
 use Rattle.toolbox.specs.Effects.{Around}
 use Rattle.call_trace.specs.Lines.{end_line}
 use Rattle.mixed_machine.specs.State.{State}
@@ -18,7 +17,7 @@ use Rattle.mixed_machine.specs.Machine.{flat}
 use Rattle.mixed_machine.specs.Exec.{How, log, line_of, said_of}
 use Rattle.mixed_machine.specs.Exec.How.{Limited, Exited, Faulted}
 use Rattle.mixed_machine.specs.Outside.{At, answers_between, around_at, state_of}
-use Rattle.mixed_machine.specs.Runs.{OutBroke, Ran as RanTo, ReadBroke, Runs, Sinks, Stops, TraceBroke}
+use Rattle.mixed_machine.specs.Runs.{Ran as RanTo, Runs, Stops}
 use Rattle.mixed_machine.specs.declared.stop.Stop.{Stop}
 use Rattle.mixed_machine.specs.declared.stop.Stop.TheVariants.{Exit, Fault, Limit, ReadFault, OutFault, TraceFault}
 use Rattle.mix_engine.specs.Start.{start_of}
@@ -27,7 +26,7 @@ use Rattle.job_words.specs.Drafts.{main_file}
 use Rattle.job_words.specs.Jobs.{FitsMainOf}
 use Rattle.job_words.specs.Words.{bad_at, command_of, name_at, name_of}
 use Rattle.job_words.specs.declared.job.Command.{Command}
-use Rattle.job_words.specs.declared.job.Command.TheVariants.{Run, List as Lists, Sample}
+use Rattle.job_words.specs.declared.job.Command.TheVariants.{Sample}
 use Rattle.mix_sample.specs.declared.sampled.Ending.{Ending}
 use Rattle.mix_sample.specs.declared.sampled.Ending.TheVariants.{Exit as ExitEnding, Fault as FaultEnding, Limit as LimitEnding}
 use Rattle.mix_sample.specs.declared.sampled.Sampled.{Sampled}
@@ -40,9 +39,9 @@ use Rattle.mix_load.specs.declared.files.Files.{Files}
 use Rattle.mix_load.specs.declared.error.LoadError.{LoadError}
 use Rattle.mix_load.specs.declared.error.LoadError.TheVariants.{NoMemory, Empty, Rsrc, NoCode, Far, JumpTable, Pef, TooLarge, Reloc, Unresolved, NoMain}
 use Rattle.mix_top.specs.Lines.{load_line, load_refusal, memory_line, words_line}
-use Rattle.mix_top.specs.World.{World, Accounted, Closes, Early, OnlyPuts, PutsText, world}
-use Rattle.mix_top.specs.Files.{AreFiles, Contents, IsNamed, IsFile, file_limit, job_of, ram_size}
-use Rattle.mix_top.specs.Ends.{Ends, FileWay, IsNext, Loads, ProgramWay, PutsSample, Ran, RunWay, SampleWay, Way, end_of, status_of}
+use Rattle.mix_top.specs.World.{World, Accounted, Closes, Early, OnlyPuts, world}
+use Rattle.mix_top.specs.Files.{AreFiles, Contents, IsNamed, ram_size}
+use Rattle.mix_top.specs.Ends.{Ends, FileWay, IsNext, Loads, PutsSample, Ran, RunWay, SampleWay, Way, end_of, status_of}
 use Rattle.mix_top.specs.Ends.RunWay.{ended, out_failed, read_failed, trace_failed}
 use Rattle.mix_top.specs.Ends.FileWay.{no_memory, refused}
 use Rattle.mix_top.specs.Ends.Way.{bad_words, fetched, long_file, no_file, no_memory_for_file, sample}

@@ -1,7 +1,7 @@
 -- The ways in which a call of the program ends, each with its cause. This is the whole promise of the public call:
 -- whatever the words, the files, the input, the answers of the devices and the failures of the outside are, one of
 -- these holds.
-use Rattle.std.specs.Prelude.{◌≡◌, ℕ, suc, ◌-◌, ◌<◌, ◌≤◌, ◌==◌, List, [], ◌∷◌, ◌++◌, Option, Some, Result, Ok, Err, if◌then◌else◌}
+use Rattle.std.specs.Prelude.{◌≡◌, ℕ, suc, ◌-◌, ◌<◌, ◌≤◌, ◌==◌, List, ◌∷◌, ◌++◌, Option, Some, Ok, Err, if◌then◌else◌}
 use Rattle.mix_bits.specs.declared.isa.Isa.{Isa}
 use Rattle.mix_io.specs.Counts.{CountsStay, CountRose}
 use Rattle.mix_io.specs.Streams.{Output, Grows, Breaks}

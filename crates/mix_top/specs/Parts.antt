@@ -1,24 +1,25 @@
 -- What the parts of the public call answer.
-use Rattle.std.specs.Prelude.{◌≡◌, ℕ, List, [], ◌∷◌}
+use Rattle.std.specs.Prelude.{◌≡◌, ℕ, List, [], ◌∷◌, Option}
 use Rattle.mix_bits.specs.declared.isa.Isa.{Isa}
 use Rattle.mix_io.specs.Counts.{CountsStay, CountRose}
 use Rattle.mix_io.specs.Streams.{Output}
 use Rattle.mix_io.specs.declared.errors.FetchError.{FetchError}
 use Rattle.mix_io.specs.declared.errors.FetchError.TheVariants.{NoMemory as NoRoom, Failed, TooLong}
 use Rattle.dev_rack.specs.Rack.{State}
-use Rattle.toolbox.specs.Calls.{Input}
+use Rattle.toolbox.specs.Calls.{outside}
 use Rattle.mixed_machine.specs.Exec.How.{Limited, Exited, Faulted}
 use Rattle.mixed_machine.specs.declared.stop.Stop.{Stop}
 use Rattle.mixed_machine.specs.declared.stop.Stop.TheVariants.{Exit, Fault, Limit, ReadFault, OutFault, TraceFault}
+use Rattle.mix_steps.specs.declared.outside.Outside.{Outside}
 use Rattle.call_trace.specs.Lines.{end_line}
 use Rattle.job_words.specs.Jobs.{place_of, wanted_if}
 use Rattle.job_words.specs.Words.{name_of}
 use Rattle.job_words.specs.declared.job.Job.{Job}
 use Rattle.job_words.specs.declared.job.Key.{Key}
 use Rattle.mix_load.specs.declared.error.LoadError.{LoadError}
-use Rattle.mix_load.specs.declared.error.LoadError.TheVariants.{NoMemory, Empty, Rsrc, NoCode, Far, JumpTable, Pef, TooLarge, Reloc, Unresolved, NoMain}
+use Rattle.mix_load.specs.declared.error.LoadError.TheVariants.{NoMemory}
 use Rattle.mix_top.specs.Lines.{memory_line, fetch_line, load_line, long_file, load_refusal}
-use Rattle.mix_top.specs.World.{World, Closes}
+use Rattle.mix_top.specs.World.{World, Closes, trace_told, world}
 use Rattle.mix_top.specs.Files.{Contents, IsLong}
 use Rattle.mix_top.specs.Ends.{IsNext, end_of, status_of}
 use Rattle.mix_top.specs.declared.files.Missing.{Missing}
@@ -60,9 +61,12 @@ abbrev pub unloaded_status : LoadError → ℕ
 unloaded_status NoMemory = 9
 unloaded_status error = 3
 
--- the outside, by its parts
-abbrev pub around : Input → State → Output → Output → World
-around input rack out trace = record { outside = record { input = input; rack = rack; out = out }; trace = trace }
+-- what the objects that are lent tell
+abbrev pub world_lent : {I O T D : Type 0} → (I → Option (List ℕ)) → (I → ℕ) → (O → Option (List ℕ)) → (O → ℕ) → (T → Option (List ℕ)) → (T → ℕ) → (D → State)
+    → Outside I O T D → World
+world_lent left read_faults held put_faults traced trace_faults state lent =
+    world (outside (left lent.input.now) (read_faults lent.input.now) (state lent.rack.now) (held lent.out.now) (put_faults lent.out.now))
+    (trace_told (traced lent.trace.now) (trace_faults lent.trace.now))
 
 -- how a run that stopped while a set was active ends the call: with its line and status, or, where the outside
 -- stopped it, with none

@@ -1,55 +1,62 @@
 // A listing of a program, from its files to its last line.
-ghost use Rattle.dev_rack.specs.Rack.{State};
 ghost use Rattle.job_words.specs.Jobs.{HasRamOf};
 ghost use Rattle.job_words.specs.declared.job.Command.TheVariants.{List as Lists};
 ghost use Rattle.mix_list.specs.Listing.{listing};
 ghost use Rattle.mix_load.specs.Load.{AreLoadable};
-ghost use Rattle.toolbox.specs.Calls.{Input};
+ghost use Rattle.mix_steps.specs.Beside.{AreSame};
 ghost use Rattle.mix_top.specs.World.{Accounted, PutsText, trace_told};
 ghost use Rattle.mix_top.specs.Ends.{FileWay};
-ghost use Rattle.mix_top.specs.Parts.{around};
+ghost use Rattle.mix_top.specs.Parts.{world_lent};
 
 use super::close::close_unloaded;
 use big_memory::Ram;
+use dev_rack::Devices;
 use job_words::Job;
 use mix_bits::Isa;
-use mix_io::Sink;
+use mix_io::{Sink, Source};
 use mix_list::list;
 use mix_load::{Files, load};
+use mix_steps::Outside;
 use std::alloc::Global;
 
-/// Loads the files of a job, and lists the instructions of its main set from an address on.
-pub fn list_files<O: Sink, T: Sink>(
+/// Where a listing begins, and how many instructions it has at most.
+#[derive(Clone, Copy)]
+pub struct Span {
+    pub at: u32,
+    pub count: u32,
+}
+
+/// Loads the files of a job, and lists the instructions of its main set.
+pub fn list_files<'i, 'o, 't, 'd, I: Source, O: Sink, T: Sink, D: Devices>(
     alloc: Global,
     files: &Files,
     job: Job,
-    at: u32,
-    count: u32,
-    out: &mut O,
-    trace: &mut T,
+    span: Span,
+    outside: &mut Outside<'i, 'o, 't, 'd, I, O, T, D>,
 ) -> u8
     requires files { AreLoadable files.now job.main }
     requires ram { HasRamOf job }
-    ensures accounted { (input : Input) (rack : State) → Accounted
-        (around input rack (trace_told (O.held out.old) (O.faults out.old)) (trace_told (T.held trace.old) (T.faults trace.old)))
-        (around input rack (trace_told (O.held out.new) (O.faults out.new)) (trace_told (T.held trace.new) (T.faults trace.new)))
+    ensures accounted { Accounted
+        (world_lent I.left I.faults O.held O.faults T.held T.faults D.state outside.old)
+        (world_lent I.left I.faults O.held O.faults T.held T.faults D.state outside.new)
         result }
-    ensures way { (input : Input) (rack : State) → FileWay (Lists job at count) job files.now
-        (around input rack (trace_told (O.held out.old) (O.faults out.old)) (trace_told (T.held trace.old) (T.faults trace.old)))
-        (around input rack (trace_told (O.held out.new) (O.faults out.new)) (trace_told (T.held trace.new) (T.faults trace.new)))
+    ensures way { FileWay (Lists job span.at span.count) job files.now
+        (world_lent I.left I.faults O.held O.faults T.held T.faults D.state outside.old)
+        (world_lent I.left I.faults O.held O.faults T.held T.faults D.state outside.new)
         result }
+    ensures same { AreSame outside.old outside.new }
 {
     match load(alloc, files, job.main, job.kib) {
-        Ok(program) => put_listing(&program.ram, job.main, at, count, out),
-        Err(error) => close_unloaded(error, trace),
+        Ok(program) => put_listing(&program.ram, job.main, span, outside.out),
+        Err(error) => close_unloaded(error, outside.trace),
     }
 }
 
 /// Lists memory, and answers the status.
-fn put_listing<O: Sink>(ram: &Ram, set: Isa, at: u32, count: u32, out: &mut O) -> u8
-    ensures { PutsText (trace_told (O.held out.old) (O.faults out.old)) (trace_told (O.held out.new) (O.faults out.new)) (listing count set ram.now at) 0 result }
+fn put_listing<O: Sink>(ram: &Ram, set: Isa, span: Span, out: &mut O) -> u8
+    ensures { PutsText (trace_told (O.held out.old) (O.faults out.old)) (trace_told (O.held out.new) (O.faults out.new)) (listing span.count set ram.now span.at) 0 result }
 {
-    match list(ram, set, at, count, out) {
+    match list(ram, set, span.at, span.count, out) {
         Ok(()) => 0,
         Err(_) => 6,
     }

@@ -1,39 +1,40 @@
 // The sample, from its run to its line.
 ghost use Rattle.std.specs.Prelude.{◌≡◌, ◌+◌, ◌≤◌, ◌++◌, length};
-ghost use Rattle.dev_rack.specs.Rack.{State};
-ghost use Rattle.toolbox.specs.Calls.{Input};
 ghost use Rattle.call_trace.specs.Names.{fault_name as name_of_fault};
+ghost use Rattle.mix_steps.specs.Beside.{AreSame};
 ghost use Rattle.mix_top.specs.World.{Accounted, PutsText, trace_told};
 ghost use Rattle.mix_top.specs.SampleLine.{counted, exit_text, fault_text, sample_head, sample_line};
 ghost use Rattle.mix_top.specs.Ends.{PutsSample, SampleWay};
-ghost use Rattle.mix_top.specs.Parts.{around};
+ghost use Rattle.mix_top.specs.Parts.{world_lent};
 
 use super::close::close_without_memory;
+use dev_rack::Devices;
 use mix_bits::{Fault, FaultKind, Line};
-use mix_io::Sink;
+use mix_io::{Sink, Source};
 use mix_sample::{Ending, Sampled, run_sample};
+use mix_steps::Outside;
 use std::alloc::Global;
 
 /// Runs the sample image, and writes what it did.
-pub fn write_sample<O: Sink, T: Sink>(
+pub fn write_sample<'i, 'o, 't, 'd, I: Source, O: Sink, T: Sink, D: Devices>(
     alloc: Global,
     calls: u32,
     depth: u32,
-    out: &mut O,
-    trace: &mut T,
+    outside: &mut Outside<'i, 'o, 't, 'd, I, O, T, D>,
 ) -> u8
-    ensures accounted { (input : Input) (rack : State) → Accounted
-        (around input rack (trace_told (O.held out.old) (O.faults out.old)) (trace_told (T.held trace.old) (T.faults trace.old)))
-        (around input rack (trace_told (O.held out.new) (O.faults out.new)) (trace_told (T.held trace.new) (T.faults trace.new)))
+    ensures accounted { Accounted
+        (world_lent I.left I.faults O.held O.faults T.held T.faults D.state outside.old)
+        (world_lent I.left I.faults O.held O.faults T.held T.faults D.state outside.new)
         result }
-    ensures way { (input : Input) (rack : State) → SampleWay calls depth
-        (around input rack (trace_told (O.held out.old) (O.faults out.old)) (trace_told (T.held trace.old) (T.faults trace.old)))
-        (around input rack (trace_told (O.held out.new) (O.faults out.new)) (trace_told (T.held trace.new) (T.faults trace.new)))
+    ensures way { SampleWay calls depth
+        (world_lent I.left I.faults O.held O.faults T.held T.faults D.state outside.old)
+        (world_lent I.left I.faults O.held O.faults T.held T.faults D.state outside.new)
         result }
+    ensures same { AreSame outside.old outside.new }
 {
     match run_sample(alloc, calls, depth) {
-        Ok(sampled) => put_sample(calls, depth, sampled, out),
-        Err(_) => close_without_memory(trace),
+        Ok(sampled) => put_sample(calls, depth, sampled, outside.out),
+        Err(_) => close_without_memory(outside.trace),
     }
 }
 

@@ -1,23 +1,24 @@
 ghost use Rattle.std.specs.Prelude.{◌≡◌, Ok, map};
 ghost use Rattle.std.specs.String.{string_bytes};
-ghost use Rattle.dev_rack.specs.Rack.{State};
-ghost use Rattle.toolbox.specs.Calls.{Input, outside};
+ghost use Rattle.toolbox.specs.Calls.{outside as outside_of};
 ghost use Rattle.job_words.specs.Jobs.{FitsMain, FitsMainOf, HasRam, HasRamOf, NamesFiles, NamesJob};
 ghost use Rattle.job_words.specs.Words.{command_of};
 ghost use Rattle.job_words.specs.declared.job.Command.TheVariants.{List as Lists, Run};
+ghost use Rattle.mix_steps.specs.Beside.{AreSame};
 ghost use Rattle.mix_top.specs.World.{trace_told, world};
 ghost use Rattle.mix_top.specs.Ends.{Ends};
-ghost use Rattle.mix_top.specs.Parts.{around};
+ghost use Rattle.mix_top.specs.Parts.{world_lent};
 
 use super::close::{close, close_unfetched};
 use super::files::fetch_files;
 use super::lines::words_text;
-use super::list::list_files;
+use super::list::{Span, list_files};
 use super::run::run_files;
 use super::sample::write_sample;
 use dev_rack::Devices;
 use job_words::{Command, Job, read_words};
 use mix_io::{Shelf, Sink, Source};
+use mix_steps::Outside;
 use std::alloc::Global;
 
 /// All that the program does, over words and five objects of the outside. The answer is the status of the
@@ -35,26 +36,31 @@ pub fn mixed_main<F: Shelf, I: Source, O: Sink, T: Sink, D: Devices>(
 ) -> u8
     ensures contents { F.contents shelf.new ≡ F.contents shelf.old }
     ensures ends { Ends (map string_bytes words.now) (F.contents shelf.old) (F.faults shelf.old) (F.faults shelf.new)
-        (world (outside (I.left input.old) (I.faults input.old) (D.state rack.old) (O.held out.old) (O.faults out.old)) (trace_told (T.held trace.old) (T.faults trace.old)))
-        (world (outside (I.left input.new) (I.faults input.new) (D.state rack.new) (O.held out.new) (O.faults out.new)) (trace_told (T.held trace.new) (T.faults trace.new)))
+        (world (outside_of (I.left input.old) (I.faults input.old) (D.state rack.old) (O.held out.old) (O.faults out.old)) (trace_told (T.held trace.old) (T.faults trace.old)))
+        (world (outside_of (I.left input.new) (I.faults input.new) (D.state rack.new) (O.held out.new) (O.faults out.new)) (trace_told (T.held trace.new) (T.faults trace.new)))
         result }
 {
     match read_words(words) {
-        Ok(command) => do_command(alloc, words, command, shelf, input, out, trace, rack),
+        Ok(command) => {
+            let mut outside = Outside {
+                input,
+                out,
+                trace,
+                rack,
+            };
+            do_command(alloc, words, command, shelf, &mut outside)
+        }
         Err(bad) => close(trace, words_text(bad.place).bytes(), 2),
     }
 }
 
 /// Does what a command asks for.
-fn do_command<F: Shelf, I: Source, O: Sink, T: Sink, D: Devices>(
+fn do_command<'i, 'o, 't, 'd, F: Shelf, I: Source, O: Sink, T: Sink, D: Devices>(
     alloc: Global,
     words: &[String],
     command: Command,
     shelf: &mut F,
-    input: &mut I,
-    out: &mut O,
-    trace: &mut T,
-    rack: &mut D,
+    outside: &mut Outside<'i, 'o, 't, 'd, I, O, T, D>,
 ) -> u8
     requires command { command_of (map string_bytes words.now) ≡ Ok command }
     requires named { NamesFiles (map string_bytes words.now) command }
@@ -62,27 +68,27 @@ fn do_command<F: Shelf, I: Source, O: Sink, T: Sink, D: Devices>(
     requires main { FitsMain command }
     ensures contents { F.contents shelf.new ≡ F.contents shelf.old }
     ensures ends { Ends (map string_bytes words.now) (F.contents shelf.old) (F.faults shelf.old) (F.faults shelf.new)
-        (world (outside (I.left input.old) (I.faults input.old) (D.state rack.old) (O.held out.old) (O.faults out.old)) (trace_told (T.held trace.old) (T.faults trace.old)))
-        (world (outside (I.left input.new) (I.faults input.new) (D.state rack.new) (O.held out.new) (O.faults out.new)) (trace_told (T.held trace.new) (T.faults trace.new)))
+        (world_lent I.left I.faults O.held O.faults T.held T.faults D.state outside.old)
+        (world_lent I.left I.faults O.held O.faults T.held T.faults D.state outside.new)
         result }
+    ensures same { AreSame outside.old outside.new }
 {
     match command {
-        Command::Run(job) => run_job(alloc, words, job, shelf, input, out, trace, rack),
-        Command::List(job, at, count) => list_job(alloc, words, job, at, count, shelf, out, trace),
-        Command::Sample(calls, depth) => write_sample(alloc, calls, depth, out, trace),
+        Command::Run(job) => run_job(alloc, words, job, shelf, outside),
+        Command::List(job, at, count) => {
+            list_job(alloc, words, job, Span { at, count }, shelf, outside)
+        }
+        Command::Sample(calls, depth) => write_sample(alloc, calls, depth, outside),
     }
 }
 
 /// Fetches the files of a job, and runs their program.
-fn run_job<F: Shelf, I: Source, O: Sink, T: Sink, D: Devices>(
+fn run_job<'i, 'o, 't, 'd, F: Shelf, I: Source, O: Sink, T: Sink, D: Devices>(
     alloc: Global,
     words: &[String],
     job: Job,
     shelf: &mut F,
-    input: &mut I,
-    out: &mut O,
-    trace: &mut T,
-    rack: &mut D,
+    outside: &mut Outside<'i, 'o, 't, 'd, I, O, T, D>,
 ) -> u8
     requires command { command_of (map string_bytes words.now) ≡ Ok (Run job) }
     requires named { NamesJob (map string_bytes words.now) job }
@@ -90,39 +96,39 @@ fn run_job<F: Shelf, I: Source, O: Sink, T: Sink, D: Devices>(
     requires main { FitsMainOf job }
     ensures contents { F.contents shelf.new ≡ F.contents shelf.old }
     ensures ends { Ends (map string_bytes words.now) (F.contents shelf.old) (F.faults shelf.old) (F.faults shelf.new)
-        (world (outside (I.left input.old) (I.faults input.old) (D.state rack.old) (O.held out.old) (O.faults out.old)) (trace_told (T.held trace.old) (T.faults trace.old)))
-        (world (outside (I.left input.new) (I.faults input.new) (D.state rack.new) (O.held out.new) (O.faults out.new)) (trace_told (T.held trace.new) (T.faults trace.new)))
+        (world_lent I.left I.faults O.held O.faults T.held T.faults D.state outside.old)
+        (world_lent I.left I.faults O.held O.faults T.held T.faults D.state outside.new)
         result }
+    ensures same { AreSame outside.old outside.new }
 {
     match fetch_files(alloc, words, job, shelf) {
-        Ok(files) => run_files(alloc, &files, job, input, out, trace, rack),
-        Err(missing) => close_unfetched(missing, trace),
+        Ok(files) => run_files(alloc, &files, job, outside),
+        Err(missing) => close_unfetched(missing, outside.trace),
     }
 }
 
 /// Fetches the files of a job, and lists their program.
-fn list_job<F: Shelf, O: Sink, T: Sink>(
+fn list_job<'i, 'o, 't, 'd, F: Shelf, I: Source, O: Sink, T: Sink, D: Devices>(
     alloc: Global,
     words: &[String],
     job: Job,
-    at: u32,
-    count: u32,
+    span: Span,
     shelf: &mut F,
-    out: &mut O,
-    trace: &mut T,
+    outside: &mut Outside<'i, 'o, 't, 'd, I, O, T, D>,
 ) -> u8
-    requires command { command_of (map string_bytes words.now) ≡ Ok (Lists job at count) }
+    requires command { command_of (map string_bytes words.now) ≡ Ok (Lists job span.at span.count) }
     requires named { NamesJob (map string_bytes words.now) job }
     requires ram { HasRamOf job }
     requires main { FitsMainOf job }
     ensures contents { F.contents shelf.new ≡ F.contents shelf.old }
-    ensures ends { (input : Input) (rack : State) → Ends (map string_bytes words.now) (F.contents shelf.old) (F.faults shelf.old) (F.faults shelf.new)
-        (around input rack (trace_told (O.held out.old) (O.faults out.old)) (trace_told (T.held trace.old) (T.faults trace.old)))
-        (around input rack (trace_told (O.held out.new) (O.faults out.new)) (trace_told (T.held trace.new) (T.faults trace.new)))
+    ensures ends { Ends (map string_bytes words.now) (F.contents shelf.old) (F.faults shelf.old) (F.faults shelf.new)
+        (world_lent I.left I.faults O.held O.faults T.held T.faults D.state outside.old)
+        (world_lent I.left I.faults O.held O.faults T.held T.faults D.state outside.new)
         result }
+    ensures same { AreSame outside.old outside.new }
 {
     match fetch_files(alloc, words, job, shelf) {
-        Ok(files) => list_files(alloc, &files, job, at, count, out, trace),
-        Err(missing) => close_unfetched(missing, trace),
+        Ok(files) => list_files(alloc, &files, job, span, outside),
+        Err(missing) => close_unfetched(missing, outside.trace),
     }
 }

@@ -2,8 +2,7 @@
 use Rattle.std.proofs.Common.{refl}
 use Rattle.switch_frame.specs.Records.{isa_of}
 use Rattle.toolbox.specs.Calls.{outside}
-use Rattle.mixed_machine.specs.Outside.{At, at}
-use Rattle.mix_top.specs.World.{World, trace_told, world}
+use Rattle.mix_top.specs.World.{trace_told, world}
 use Rattle.mix_top.specs.Ends.ProgramWay.{no_machine, ran}
 use Rattle.mix_top.proofs.Counting.{accounted-stop}
 use Rattle.mix_top.proofs.Ways.{accounted-memory, ran-of_run}
