@@ -1,6 +1,5 @@
 // The sample, from its run to its line.
 ghost use Rattle.std.specs.Prelude.{◌≡◌, ◌+◌, ◌≤◌, ◌++◌, length};
-ghost use Rattle.call_trace.specs.Names.{fault_name as name_of_fault};
 ghost use Rattle.mix_steps.specs.Beside.{AreSame};
 ghost use Rattle.mix_top.specs.World.{Accounted, PutsText, trace_told};
 ghost use Rattle.mix_top.specs.SampleLine.{counted, exit_text, fault_text, sample_head, sample_line};
@@ -8,8 +7,9 @@ ghost use Rattle.mix_top.specs.Ends.{PutsSample, SampleWay};
 ghost use Rattle.mix_top.specs.Parts.{world_lent};
 
 use super::close::close_without_memory;
+use call_trace::fault_name;
 use dev_rack::Devices;
-use mix_bits::{Fault, FaultKind, Line};
+use mix_bits::{Fault, Line};
 use mix_io::{Sink, Source};
 use mix_sample::{Ending, Sampled, run_sample};
 use mix_steps::Outside;
@@ -105,33 +105,4 @@ fn add_counted(line: &mut Line, name: &str, number: u32)
 {
     line.add(name);
     line.add_dec(number);
-}
-
-/// The name of a fault.
-fn fault_name(kind: FaultKind) -> &'static str
-    ensures name { result.now ≡ name_of_fault kind }
-    ensures short { length result.now ≤ 12 }
-{
-    match kind {
-        FaultKind::Illegal => "illegal",
-        FaultKind::Privileged => "privileged",
-        FaultKind::Odd => "odd",
-        FaultKind::Outside => "outside",
-        FaultKind::GateStore => "gatestore",
-        FaultKind::FrameStore => "framestore",
-        FaultKind::GateFetch => "gatefetch",
-        FaultKind::Vector => "vector",
-        FaultKind::BadInstr => "badinstr",
-        FaultKind::Trap => "trap",
-        FaultKind::NoTrap => "notrap",
-        FaultKind::BadDesc => "baddesc",
-        FaultKind::Info => "badinfo",
-        FaultKind::Mismatch => "mismatch",
-        FaultKind::NoRecord => "norecord",
-        FaultKind::FramesFull => "framesfull",
-        FaultKind::StackOutside => "stackoutside",
-        FaultKind::StackCrossed => "stackcrossed",
-        FaultKind::StackFull => "stackfull",
-        FaultKind::Unmatched => "unmatched",
-    }
 }
