@@ -1,8 +1,8 @@
 ghost use Rattle.std.specs.Prelude.{IsTrue, ◌≡◌, ◌+◌, ◌*◌, ◌/◌, ◌^◌, ◌≤◌, ◌<◌, true, length};
 ghost use Rattle.mix_load.specs.Segments.{HasTable, a5_of, entry_count, has_table, header_of, segments_start, table_start};
 
-use crate::fields::long_at;
 use crate::image::{PROGRAM_START, round_up};
+use file_fields::long_at;
 
 /// What CODE 0 says of the world of A5: its sizes in bytes, and the jump table in it.
 #[derive(Clone, Copy)]

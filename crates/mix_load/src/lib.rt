@@ -9,7 +9,6 @@
 mod container;
 mod contents;
 mod error;
-mod fields;
 mod files;
 mod flat;
 mod fork;

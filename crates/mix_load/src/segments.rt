@@ -8,9 +8,9 @@ ghost use Rattle.mix_load.specs.Pieces.{rounded_up, with_pieces};
 ghost use Rattle.mix_load.specs.Segments.{added_segment, code_at, is_far, is_far_code, is_segment, is_short, is_short_code, segment_at, segment_pieces, segment_places, segments_end, with_segment};
 
 use crate::error::LoadError;
-use crate::fields::word_at;
 use crate::image::round_up;
 use big_memory::Ram;
+use file_fields::word_at;
 use rsrc_fork::Fork;
 use std::alloc::{AllocError, Global};
 

@@ -7,11 +7,11 @@ ghost use Rattle.mix_load.specs.Pieces.{with_pieces};
 ghost use Rattle.mix_load.specs.Segments.{HasTable, entry_count, entry_place, header_of, is_bad_entry, is_unloaded, jump_target, offset_in, reaches, segment_at, segment_in, table_pieces, table_start};
 
 use crate::error::LoadError;
-use crate::fields::word_at;
 use crate::header::{has_table, read_header, table_start};
 use crate::image::put_long;
 use crate::segments::segment_at;
 use big_memory::Ram;
+use file_fields::word_at;
 use rsrc_fork::Fork;
 
 /// The words of an entry whose segment is not loaded: $3F3C pushes the segment's number, and $A9F0 is the
@@ -36,7 +36,7 @@ fn offset_in(code0: &[u8], i: u32) -> u16
     requires few { i < 2 ^ 24 }
     ensures { result ≡ offset_in code0.now i }
 {
-    word_at(code0, entry_place(i) as usize)
+    word_at(code0, entry_place(i))
 }
 
 fn segment_in(code0: &[u8], i: u32) -> u16
@@ -44,7 +44,7 @@ fn segment_in(code0: &[u8], i: u32) -> u16
     requires few { i < 2 ^ 24 }
     ensures { result ≡ segment_in code0.now i }
 {
-    word_at(code0, entry_place(i) as usize + 4)
+    word_at(code0, entry_place(i) + 4)
 }
 
 /// Whether an entry's words say that its segment is not loaded.
@@ -53,7 +53,7 @@ fn is_unloaded(code0: &[u8], i: u32) -> bool
     requires few { i < 2 ^ 24 }
     ensures { result ≡ is_unloaded code0.now i }
 {
-    let place = entry_place(i) as usize;
+    let place = entry_place(i);
     word_at(code0, place + 2) == PUSH && word_at(code0, place + 6) == LOAD_SEG
 }
 
