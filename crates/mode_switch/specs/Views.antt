@@ -1,11 +1,13 @@
 -- Kept calls and what is passed to them, as the definitions have them.
-use Rattle.std.specs.Prelude.{Result, Ok, Err}
+use Rattle.std.specs.Prelude.{ℕ, Result, Ok, Err}
 use Rattle.mix_bits.specs.declared.fault.Fault.{Fault}
 use Rattle.big_memory.specs.declared.refusals.Access.{Access}
 use Rattle.proc_info.specs.declared.sig.Sig.{Sig}
 use Rattle.proc_info.specs.Signature.{Signature}
 use Rattle.proc_info.specs.Views.{signature}
 use Rattle.args_m68.specs.Gather.{words_of}
+use Rattle.switch_frame.specs.declared.active.Active.{Active}
+use Rattle.switch_frame.specs.declared.active.Active.TheVariants.{M68, Ppc}
 use Rattle.mode_switch.specs.declared.wanted.Call.{Call}
 use Rattle.mode_switch.specs.declared.wanted.Wanted.{Wanted}
 use Rattle.mode_switch.specs.declared.wanted.Wanted.TheVariants.{Calls, Jumps, Refuses}
@@ -37,3 +39,12 @@ passage p = record { caller = p.caller; entry = p.entry; args = words_of p.args 
 abbrev pub answered : Result Passed Access → Result Passage Access
 answered (Ok p) = Ok (passage p)
 answered (Err e) = Err e
+
+-- registers with another pc, and the caller at the pc behind its call
+abbrev pub at_pc : ℕ → Active → Active
+at_pc pc (M68 r) = M68 (record r { pc = pc })
+at_pc pc (Ppc r) = Ppc (record r { pc = pc })
+
+abbrev pub going_on : Active → Result ℕ Access → Result Active Access
+going_on active (Ok pc) = Ok (at_pc pc active)
+going_on active (Err e) = Err e

@@ -4,7 +4,7 @@ ghost use Rattle.proc_info.specs.Signature.{signature_of};
 ghost use Rattle.proc_info.specs.Views.{signature};
 ghost use Rattle.routine_desc.specs.Read.{Counts};
 ghost use Rattle.mode_switch.specs.Views.{told, wanted_of};
-ghost use Rattle.mode_switch.specs.Wanted.{Means, even_sp as even_sp_lem, goes_by as goes_by_lem, loaded_or_fault, selector_68k as selector_68k_lem, signed as signed_lem, takes_68k as takes_68k_lem, wants_desc_68k, wants_68k as wants_68k_lem};
+ghost use Rattle.mode_switch.specs.Wanted.{Means, even_sp as even_sp_lem, goes_by as goes_by_lem, loaded_or_fault, selector_68k as selector_68k_lem, settled, signed as signed_lem, takes_68k as takes_68k_lem, wants_desc_68k, wants_68k as wants_68k_lem};
 
 use crate::Wanted;
 use crate::records::{FEW, bad_desc, calls_record, first_info, settle, signed, taken};
@@ -22,26 +22,26 @@ pub fn wants_68k(ram: &Ram, regs: &Regs68) -> Wanted
     ensures exact { wanted_of result ≡ wants_68k_lem ram.now regs.now }
     ensures meant { Means Isa.M68 (wanted_of result) }
 {
-    settle(wants_desc(ram, regs))
+    wants_desc(ram, regs)
 }
 
 /// What it wants at the descriptor.
-fn wants_desc(ram: &Ram, regs: &Regs68) -> Result<Wanted, Fault>
-    ensures { told result ≡ wants_desc_68k ram.now regs.now }
+fn wants_desc(ram: &Ram, regs: &Regs68) -> Wanted
+    ensures { wanted_of result ≡ settled (wants_desc_68k ram.now regs.now) }
 {
     match count_records(ram, regs.pc) {
         Ok(count) if count <= FEW => wants_of_few(ram, regs, count),
         Ok(count) => wants_of_many(ram, regs, count),
-        Err(bad) => Err(bad_desc(regs.pc, regs.pc, bad)),
+        Err(bad) => Wanted::Refuses(bad_desc(regs.pc, regs.pc, bad)),
     }
 }
 
 /// What it wants at a descriptor of few records.
-fn wants_of_few(ram: &Ram, regs: &Regs68, count: u32) -> Result<Wanted, Fault>
+fn wants_of_few(ram: &Ram, regs: &Regs68, count: u32) -> Wanted
     requires header { Counts ram.now regs.now.pc (Ok count) }
     requires within { regs.now.pc + 12 ≤ length ram.now.bytes }
     requires few { count ≤ 4 }
-    ensures { told result ≡ wants_desc_68k ram.now regs.now }
+    ensures { wanted_of result ≡ settled (wants_desc_68k ram.now regs.now) }
 {
     let mut records = [Rec::NONE; 4];
     wants_in(ram, regs, &mut records[..count as usize])
@@ -49,26 +49,26 @@ fn wants_of_few(ram: &Ram, regs: &Regs68, count: u32) -> Result<Wanted, Fault>
 
 /// What it wants at a descriptor of any number of records.
 #[inline(never)]
-fn wants_of_many(ram: &Ram, regs: &Regs68, count: u32) -> Result<Wanted, Fault>
+fn wants_of_many(ram: &Ram, regs: &Regs68, count: u32) -> Wanted
     requires header { Counts ram.now regs.now.pc (Ok count) }
     requires within { regs.now.pc + 12 ≤ length ram.now.bytes }
     requires few { count ≤ 64 }
-    ensures { told result ≡ wants_desc_68k ram.now regs.now }
+    ensures { wanted_of result ≡ settled (wants_desc_68k ram.now regs.now) }
 {
     let mut records = [Rec::NONE; 64];
     wants_in(ram, regs, &mut records[..count as usize])
 }
 
 /// What it wants at a descriptor, which is read into a list with a place for each record.
-fn wants_in(ram: &Ram, regs: &Regs68, records: &mut [Rec]) -> Result<Wanted, Fault>
+fn wants_in(ram: &Ram, regs: &Regs68, records: &mut [Rec]) -> Wanted
     requires header { Counts ram.now regs.now.pc (Ok (length records.old)) }
     requires within { regs.now.pc + 12 ≤ length ram.now.bytes }
     requires few { length records.old ≤ 64 }
-    ensures { told result ≡ wants_desc_68k ram.now regs.now }
+    ensures { wanted_of result ≡ settled (wants_desc_68k ram.now regs.now) }
 {
     match read_all(ram, regs.pc, records) {
-        Ok(()) => takes(ram, regs, records),
-        Err(bad) => Err(bad_desc(regs.pc, regs.pc, bad)),
+        Ok(()) => settle(takes(ram, regs, records)),
+        Err(bad) => Wanted::Refuses(bad_desc(regs.pc, regs.pc, bad)),
     }
 }
 

@@ -6,7 +6,7 @@ ghost use Rattle.routine_desc.specs.Read.{Counts};
 ghost use Rattle.mix_bits.specs.declared.size.Size.TheVariants.{Two};
 ghost use Rattle.big_memory.specs.Memory.{loaded};
 ghost use Rattle.mode_switch.specs.Views.{signed_kept, told, wanted_of};
-ghost use Rattle.mode_switch.specs.Wanted.{Means, kind_into as kind_into_lem, matched as matched_lem, raw_signature as raw_signature_lem, selector_ppc as selector_ppc_lem, takes_ppc as takes_ppc_lem, wants_desc_ppc, wants_ppc as wants_ppc_lem, wants_raw as wants_raw_lem, wants_word as wants_word_lem};
+ghost use Rattle.mode_switch.specs.Wanted.{Means, kind_into as kind_into_lem, matched as matched_lem, raw_signature as raw_signature_lem, selector_ppc as selector_ppc_lem, settled, takes_ppc as takes_ppc_lem, wants_desc_ppc, wants_ppc as wants_ppc_lem, wants_raw as wants_raw_lem, wants_word as wants_word_lem};
 
 use crate::records::{FEW, bad_desc, calls_record, first_info, settle, signed, taken};
 use crate::{Call, Wanted};
@@ -28,22 +28,22 @@ pub fn wants_ppc(ram: &Ram, regs: &RegsPpc, pointer: u32, info: u32) -> Wanted
     ensures exact { wanted_of result ≡ wants_ppc_lem ram.now regs.now pointer info }
     ensures meant { Means Isa.Ppc (wanted_of result) }
 {
-    settle(wants_word(ram, regs, pointer, info))
+    wants_word(ram, regs, pointer, info)
 }
 
 /// What it wants by the word at the pointer.
-fn wants_word(ram: &Ram, regs: &RegsPpc, pointer: u32, info: u32) -> Result<Wanted, Fault>
-    ensures { told result ≡ wants_word_lem ram.now regs.now pointer info (loaded ram.now pointer Two) }
+fn wants_word(ram: &Ram, regs: &RegsPpc, pointer: u32, info: u32) -> Wanted
+    ensures { wanted_of result ≡ settled (wants_word_lem ram.now regs.now pointer info (loaded ram.now pointer Two)) }
 {
     match ram.load_word(pointer) {
         Ok(word) => {
             if word == DESCRIPTOR {
                 wants_desc(ram, regs, pointer, info)
             } else {
-                wants_raw(regs, pointer, info)
+                settle(wants_raw(regs, pointer, info))
             }
         }
-        Err(_) => Err(bad_desc(regs.pc, pointer, BadDesc::Access)),
+        Err(_) => Wanted::Refuses(bad_desc(regs.pc, pointer, BadDesc::Access)),
     }
 }
 
@@ -78,28 +78,22 @@ fn raw_signature(pc: u32, info: u32) -> Result<Sig, Fault>
 }
 
 /// What it wants at a descriptor.
-fn wants_desc(ram: &Ram, regs: &RegsPpc, pointer: u32, info: u32) -> Result<Wanted, Fault>
-    ensures { told result ≡ wants_desc_ppc ram.now regs.now pointer info }
+fn wants_desc(ram: &Ram, regs: &RegsPpc, pointer: u32, info: u32) -> Wanted
+    ensures { wanted_of result ≡ settled (wants_desc_ppc ram.now regs.now pointer info) }
 {
     match count_records(ram, pointer) {
         Ok(count) if count <= FEW => wants_of_few(ram, regs, pointer, info, count),
         Ok(count) => wants_of_many(ram, regs, pointer, info, count),
-        Err(bad) => Err(bad_desc(regs.pc, pointer, bad)),
+        Err(bad) => Wanted::Refuses(bad_desc(regs.pc, pointer, bad)),
     }
 }
 
 /// What it wants at a descriptor of few records.
-fn wants_of_few(
-    ram: &Ram,
-    regs: &RegsPpc,
-    pointer: u32,
-    info: u32,
-    count: u32,
-) -> Result<Wanted, Fault>
+fn wants_of_few(ram: &Ram, regs: &RegsPpc, pointer: u32, info: u32, count: u32) -> Wanted
     requires header { Counts ram.now pointer (Ok count) }
     requires within { pointer + 12 ≤ length ram.now.bytes }
     requires few { count ≤ 4 }
-    ensures { told result ≡ wants_desc_ppc ram.now regs.now pointer info }
+    ensures { wanted_of result ≡ settled (wants_desc_ppc ram.now regs.now pointer info) }
 {
     let mut records = [Rec::NONE; 4];
     wants_in(ram, regs, pointer, info, &mut records[..count as usize])
@@ -107,38 +101,26 @@ fn wants_of_few(
 
 /// What it wants at a descriptor of any number of records.
 #[inline(never)]
-fn wants_of_many(
-    ram: &Ram,
-    regs: &RegsPpc,
-    pointer: u32,
-    info: u32,
-    count: u32,
-) -> Result<Wanted, Fault>
+fn wants_of_many(ram: &Ram, regs: &RegsPpc, pointer: u32, info: u32, count: u32) -> Wanted
     requires header { Counts ram.now pointer (Ok count) }
     requires within { pointer + 12 ≤ length ram.now.bytes }
     requires few { count ≤ 64 }
-    ensures { told result ≡ wants_desc_ppc ram.now regs.now pointer info }
+    ensures { wanted_of result ≡ settled (wants_desc_ppc ram.now regs.now pointer info) }
 {
     let mut records = [Rec::NONE; 64];
     wants_in(ram, regs, pointer, info, &mut records[..count as usize])
 }
 
 /// What it wants at a descriptor, which is read into a list with a place for each record.
-fn wants_in(
-    ram: &Ram,
-    regs: &RegsPpc,
-    pointer: u32,
-    info: u32,
-    records: &mut [Rec],
-) -> Result<Wanted, Fault>
+fn wants_in(ram: &Ram, regs: &RegsPpc, pointer: u32, info: u32, records: &mut [Rec]) -> Wanted
     requires header { Counts ram.now pointer (Ok (length records.old)) }
     requires within { pointer + 12 ≤ length ram.now.bytes }
     requires few { length records.old ≤ 64 }
-    ensures { told result ≡ wants_desc_ppc ram.now regs.now pointer info }
+    ensures { wanted_of result ≡ settled (wants_desc_ppc ram.now regs.now pointer info) }
 {
     match read_all(ram, pointer, records) {
-        Ok(()) => takes(regs, pointer, info, records),
-        Err(bad) => Err(bad_desc(regs.pc, pointer, bad)),
+        Ok(()) => settle(takes(regs, pointer, info, records)),
+        Err(bad) => Wanted::Refuses(bad_desc(regs.pc, pointer, bad)),
     }
 }
 

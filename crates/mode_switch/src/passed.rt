@@ -3,8 +3,8 @@ ghost use Rattle.std.specs.Prelude.{◌≡◌, IfOk};
 ghost use Rattle.proc_info.specs.Views.{signature};
 ghost use Rattle.args_m68.specs.Gather.{answered as values_answered};
 ghost use Rattle.switch_frame.specs.Records.{isa_of};
-ghost use Rattle.mode_switch.specs.Passed.{behind as behind_lem, entry_at as entry_at_lem, gathered, passed};
-ghost use Rattle.mode_switch.specs.Views.{answered, crossing};
+ghost use Rattle.mode_switch.specs.Passed.{behind, entry_at as entry_at_lem, gathered, passed};
+ghost use Rattle.mode_switch.specs.Views.{answered, at_pc as at_pc_lem, crossing, going_on};
 
 use crate::Call;
 use args_m68::{Words, gather68};
@@ -42,30 +42,34 @@ pub fn pass(ram: &Ram, active: &Active, call: &Call) -> Result<Passed, Access>
     ensures count { IfOk result (λ p. p.args.count ≡ call.now.sig.count) }
     ensures caller { IfOk result (λ p. isa_of p.caller ≡ isa_of active.now) }
 {
-    let caller = behind(ram, active)?;
+    let back = pc_behind(ram, active)?;
     let entry = entry_at(ram, call.kind.callee(), call.target)?;
     let args = gather(ram, active, &call.sig)?;
     Ok(Passed {
-        caller,
+        caller: at_pc(active, back),
         entry,
         args,
     })
 }
 
-/// The caller as it goes on behind the call.
-fn behind(ram: &Ram, active: &Active) -> Result<Active, Access>
-    ensures exact { result ≡ behind_lem ram.now active.now }
-    ensures set { IfOk result (λ caller. isa_of caller ≡ isa_of active.now) }
+/// The pc with which the caller goes on behind the call.
+fn pc_behind(ram: &Ram, active: &Active) -> Result<u32, Access>
+    ensures { going_on active.now result ≡ behind ram.now active.now }
 {
     match active {
-        Active::M68(regs) => {
-            let pc = ram.load_long(regs.a[7])?;
-            Ok(Active::M68(Regs68 { pc, ..*regs }))
-        }
-        Active::Ppc(regs) => Ok(Active::Ppc(RegsPpc {
-            pc: aligned(regs.lr),
-            ..*regs
-        })),
+        Active::M68(regs) => ram.load_long(regs.a[7]),
+        Active::Ppc(regs) => Ok(aligned(regs.lr)),
+    }
+}
+
+/// The registers with another pc.
+fn at_pc(active: &Active, pc: u32) -> Active
+    ensures exact { result ≡ at_pc_lem pc active.now }
+    ensures set { isa_of result ≡ isa_of active.now }
+{
+    match active {
+        Active::M68(regs) => Active::M68(Regs68 { pc, ..*regs }),
+        Active::Ppc(regs) => Active::Ppc(RegsPpc { pc, ..*regs }),
     }
 }
 
