@@ -1,8 +1,8 @@
 ghost use Rattle.std.specs.Prelude.{◌≤◌};
 
-use pef_reloc::{RelocError, relocate, unpack};
 use big_memory::{Access, Ram};
 use mix_bits::Size;
+use pef_reloc::{RelocError, relocate, unpack};
 use std::alloc::{AllocError, Global};
 use std::process::Abort;
 use std::test::Fail;
