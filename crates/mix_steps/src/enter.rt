@@ -2,11 +2,12 @@
 ghost use Rattle.std.specs.Prelude.{◌≡◌, ◌+◌, ◌≤◌, length, is_some, Ok};
 ghost use Rattle.mix_bits.specs.declared.fault.Fault.{Fault as AFault};
 ghost use Rattle.big_memory.specs.Memory.{floor_of};
+ghost use Rattle.switch_frame.specs.declared.active.Active.{Active as AnActive};
 ghost use Rattle.switch_frame.specs.Calls.{IsPlace};
 ghost use Rattle.switch_frame.specs.Records.{isa_of, record_of};
 ghost use Rattle.switch_frame.specs.Sets.{callee_isa};
 ghost use Rattle.mode_switch.specs.Callee.{below as below_of};
-ghost use Rattle.mode_switch.specs.Views.{crossing, passage, wanted_of};
+ghost use Rattle.mode_switch.specs.Views.{args_of, crossing, passage, wanted_of};
 ghost use Rattle.mode_switch.specs.Wanted.{IsMeant, Means, or_zero, passed_selector as passed_selector_of};
 ghost use Rattle.mixed_machine.specs.Enter.{crosses as crosses_of, enters, enters_with, suspended};
 ghost use Rattle.mixed_machine.specs.Machine.{IsWhole, callers_of};
@@ -78,7 +79,8 @@ fn enter<T: Sink>(
     }
 }
 
-/// Suspends the caller in a frame of this range, and starts the callee, whose stack has so many bytes.
+/// Suspends the caller, which has its pc behind the call, in a frame of this range, and starts the callee,
+/// whose stack has so many bytes.
 fn enter_with<T: Sink>(
     body: &mut Body,
     active: &mut Active,
@@ -94,8 +96,7 @@ fn enter_with<T: Sink>(
     requires below { below ≡ below_of (callee_isa call.now.kind) (crossing call.now).sig (is_some (passed_selector_of (crossing call.now))) }
     requires floor { floor_of body.old.ram + below ≤ range.0 }
     requires count { passed.now.args.count ≡ call.now.sig.count }
-    requires caller { isa_of passed.now.caller ≡ isa_of active.old }
-    ensures { (cell : AFault) → Does (λ s. enters_with s (crossing call.now) range (Ok (passage passed.now))) result cell body.old body.new active.old active.new
+    ensures { (cell : AFault) (before : AnActive) → Does (λ s. enters_with s (crossing call.now) range (Ok (passage active.old passed.now))) result cell body.old body.new before active.new
         (output (T.held trace.old) (T.faults trace.old)) (output (T.held trace.new) (T.faults trace.new)) }
 {
     call_laws();
@@ -118,7 +119,7 @@ fn passes_selector(call: &Call) -> bool
 /// The arguments.
 fn values(passed: &Passed) -> &[u32]
     requires { passed.now.args.count ≤ 13 }
-    ensures list { result.now ≡ (passage passed.now).args }
+    ensures list { result.now ≡ args_of passed.now }
     ensures count { length result.now ≡ passed.now.args.count }
 {
     &passed.args.value[..passed.args.count as usize]
@@ -136,6 +137,7 @@ fn kept_selector(call: &Call) -> u32
 
 /// Makes the frame and the callee's stack below it. The caller that is suspended has its pc behind the
 /// call.
+#[inline(always)]
 fn start(
     body: &mut Body,
     active: &mut Active,
@@ -150,16 +152,15 @@ fn start(
     requires below { below ≡ below_of (callee_isa call.now.kind) (crossing call.now).sig (is_some (passed_selector_of (crossing call.now))) }
     requires floor { floor_of body.old.ram + below ≤ range.0 }
     requires count { passed.now.args.count ≡ call.now.sig.count }
-    requires values { length (passage passed.now).args ≡ length (crossing call.now).sig.params }
-    requires caller { isa_of passed.now.caller ≡ isa_of active.old }
-    ensures held { record_of result ≡ suspended (crossing call.now) range (passage passed.now) }
-    ensures entered { IsEntered body.old body.new active.new (crossing call.now) range (passage passed.now) }
+    requires values { length (args_of passed.now) ≡ length (crossing call.now).sig.params }
+    ensures held { record_of result ≡ suspended (crossing call.now) range (passage active.old passed.now) }
+    ensures entered { IsEntered body.old body.new active.new (crossing call.now) range (passage active.old passed.now) }
 {
     body_laws();
     call_laws();
     let held = Held {
         kind: call.kind,
-        caller: passed.caller,
+        caller: *active,
         info: call.info,
         selector: kept_selector(call),
         target: call.target,

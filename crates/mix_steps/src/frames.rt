@@ -4,10 +4,11 @@ ghost use Rattle.big_memory.specs.Memory.{floor_of};
 ghost use Rattle.proc_info.specs.Codes.{is_dispatched};
 ghost use Rattle.proc_info.specs.Signature.{has_signature};
 ghost use Rattle.switch_frame.specs.Calls.{IsPlace};
+ghost use Rattle.switch_frame.specs.declared.held.Held.{Held as HeldCaller};
 ghost use Rattle.switch_frame.specs.Records.{isa_of};
 ghost use Rattle.switch_frame.specs.Sets.{callee_isa, caller_isa};
 ghost use Rattle.mode_switch.specs.Callee.{below as below_of, fresh, stack_of};
-ghost use Rattle.mode_switch.specs.Views.{crossing, passage};
+ghost use Rattle.mode_switch.specs.Views.{args_of, crossing};
 ghost use Rattle.mode_switch.specs.Wanted.{passed_selector};
 ghost use Rattle.mixed_machine.specs.Machine.{IsWhole, active_set, callers_of};
 ghost use Rattle.mix_steps.specs.Frames.{IsReady, IsResumed, IsSuspended};
@@ -27,17 +28,17 @@ pub fn prepare(
     below: u32,
     passed: &Passed,
 ) -> Active
-    requires whole { IsWhole body.old (isa_of passed.now.caller) }
+    requires whole { IsWhole body.old (caller_isa call.now.kind) }
     requires place { IsPlace body.old.ram (callers_of body.old) call.now.kind range.0 range.1 }
     requires below { below ≡ below_of (callee_isa call.now.kind) (crossing call.now).sig (is_some (passed_selector (crossing call.now))) }
     requires floor { floor_of body.old.ram + below ≤ range.0 }
     requires count { passed.now.args.count ≡ call.now.sig.count }
-    requires values { length (passage passed.now).args ≡ length (crossing call.now).sig.params }
+    requires values { length (args_of passed.now) ≡ length (crossing call.now).sig.params }
     requires selector { is_some call.now.selector ≡ is_dispatched call.now.sig.conv }
-    ensures file { result ≡ fresh (callee_isa call.now.kind) (crossing call.now).sig (passed_selector (crossing call.now)) (passage passed.now).args body.old.a5 (range.0 - below) passed.now.entry }
+    ensures file { result ≡ fresh (callee_isa call.now.kind) (crossing call.now).sig (passed_selector (crossing call.now)) (args_of passed.now) body.old.a5 (range.0 - below) passed.now.entry }
     ensures set { isa_of result ≡ callee_isa call.now.kind }
-    ensures ready { IsReady body.old body.new (isa_of passed.now.caller) call.now.kind range.0 range.1 (range.0 - below)
-        (stack_of (callee_isa call.now.kind) (crossing call.now).sig (passed_selector (crossing call.now)) (passage passed.now).args) }
+    ensures ready { IsReady body.old body.new (caller_isa call.now.kind) call.now.kind range.0 range.1 (range.0 - below)
+        (stack_of (callee_isa call.now.kind) (crossing call.now).sig (passed_selector (crossing call.now)) (args_of passed.now)) }
 {
     body_laws();
     call_laws();
@@ -66,11 +67,11 @@ pub fn suspend(body: &mut Body, held: &Held)
 }
 
 /// Gives up the innermost frame, whose caller goes on.
-pub fn resume(body: &mut Body) -> Held
+pub fn resume(body: &mut Body)
     requires whole { IsWhole body.old (active_set body.old.main (callers_of body.old)) }
     requires live { callers_of body.old ≢ [] }
-    ensures { IsResumed body.old body.new result }
+    ensures { (held : HeldCaller) × IsResumed body.old body.new held }
 {
     call_laws();
-    pop(&mut body.ram, &mut body.top)
+    pop(&mut body.ram, &mut body.top);
 }

@@ -31,7 +31,7 @@ pub fn leave<T: Sink>(body: &mut Body, active: &mut Active, trace: &mut T, fault
         (output (T.held trace.old) (T.faults trace.old)) (output (T.held trace.new) (T.faults trace.new)) }
 {
     match top(&body.ram, body.top) {
-        Some(held) => leave_callee(body, active, &held, trace, fault),
+        Some(mut held) => leave_callee(body, active, &mut held, trace, fault),
         None => leave_program(body, active, fault),
     }
 }
@@ -54,12 +54,12 @@ fn leave_program(body: &Body, active: &Active, fault: &mut Fault) -> Did
 fn leave_callee<T: Sink>(
     body: &mut Body,
     active: &mut Active,
-    held: &Held,
+    held: &mut Held,
     trace: &mut T,
     fault: &mut Fault,
 ) -> Did
     requires whole { IsWhole body.old (isa_of active.old) }
-    requires first { callers_of body.old ≡ record_of held.now ∷ drop 1 (callers_of body.old) }
+    requires first { callers_of body.old ≡ record_of held.old ∷ drop 1 (callers_of body.old) }
     ensures { Does at_gate result fault.new body.old body.new active.old active.new
         (output (T.held trace.old) (T.faults trace.old)) (output (T.held trace.new) (T.faults trace.new)) }
 {
@@ -91,13 +91,13 @@ fn is_exit(body: &Body, active: &Active) -> bool
 fn return_to<T: Sink>(
     body: &mut Body,
     active: &mut Active,
-    held: &Held,
+    held: &mut Held,
     trace: &mut T,
     fault: &mut Fault,
 ) -> Did
     requires whole { IsWhole body.old (isa_of active.old) }
-    requires first { callers_of body.old ≡ record_of held.now ∷ drop 1 (callers_of body.old) }
-    ensures { Does (λ s. leaves s (record_of held.now) (drop 1 (callers_of body.old))) result fault.new body.old body.new active.old active.new
+    requires first { callers_of body.old ≡ record_of held.old ∷ drop 1 (callers_of body.old) }
+    ensures { Does (λ s. leaves s (record_of held.old) (drop 1 (callers_of body.old))) result fault.new body.old body.new active.old active.new
         (output (T.held trace.old) (T.faults trace.old)) (output (T.held trace.new) (T.faults trace.new)) }
 {
     call_laws();
@@ -111,23 +111,22 @@ fn return_to<T: Sink>(
 fn return_by<T: Sink>(
     body: &mut Body,
     active: &mut Active,
-    held: &Held,
+    held: &mut Held,
     sig: &Sig,
     trace: &mut T,
     fault: &mut Fault,
 ) -> Did
     requires whole { IsWhole body.old (isa_of active.old) }
-    requires first { callers_of body.old ≡ record_of held.now ∷ drop 1 (callers_of body.old) }
-    ensures { Does (λ s. leaves_with s (drop 1 (callers_of body.old)) (signature sig.now) (given_back (seen s) (signature sig.now) s.active held.now.caller)) result fault.new body.old body.new active.old active.new
+    requires first { callers_of body.old ≡ record_of held.old ∷ drop 1 (callers_of body.old) }
+    ensures { Does (λ s. leaves_with s (drop 1 (callers_of body.old)) (signature sig.now) (given_back (seen s) (signature sig.now) s.active held.old.caller)) result fault.new body.old body.new active.old active.new
         (output (T.held trace.old) (T.faults trace.old)) (output (T.held trace.new) (T.faults trace.new)) }
 {
     body_laws();
     call_laws();
-    let mut caller = held.caller;
-    match give_back(&mut body.ram, sig, active, &mut caller) {
+    match give_back(&mut body.ram, sig, active, &mut held.caller) {
         Ok(value) => {
             resume(body);
-            *active = caller;
+            *active = held.caller;
             match put_ret(trace, sig, value) {
                 Ok(()) => Did::Return,
                 Err(_) => Did::TraceFault,

@@ -1,5 +1,5 @@
 -- Kept calls and what is passed to them, as the definitions have them.
-use Rattle.std.specs.Prelude.{ℕ, Result, Ok, Err}
+use Rattle.std.specs.Prelude.{ℕ, List, Result, Ok, Err}
 use Rattle.mix_bits.specs.declared.fault.Fault.{Fault}
 use Rattle.big_memory.specs.declared.refusals.Access.{Access}
 use Rattle.proc_info.specs.declared.sig.Sig.{Sig}
@@ -33,12 +33,16 @@ abbrev pub signed_kept : Result Sig Fault → Result Signature Fault
 signed_kept (Ok sig) = Ok (signature sig)
 signed_kept (Err fault) = Err fault
 
-abbrev pub passage : Passed → Passage
-passage p = record { caller = p.caller; entry = p.entry; args = words_of p.args }
+-- what is passed, beside the caller as it goes on behind the call
+abbrev pub args_of : Passed → List ℕ
+args_of p = words_of p.args
 
-abbrev pub answered : Result Passed Access → Result Passage Access
-answered (Ok p) = Ok (passage p)
-answered (Err e) = Err e
+abbrev pub passage : Active → Passed → Passage
+passage caller p = record { caller = caller; entry = p.entry; args = args_of p }
+
+abbrev pub answered : Active → Result Passed Access → Result Passage Access
+answered caller (Ok p) = Ok (passage caller p)
+answered caller (Err e) = Err e
 
 -- registers with another pc, and the caller at the pc behind its call
 abbrev pub at_pc : ℕ → Active → Active

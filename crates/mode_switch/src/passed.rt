@@ -1,18 +1,16 @@
 // What a caller passes to a call.
-ghost use Rattle.std.specs.Prelude.{◌≡◌, IfOk};
+ghost use Rattle.std.specs.Prelude.{◌≡◌, IfOk, OnErr};
 ghost use Rattle.proc_info.specs.Views.{signature};
 ghost use Rattle.args_m68.specs.Gather.{answered as values_answered};
 ghost use Rattle.switch_frame.specs.Records.{isa_of};
 ghost use Rattle.mode_switch.specs.Passed.{behind, entry_at as entry_at_lem, gathered, passed};
-ghost use Rattle.mode_switch.specs.Views.{answered, at_pc as at_pc_lem, crossing, going_on};
+ghost use Rattle.mode_switch.specs.Views.{answered, at_pc, crossing, going_on};
 
 use crate::Call;
 use args_m68::{Words, gather68};
 use args_ppc::gather_ppc;
 use big_memory::{Access, Ram};
-use m68_isa::Regs68;
 use mix_bits::{Isa, aligned, onward};
-use ppc_isa::RegsPpc;
 use proc_info::Sig;
 use switch_frame::Active;
 
@@ -28,28 +26,25 @@ pub struct Entry {
 /// What a caller passes to a call.
 #[derive(Clone, Copy)]
 pub struct Passed {
-    /// The caller's registers, with the pc behind the call.
-    pub caller: Active,
     pub entry: Entry,
     /// The arguments, each cut to its size.
     pub args: Words,
 }
 
 /// What a caller passes to a call, or the first refusal: the return address of 68K code, the transition
-/// vector of PowerPC code, and the arguments are loaded in this order.
-pub fn pass(ram: &Ram, active: &Active, call: &Call) -> Result<Passed, Access>
-    ensures exact { answered result ≡ passed ram.now active.now (crossing call.now) }
+/// vector of PowerPC code, and the arguments are loaded in this order. The caller's registers get the pc
+/// behind the call; where the call is refused, they stay.
+pub fn pass(ram: &Ram, active: &mut Active, call: &Call) -> Result<Passed, Access>
+    ensures exact { answered active.new result ≡ passed ram.now active.old (crossing call.now) }
     ensures count { IfOk result (λ p. p.args.count ≡ call.now.sig.count) }
-    ensures caller { IfOk result (λ p. isa_of p.caller ≡ isa_of active.now) }
+    ensures caller { isa_of active.new ≡ isa_of active.old }
+    ensures refused { OnErr result (active.new ≡ active.old) }
 {
     let back = pc_behind(ram, active)?;
     let entry = entry_at(ram, call.kind.callee(), call.target)?;
     let args = gather(ram, active, &call.sig)?;
-    Ok(Passed {
-        caller: at_pc(active, back),
-        entry,
-        args,
-    })
+    go_on(active, back);
+    Ok(Passed { entry, args })
 }
 
 /// The pc with which the caller goes on behind the call.
@@ -62,14 +57,14 @@ fn pc_behind(ram: &Ram, active: &Active) -> Result<u32, Access>
     }
 }
 
-/// The registers with another pc.
-fn at_pc(active: &Active, pc: u32) -> Active
-    ensures exact { result ≡ at_pc_lem pc active.now }
-    ensures set { isa_of result ≡ isa_of active.now }
+/// Sets the pc.
+fn go_on(active: &mut Active, pc: u32)
+    ensures exact { active.new ≡ at_pc pc active.old }
+    ensures set { isa_of active.new ≡ isa_of active.old }
 {
     match active {
-        Active::M68(regs) => Active::M68(Regs68 { pc, ..*regs }),
-        Active::Ppc(regs) => Active::Ppc(RegsPpc { pc, ..*regs }),
+        Active::M68(regs) => regs.pc = pc,
+        Active::Ppc(regs) => regs.pc = pc,
     }
 }
 

@@ -9,11 +9,11 @@ use Rattle.mix_steps.proofs.Framing.{entered-is}
 use Rattle.mix_steps.proofs.enter.enter_with.Goals as goal
 
 pub returns-in-Err : goal.returns-in-Err
-returns-in-Err g c cell =
+returns-in-Err g c cell before =
     let body = c.args.body.now in
     let call = crossing c.args.call.now in
     let range = c.args.range in
-    let p = passage c.args.passed.now in
+    let p = passage c.args.active.now c.args.passed.now in
     let new = c.start-held.new.body in
     let file = c.start-held.new.active in
     let ta = output (g.T.Sink.held c.args.trace.now) (g.T.Sink.faults c.args.trace.now) in
@@ -23,6 +23,6 @@ returns-in-Err g c cell =
     let line = call_line r call.sig p.args in
     let same : call_line (record_of c.start-held.result) call.sig c.values-values.result.now ≡ line =
     ap (λ x. call_line x call.sig c.values-values.result.now) c.start-held.ensures.held ∙ ap (call_line r call.sig) c.values-values.ensures.list in
-    does-cut c.call_laws.ensures.grows (λ s. enters_with s call range (Ok p)) (λ s. entered s call range p) line cell body new c.args.active.now file ta tb
-    all.whole (λ around. refl) (λ around. entered-is body new c.args.active.now file call range p around all)
+    does-cut c.call_laws.ensures.grows (λ s. enters_with s call range (Ok p)) (λ s. entered s call range p) line cell body new before file ta tb
+    all.whole (λ around. refl) (λ around. entered-is body new before file call range p around all)
     (call-some r call.sig p.args) (line-cut ta tb (call_line (record_of c.start-held.result) call.sig c.values-values.result.now) line same c.in-Err.ensures.line c.in-Err.ensures.cause.failed)

@@ -2,7 +2,6 @@ use Rattle.std.proofs.Common.{◌≡◌, ◌+◌, ◌-◌, ◌^◌, ◌<◌, ◌
 use Rattle.big_memory.specs.Memory.{floor_of}
 use Rattle.mixed_machine.specs.Machine.{IsWhole, callers_of}
 use Rattle.mode_switch.specs.Views.{crossing, passage}
-use Rattle.switch_frame.specs.Records.{isa_of}
 use Rattle.switch_frame.specs.Sets.{caller_isa, frame_size}
 use Rattle.mix_steps.proofs.Framing.{callers-are, entered-now, held-is, links-are}
 use Rattle.mix_steps.proofs.enter.start.Goals as goal
@@ -17,7 +16,10 @@ overflow_add-held c =
     omega (arith, count, few)
 
 pub prepare-requires-clause-whole : goal.prepare-requires-clause-whole
-prepare-requires-clause-whole c = subst (IsWhole c.args.body.now) (sym c.requires.caller) c.requires.whole
+prepare-requires-clause-whole c = subst (IsWhole c.args.body.now) (sym c.requires.meant.caller) c.requires.whole
+
+pub suspend-requires-clause-whole : goal.suspend-requires-clause-whole
+suspend-requires-clause-whole c = subst (IsWhole c.prepare.new.body) c.requires.meant.caller c.prepare.ensures.ready.whole
 
 pub suspend-requires-clause-depth : goal.suspend-requires-clause-depth
 suspend-requires-clause-depth c =
@@ -31,7 +33,7 @@ returns-clause-entered c =
     let most : length c.args.body.now.ram.bytes ≤ 16777216 = ram.most in
     let near : c.args.range.0 - c.args.below ≤ 2 ^ 31 = omega (arith, end, size, most) in
     let small : floor_of c.args.body.now.ram + c.args.below ≤ c.args.range.0 = c.requires.floor in
-    entered-now c.body_laws.ensures c.call_laws.ensures c.args.body.now c.prepare.new.body c.suspend.new.body (isa_of c.args.passed.now.caller) c.prepare.result
-    (crossing c.args.call.now) c.args.range (passage c.args.passed.now) _ c.args.below
+    entered-now c.body_laws.ensures c.call_laws.ensures c.args.body.now c.prepare.new.body c.suspend.new.body (caller_isa c.args.call.now.kind) c.prepare.result
+    (crossing c.args.call.now) c.args.range (passage c.args.active.now c.args.passed.now) _ c.args.below
     c.requires.whole.chain c.requires.place (omega (arith, small)) c.requires.below c.requires.values
-    (held-is (crossing c.args.call.now) c.args.range (passage c.args.passed.now) c.args.below c.kept_selector.result c.wanted_sp.result (c.depth.result + 1) c.requires.below c.kept_selector.ensures (c.wanted_sp.ensures.exact near)) c.prepare.ensures.file c.prepare.ensures.set c.prepare.ensures.ready c.suspend.ensures
+    (held-is (crossing c.args.call.now) c.args.range (passage c.args.active.now c.args.passed.now) c.args.below c.kept_selector.result c.wanted_sp.result (c.depth.result + 1) c.requires.below c.kept_selector.ensures (c.wanted_sp.ensures.exact near)) c.prepare.ensures.file c.prepare.ensures.set c.prepare.ensures.ready c.suspend.ensures

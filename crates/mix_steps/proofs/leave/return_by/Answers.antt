@@ -34,10 +34,10 @@ returns-in-Ok-put_ret g c =
     let ta = output (g.T.Sink.held c.args.trace.now) (g.T.Sink.faults c.args.trace.now) in
     let tb = output (g.T.Sink.held c.put_ret.new.trace) (g.T.Sink.faults c.put_ret.new.trace) in
     let line = ret_line sig c.in-Ok.value in
-    let back : IsBack body new ram active file c.resume.result outer =
-    goes-back c.body_laws.ensures body new ram active file held c.resume.result outer c.requires.whole c.requires.first c.in-Ok.ensures.1 c.in-Ok.ensures.2 c.resume.ensures in
+    let back : IsBack body new ram active file c.resume.ensures.0 outer =
+    goes-back c.body_laws.ensures body new ram active file held c.resume.ensures.0 outer c.requires.whole c.requires.first c.in-Ok.ensures.1 c.in-Ok.ensures.2 c.resume.ensures.1 in
     does-return c.call_laws.ensures.grows (λ s. leaves_with s outer sig (given_back (seen s) sig s.active held.caller))
-    (λ s. record (with_seen ram s) { active = file; callers = outer }) line c.args.fault.now body new active file ta tb (record_of c.resume.result)
+    (λ s. record (with_seen ram s) { active = file; callers = outer }) line c.args.fault.now body new active file ta tb (record_of c.resume.ensures.0)
     back.whole back.callers
     (λ around. gives-by c.body_laws.ensures body active held.caller around sig outer (Ok (record { value = c.in-Ok.value; file = file; memory = ram })) c.requires.whole c.in-Ok.ensures.0)
     back.state (line-taken ta tb line line refl c.in-Ok-put_ret.ensures.line c.in-Ok-put_ret.ensures.cause.same)
@@ -55,8 +55,8 @@ returns-in-Err-put_ret g c =
     let ta = output (g.T.Sink.held c.args.trace.now) (g.T.Sink.faults c.args.trace.now) in
     let tb = output (g.T.Sink.held c.put_ret.new.trace) (g.T.Sink.faults c.put_ret.new.trace) in
     let line = ret_line sig c.in-Ok.value in
-    let back : IsBack body new ram active file c.resume.result outer =
-    goes-back c.body_laws.ensures body new ram active file held c.resume.result outer c.requires.whole c.requires.first c.in-Ok.ensures.1 c.in-Ok.ensures.2 c.resume.ensures in
+    let back : IsBack body new ram active file c.resume.ensures.0 outer =
+    goes-back c.body_laws.ensures body new ram active file held c.resume.ensures.0 outer c.requires.whole c.requires.first c.in-Ok.ensures.1 c.in-Ok.ensures.2 c.resume.ensures.1 in
     does-cut c.call_laws.ensures.grows (λ s. leaves_with s outer sig (given_back (seen s) sig s.active held.caller))
     (λ s. record (with_seen ram s) { active = file; callers = outer }) line c.args.fault.now body new active file ta tb
     back.whole
