@@ -31,6 +31,13 @@ pub own-more : (n left : ℕ) (before mid after : Active) (b body new : Body) �
 own-more n left before mid after b body new some fewer own more =
     let one : suc (n - left) ≡ n - (left - 1) = omega (arith, some, fewer) in subst (λ k. AreOwn k before after b new) one (mid, body, own, more)
 
+-- the last that is allowed
+pub own-last : (n left : ℕ) (cell : AFault) (before mid after : Active) (b body new : Body) → 0 < left → left - 1 ≡ 0 → AreOwn (n - left) before mid b body → IsOwn mid after body new
+    → CodesAfter (n - 1) Goes_on cell before after b new
+own-last n left cell before mid after b body new some none own last =
+    let one : n - left ≡ n - 1 = omega (arith, some, none) in
+    record { active = mid; body = body; own = subst (λ k. AreOwn k before mid b body) one own; last = last }
+
 -- amid any outside
 own-acts : AreLaws → (cell : AFault) (before after : Active) (b new : Body) (o : Outside) (a : Output) → IsOwn before after b new → Acts step Next cell (at b before o a) (at new after o a)
 own-acts laws cell before after b new o a own = amid laws step Next cell b new before after o a a (does-change step cell b new before after a own.1 own.2 own.0)

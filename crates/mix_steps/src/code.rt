@@ -59,7 +59,13 @@ fn run_68k(body: &mut Body, regs: &mut Regs68, fault: &mut Fault, left: &mut u32
     let mut count = *left;
     'codes: loop {
         match code_68k(body, regs, fault) {
-            Code::Next if count > 1 => count -= 1,
+            Code::Next => {
+                count -= 1;
+                if count == 0 {
+                    *left = 1;
+                    return Code::Next;
+                }
+            }
             code => {
                 *left = count;
                 return code;
@@ -80,7 +86,13 @@ fn run_ppc(body: &mut Body, regs: &mut RegsPpc, fault: &mut Fault, left: &mut u3
     let mut count = *left;
     'codes: loop {
         match code_ppc(body, regs, fault) {
-            Code::Next if count > 1 => count -= 1,
+            Code::Next => {
+                count -= 1;
+                if count == 0 {
+                    *left = 1;
+                    return Code::Next;
+                }
+            }
             code => {
                 *left = count;
                 return code;

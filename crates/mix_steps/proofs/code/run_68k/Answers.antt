@@ -1,6 +1,6 @@
 use Rattle.std.proofs.Common.{arith}
 use Rattle.switch_frame.specs.declared.active.Active.TheVariants.{M68}
-use Rattle.mix_steps.proofs.Advancing.{own-more}
+use Rattle.mix_steps.proofs.Advancing.{own-last, own-more}
 use Rattle.mix_steps.proofs.code.run_68k.Goals as goal
 
 pub codes-preserved : goal.codes-preserved
@@ -13,3 +13,9 @@ codes-preserved c =
       fewer = omega arith;
       own = own-more c.args.left.now codes.count (M68 c.args.regs.now) (M68 codes.regs) (M68 new.regs) c.args.body.now codes.body new.body codes.invariant.some codes.invariant.fewer codes.invariant.own c.in-Next.ensures;
     }
+
+pub returns-then-count-eq0-clause-codes : goal.returns-then-count-eq0-clause-codes
+returns-then-count-eq0-clause-codes c =
+    let codes = c.codes in
+    let new = c.code_68k.new in
+    own-last c.args.left.now codes.count new.fault (M68 c.args.regs.now) (M68 codes.regs) (M68 new.regs) c.args.body.now codes.body new.body codes.invariant.some c.if-count-eq0.true codes.invariant.own c.in-Next.ensures

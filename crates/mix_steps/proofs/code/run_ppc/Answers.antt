@@ -1,6 +1,6 @@
 use Rattle.std.proofs.Common.{arith}
 use Rattle.switch_frame.specs.declared.active.Active.TheVariants.{Ppc}
-use Rattle.mix_steps.proofs.Advancing.{own-more}
+use Rattle.mix_steps.proofs.Advancing.{own-last, own-more}
 use Rattle.mix_steps.proofs.code.run_ppc.Goals as goal
 
 pub codes-preserved : goal.codes-preserved
@@ -13,3 +13,9 @@ codes-preserved c =
       fewer = omega arith;
       own = own-more c.args.left.now codes.count (Ppc c.args.regs.now) (Ppc codes.regs) (Ppc new.regs) c.args.body.now codes.body new.body codes.invariant.some codes.invariant.fewer codes.invariant.own c.in-Next.ensures;
     }
+
+pub returns-then-count-eq0-clause-codes : goal.returns-then-count-eq0-clause-codes
+returns-then-count-eq0-clause-codes c =
+    let codes = c.codes in
+    let new = c.code_ppc.new in
+    own-last c.args.left.now codes.count new.fault (Ppc c.args.regs.now) (Ppc codes.regs) (Ppc new.regs) c.args.body.now codes.body new.body codes.invariant.some c.if-count-eq0.true codes.invariant.own c.in-Next.ensures
