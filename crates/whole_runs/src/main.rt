@@ -1,0 +1,64 @@
+//! Runs whole programs over objects in memory, one for each line of standard input, and prints what each
+//! gave.
+//!
+//! A line `file NAME PIECES` names bytes that later lines use; `src/images.rt` says how they are spelled. A
+//! line that begins with `;` says what follows. Any other line is a case:
+//!
+//! `NAME | WORDS | FILES | INPUT | OUTSIDE`
+//!
+//! The words are those of a command line. The files stand as `NAME: PIECES; ..`, the input as pieces. The
+//! outside says what fails and what is short, as `src/outside.rt` reads it. The answer is
+//!
+//! `NAME | STATUS | OUTPUT | TRACE | JOURNAL | INPUT LEFT`
+//!
+//! where ` /` stands for the end of a line of the trace. With `sweep=FIRST..LAST` the program is run for each
+//! address from the first to the last, with the address as the last four bytes of its input, and the answer
+//! tells which of them end alike.
+//!
+//! The answers that are stored beside this program were not made by it. They were worked out from the rules
+//! in `docs/`: by hand the addresses, steps and lines of each small program, and by a reader of forks and
+//! containers that was written from `docs/files.md` alone what each file that is cut or changed is refused
+//! for. What the samples of this repository give was worked out from their sources.
+#![tactic(auto)]
+
+mod case;
+mod images;
+mod outside;
+mod run;
+mod sweep;
+mod tell;
+
+use case::Case;
+use images::Images;
+use std::alloc::Global;
+use std::io::{self, BufRead, BufReader, ErrorKind};
+use sweep::Sweep;
+
+fn main(rt: HostRuntime) -> io::Result<()> {
+    let alloc = rt.alloc();
+    let mut images = Images::new(alloc);
+    for line in BufReader::new(alloc, rt.reader())?.lines(alloc) {
+        let line = line?;
+        let text = line.as_str();
+        if let Some(named) = text.strip_prefix("file ") {
+            images.define(alloc, named)?;
+        } else if !text.is_empty() && !text.starts_with(';') {
+            let told = answer(alloc, &images, text)?;
+            println!(rt; "{told}")?;
+        }
+    }
+    Ok(())
+}
+
+/// What the case of a line gives, as text.
+fn answer(alloc: Global, images: &Images, line: &str) -> io::Result<String> {
+    let case = Case::read(line).ok_or(ErrorKind::InvalidData)?;
+    match Sweep::read(case.outside) {
+        Some(sweep) => sweep.answer(alloc, images, case),
+        None => {
+            let input = images.spell(alloc, case.input)?;
+            let mut given = run::run(alloc, images, case, input)?;
+            Ok(tell::all(alloc, case.name, &mut given)?)
+        }
+    }
+}

@@ -1,0 +1,63 @@
+// What fails outside, and what is short: words such as `in=3`, `shelf=1,2` or `trace=1` for the calls that
+// fail, by their numbers from 1, `out-room=5` and `trace-room=20` for how many bytes a stream holds, and
+// `script=5,-,7` for a device in slot 0 whose second ask fails. Numbers are decimal.
+use mix_io::{MemSink, NoMemory};
+use std::alloc::{AllocError, Global};
+use std::io::{self, ErrorKind};
+
+/// Room for more than a case puts.
+const AMPLE: u32 = 0x1_0000;
+
+/// The value of a key in a text of words `KEY=VALUE`.
+pub fn value_of<'a>(text: &'a str, key: &str) -> Option<&'a str> {
+    for word in text.split_whitespace() {
+        if let Some((name, value)) = word.split_once('=')
+            && name == key
+        {
+            return Some(value);
+        }
+    }
+    None
+}
+
+/// The numbers that a key has, with commas between.
+pub fn numbers(alloc: Global, text: &str, key: &str) -> io::Result<Vec<u32>> {
+    let mut all = Vec::new(alloc);
+    if let Some(value) = value_of(text, key) {
+        for word in value.split(',') {
+            all.push(number(word)?)?;
+        }
+    }
+    Ok(all)
+}
+
+/// A stream with the room and the failures that the words for its keys say.
+pub fn sink(alloc: Global, text: &str, key: &str, room_key: &str) -> io::Result<MemSink> {
+    let room = match value_of(text, room_key) {
+        Some(value) => number(value)?,
+        None => AMPLE,
+    };
+    let fails = numbers(alloc, text, key)?;
+    MemSink::new(alloc, room, fails).map_err(no_memory)
+}
+
+/// Answers with commas between; what is no number is a failure.
+pub fn script(alloc: Global, text: &str) -> Result<Vec<Option<u32>>, AllocError> {
+    let mut answers = Vec::new(alloc);
+    for word in text.split(',') {
+        answers.push(word.parse::<u32>().ok())?;
+    }
+    Ok(answers)
+}
+
+/// A number in decimal.
+fn number(text: &str) -> io::Result<u32> {
+    match text.parse::<u32>() {
+        Ok(number) => Ok(number),
+        Err(_) => Err(ErrorKind::InvalidData.into()),
+    }
+}
+
+pub fn no_memory(_: NoMemory) -> io::Error {
+    ErrorKind::OutOfMemory.into()
+}

@@ -1,0 +1,104 @@
+// What runs gave, as text.
+use crate::run::Given;
+use dev_rack::Asked;
+use mix_io::{MemSource, Source};
+use std::alloc::{AllocError, Global};
+use std::io;
+use std::str::from_utf8;
+
+/// All that a run gave: `NAME | STATUS | OUTPUT | TRACE | JOURNAL | INPUT LEFT`, with `-` for nothing.
+pub fn all(alloc: Global, name: &str, given: &mut Given) -> Result<String, AllocError> {
+    let mut text = String::from_str(alloc, name)?;
+    let status = given.status;
+    write!(text, " | {status}")?;
+    add_field(&mut text, &bytes_text(alloc, given.streams.out.held())?)?;
+    add_field(&mut text, &lines_text(alloc, given.streams.trace.held())?)?;
+    add_field(&mut text, &asks_text(alloc, &given.asks)?)?;
+    add_field(&mut text, &left_text(alloc, &mut given.streams.input)?)?;
+    Ok(text)
+}
+
+/// How a run ended: the status and the last line of the trace, with `ADDRESS` for this address.
+pub fn end(alloc: Global, given: &Given, address: u32) -> io::Result<String> {
+    let status = given.status;
+    let line = from_utf8(given.streams.trace.held())
+        .unwrap_or("")
+        .lines()
+        .last();
+    let digits = format!(in alloc; "{address:08X}")?;
+    let line = line
+        .unwrap_or("")
+        .replace(alloc, digits.as_str(), "ADDRESS")?;
+    let line = field(line.as_str());
+    Ok(format!(in alloc; "{status} {line}")?)
+}
+
+/// Adds a field to a line.
+fn add_field(line: &mut String, text: &str) -> Result<(), AllocError> {
+    line.push_str(" | ")?;
+    line.push_str(field(text))
+}
+
+/// A text without blanks at its end, or `-` for none.
+fn field(text: &str) -> &str {
+    match text.trim_end() {
+        "" => "-",
+        text => text,
+    }
+}
+
+/// Bytes as text.
+fn bytes_text(alloc: Global, bytes: &[u8]) -> Result<String, AllocError> {
+    let mut text = String::new(alloc);
+    for byte in bytes {
+        add_byte(&mut text, *byte)?;
+    }
+    Ok(text)
+}
+
+/// What is left of an input, as text.
+fn left_text(alloc: Global, input: &mut MemSource) -> Result<String, AllocError> {
+    let mut text = String::new(alloc);
+    for _ in 0..0x1_0000 {
+        match input.take() {
+            Ok(Some(byte)) => add_byte(&mut text, byte)?,
+            Ok(None) => break,
+            Err(_) => {}
+        }
+    }
+    Ok(text)
+}
+
+/// A byte: a letter or a digit as it is, any other in hexadecimal behind a `\`.
+fn add_byte(text: &mut String, byte: u8) -> Result<(), AllocError> {
+    if byte.is_ascii_alphanumeric() {
+        text.push(byte as char)
+    } else {
+        write!(text, "\\{byte:02X}")
+    }
+}
+
+/// Lines, with a `/` behind each that is whole.
+fn lines_text(alloc: Global, bytes: &[u8]) -> Result<String, AllocError> {
+    let mut text = String::new(alloc);
+    for byte in bytes {
+        match byte {
+            b'\n' => text.push_str(" / ")?,
+            _ => text.push(*byte as char)?,
+        }
+    }
+    Ok(text)
+}
+
+/// The asks of a journal: slot, word, and answer or `fail`.
+fn asks_text(alloc: Global, asks: &[Asked]) -> Result<String, AllocError> {
+    let mut text = String::new(alloc);
+    for ask in asks {
+        let (slot, word) = (ask.slot, ask.word);
+        match ask.answer {
+            Some(answer) => write!(text, "{slot} {word:08X} {answer:08X} / ")?,
+            None => write!(text, "{slot} {word:08X} fail / ")?,
+        }
+    }
+    Ok(text)
+}
