@@ -2,6 +2,8 @@ ghost use Rattle.std.specs.Prelude.{◌≡◌, ◌+◌, ◌<◌, ◌≤◌, ◌&
 ghost use Rattle.mix_bits.specs.declared.size.Size.TheVariants.{Two, Four};
 ghost use Rattle.m68_isa.specs.declared.instructions.Instr68.TheVariants.{Move, Movea};
 ghost use Rattle.m68_isa.specs.declared.found.Found.TheVariants.{Made};
+ghost use Rattle.m68_isa.specs.First.{first_of};
+ghost use Rattle.m68_isa.specs.Moves.{move_mode};
 ghost use Rattle.m68_isa.specs.Operands.{operand_at};
 ghost use Rattle.m68_isa.specs.Rows.{taken};
 ghost use Rattle.big_memory.specs.Steps.{Does};
@@ -21,6 +23,19 @@ use mix_bits::{Fault, FaultKind, Size, sext, trunc, with_low};
 pub fn do_move_byte(regs: &mut Regs68, ram: &mut Ram, fault: &mut Fault, word: u32) -> Did
     ensures { Does (by_op Op68.MoveByte regs.old ram.old word) result fault.new regs.old regs.new ram.old ram.new }
 {
+    let (from, to) = (mode_of(word), move_mode_of(word));
+    if from == 0 && to == 0 {
+        move_registers(regs, ram, fault, word, Size::One)
+    } else {
+        move_byte(regs, ram, fault, word)
+    }
+}
+
+/// move.b with at most one data register.
+#[inline(never)]
+fn move_byte(regs: &mut Regs68, ram: &mut Ram, fault: &mut Fault, word: u32) -> Did
+    ensures { Does (by_op Op68.MoveByte regs.old ram.old word) result fault.new regs.old regs.new ram.old ram.new }
+{
     let from = (mode_of(word), lower_of(word));
     let to = (move_mode_of(word), upper_of(word));
     if to.0 == 0 {
@@ -35,6 +50,19 @@ pub fn do_move_byte(regs: &mut Regs68, ram: &mut Ram, fault: &mut Fault, word: u
 /// move.w
 #[inline(never)]
 pub fn do_move_word(regs: &mut Regs68, ram: &mut Ram, fault: &mut Fault, word: u32) -> Did
+    ensures { Does (by_op Op68.MoveWord regs.old ram.old word) result fault.new regs.old regs.new ram.old ram.new }
+{
+    let (from, to) = (mode_of(word), move_mode_of(word));
+    if from == 0 && to == 0 {
+        move_registers(regs, ram, fault, word, Size::Two)
+    } else {
+        move_word(regs, ram, fault, word)
+    }
+}
+
+/// move.w with at most one data register.
+#[inline(never)]
+fn move_word(regs: &mut Regs68, ram: &mut Ram, fault: &mut Fault, word: u32) -> Did
     ensures { Does (by_op Op68.MoveWord regs.old ram.old word) result fault.new regs.old regs.new ram.old ram.new }
 {
     let from = (mode_of(word), lower_of(word));
@@ -53,6 +81,19 @@ pub fn do_move_word(regs: &mut Regs68, ram: &mut Ram, fault: &mut Fault, word: u
 pub fn do_move_long(regs: &mut Regs68, ram: &mut Ram, fault: &mut Fault, word: u32) -> Did
     ensures { Does (by_op Op68.MoveLong regs.old ram.old word) result fault.new regs.old regs.new ram.old ram.new }
 {
+    let (from, to) = (mode_of(word), move_mode_of(word));
+    if from == 0 && to == 0 {
+        move_registers(regs, ram, fault, word, Size::Four)
+    } else {
+        move_long(regs, ram, fault, word)
+    }
+}
+
+/// move.l with at most one data register.
+#[inline(never)]
+fn move_long(regs: &mut Regs68, ram: &mut Ram, fault: &mut Fault, word: u32) -> Did
+    ensures { Does (by_op Op68.MoveLong regs.old ram.old word) result fault.new regs.old regs.new ram.old ram.new }
+{
     let from = (mode_of(word), lower_of(word));
     let to = (move_mode_of(word), upper_of(word));
     if to.0 == 0 {
@@ -62,6 +103,20 @@ pub fn do_move_long(regs: &mut Regs68, ram: &mut Ram, fault: &mut Fault, word: u
     } else {
         move_between(regs, ram, fault, word, Size::Four, from, to)
     }
+}
+
+/// A move of this size from a data register to another one.
+#[inline(always)]
+fn move_registers(regs: &mut Regs68, ram: &Ram, fault: &mut Fault, word: u32, size: Size) -> Did
+    requires from { (first_of word).mode ≡ 0 }
+    requires to { move_mode (first_of word) ≡ 0 }
+    ensures { let f = first_of word in
+        let source = operand_at (words_at ram.now regs.old.pc) 1 size f.mode f.lower in
+        let target = operand_at (words_at ram.now regs.old.pc) source.next size (move_mode f) f.upper in
+        Does (runs_made regs.old ram.now word (Made (Move size source.ea target.ea) target.next (source.good && target.good))) result fault.new regs.old regs.new ram.now ram.now }
+{
+    let (lower, upper) = (lower_of(word), upper_of(word));
+    move_to_register(regs, ram, fault, word, size, (0, lower), upper)
 }
 
 /// A move of this size from an operand, a mode and a register, to a data register.

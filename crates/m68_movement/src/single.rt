@@ -1,6 +1,7 @@
 // Instructions of one operand.
 ghost use Rattle.std.specs.Prelude.{◌≡◌, ◌<◌};
 ghost use Rattle.m68_isa.specs.declared.instructions.Instr68.TheVariants.{Clr, Tst};
+ghost use Rattle.m68_isa.specs.First.{first_of};
 ghost use Rattle.m68_isa.specs.Operands.{operand_at};
 ghost use Rattle.m68_isa.specs.Rows.{taken};
 ghost use Rattle.big_memory.specs.Steps.{Does};
@@ -13,11 +14,37 @@ use m68_alu::result_flags;
 use m68_ea::{find, go_on, put, source, value};
 use m68_isa::{Regs68, holds};
 use m68_ops::{Op68, condition_of, lower_of, mode_of, size_bits_of};
-use mix_bits::{Fault, Size};
+use mix_bits::{Fault, Size, trunc, with_low};
 
 /// clr: zeros into an operand.
 #[inline(never)]
 pub fn do_clr(regs: &mut Regs68, ram: &mut Ram, fault: &mut Fault, word: u32) -> Did
+    ensures { Does (by_op Op68.Clr regs.old ram.old word) result fault.new regs.old regs.new ram.old ram.new }
+{
+    if mode_of(word) == 0 {
+        clr_register(regs, ram, fault, word)
+    } else {
+        clr_operand(regs, ram, fault, word)
+    }
+}
+
+/// clr of a data register.
+#[inline(always)]
+fn clr_register(regs: &mut Regs68, ram: &Ram, fault: &mut Fault, word: u32) -> Did
+    requires { (first_of word).mode ≡ 0 }
+    ensures { Does (by_op Op68.Clr regs.old ram.now word) result fault.new regs.old regs.new ram.now ram.now }
+{
+    let lower = lower_of(word);
+    match size_bits_of(word) {
+        0 => clear_in_register(regs, ram, fault, word, Size::One, lower),
+        1 => clear_in_register(regs, ram, fault, word, Size::Two, lower),
+        _ => clear_in_register(regs, ram, fault, word, Size::Four, lower),
+    }
+}
+
+/// clr of any other operand.
+#[inline(never)]
+fn clr_operand(regs: &mut Regs68, ram: &mut Ram, fault: &mut Fault, word: u32) -> Did
     ensures { Does (by_op Op68.Clr regs.old ram.old word) result fault.new regs.old regs.new ram.old ram.new }
 {
     let (mode, lower) = (mode_of(word), lower_of(word));
@@ -26,6 +53,25 @@ pub fn do_clr(regs: &mut Regs68, ram: &mut Ram, fault: &mut Fault, word: u32) ->
         1 => clear(regs, ram, fault, word, Size::Two, mode, lower),
         _ => clear(regs, ram, fault, word, Size::Four, mode, lower),
     }
+}
+
+/// Zeros of this size into a data register.
+#[inline(always)]
+fn clear_in_register(
+    regs: &mut Regs68,
+    ram: &Ram,
+    fault: &mut Fault,
+    word: u32,
+    size: Size,
+    lower: usize,
+) -> Did
+    requires { lower < 8 }
+    ensures { let of = operand_at (words_at ram.now regs.old.pc) 1 size 0 lower in
+        Does (runs_made regs.old ram.now word (taken (Clr size of.ea) of)) result fault.new regs.old regs.new ram.now ram.now }
+{
+    regs.d[lower] = with_low(regs.d[lower], 0, size);
+    regs.ccr = result_flags(size, 0, regs.ccr);
+    go_on(regs, 1)
 }
 
 /// Zeros of this size into an operand.
@@ -56,12 +102,56 @@ fn clear(
 pub fn do_tst(regs: &mut Regs68, ram: &Ram, fault: &mut Fault, word: u32) -> Did
     ensures { Does (by_op Op68.Tst regs.old ram.now word) result fault.new regs.old regs.new ram.now ram.now }
 {
+    if mode_of(word) == 0 {
+        tst_register(regs, ram, fault, word)
+    } else {
+        tst_operand(regs, ram, fault, word)
+    }
+}
+
+/// tst of a data register.
+#[inline(always)]
+fn tst_register(regs: &mut Regs68, ram: &Ram, fault: &mut Fault, word: u32) -> Did
+    requires { (first_of word).mode ≡ 0 }
+    ensures { Does (by_op Op68.Tst regs.old ram.now word) result fault.new regs.old regs.new ram.now ram.now }
+{
+    let lower = lower_of(word);
+    match size_bits_of(word) {
+        0 => test_in_register(regs, ram, fault, word, Size::One, lower),
+        1 => test_in_register(regs, ram, fault, word, Size::Two, lower),
+        _ => test_in_register(regs, ram, fault, word, Size::Four, lower),
+    }
+}
+
+/// tst of any other operand.
+#[inline(never)]
+fn tst_operand(regs: &mut Regs68, ram: &Ram, fault: &mut Fault, word: u32) -> Did
+    ensures { Does (by_op Op68.Tst regs.old ram.now word) result fault.new regs.old regs.new ram.now ram.now }
+{
     let (mode, lower) = (mode_of(word), lower_of(word));
     match size_bits_of(word) {
         0 => test(regs, ram, fault, word, Size::One, mode, lower),
         1 => test(regs, ram, fault, word, Size::Two, mode, lower),
         _ => test(regs, ram, fault, word, Size::Four, mode, lower),
     }
+}
+
+/// The flags of a data register of this size.
+#[inline(always)]
+fn test_in_register(
+    regs: &mut Regs68,
+    ram: &Ram,
+    fault: &mut Fault,
+    word: u32,
+    size: Size,
+    lower: usize,
+) -> Did
+    requires { lower < 8 }
+    ensures { let of = operand_at (words_at ram.now regs.old.pc) 1 size 0 lower in
+        Does (runs_made regs.old ram.now word (taken (Tst size of.ea) of)) result fault.new regs.old regs.new ram.now ram.now }
+{
+    regs.ccr = result_flags(size, trunc(regs.d[lower], size), regs.ccr);
+    go_on(regs, 1)
 }
 
 /// The flags of an operand of this size.

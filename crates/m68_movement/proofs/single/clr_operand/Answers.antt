@@ -2,7 +2,7 @@ use Rattle.std.proofs.Common.{◌≡◌, arith}
 use Rattle.mix_bits.specs.declared.size.Size.TheVariants.{Four}
 use Rattle.m68_isa.specs.First.{first_of, size_of}
 use Rattle.m68_movement.proofs.Sizes.{long_size}
-use Rattle.m68_movement.proofs.single.do_clr.Goals as goal
+use Rattle.m68_movement.proofs.single.clr_operand.Goals as goal
 
 pub returns-in_default : goal.returns-in_default
 returns-in_default c =

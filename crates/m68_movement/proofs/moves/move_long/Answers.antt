@@ -1,6 +1,6 @@
 use Rattle.std.proofs.Common.{◌≡◌, ◌∙◌, sym}
 use Rattle.mix_bits.specs.Digits.{digit_of}
-use Rattle.m68_movement.proofs.moves.do_move_long.Goals as goal
+use Rattle.m68_movement.proofs.moves.move_long.Goals as goal
 
 pub returns-then-from-eq0 : goal.returns-then-from-eq0
 returns-then-from-eq0 c =
