@@ -167,6 +167,18 @@ impl Ram {
         self.store_value(a, Size::Four, v)
     }
 
+    /// Stores the low bytes of `v` at `a`, where a store of as many bytes is known not to be refused, as
+    /// after a [`Ram::probe`] of a range that they lie in.
+    #[inline(always)]
+    pub fn put(&mut self, a: u32, s: Size, v: u32)
+        requires { refusal self.old a (bytes_of s) ≡ None }
+        ensures { self.new ≡ stored self.old a s v }
+    {
+        if s.bytes() > 0 {
+            bytes::write_number(&mut self.bytes, a as usize, s, v);
+        }
+    }
+
     /// Stores longs one after another from `a` on, all of them, or none where one is refused. The
     /// addresses go on modulo 2^32.
     pub fn store_longs(&mut self, a: u32, values: &[u32]) -> Result<(), Access>
@@ -197,7 +209,7 @@ impl Ram {
     pub fn probe(&self, a: u32, n: u32) -> Result<(), Access>
         ensures { MatchOption (refusal self.now a n) (result ≡ Ok (record {})) (λ e. result ≡ Err e) }
     {
-        if n == 0 {
+        if n == 0 || self.is_open(a, n) {
             Ok(())
         } else if !self.has(a, n) {
             Err(Access::Outside(a))
@@ -296,22 +308,14 @@ impl Ram {
     {
         let mut at = a;
         for value in values {
-            self.put_long(at, *value);
+            self.put(at, Size::Four, *value);
             at = onward(at, 4);
         }
     }
 
-    /// Stores a long that is not refused.
-    fn put_long(&mut self, a: u32, value: u32)
-        requires { refusal self.old a 4 ≡ None }
-        ensures { self.new ≡ stored self.old a Four value }
-    {
-        bytes::write_number(&mut self.bytes, a as usize, Size::Four, value);
-    }
-
     /// Whether `n` bytes at `a`, at least one, lie in memory.
     #[inline(always)]
-    fn has(&self, a: u32, n: u32) -> bool
+    pub fn has(&self, a: u32, n: u32) -> bool
         requires { 0 < n }
         ensures { result ≡ in_memory self.now a n }
     {

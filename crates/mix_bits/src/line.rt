@@ -10,6 +10,9 @@ use std::marker::Model;
 /// How many bytes a line holds at most.
 pub const LINE_BYTES: usize = 160;
 
+/// The hexadecimal digits in upper case.
+const GLYPHS: [u8; 16] = *b"0123456789ABCDEF";
+
 /// A line of text in the making, on the stack.
 #[derive(Drop)]
 pub struct Line {
@@ -51,9 +54,12 @@ impl Line {
         ensures { AppendsWithin most_bytes self.old self.new (hexadecimal digits v) result }
     {
         let text = glyphs(v);
-        self.kept
-            .try_extend_from_slice(&text[8 - digits as usize..])
-            .is_ok()
+        let all = match digits {
+            2 => self.kept.try_extend_from_slice(&text[6..]),
+            4 => self.kept.try_extend_from_slice(&text[4..]),
+            _ => self.kept.try_extend_from_slice(&text),
+        };
+        all.is_ok()
     }
 
     /// Appends `v` in decimal.
@@ -89,10 +95,14 @@ fn glyph(v: u32, k: u32) -> u8
     requires { k < 8 }
     ensures { result ≡ digit_glyph true (v / 16 ^ k % 16) }
 {
-    let nibble = digit(v, 4 * k, 4) as u8;
-    if nibble < 10 {
-        b'0' + nibble
-    } else {
-        b'A' - 10 + nibble
-    }
+    glyph_of(digit(v, 4 * k, 4))
+}
+
+/// A hexadecimal digit in upper case.
+#[inline(always)]
+fn glyph_of(nibble: u32) -> u8
+    requires { nibble < 16 }
+    ensures { result ≡ digit_glyph true nibble }
+{
+    GLYPHS[nibble as usize]
 }
