@@ -1,7 +1,7 @@
 -- Parameters as digits of a number, one digit at a time.
-use Rattle.std.proofs.Common.{◌≡◌, ◌≢◌, ℕ, zero, suc, ◌+◌, ◌-◌, ◌/◌, ◌%◌, ◌<◌, ◌≤◌, Ok, Err, List, [], ◌∷◌, length, drop, replicate, set, arith, refl, sym, ap, subst, ◌∙◌}
+use Rattle.std.proofs.Common.{◌≡◌, ◌≢◌, ◌⊎◌, inl, inr, ℕ, zero, suc, ◌+◌, ◌-◌, ◌/◌, ◌%◌, ◌<◌, ◌≤◌, Result, Ok, Err, List, [], ◌∷◌, ◌++◌, length, take, drop, replicate, set, append_assoc, append-nil, drop-cons, get_or, length-set, arith, refl, sym, ap, ◌∙◌}
 use Rattle.std.proofs.lemmas.Grind.{common_steps}
-use borrow.Rule.Slice.PartMut.{put_mid}
+use Rattle.std.proofs.lemmas.List.{drop-set-lt}
 use Rattle.mix_bits.specs.Results.{◌>>=◌}
 use Rattle.proc_info.specs.declared.bad_info.BadInfo.{BadInfo}
 use Rattle.proc_info.specs.declared.bad_info.BadInfo.TheVariants.{Gap}
@@ -33,49 +33,73 @@ pub params_next : (shape : Shape) (most v : ℕ) → v ≢ 0 → v % 4 ≢ 0 →
 unfolding params_at
 params_next shape most v some sized = grind arith
 
--- nothing is filled in for the number 0
-pub fills_zero : (shape : Shape) (most v : ℕ) (list : List Param) → v ≡ 0 → list ≡ replicate (length list) nothing → Begins most list 0 (params_at shape most v)
-fills_zero shape most v list none empty =
-    let whole : length list - 0 ≡ length list = omega arith in
+-- parameters in front of those that are left
+abbrev pub behind : List Param → Result (List Param) BadInfo → Result (List Param) BadInfo
+behind xs r = r >>= λ ps. Ok (xs ++ ps)
+
+behind-one : (xs : List Param) (p : Param) (r : Result (List Param) BadInfo) → behind xs (r >>= λ ps. Ok (p ∷ ps)) ≡ behind (xs ++ p ∷ []) r
+behind-one xs p (Ok ps) = ap Ok (sym (append_assoc xs (p ∷ []) ps))
+behind-one xs p (Err e) = refl
+
+behind-none : (r : Result (List Param) BadInfo) → r ≡ behind [] r
+behind-none (Ok ps) = refl
+behind-none (Err e) = refl
+
+-- the parameters so far stand at the front of a list, and the digits that are left say the others
+pub record IsFilling (shape : Shape) (most v : ℕ) (list : List Param) (count left : ℕ) : Type 0 where
+  pub few : count ≤ most
+  pub rest : drop count list ≡ replicate (length list - count) nothing
+  pub front : params_at shape most v ≡ behind (take count list) (params_at shape (most - count) left)
+
+pub filling-none : (shape : Shape) (most v : ℕ) (list : List Param) → list ≡ replicate (length list) nothing → IsFilling shape most v list 0 v
+filling-none shape most v list empty =
+    let whole : length list ≡ length list - 0 = omega arith in
+    let all : most ≡ most - 0 = omega arith in
+    record { few = omega arith; rest = empty ∙ ap (λ n. replicate n nothing) whole; front = behind-none (params_at shape most v) ∙ ap (λ n. behind [] (params_at shape n v)) all }
+
+-- one parameter more
+rest-more : (list : List Param) (count : ℕ) (p : Param) → count < length list → drop count list ≡ replicate (length list - count) nothing
+    → drop (count + 1) (set list count p) ≡ replicate (length (set list count p) - (count + 1)) nothing
+rest-more list count p some rest =
+    let left : length list - count ≡ suc (length list - (count + 1)) = omega (arith, some) in
+    let tail : get_or list count nothing ∷ drop (suc count) list ≡ nothing ∷ replicate (length list - (count + 1)) nothing = sym (drop-cons list count nothing some) ∙ rest ∙ ap (λ n. replicate n nothing) left in
+    let behind_it : drop (suc count) list ≡ replicate (length list - (count + 1)) nothing = cc in
+    let next : suc count ≡ count + 1 = omega arith in
+    drop-set-lt (count + 1) list count p (omega arith) ∙ ap (λ n. drop n list) (sym next) ∙ behind_it ∙ ap (λ n. replicate (n - (count + 1)) nothing) (sym (length-set list count p))
+
+take-more : (list : List Param) (count : ℕ) (p : Param) → count < length list → take (count + 1) (set list count p) ≡ take count list ++ p ∷ []
+take-more list count p some = grind (arith, common_steps)
+
+pub filling-more : (shape : Shape) (most v count left above : ℕ) (list : List Param) (p : Param) → most ≤ length list → count ≢ most → left ≢ 0 → left % 4 ≢ 0 → p ≡ param_at shape left → above ≡ left / base shape
+    → IsFilling shape most v list count left → IsFilling shape most v (set list count p) (count + 1) above
+filling-more shape most v count left above list p room other some sized lowest next amid =
+    let small : count < most = omega (arith, amid.few) in
+    let one : most - count ≡ suc (most - (count + 1)) = omega arith in
+    let inside : count < length list = omega arith in
     record {
-      front = ap (λ n. params_at shape most n) none ∙ params_zero shape most;
       few = omega arith;
-      rest = subst (λ n. list ≡ replicate n nothing) (sym whole) empty;
+      rest = rest-more list count p inside amid.rest;
+      front =
+          amid.front ∙ ap (λ n. behind (take count list) (params_at shape n left)) one
+          ∙ ap (behind (take count list)) (params_next shape (most - (count + 1)) left some sized)
+          ∙ behind-one (take count list) (param_at shape left) (params_at shape (most - (count + 1)) (left / base shape))
+          ∙ ap (λ x. behind (take count list ++ x ∷ []) (params_at shape (most - (count + 1)) (left / base shape))) (sym lowest)
+          ∙ ap (λ xs. behind xs (params_at shape (most - (count + 1)) (left / base shape))) (sym (take-more list count p inside))
+          ∙ ap (λ d. behind (take (count + 1) (set list count p)) (params_at shape (most - (count + 1)) d)) (sym next);
     }
 
--- a parameter in front of those of the digits above
-fills_suc : (shape : Shape) (most v count : ℕ) (list : List Param) → v ≢ 0 → v % 4 ≢ 0 → Begins most list count (params_at shape most (v / base shape)) → Begins (suc most) (param_at shape v ∷ list) (suc count) (params_at shape (suc most) v)
-fills_suc shape most v count list some sized above =
-    let left : length list - count ≡ suc (length list) - suc count = omega arith in
+-- no digit is left
+pub filled : (shape : Shape) (most v count left : ℕ) (list : List Param) → left ≡ 0 → IsFilling shape most v list count left → Begins most list count (params_at shape most v)
+filled shape most v count left list none amid =
     record {
-      front = params_next shape most v some sized ∙ ap (λ r. r >>= λ ps. Ok (param_at shape v ∷ ps)) above.front;
-      few = omega (arith, above.few);
-      rest = subst (λ n. drop count list ≡ replicate n nothing) left above.rest;
+      front = amid.front ∙ ap (λ d. behind (take count list) (params_at shape (most - count) d)) none ∙ ap (behind (take count list)) (params_zero shape (most - count)) ∙ ap Ok (append-nil (take count list));
+      few = amid.few;
+      rest = amid.rest;
     }
 
--- a refusal of the digits above
-refused_suc : (shape : Shape) (most v : ℕ) (e : BadInfo) → v ≢ 0 → v % 4 ≢ 0 → params_at shape most (v / base shape) ≡ Err e → params_at shape (suc most) v ≡ Err e
-refused_suc shape most v e some sized above = params_next shape most v some sized ∙ ap (λ r. r >>= λ ps. Ok (param_at shape v ∷ ps)) above
-
--- the same at a count that falls
-pub fills_next : (shape : Shape) (most v count : ℕ) (first : Param) (list : List Param) → most ≢ 0 → v ≢ 0 → v % 4 ≢ 0 → first ≡ param_at shape v → Begins (most - 1) list count (params_at shape (most - 1) (v / base shape)) → Begins most (first ∷ list) (count + 1) (params_at shape most v)
-fills_next shape most v count first list room some sized lowest above =
-    let one : suc (most - 1) ≡ most = omega arith in
-    let more : suc count ≡ count + 1 = omega arith in
-    let P : ℕ → ℕ → Param → Type 0 = λ m n p. Begins m (p ∷ list) n (params_at shape m v) in
-    subst (λ p. P most (count + 1) p) (sym lowest) (subst (λ n. P most n (param_at shape v)) more (subst (λ m. P m (suc count) (param_at shape v)) one (fills_suc shape (most - 1) v count list some sized above)))
-
-pub refused_next : (shape : Shape) (most v : ℕ) (e : BadInfo) → most ≢ 0 → v ≢ 0 → v % 4 ≢ 0 → params_at shape (most - 1) (v / base shape) ≡ Err e → params_at shape most v ≡ Err e
-refused_next shape most v e room some sized above =
-    let one : suc (most - 1) ≡ most = omega arith in
-    subst (λ m. params_at shape m v ≡ Err e) one (refused_suc shape (most - 1) v e some sized above)
-
--- a list of which the first element and then all others are written
-put_first : (first x : Param) (xs rest : List Param) → put_mid 1 (length (set (x ∷ xs) 0 first) - 1) (set (x ∷ xs) 0 first) rest ≡ first ∷ rest
-put_first first x xs rest =
-    let whole : length xs ≤ length (first ∷ xs) - 1 = omega arith in
-    grind (arith, common_steps)
-
-pub put_rest : (first : Param) (list rest : List Param) → 0 < length list → put_mid 1 (length (set list 0 first) - 1) (set list 0 first) rest ≡ first ∷ rest
-put_rest first [] rest some = absurd (omega (arith, some))
-put_rest first (x ∷ xs) rest some = put_first first x xs rest
+-- a digit is left that says no parameter
+pub refused : (shape : Shape) (most v count left : ℕ) (list : List Param) → left ≢ 0 → (count ≡ most) ⊎ (left % 4 ≡ 0) → IsFilling shape most v list count left → params_at shape most v ≡ Err Gap
+refused shape most v count left list some (inl all) amid =
+    let none : most - count ≡ 0 = omega arith in
+    amid.front ∙ ap (λ n. behind (take count list) (params_at shape n left)) none ∙ ap (behind (take count list)) (params_none shape left some)
+refused shape most v count left list some (inr gap) amid = amid.front ∙ ap (behind (take count list)) (params_gap shape (most - count) left some gap)

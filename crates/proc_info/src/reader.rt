@@ -140,21 +140,23 @@ fn is_named(reg: u8, params: &[Param]) -> bool
 
 /// Puts the parameters that the digits of `v` say at the front of `list`, `most` of them at the most, and
 /// answers how many there are.
-#[tactic(auto, using(crate::proofs::Params::params_none, crate::proofs::Params::params_gap))]
+#[inline(always)]
 fn fill(list: &mut [Param], most: u8, shape: Shape, v: u32) -> Result<u8, BadInfo>
     requires room { most ≤ length list.old }
     requires empty { list.old ≡ replicate (length list.old) nothing }
     ensures { Fills most list.new result (params_at shape most v) }
 {
-    if v == 0 {
-        return Ok(0);
+    let mut count = 0;
+    let mut left = v;
+    while left != 0 {
+        if count == most || left % 4 == 0 {
+            return Err(BadInfo::Gap);
+        }
+        list[count as usize] = lowest(shape, left);
+        left = without_lowest(shape, left);
+        count += 1;
     }
-    if most == 0 || v % 4 == 0 {
-        return Err(BadInfo::Gap);
-    }
-    list[0] = lowest(shape, v);
-    let count = fill(&mut list[1..], most - 1, shape, without_lowest(shape, v))?;
-    Ok(count + 1)
+    Ok(count)
 }
 
 /// The parameter that the lowest digit of `v` says.
