@@ -1,11 +1,11 @@
 -- Laws of longs in bytes.
-use Rattle.std.proofs.Common.{◌≡◌, ℕ, zero, suc, ◌+◌, ◌*◌, ◌%◌, ◌^◌, ◌<◌, ◌≤◌, List, [], ◌∷◌, ◌++◌, length, take, drop, get_or, arith, ap, sym, ◌∙◌, refl}
-use Rattle.std.proofs.lemmas.List.{drop-drop, take-append-drop, take_more, length-take-le, ext_get_or, length-replicate, get_or-append-add, get_or_append_left, length-append, append_assoc}
+use Rattle.std.proofs.Common.{◌≡◌, ℕ, zero, suc, ◌+◌, ◌*◌, ◌%◌, ◌^◌, ◌<◌, ◌≤◌, List, [], ◌∷◌, ◌++◌, length, drop, get_or, arith, ap, sym, ◌∙◌, refl}
+use Rattle.std.proofs.lemmas.List.{drop-drop, take-append-drop, ext_get_or, length-replicate, get_or-append-add, get_or_append_left, length-append, append_assoc, places}
 use Rattle.std.proofs.lemmas.List.Concat.{flat_map-append}
-use Rattle.byteorder.specs.Endian.{big_number, big_bytes}
+use Rattle.byteorder.specs.Endian.{IsRead, big_number, big_bytes}
 use Rattle.big_memory.specs.Lists.{part, put}
 use Rattle.big_memory.specs.Memory.{Memory, IsRam, with_bytes}
-use Rattle.big_memory.proofs.Lists.{length-put, put-append, put-nil}
+use Rattle.big_memory.proofs.Lists.{length-put, put-append}
 use Rattle.switch_frame.specs.Longs.{long_at, longs_at, bytes_of_longs}
 use Rattle.switch_frame.specs.Chain.{AreLongs, zeros}
 
@@ -49,6 +49,10 @@ get_or-longs_at (suc n) a bytes zero within = ap (λ b. long_at b bytes) (let e 
 get_or-longs_at (suc n) a bytes (suc k) within =
     let e : a + 4 + 4 * k ≡ a + 4 * suc k = omega arith in get_or-longs_at n (a + 4) bytes k (omega arith) ∙ ap (λ b. long_at b bytes) e
 
+-- one of the longs that were read from an address on
+pub long-read : (n a b k : ℕ) (bytes xs : List ℕ) → xs ≡ longs_at n a bytes → k < n → b ≡ a + 4 * k → get_or xs k 0 ≡ long_at b bytes
+long-read n a b k bytes xs read within place = ap (λ ys. get_or ys k 0) read ∙ get_or-longs_at n a bytes k within ∙ ap (λ c. long_at c bytes) (sym place)
+
 -- one of several longs behind others in a piece
 pub long-behind : (a n b k : ℕ) (xs ys bytes : List ℕ) → part a n bytes ≡ bytes_of_longs (xs ++ ys) → b ≡ a + 4 * (length xs + k) → k < length ys → get_or ys k 0 < 2 ^ 32 → long_at b bytes ≡ get_or ys k 0
 long-behind a n b k xs ys bytes piece place within fits =
@@ -82,22 +86,30 @@ put-longs_behind at to xs ys bytes place within =
 pub with-longs_behind : (at to : ℕ) (xs ys : List ℕ) (m : Memory) → to ≡ at + 4 * length xs → to + 4 * length ys ≤ length m.bytes → with_bytes to (bytes_of_longs ys) (with_bytes at (bytes_of_longs xs) m) ≡ with_bytes at (bytes_of_longs (xs ++ ys)) m
 with-longs_behind at to xs ys m place within = ap (λ bytes. record m { bytes = bytes }) (put-longs_behind at to xs ys m.bytes place within)
 
--- one long more
-pub with-longs_more : (at to k : ℕ) (x : ℕ) (xs : List ℕ) (m : Memory) → to ≡ at + 4 * k → k < length xs → x ≡ get_or xs k 0 → at + 4 * length xs ≤ length m.bytes → with_bytes to (big_bytes 4 x) (with_bytes at (bytes_of_longs (take k xs)) m) ≡ with_bytes at (bytes_of_longs (take (k + 1) xs)) m
-unfolding bytes_of_longs
-with-longs_more at to k x xs m place inside e within =
-    let count : length (take k xs) ≡ k = length-take-le k xs (omega arith) in
-    let more : take (k + 1) xs ≡ take k xs ++ x ∷ [] = take_more xs k 0 inside ∙ ap (λ y. take k xs ++ y ∷ []) (sym e) in
-    with-longs_behind at to (take k xs) (x ∷ []) m (omega arith) (omega arith) ∙ ap (λ ys. with_bytes at (bytes_of_longs ys) m) (sym more)
-
 -- longs that were read one by one
 pub longs-read : (n a : ℕ) (bytes xs : List ℕ) → length xs ≡ n → ((k : ℕ) → k < n → get_or xs k 0 ≡ long_at (a + 4 * k) bytes) → xs ≡ longs_at n a bytes
 longs-read n a bytes xs count each =
     ext_get_or 0 _ _ (count ∙ sym (length-longs_at n a bytes)) (λ k within. let small : k < n = omega arith in each k small ∙ sym (get_or-longs_at n a bytes k small))
 
-pub with-longs_none : (at : ℕ) (m : Memory) → m ≡ with_bytes at (bytes_of_longs []) m
-unfolding bytes_of_longs
-with-longs_none at m = ap (λ bytes. record m { bytes = bytes }) (sym (put-nil at m.bytes))
+-- a byte of a piece, and a long of it
+byte-inside : (a n at i : ℕ) (bytes : List ℕ) → at + i < n → get_or (drop at (part a n bytes)) i 0 ≡ get_or (drop (a + at) bytes) i 0
+byte-inside a n at i bytes within = grind (arith, places)
+
+long-inside : (a n at : ℕ) (bytes : List ℕ) → at + 4 ≤ n → big_number 4 (drop at (part a n bytes)) ≡ long_at (a + at) bytes
+unfolding long_at
+long-inside a n at bytes within =
+    let first = byte-inside a n at 0 bytes (omega arith) in
+    let second = byte-inside a n at 1 bytes (omega arith) in
+    let third = byte-inside a n at 2 bytes (omega arith) in
+    let fourth = byte-inside a n at 3 bytes (omega arith) in
+    rw (first, second, third, fourth) refl
+
+-- longs that were read out of a piece
+pub longs-inside : (a n : ℕ) (bytes span xs : List ℕ) → n ≡ 4 * length xs → span ≡ part a n bytes → IsRead big_number 4 span xs → xs ≡ longs_at (length xs) a bytes
+longs-inside a n bytes span xs size piece read =
+    longs-read (length xs) a bytes xs refl (λ k within.
+    let inside : 4 * k + 4 ≤ n = omega arith in
+    read k within ∙ ap (λ ys. big_number 4 (drop (4 * k) ys)) piece ∙ long-inside a n (4 * k) bytes inside)
 
 -- a write into memory leaves a memory
 pub ram-kept : (m : Memory) (at : ℕ) (ys : List ℕ) → at + length ys ≤ length m.bytes → IsRam m → IsRam (with_bytes at ys m)
@@ -110,9 +122,6 @@ ram-kept m at ys within ram =
       whole = ap (λ n. n % 1024) same ∙ ram.whole;
       clear = λ unit low. ram.clear unit (omega (arith, same, low));
     }
-
-pub length-with_longs : (at : ℕ) (xs : List ℕ) (m : Memory) → at + 4 * length xs ≤ length m.bytes → length (with_bytes at (bytes_of_longs xs) m).bytes ≡ length m.bytes
-length-with_longs at xs m within = length-put at (bytes_of_longs xs) m.bytes (omega (arith, length-bytes xs))
 
 pub length-zeros : (n : ℕ) → length (zeros n) ≡ n
 length-zeros n = length-replicate n 0

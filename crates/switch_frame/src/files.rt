@@ -7,7 +7,7 @@ ghost use Rattle.switch_frame.specs.Records.{file_at, isa_of, longs_of_file, lon
 ghost use Rattle.switch_frame.specs.Sets.{frame_size};
 
 use crate::Active;
-use crate::longs::{read_long, read_longs, write_longs};
+use crate::longs::{read_longs, write_longs};
 use big_memory::Ram;
 use m68_isa::{Ccr, Regs68};
 use mix_bits::Isa;
@@ -34,13 +34,16 @@ fn read_m68(ram: &Ram, at: u32) -> Regs68
 {
     let mut d = [0; 8];
     let mut a = [0; 8];
+    let mut rest = [0; 2];
     read_longs(ram, at, &mut d);
     read_longs(ram, at + 32, &mut a);
+    read_longs(ram, at + 64, &mut rest);
+    let [pc, ccr] = rest;
     Regs68 {
         d,
         a,
-        pc: read_long(ram, at + 64),
-        ccr: Ccr::from_bits(read_long(ram, at + 68)),
+        pc,
+        ccr: Ccr::from_bits(ccr),
     }
 }
 
@@ -51,14 +54,17 @@ fn read_ppc(ram: &Ram, at: u32) -> RegsPpc
     ensures { result ≡ ppc_at at ram.now.bytes }
 {
     let mut gpr = [0; 32];
+    let mut rest = [0; 5];
     read_longs(ram, at, &mut gpr);
+    read_longs(ram, at + 128, &mut rest);
+    let [cr, lr, ctr, xer, pc] = rest;
     RegsPpc {
         gpr,
-        cr: read_long(ram, at + 128),
-        lr: read_long(ram, at + 132),
-        ctr: read_long(ram, at + 136),
-        xer: read_long(ram, at + 140),
-        pc: read_long(ram, at + 144),
+        cr,
+        lr,
+        ctr,
+        xer,
+        pc,
     }
 }
 

@@ -10,7 +10,7 @@ ghost use Rattle.switch_frame.specs.Records.{held_of, image, isa_of, record_at, 
 ghost use Rattle.switch_frame.specs.Sets.{caller_isa, frame_size, kind_at};
 
 use crate::files::{read_file, write_file};
-use crate::longs::{read_long, write_longs};
+use crate::longs::{read_long, read_longs, write_longs};
 use crate::{Held, Kind};
 use big_memory::Ram;
 
@@ -101,17 +101,20 @@ fn read_held(ram: &Ram, lo: u32) -> Held
     requires head { lo + 32 ≤ length ram.now.bytes }
     ensures { result ≡ held_of (record_at lo ram.now.bytes) (long_at (lo + 28) ram.now.bytes) }
 {
-    let kind = Kind::of_code(read_long(ram, lo + 4));
+    let mut head = [0; 8];
+    read_longs(ram, lo, &mut head);
+    let [_outer, code, info, selector, target, hi, want_sp, depth] = head;
+    let kind = Kind::of_code(code);
     Held {
         kind,
         caller: read_file(ram, lo + 32, kind.caller()),
-        info: read_long(ram, lo + 8),
-        selector: read_long(ram, lo + 12),
-        target: read_long(ram, lo + 16),
+        info,
+        selector,
+        target,
         lo,
-        hi: read_long(ram, lo + 20),
-        want_sp: read_long(ram, lo + 24),
-        depth: read_long(ram, lo + 28),
+        hi,
+        want_sp,
+        depth,
     }
 }
 

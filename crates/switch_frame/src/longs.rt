@@ -27,22 +27,25 @@ pub fn read_longs(ram: &Ram, a: u32, to: &mut [u32])
     requires within { a + 4 * length to.old ≤ length ram.now.bytes }
     ensures { to.new ≡ longs_at (length to.old) a ram.now.bytes }
 {
-    for (k, long) in to.iter_mut().enumerate() {
-        *long = read_long(ram, a + 4 * k as u32);
+    match ram.span(a, 4 * to.len() as u32) {
+        Ok(bytes) => BigEndian::read_u32_into(bytes, to),
+        Err(_) => unreachable!(),
     }
 }
 
-/// Writes longs from `a` on.
+/// Writes longs from `a` on, at most 32.
+#[inline(always)]
+#[tactic(auto, unfolding(crate::specs::Longs::bytes_of_longs))]
 pub fn write_longs(ram: &mut Ram, a: u32, longs: &[u32])
     requires ram { IsRam ram.old }
+    requires few { length longs.now ≤ 32 }
     requires within { a + 4 * length longs.now ≤ length ram.old.bytes }
     ensures bytes { ram.new ≡ with_bytes a (bytes_of_longs longs.now) ram.old }
     ensures ram { IsRam ram.new }
     ensures longs { AreLongs (length longs.now) longs.now }
 {
-    for (k, long) in longs.iter().enumerate() {
-        let mut bytes = [0; 4];
-        BigEndian::write_u32(&mut bytes, *long);
-        ram.fix(a + 4 * k as u32, &bytes);
-    }
+    let mut all = [0; 128];
+    let bytes = &mut all[..4 * longs.len()];
+    BigEndian::write_u32_into(longs, bytes);
+    ram.fix(a, bytes);
 }
