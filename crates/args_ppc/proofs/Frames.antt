@@ -1,16 +1,18 @@
 -- The bytes of a callee's stack frame and its registers, and what they read back as.
 use Rattle.std.proofs.Common.{◌≡◌, ◌⊎◌, ℕ, zero, suc, ◌+◌, ◌-◌, ◌*◌, ◌%◌, ◌^◌, ◌<◌, ◌≤◌, true, List, [], ◌∷◌, ◌++◌, length, take, drop, get_or, set, replicate, Option, Some, None, Ok, is_some, arith, refl, sym, ap, ◌∙◌, append_assoc, length-append, drop-cons}
-use Rattle.std.proofs.lemmas.List.{drop-drop, drop_at, places, length-take-le, length-replicate, get_or-drop, get_or-set_same, get_or-set_other}
+use Rattle.std.proofs.lemmas.List.{drop-drop, drop_all, drop_at, drop-replicate, take-replicate, places, length-take-le, length-replicate, get_or-drop, get_or-set_same, get_or-set_other}
 use Rattle.std.proofs.lemmas.Bool.Decides.{nat_tests}
+use Rattle.std.specs.List.{flat_map}
 use Rattle.byteorder.specs.Endian.{big_bytes, big_number}
 use Rattle.mix_bits.specs.Sizes.{bytes_of}
 use Rattle.mix_bits.specs.declared.size.Size.{Size}
 use Rattle.big_memory.specs.Lists.{put}
-use Rattle.big_memory.specs.Memory.{Memory, in_memory, loaded}
+use Rattle.big_memory.specs.Memory.{Memory, in_memory, loaded, with_bytes}
+use Rattle.big_memory.proofs.Lists.{put-nil, put-put_inside}
 use Rattle.proc_info.specs.declared.param.Param.{Param}
 use Rattle.proc_info.specs.Cut.{cut}
 use Rattle.proc_info.specs.Signature.{Signature}
-use Rattle.args_ppc.specs.Deliver.{below, callee_words, first_param, frame_bytes, frame_of, longs, registers_with, zeros}
+use Rattle.args_ppc.specs.Deliver.{callee_words, first_param, frame_bytes, frame_of, longs, registers_with, zeros}
 use Rattle.args_ppc.specs.Laws.{FillsItsStack}
 
 -- how many bytes so many zeros are
@@ -31,7 +33,7 @@ length-cut (p ∷ ps) (v ∷ vs) same = omega (arith, length-cut ps vs (omega (a
 pub room-behind : (n : ℕ) → 56 + 4 * (n - 8) ≤ frame_bytes n
 room-behind n = omega arith
 
-length-drop_eight : (ws : List ℕ) → length (drop 8 ws) ≡ length ws - 8
+pub length-drop_eight : (ws : List ℕ) → length (drop 8 ws) ≡ length ws - 8
 length-drop_eight ws = grind (arith, places)
 
 pub length-frame : (ws : List ℕ) → length (frame_of ws) ≡ frame_bytes (length ws)
@@ -46,6 +48,41 @@ length-words sig (Some v) values same = omega (arith, length-cut sig.params valu
 
 pub length-stack : FillsItsStack
 length-stack sig selector values same = length-frame (callee_words sig selector values) ∙ ap frame_bytes (length-words sig selector values same)
+
+-- the zeros of a frame with the words behind the eighth put into them
+pub longs-flat : (ws : List ℕ) → flat_map (big_bytes 4) ws ≡ longs ws
+longs-flat [] = refl
+longs-flat (w ∷ ws) = ap (λ rest. big_bytes 4 w ++ rest) (longs-flat ws)
+
+zeros-put : (ws : List ℕ) → put 56 (longs (drop 8 ws)) (replicate (frame_bytes (length ws)) 0) ≡ frame_of ws
+unfolding zeros
+zeros-put ws =
+    let n = frame_bytes (length ws) in
+    let held = longs (drop 8 ws) in
+    let size : length held ≡ 4 * (length ws - 8) = length-longs (drop 8 ws) ∙ ap (λ k. 4 * k) (length-drop_eight ws) in
+    let front : take 56 (replicate n 0) ≡ replicate 56 0 = take-replicate 56 n 0 (omega (arith, room-behind (length ws))) in
+    let both : length (zeros 56 ++ held) ≡ 56 + length held = length-append (zeros 56) held ∙ ap (λ k. k + length held) (length-zeros 56) in
+    let back : drop (56 + length held) (replicate n 0) ≡ replicate (n - length (zeros 56 ++ held)) 0 = drop-replicate (56 + length held) n 0 ∙ ap (λ k. replicate (n - k) 0) (sym both) in
+    ap (λ xs. xs ++ (held ++ drop (56 + length held) (replicate n 0))) front ∙ ap (λ ys. replicate 56 0 ++ (held ++ ys)) back
+    ∙ sym (append_assoc (replicate 56 0) held (replicate (n - length (zeros 56 ++ held)) 0))
+
+pub frame-put : (ws : List ℕ) (sp : ℕ) (m : Memory) → sp + frame_bytes (length ws) ≤ length m.bytes
+    → with_bytes (sp + 56) (longs (drop 8 ws)) (with_bytes sp (replicate (frame_bytes (length ws)) 0) m) ≡ with_bytes sp (frame_of ws) m
+frame-put ws sp m within =
+    let n = frame_bytes (length ws) in
+    let held = longs (drop 8 ws) in
+    let size : length held ≡ 4 * (length ws - 8) = length-longs (drop 8 ws) ∙ ap (λ k. 4 * k) (length-drop_eight ws) in
+    let blank : List ℕ = replicate n 0 in
+    let all : length blank ≡ n = length-replicate n 0 in
+    let bytes = put-put_inside sp 56 held blank m.bytes (omega (arith, size, all, room-behind (length ws))) (omega (arith, all)) ∙ ap (λ ys. put sp ys m.bytes) (zeros-put ws) in
+    ap (λ bytes. record m { bytes = bytes }) bytes
+
+pub frame-short : (ws : List ℕ) (sp : ℕ) (m : Memory) → length ws ≤ 8 → with_bytes sp (replicate (frame_bytes (length ws)) 0) m ≡ with_bytes sp (frame_of ws) m
+frame-short ws sp m few =
+    let n = frame_bytes (length ws) in
+    let none : longs (drop 8 ws) ≡ [] = ap longs (drop_all 8 ws few) in
+    let same : replicate n 0 ≡ frame_of ws = sym (put-nil 56 (replicate n 0)) ∙ ap (λ ys. put 56 ys (replicate n 0)) (sym none) ∙ zeros-put ws in
+    ap (λ ys. with_bytes sp ys m) same
 
 -- words in bytes, from the k-th on
 pub drop-longs : (k : ℕ) (ws rest : List ℕ) → k ≤ length ws → drop (4 * k) (longs ws ++ rest) ≡ longs (drop k ws) ++ rest

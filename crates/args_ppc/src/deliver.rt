@@ -1,28 +1,31 @@
 // What a PowerPC callee is given.
-ghost use Rattle.std.specs.Prelude.{◌≡◌, ◌+◌, ◌-◌, ◌*◌, ◌≤◌, ◌<◌, ◌^◌, ◌++◌, IsSome, is_some, if◌then◌else◌, true, length, drop};
+ghost use Rattle.std.specs.Prelude.{◌≡◌, ◌+◌, ◌-◌, ◌*◌, ◌≤◌, ◌++◌, [], IsSome, is_some, if◌then◌else◌, true, length};
 ghost use Rattle.big_memory.specs.Lists.{put};
+ghost use Rattle.big_memory.specs.Memory.{with_bytes};
+ghost use Rattle.ppc_isa.specs.Registers.{cleared_registers};
 ghost use Rattle.proc_info.specs.Codes.{is_dispatched};
 ghost use Rattle.proc_info.specs.Cut.{cut};
 ghost use Rattle.proc_info.specs.Views.{signature};
 ghost use Rattle.args_ppc.specs.Words.{words_of};
-ghost use Rattle.args_ppc.specs.Deliver.{below, callee_registers, callee_sp, callee_words as callee_words_lem, delivered, frame_bytes as frame_bytes_lem, frame_of, longs, registers_with, zeros};
+ghost use Rattle.args_ppc.specs.Deliver.{below, callee_registers, callee_sp, callee_words as callee_words_lem, delivered, frame_bytes as frame_bytes_lem, frame_of, longs, registers_with};
 
 use super::words::PpcWords;
 use arrayvec::ArrayVec;
 use big_memory::{Ram, return_gate};
+use byteorder::{BigEndian, ByteOrder};
 use mix_bits::{Isa, trunc};
 use ppc_isa::RegsPpc;
 use proc_info::{Param, Sig};
 
 /// How many bytes of a stack frame stand before the words that it holds: the linkage area, and the places of
 /// the words in registers.
-const FIXED_BYTES: usize = 56;
+const FIXED_BYTES: u32 = 56;
+
+/// The zeros of the largest stack frame.
+const ZEROS: [u8; 80] = [0; 80];
 
 /// The words of a callee: its selector and thirteen parameters.
 type Passed = ArrayVec<u32, 14>;
-
-/// The bytes of a callee's stack frame.
-type Frame = ArrayVec<u8, 80>;
 
 /// How many bytes of stack a PowerPC callee is given; `selector` tells whether it is passed its selector.
 pub fn below_ppc(sig: &Sig, selector: bool) -> u32
@@ -56,31 +59,57 @@ pub fn deliver_ppc(
     ensures memory { ram.new ≡ delivered (signature sig.now) selector (words_of args.now) lo ram.old }
     ensures registers { result ≡ callee_registers (signature sig.now) selector (words_of args.now) (callee_sp (signature sig.now) selector lo) code toc }
 {
-    let sp = lo - below_ppc(sig, selector.is_some());
-    let words = callee_words(
-        sig,
-        sig.params(),
-        &args.value[..args.count as usize],
-        selector,
-    );
-    ram.fix(sp, &frame(&words));
-    registers(&words, sp, code, toc)
+    let mut regs = RegsPpc::cleared();
+    let values = &args.value[..args.count as usize];
+    start_ppc(sig, values, selector, lo, code, toc, ram, &mut regs);
+    regs
 }
 
-/// The words of a callee.
-fn callee_words(sig: &Sig, params: &[Param], values: &[u32], selector: Option<u32>) -> Passed
+/// The same for registers that are all 0, which become the callee's.
+pub fn start_ppc(
+    sig: &Sig,
+    values: &[u32],
+    selector: Option<u32>,
+    lo: u32,
+    code: u32,
+    toc: u32,
+    ram: &mut Ram,
+    regs: &mut RegsPpc,
+)
+    requires count { length values.now ≡ sig.now.count }
+    requires cleared { regs.old ≡ cleared_registers }
+    requires selector { IsSome selector → is_dispatched sig.now.conv ≡ true }
+    requires room { below (signature sig.now) (is_some selector) ≤ lo }
+    requires inside { lo ≤ length ram.old.bytes }
+    ensures memory { ram.new ≡ delivered (signature sig.now) selector values.now lo ram.old }
+    ensures registers { regs.new ≡ callee_registers (signature sig.now) selector values.now (callee_sp (signature sig.now) selector lo) code toc }
+{
+    let sp = lo - below_ppc(sig, selector.is_some());
+    let mut words = ArrayVec::new();
+    append_words(&mut words, sig, sig.params(), values, selector);
+    write_frame(&words, sp, ram);
+    put_registers(regs, &words, sp, code, toc);
+}
+
+/// Appends the words of a callee.
+fn append_words(
+    words: &mut Passed,
+    sig: &Sig,
+    params: &[Param],
+    values: &[u32],
+    selector: Option<u32>,
+)
+    requires empty { words.old.items ≡ [] }
     requires few { length params.now ≤ 13 }
     requires params { (signature sig.now).params ≡ params.now }
     requires count { length values.now ≡ length params.now }
-    ensures words { result.items ≡ callee_words_lem (signature sig.now) selector values.now }
-    ensures count { length result.items ≡ (if is_some selector then 1 else 0) + length params.now }
+    ensures words { words.new.items ≡ callee_words_lem (signature sig.now) selector values.now }
+    ensures count { length words.new.items ≡ (if is_some selector then 1 else 0) + length params.now }
 {
-    let mut words = ArrayVec::new();
     if let Some(selector) = selector {
         words.push(trunc(selector, sig.selector));
     }
-    append_cut(&mut words, params, values);
-    words
+    append_cut(words, params, values);
 }
 
 /// Appends values, each cut to its parameter's size.
@@ -107,71 +136,41 @@ fn frame_bytes(words: usize) -> u32
     (24 + 4 * words.max(8) as u32 + 15) / 16 * 16
 }
 
-/// The bytes of a callee's stack frame.
-
-fn frame(words: &[u32]) -> Frame
-    requires { length words.now ≤ 14 }
-    ensures bytes { result.items ≡ frame_of words.now }
-    ensures length { length result.items ≡ frame_bytes_lem (length words.now) }
+/// Writes a callee's stack frame.
+fn write_frame(words: &[u32], sp: u32, ram: &mut Ram)
+    requires few { length words.now ≤ 14 }
+    requires inside { sp + frame_bytes_lem (length words.now) ≤ length ram.old.bytes }
+    ensures { ram.new ≡ with_bytes sp (frame_of words.now) ram.old }
 {
-    let mut frame = ArrayVec::new();
-    append_zeros(&mut frame, FIXED_BYTES);
-    append_longs(&mut frame, behind_eighth(words));
-    let rest = frame_bytes(words.len()) as usize - frame.len();
-    append_zeros(&mut frame, rest);
-    frame
-}
-
-/// The words that do not stand in registers.
-fn behind_eighth(words: &[u32]) -> &[u32]
-    ensures words { result.now ≡ drop 8 words.now }
-    ensures count { length result.now ≡ length words.now - 8 }
-{
-    if words.len() > 8 { &words[8..] } else { &[] }
-}
-
-/// Appends words for which there is room.
-fn append_longs(frame: &mut Frame, words: &[u32])
-    requires { length frame.old.items + 4 * length words.now ≤ 80 }
-    ensures bytes { frame.new.items ≡ frame.old.items ++ longs words.now }
-    ensures longer { length frame.new.items ≡ length frame.old.items + 4 * length words.now }
-{
-    if let [first, rest @ ..] = words {
-        append(frame, &first.to_be_bytes());
-        append_longs(frame, rest);
+    let _len = ram.len();
+    ram.fix(sp, &ZEROS[..frame_bytes(words.len()) as usize]);
+    if words.len() > 8 {
+        write_longs(&words[8..], sp + FIXED_BYTES, ram);
     }
 }
 
-/// Appends zeros for which there is room.
-#[tactic(auto, unfolding(crate::specs::Deliver::zeros))]
-fn append_zeros(frame: &mut Frame, count: usize)
-    requires { length frame.old.items + count ≤ 80 }
-    ensures bytes { frame.new.items ≡ frame.old.items ++ zeros count }
-    ensures longer { length frame.new.items ≡ length frame.old.items + count }
+/// Writes words, at most six, one after another.
+fn write_longs(words: &[u32], at: u32, ram: &mut Ram)
+    requires few { length words.now ≤ 6 }
+    requires inside { at + 4 * length words.now ≤ length ram.old.bytes }
+    ensures { ram.new ≡ with_bytes at (longs words.now) ram.old }
 {
-    append(frame, &[0; 80][..count]);
+    let mut all = [0; 24];
+    let bytes = &mut all[..4 * words.len()];
+    BigEndian::write_u32_into(words, bytes);
+    ram.fix(at, bytes);
 }
 
-/// Appends bytes for which there is room.
-fn append(frame: &mut Frame, bytes: &[u8])
-    requires { length frame.old.items + length bytes.now ≤ 80 }
-    ensures bytes { frame.new.items ≡ frame.old.items ++ bytes.now }
-    ensures longer { length frame.new.items ≡ length frame.old.items + length bytes.now }
+/// Puts the words of a callee, and what else it begins with, into its registers.
+fn put_registers(regs: &mut RegsPpc, words: &[u32], sp: u32, code: u32, toc: u32)
+    requires { regs.old ≡ cleared_registers }
+    ensures { regs.new ≡ registers_with words.now sp code toc }
 {
-    let _fits = frame.try_extend_from_slice(bytes);
-}
-
-/// The registers of a callee with these words.
-fn registers(words: &[u32], sp: u32, code: u32, toc: u32) -> RegsPpc
-    ensures { result ≡ registers_with words.now sp code toc }
-{
-    let mut regs = RegsPpc::cleared();
     put_words(&mut regs.gpr, &words[..words.len().min(8)]);
     regs.gpr[1] = sp;
     regs.gpr[2] = toc;
     regs.lr = return_gate(Isa::Ppc);
     regs.pc = code;
-    regs
 }
 
 /// Puts words into the registers from r3 on.

@@ -10,7 +10,7 @@ mod laws;
 mod results;
 mod words;
 
-pub use deliver::{below_ppc, deliver_ppc};
+pub use deliver::{below_ppc, deliver_ppc, start_ppc};
 pub use gather::{gather_ppc, select_ppc};
 pub use laws::args_ppc_laws;
 pub use results::{put_result_ppc, result_ppc};

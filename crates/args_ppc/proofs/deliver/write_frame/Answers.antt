@@ -1,0 +1,29 @@
+use Rattle.std.proofs.Common.{◌≡◌, ◌+◌, ◌-◌, ◌≤◌, ℕ, List, replicate, take, drop, length, ap, ◌∙◌, arith}
+use Rattle.std.proofs.lemmas.List.{take_all, take-replicate}
+use Rattle.big_memory.specs.Memory.{Memory, with_bytes}
+use Rattle.args_ppc.specs.Deliver.{frame_bytes, longs}
+use Rattle.args_ppc.proofs.Frames.{frame-put, frame-short, length-drop_eight}
+use Rattle.args_ppc.proofs.deliver.write_frame.Goals as goal
+
+-- the zeros of a frame
+blank : (sp n : ℕ) (words : List ℕ) (m : Memory) → n ≡ frame_bytes (length words) → n ≤ 80 → with_bytes sp (take n (replicate 80 0)) m ≡ with_bytes sp (replicate (frame_bytes (length words)) 0) m
+blank sp n words m size small = ap (λ ys. with_bytes sp ys m) (take-replicate n 80 0 small ∙ ap (λ k. replicate k 0) size)
+
+-- the words behind the eighth
+behind : (words : List ℕ) → take (length words - 8) (drop 8 words) ≡ drop 8 words
+behind words = take_all (length words - 8) (drop 8 words) (omega (arith, length-drop_eight words))
+
+pub returns-then-words-gt8 : goal.returns-then-words-gt8
+returns-then-words-gt8 c =
+    let sp = c.args.sp in
+    let words = c.args.words.now in
+    c.write_longs.ensures ∙ ap (λ ws. with_bytes (sp + 56) (longs ws) c.fix.new.self) (behind words)
+    ∙ ap (with_bytes (sp + 56) (longs (drop 8 words))) (c.fix.ensures ∙ blank sp c.frame_bytes.result words c.args.ram.now c.frame_bytes.ensures.value c.frame_bytes.ensures.small)
+    ∙ frame-put words sp c.args.ram.now c.requires.inside
+
+pub returns-else-words-gt8 : goal.returns-else-words-gt8
+returns-else-words-gt8 c =
+    let sp = c.args.sp in
+    let words = c.args.words.now in
+    c.fix.ensures ∙ blank sp c.frame_bytes.result words c.args.ram.now c.frame_bytes.ensures.value c.frame_bytes.ensures.small
+    ∙ frame-short words sp c.args.ram.now c.if-words-gt8.false
