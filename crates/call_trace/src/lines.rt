@@ -1,5 +1,5 @@
-// The text of each line.
-ghost use Rattle.std.specs.Prelude.{◌≡◌, ◌+◌, ◌*◌, ◌≤◌, ◌⊎◌, ◌++◌, codes, length};
+// The text of each line, put into an empty one.
+ghost use Rattle.std.specs.Prelude.{◌≡◌, ◌+◌, ◌*◌, ◌≤◌, ◌⊎◌, ◌++◌, [], length};
 ghost use Rattle.mix_bits.specs.Text.{hexadecimal};
 ghost use Rattle.call_trace.specs.Lines.{answer_text as text_of_answer, arguments, ask_line, call_head, call_line, end_line, exit_line, fault_line, marked, ret_line};
 ghost use Rattle.proc_info.specs.Views.{signature};
@@ -14,94 +14,83 @@ use switch_frame::Held;
 
 /// `call FROM TO TARGET PROCINFO #SELECTOR ARGUMENTS`
 #[tactic(auto, unfolding(crate::specs::Lines::call_line))]
-pub fn call_text(held: &Held, sig: &Sig, args: &[u32]) -> Line
-    requires { length args.now ≤ 13 }
-    ensures { result ≡ call_line (record_of held.now) (signature sig.now) args.now }
+pub fn put_call_text(line: &mut Line, held: &Held, sig: &Sig, args: &[u32])
+    requires empty { line.old ≡ [] }
+    requires few { length args.now ≤ 13 }
+    ensures { line.new ≡ call_line (record_of held.now) (signature sig.now) args.now }
 {
-    let mut line = call_start(held, sig);
-    add_arguments(&mut line, sig.params(), args);
+    start_call(line, held, sig);
+    add_arguments(line, sig.params(), args);
     line.add("\n");
-    line
 }
 
 /// The line of a call up to its arguments.
-fn call_start(held: &Held, sig: &Sig) -> Line
-    ensures text { result ≡ call_head (record_of held.now) (signature sig.now) }
-    ensures room { length result ≤ 40 }
+fn start_call(line: &mut Line, held: &Held, sig: &Sig)
+    requires empty { line.old ≡ [] }
+    ensures text { line.new ≡ call_head (record_of held.now) (signature sig.now) }
+    ensures room { length line.new ≤ 40 }
 {
-    let mut line = Line::new();
     line.add("call ");
     line.add(set_names(held.kind));
     line.add(" ");
     line.add_hex(held.target, 8);
     line.add(" ");
     line.add_hex(held.info, 8);
-    add_marked(&mut line, " #", sig.selector, held.selector);
-    line
+    add_marked(line, " #", sig.selector, held.selector);
 }
 
 /// `ret RESULT`
 #[tactic(auto, unfolding(crate::specs::Lines::ret_line))]
-pub fn ret_text(sig: &Sig, value: u32) -> Line
-    ensures { result ≡ ret_line (signature sig.now) value }
+pub fn put_ret_text(line: &mut Line, sig: &Sig, value: u32)
+    requires empty { line.old ≡ [] }
+    ensures { line.new ≡ ret_line (signature sig.now) value }
 {
-    let mut line = Line::new();
     line.add("ret");
-    add_marked(&mut line, " ", sig.result, value);
+    add_marked(line, " ", sig.result, value);
     line.add("\n");
-    line
 }
 
 /// `ask SLOT WORD ANSWER`
 #[tactic(auto, unfolding(crate::specs::Lines::ask_line))]
-pub fn ask_text(slot: u32, word: u32, answer: Answer) -> Line
-    ensures { result ≡ ask_line slot word answer }
+pub fn put_ask_text(line: &mut Line, slot: u32, word: u32, answer: Answer)
+    requires empty { line.old ≡ [] }
+    ensures { line.new ≡ ask_line slot word answer }
 {
-    let mut line = Line::new();
     line.add("ask ");
     line.add_dec(slot);
     line.add(" ");
     line.add_hex(word, 8);
     line.add(" ");
-    add_answer(&mut line, answer);
+    add_answer(line, answer);
     line.add("\n");
-    line
 }
 
 /// `exit CODE`, `fault NAME SET PC DETAIL ALSO` or `limit`
 #[tactic(auto, unfolding(crate::specs::Lines::end_line))]
-pub fn end_text(end: &End) -> Line
-    ensures { result ≡ end_line end.now }
+pub fn put_end_text(line: &mut Line, end: &End)
+    requires empty { line.old ≡ [] }
+    ensures { line.new ≡ end_line end.now }
 {
     match *end {
-        End::Exit(code) => exit_text(code),
-        End::Fault(set, fault) => fault_text(set, fault),
-        End::Limit => limit_text(),
+        End::Exit(code) => put_exit_text(line, code),
+        End::Fault(set, fault) => put_fault_text(line, set, fault),
+        End::Limit => line.add("limit\n"),
     }
 }
 
-fn exit_text(code: u32) -> Line
-    ensures { result ≡ exit_line code }
+fn put_exit_text(line: &mut Line, code: u32)
+    requires empty { line.old ≡ [] }
+    ensures { line.new ≡ exit_line code }
 {
-    let mut line = Line::new();
     line.add("exit ");
     line.add_dec(code);
     line.add("\n");
-    line
 }
 
-fn limit_text() -> Line
-    ensures { result ≡ codes "limit\n" }
+fn put_fault_text(line: &mut Line, set: Isa, fault: Fault)
+    requires empty { line.old ≡ [] }
+    ensures { line.new ≡ fault_line set fault }
 {
-    let mut line = Line::new();
-    line.add("limit\n");
-    line
-}
-
-fn fault_text(set: Isa, fault: Fault) -> Line
-    ensures { result ≡ fault_line set fault }
-{
-    let mut line = Line::new();
     line.add("fault ");
     line.add(fault_name(fault.kind));
     line.add(" ");
@@ -113,7 +102,6 @@ fn fault_text(set: Isa, fault: Fault) -> Line
     line.add(" ");
     line.add_hex(fault.also, 8);
     line.add("\n");
-    line
 }
 
 /// Appends the arguments by the sizes of their parameters.

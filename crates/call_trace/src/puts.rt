@@ -7,8 +7,9 @@ ghost use Rattle.proc_info.specs.Views.{params_of, signature};
 ghost use Rattle.switch_frame.specs.Records.{record_of};
 
 use crate::End;
-use crate::lines::{ask_text, call_text, end_text, ret_text};
+use crate::lines::{put_ask_text, put_call_text, put_end_text, put_ret_text};
 use dev_rack::Answer;
+use mix_bits::Line;
 use mix_io::{Failed, Sink};
 use proc_info::Sig;
 use switch_frame::Held;
@@ -19,7 +20,9 @@ pub fn put_call<T: Sink>(trace: &mut T, held: &Held, sig: &Sig, args: &[u32]) ->
     ensures line { Puts (T.held trace.old) (T.held trace.new) (call_line (record_of held.now) (signature sig.now) args.now) result }
     ensures cause { HasCause (T.faults trace.old) (T.faults trace.new) result }
 {
-    trace.put(call_text(held, sig, args).bytes())
+    let mut line = Line::new();
+    put_call_text(&mut line, held, sig, args);
+    trace.put(line.bytes())
 }
 
 /// Puts the line of an accepted return, with the result where the signature has one.
@@ -27,7 +30,9 @@ pub fn put_ret<T: Sink>(trace: &mut T, sig: &Sig, value: u32) -> Result<(), Fail
     ensures line { Puts (T.held trace.old) (T.held trace.new) (ret_line (signature sig.now) value) result }
     ensures cause { HasCause (T.faults trace.old) (T.faults trace.new) result }
 {
-    trace.put(ret_text(sig, value).bytes())
+    let mut line = Line::new();
+    put_ret_text(&mut line, sig, value);
+    trace.put(line.bytes())
 }
 
 /// Puts the line of an ask and what came of it.
@@ -35,7 +40,9 @@ pub fn put_ask<T: Sink>(trace: &mut T, slot: u32, word: u32, answer: Answer) -> 
     ensures line { Puts (T.held trace.old) (T.held trace.new) (ask_line slot word answer) result }
     ensures cause { HasCause (T.faults trace.old) (T.faults trace.new) result }
 {
-    trace.put(ask_text(slot, word, answer).bytes())
+    let mut line = Line::new();
+    put_ask_text(&mut line, slot, word, answer);
+    trace.put(line.bytes())
 }
 
 /// Puts the last line of a run.
@@ -43,5 +50,7 @@ pub fn put_end<T: Sink>(trace: &mut T, end: &End) -> Result<(), Failed>
     ensures line { Puts (T.held trace.old) (T.held trace.new) (end_line end.now) result }
     ensures cause { HasCause (T.faults trace.old) (T.faults trace.new) result }
 {
-    trace.put(end_text(end).bytes())
+    let mut line = Line::new();
+    put_end_text(&mut line, end);
+    trace.put(line.bytes())
 }
