@@ -11,9 +11,10 @@ ghost use Rattle.mode_switch.specs.Wanted.{passed_selector as passed_selector_le
 
 use crate::{Call, Entry};
 use args_m68::{Words, below68, deliver68, removed68};
-use args_ppc::{PpcWords, below_ppc, deliver_ppc};
+use args_ppc::{below_ppc, start_ppc};
 use big_memory::Ram;
 use mix_bits::{Isa, onward};
+use ppc_isa::RegsPpc;
 use proc_info::Sig;
 use switch_frame::Active;
 
@@ -35,41 +36,40 @@ fn passed_selector(call: &Call) -> Option<u32>
     if call.passes { call.selector } else { None }
 }
 
-/// Gives a callee its stack, which ends at `lo`, and answers its registers; 68K code finds `a5` in A5. No
-/// byte beside its stack changes.
-pub fn deliver(ram: &mut Ram, call: &Call, args: &Words, lo: u32, a5: u32, entry: &Entry) -> Active
+/// Gives a callee its stack, which ends at `lo`, and its registers; 68K code finds `a5` in A5. No byte
+/// beside its stack changes.
+pub fn deliver(
+    ram: &mut Ram,
+    call: &Call,
+    args: &Words,
+    lo: u32,
+    a5: u32,
+    entry: &Entry,
+    active: &mut Active,
+)
     requires count { args.now.count ≡ call.now.sig.count }
     requires selector { is_some call.now.selector ≡ is_dispatched call.now.sig.conv }
     requires room { below_lem (callee_isa call.now.kind) (signature call.now.sig) (is_some (passed_selector_lem (crossing call.now))) ≤ lo }
     requires inside { lo ≤ length ram.old.bytes }
     ensures memory { ram.new ≡ delivered (callee_isa call.now.kind) (signature call.now.sig) (passed_selector_lem (crossing call.now)) (words_of args.now) lo ram.old }
-    ensures registers { result ≡ fresh (callee_isa call.now.kind) (signature call.now.sig) (passed_selector_lem (crossing call.now)) (words_of args.now) a5
+    ensures registers { active.new ≡ fresh (callee_isa call.now.kind) (signature call.now.sig) (passed_selector_lem (crossing call.now)) (words_of args.now) a5
         (callee_sp (callee_isa call.now.kind) (signature call.now.sig) (passed_selector_lem (crossing call.now)) lo) entry.now }
-    ensures set { isa_of result ≡ callee_isa call.now.kind }
+    ensures set { isa_of active.new ≡ callee_isa call.now.kind }
 {
     let selector = passed_selector(call);
     match call.kind.callee() {
-        Isa::M68 => Active::M68(deliver68(&call.sig, args, selector, lo, a5, entry.code, ram)),
-        Isa::Ppc => Active::Ppc(deliver_ppc(
-            &call.sig,
-            &ppc_words(args),
-            selector,
-            lo,
-            entry.code,
-            entry.toc,
-            ram,
-        )),
-    }
-}
-
-/// Arguments as PowerPC code has them.
-fn ppc_words(args: &Words) -> PpcWords
-    ensures count { result.count ≡ args.now.count }
-    ensures value { result.value ≡ args.now.value }
-{
-    PpcWords {
-        count: args.count,
-        value: args.value,
+        Isa::M68 => {
+            *active = Active::M68(deliver68(&call.sig, args, selector, lo, a5, entry.code, ram));
+        }
+        Isa::Ppc => {
+            *active = Active::Ppc(RegsPpc::cleared());
+            let values = &args.value[..args.count as usize];
+            if let Active::Ppc(regs) = active {
+                start_ppc(
+                    &call.sig, values, selector, lo, entry.code, entry.toc, ram, regs,
+                );
+            }
+        }
     }
 }
 

@@ -60,6 +60,7 @@ fn wants_of_many(ram: &Ram, regs: &Regs68, count: u32) -> Wanted
 }
 
 /// What it wants at a descriptor, which is read into a list with a place for each record.
+#[inline(always)]
 fn wants_in(ram: &Ram, regs: &Regs68, records: &mut [Rec]) -> Wanted
     requires header { Counts ram.now regs.now.pc (Ok (length records.old)) }
     requires within { regs.now.pc + 12 ≤ length ram.now.bytes }
@@ -73,6 +74,7 @@ fn wants_in(ram: &Ram, regs: &Regs68, records: &mut [Rec]) -> Wanted
 }
 
 /// What it wants of the records of a descriptor.
+#[inline(always)]
 fn takes(ram: &Ram, regs: &Regs68, records: &[Rec]) -> Result<Wanted, Fault>
     ensures { told result ≡ takes_68k_lem ram.now regs.now records.now }
 {
@@ -117,6 +119,7 @@ fn selector(ram: &Ram, regs: &Regs68, sig: &Sig) -> Result<Option<u32>, Fault>
 
 /// A record of 68K code is gone on with, and one of PowerPC code is called; the signature of another
 /// record's procInfo is known.
+#[inline(always)]
 fn goes_by(
     pc: u32,
     rec: &Rec,

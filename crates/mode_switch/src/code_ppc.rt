@@ -112,6 +112,7 @@ fn wants_of_many(ram: &Ram, regs: &RegsPpc, pointer: u32, info: u32, count: u32)
 }
 
 /// What it wants at a descriptor, which is read into a list with a place for each record.
+#[inline(always)]
 fn wants_in(ram: &Ram, regs: &RegsPpc, pointer: u32, info: u32, records: &mut [Rec]) -> Wanted
     requires header { Counts ram.now pointer (Ok (length records.old)) }
     requires within { pointer + 12 ≤ length ram.now.bytes }
@@ -125,6 +126,7 @@ fn wants_in(ram: &Ram, regs: &RegsPpc, pointer: u32, info: u32, records: &mut [R
 }
 
 /// What it wants of the records of a descriptor.
+#[inline(always)]
 fn takes(regs: &RegsPpc, pointer: u32, info: u32, records: &[Rec]) -> Result<Wanted, Fault>
     ensures { told result ≡ takes_ppc_lem regs.now pointer info records.now }
 {

@@ -4,8 +4,8 @@ ghost use Rattle.proc_info.specs.Codes.{is_dispatched};
 ghost use Rattle.proc_info.specs.Signature.{signature_of};
 ghost use Rattle.proc_info.specs.Views.{signature};
 ghost use Rattle.routine_desc.specs.Layout.{has_flag};
-ghost use Rattle.mode_switch.specs.Views.{signed_kept, told, wanted_of};
-ghost use Rattle.mode_switch.specs.Wanted.{bad_desc as bad_desc_lem, calls_record as calls_record_lem, first_info as first_info_lem, settled, signed as signed_lem, taken as taken_lem};
+ghost use Rattle.mode_switch.specs.Views.{crossing, signed_kept, told, wanted_of};
+ghost use Rattle.mode_switch.specs.Wanted.{bad_desc as bad_desc_lem, call_of_record, calls_record as calls_record_lem, first_info as first_info_lem, settled, signed as signed_lem, taken as taken_lem};
 
 use crate::{Call, Wanted};
 use mix_bits::{Fault, FaultKind};
@@ -17,6 +17,7 @@ use switch_frame::Kind;
 pub const FEW: u32 = 4;
 
 /// What is wanted, or the first refusal.
+#[inline(always)]
 pub fn settle(wanted: Result<Wanted, Fault>) -> Wanted
     ensures { wanted_of result ≡ settled (told wanted) }
 {
@@ -58,19 +59,6 @@ pub fn signed(pc: u32, at: u32, info: u32) -> Result<Sig, Fault>
     }
 }
 
-/// The signature of a record's procInfo, where that of another one is known, which is the same word in most
-/// descriptors.
-fn signed_like(pc: u32, at: u32, info: u32, known: u32, sig: &Sig) -> Result<Sig, Fault>
-    requires { signed_lem pc at (signature_of known) ≡ Ok (signature sig.now) }
-    ensures { signed_kept result ≡ signed_lem pc at (signature_of info) }
-{
-    if info == known {
-        Ok(*sig)
-    } else {
-        signed(pc, at, info)
-    }
-}
-
 /// The record that was chosen.
 pub fn taken(pc: u32, selector: Option<u32>, chosen: Option<Rec>) -> Result<Rec, Fault>
     ensures { result ≡ taken_lem pc selector chosen }
@@ -87,7 +75,8 @@ pub fn taken(pc: u32, selector: Option<u32>, chosen: Option<Rec>) -> Result<Rec,
 }
 
 /// The call of a record of the descriptor at an address, where the signature of another record's procInfo
-/// is known.
+/// is known, which is the same word in most descriptors.
+#[inline(always)]
 pub fn calls_record(
     pc: u32,
     at: u32,
@@ -100,15 +89,27 @@ pub fn calls_record(
     requires { signed_lem pc at (signature_of known) ≡ Ok (signature sig.now) }
     ensures { told result ≡ calls_record_lem pc at kind rec.now selector }
 {
-    let sig = signed_like(pc, at, rec.info, known, sig)?;
-    Ok(Wanted::Calls(Call {
+    if rec.info == known {
+        Ok(Wanted::Calls(call_of(kind, rec, selector, sig)))
+    } else {
+        let sig = signed(pc, at, rec.info)?;
+        Ok(Wanted::Calls(call_of(kind, rec, selector, &sig)))
+    }
+}
+
+/// The call of a record by its signature.
+#[inline(never)]
+fn call_of(kind: Kind, rec: &Rec, selector: Option<u32>, sig: &Sig) -> Call
+    ensures { crossing result ≡ call_of_record kind rec.now selector (signature sig.now) }
+{
+    Call {
         kind,
         info: rec.info,
-        sig,
+        sig: *sig,
         selector,
         passes: passes(sig.conv, rec.flags),
         target: rec.target,
-    }))
+    }
 }
 
 /// Whether a callee of this convention gets its selector by these flags.
