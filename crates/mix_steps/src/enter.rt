@@ -8,6 +8,7 @@ ghost use Rattle.switch_frame.specs.Records.{isa_of, record_of};
 ghost use Rattle.switch_frame.specs.Sets.{callee_isa};
 ghost use Rattle.mode_switch.specs.Callee.{below as below_of};
 ghost use Rattle.mode_switch.specs.Views.{args_of, crossing, passage, wanted_of};
+ghost use Rattle.mode_switch.specs.declared.passed.Passed.{Passed as APassed};
 ghost use Rattle.mode_switch.specs.Wanted.{IsMeant, Means, or_zero, passed_selector as passed_selector_of};
 ghost use Rattle.mixed_machine.specs.Enter.{crosses as crosses_of, enters, enters_with, suspended};
 ghost use Rattle.mixed_machine.specs.Machine.{IsWhole, callers_of};
@@ -102,7 +103,8 @@ fn enter_with<T: Sink>(
     call_laws();
     let values = values(passed);
     let _params = call.sig.params();
-    let held = start(body, active, call, range, below, passed);
+    let held = hold(body, active, call, range, below);
+    start(body, active, call, range, below, passed, &held);
     match put_call(trace, &held, &call.sig, values) {
         Ok(()) => Did::Call,
         Err(_) => Did::TraceFault,
@@ -135,30 +137,18 @@ fn kept_selector(call: &Call) -> u32
     }
 }
 
-/// Makes the frame and the callee's stack below it. The caller that is suspended has its pc behind the
-/// call.
+/// The caller as it is suspended in a frame of this range, with its pc behind the call; the callee's stack
+/// has so many bytes.
 #[inline(always)]
-fn start(
-    body: &mut Body,
-    active: &mut Active,
-    call: &Call,
-    range: (u32, u32),
-    below: u32,
-    passed: &Passed,
-) -> Held
-    requires whole { IsWhole body.old (isa_of active.old) }
-    requires meant { IsMeant (isa_of active.old) (crossing call.now) }
-    requires place { IsPlace body.old.ram (callers_of body.old) call.now.kind range.0 range.1 }
+fn hold(body: &Body, active: &Active, call: &Call, range: (u32, u32), below: u32) -> Held
+    requires whole { IsWhole body.now (isa_of active.now) }
+    requires place { IsPlace body.now.ram (callers_of body.now) call.now.kind range.0 range.1 }
     requires below { below ≡ below_of (callee_isa call.now.kind) (crossing call.now).sig (is_some (passed_selector_of (crossing call.now))) }
-    requires floor { floor_of body.old.ram + below ≤ range.0 }
-    requires count { passed.now.args.count ≡ call.now.sig.count }
-    requires values { length (args_of passed.now) ≡ length (crossing call.now).sig.params }
-    ensures held { record_of result ≡ suspended (crossing call.now) range (passage active.old passed.now) }
-    ensures entered { IsEntered body.old body.new active.new (crossing call.now) range (passage active.old passed.now) }
+    requires floor { floor_of body.now.ram + below ≤ range.0 }
+    ensures held { (passed : APassed) → record_of result ≡ suspended (crossing call.now) range (passage active.now passed) }
+    ensures depth { result.depth ≡ length (callers_of body.now) + 1 }
 {
-    body_laws();
-    call_laws();
-    let held = Held {
+    Held {
         kind: call.kind,
         caller: *active,
         info: call.info,
@@ -168,8 +158,32 @@ fn start(
         hi: range.1,
         want_sp: wanted_sp(call, range.0 - below),
         depth: depth(&body.ram, body.top) + 1,
-    };
-    *active = prepare(body, call, range, below, passed);
-    suspend(body, &held);
-    held
+    }
+}
+
+/// Makes the frame and the callee's stack below it, and the callee's registers.
+fn start(
+    body: &mut Body,
+    active: &mut Active,
+    call: &Call,
+    range: (u32, u32),
+    below: u32,
+    passed: &Passed,
+    held: &Held,
+)
+    requires whole { IsWhole body.old (isa_of active.old) }
+    requires meant { IsMeant (isa_of active.old) (crossing call.now) }
+    requires place { IsPlace body.old.ram (callers_of body.old) call.now.kind range.0 range.1 }
+    requires below { below ≡ below_of (callee_isa call.now.kind) (crossing call.now).sig (is_some (passed_selector_of (crossing call.now))) }
+    requires floor { floor_of body.old.ram + below ≤ range.0 }
+    requires count { passed.now.args.count ≡ call.now.sig.count }
+    requires values { length (args_of passed.now) ≡ length (crossing call.now).sig.params }
+    requires held { record_of held.now ≡ suspended (crossing call.now) range (passage active.old passed.now) }
+    requires depth { held.now.depth ≡ length (callers_of body.old) + 1 }
+    ensures { IsEntered body.old body.new active.new (crossing call.now) range (passage active.old passed.now) }
+{
+    body_laws();
+    call_laws();
+    prepare(body, call, range, below, passed, active);
+    suspend(body, held);
 }

@@ -19,15 +19,16 @@ use mixed_machine::Body;
 use mode_switch::{Call, Passed, deliver};
 use switch_frame::{Active, Held, pop, push};
 
-/// Gives a callee its stack of so many bytes, which ends where the frame of its caller begins, and answers
-/// its registers.
+/// Gives a callee its stack of so many bytes, which ends where the frame of its caller begins, and its
+/// registers.
 pub fn prepare(
     body: &mut Body,
     call: &Call,
     range: (u32, u32),
     below: u32,
     passed: &Passed,
-) -> Active
+    active: &mut Active,
+)
     requires whole { IsWhole body.old (caller_isa call.now.kind) }
     requires place { IsPlace body.old.ram (callers_of body.old) call.now.kind range.0 range.1 }
     requires below { below ≡ below_of (callee_isa call.now.kind) (crossing call.now).sig (is_some (passed_selector (crossing call.now))) }
@@ -35,8 +36,8 @@ pub fn prepare(
     requires count { passed.now.args.count ≡ call.now.sig.count }
     requires values { length (args_of passed.now) ≡ length (crossing call.now).sig.params }
     requires selector { is_some call.now.selector ≡ is_dispatched call.now.sig.conv }
-    ensures file { result ≡ fresh (callee_isa call.now.kind) (crossing call.now).sig (passed_selector (crossing call.now)) (args_of passed.now) body.old.a5 (range.0 - below) passed.now.entry }
-    ensures set { isa_of result ≡ callee_isa call.now.kind }
+    ensures file { active.new ≡ fresh (callee_isa call.now.kind) (crossing call.now).sig (passed_selector (crossing call.now)) (args_of passed.now) body.old.a5 (range.0 - below) passed.now.entry }
+    ensures set { isa_of active.new ≡ callee_isa call.now.kind }
     ensures ready { IsReady body.old body.new (caller_isa call.now.kind) call.now.kind range.0 range.1 (range.0 - below)
         (stack_of (callee_isa call.now.kind) (crossing call.now).sig (passed_selector (crossing call.now)) (args_of passed.now)) }
 {
@@ -49,7 +50,8 @@ pub fn prepare(
         range.0,
         body.a5,
         &passed.entry,
-    )
+        active,
+    );
 }
 
 /// Suspends a caller in a new innermost frame.
