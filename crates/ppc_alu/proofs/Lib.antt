@@ -1,3 +1,4 @@
+pub mod FieldLemmas
 pub mod MaskLemmas
 pub mod ShiftLemmas
 pub mod SignedLemmas

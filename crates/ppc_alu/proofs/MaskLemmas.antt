@@ -1,16 +1,17 @@
 -- A mask by shifts is the set of its places: the checker computes all 32 times 32 of them.
-use Rattle.std.proofs.Common.{◌≡◌, ℕ, ◌+◌, ◌-◌, ◌*◌, ◌/◌, ◌%◌, ◌^◌, ◌<◌, ◌≤◌, ◌==◌, nat_le, Bool, true, false, if◌then◌else◌, bit_and, bit_or, arith, sym, ap, subst, ◌∙◌, refl}
-use Rattle.std.proofs.lemmas.Nat.{div-mul-add, mod-mul-add, mul-add-lt}
+use Rattle.std.proofs.Common.{◌≡◌, ℕ, ◌+◌, ◌-◌, ◌*◌, ◌/◌, ◌%◌, ◌^◌, ◌<◌, ◌==◌, nat_lt, Bool, true, arith, subst, refl}
+use Rattle.std.specs.Int.{from_bool}
+use Rattle.std.proofs.lemmas.Nat.{div-mul-add, mod-mul-add}
 use Rattle.std.proofs.lemmas.Bool.{eqb-true}
 use Rattle.mix_bits.specs.Ranges.{every}
 use Rattle.mix_bits.proofs.Every.{every_at}
 use Rattle.ppc_alu.specs.Masks.{field_mask_of, mask_of}
 
--- the two halves of the mask, joined
+-- the mask as a difference: the bits from mb on without those after me, with one more taken off, as from
+-- the number 2 ^ 32 before all bits, where these lie before mb
 by_shifts : ℕ → ℕ → ℕ
 by_shifts mb me =
-    if nat_le mb me then bit_and (4294967295 / 2 ^ mb) (4294967295 * 2 ^ (31 - me) % 4294967296)
-    else bit_or (4294967295 / 2 ^ mb) (4294967295 * 2 ^ (31 - me) % 4294967296)
+    ((4294967295 / 2 ^ mb + (4294967296 - 2147483647 / 2 ^ me)) % 4294967296 + (4294967296 - from_bool (nat_lt me mb))) % 4294967296
 
 agrees : ℕ → ℕ → Bool
 agrees mb me = by_shifts mb me == mask_of mb me
@@ -19,29 +20,14 @@ all-agree : every 10 0 (λ n. agrees (n / 32) (n % 32)) ≡ true
 unfolding agrees by_shifts
 all-agree = refl
 
-mask-is : (mb me : ℕ) → mb < 32 → me < 32 → by_shifts mb me ≡ mask_of mb me
-unfolding agrees
+pub mask-is : (mb me : ℕ) → mb < 32 → me < 32 →
+    ((4294967295 / 2 ^ mb + (4294967296 - 2147483647 / 2 ^ me)) % 4294967296 + (4294967296 - from_bool (nat_lt me mb))) % 4294967296 ≡ mask_of mb me
+unfolding agrees by_shifts
 mask-is mb me begin end =
     let all : agrees ((mb * 32 + me) / 32) ((mb * 32 + me) % 32) ≡ true = every_at 10 (λ n. agrees (n / 32) (n % 32)) (mb * 32 + me) all-agree (omega (arith, begin, end)) in
     let row : agrees mb ((mb * 32 + me) % 32) ≡ true = subst (λ k. agrees k ((mb * 32 + me) % 32) ≡ true) (div-mul-add mb 32 me end) all in
     let both : agrees mb me ≡ true = subst (λ k. agrees mb k ≡ true) (mod-mul-add mb 32 me end) row in
     eqb-true (by_shifts mb me) (mask_of mb me) both
-
-when-true : (b : Bool) (x y : ℕ) → b ≡ true → (if b then x else y) ≡ x
-when-true true x y is = refl
-when-true false x y is = cc
-
-when-false : (b : Bool) (x y : ℕ) → b ≡ false → (if b then x else y) ≡ y
-when-false true x y is = cc
-when-false false x y is = refl
-
-pub mask-straight : (mb me : ℕ) → mb < 32 → me < 32 → nat_le mb me ≡ true → bit_and (4294967295 / 2 ^ mb) (4294967295 * 2 ^ (31 - me) % 4294967296) ≡ mask_of mb me
-unfolding by_shifts
-mask-straight mb me begin end order = sym (when-true (nat_le mb me) _ _ order) ∙ mask-is mb me begin end
-
-pub mask-round : (mb me : ℕ) → mb < 32 → me < 32 → nat_le mb me ≡ false → bit_or (4294967295 / 2 ^ mb) (4294967295 * 2 ^ (31 - me) % 4294967296) ≡ mask_of mb me
-unfolding by_shifts
-mask-round mb me begin end order = sym (when-false (nat_le mb me) _ _ order) ∙ mask-is mb me begin end
 
 -- the fields' places as digits to the base 16
 by_digits : ℕ → ℕ

@@ -3,7 +3,7 @@ ghost use Rattle.std.specs.Prelude.{◌≡◌, ◌<◌};
 ghost use Rattle.ppc_alu.specs.Traps.{traps_on};
 ghost use Rattle.ppc_alu.specs.Condition.{bit_of, combined, compared, field_of, is_less as is_less_lem, with_bit, with_field};
 
-use mix_bits::{digit, with_digit};
+use mix_bits::{digit, power, with_digit};
 
 /// How two bits of the condition register are combined.
 #[derive(Clone, Copy, Debug, PartialEq, Eq)]
@@ -26,9 +26,14 @@ pub fn compare(signed: bool, a: u32, b: u32, so: bool) -> u32
     ensures is { result ≡ compared signed a b so }
     ensures below { result < 16 }
 {
-    let less = is_less(signed, a, b);
-    let greater = is_less(signed, b, a);
-    8 * u32::from(less) + 4 * u32::from(greater) + 2 * u32::from(a == b) + u32::from(so)
+    let order = if is_less(signed, a, b) {
+        8
+    } else if a == b {
+        2
+    } else {
+        4
+    };
+    order + u32::from(so)
 }
 
 /// Whether a word is below another one, as signed or unsigned numbers.
@@ -83,12 +88,15 @@ pub fn with_cr_bit(cr: u32, bit: u32, on: bool) -> u32
 }
 
 /// The condition register with a field replaced.
+#[inline(always)]
 pub fn with_cr_field(cr: u32, field: u32, bits: u32) -> u32
     requires field { field < 8 }
     requires bits { bits < 16 }
     ensures { result ≡ with_field cr field bits }
 {
-    with_digit(cr, 28 - 4 * field, 4, bits)
+    let place = power(28 - 4 * field);
+    let without = u64::from(cr) - u64::from(cr_field(cr, field)) * place;
+    (without + u64::from(bits) * place) as u32
 }
 
 /// The condition register with its first field replaced.

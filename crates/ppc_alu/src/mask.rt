@@ -22,8 +22,8 @@ fn mask(mb: u32, me: u32) -> u32
     ensures { result ≡ mask_of mb me }
 {
     let from = u32::MAX >> mb;
-    let to = u32::MAX << (31 - me);
-    if mb <= me { from & to } else { from | to }
+    let after = 0x7FFF_FFFFu32 >> me;
+    from.wrapping_sub(after).wrapping_sub(u32::from(me < mb))
 }
 
 /// The places of the condition register whose fields a mask of eight bits names, as mtcrf has it: its
