@@ -11,11 +11,11 @@ ghost use Rattle.ppc_effects.specs.Effects.{goes_on};
 ghost use Rattle.ppc_isa.specs.declared.instruction.InstrPpc.TheVariants.{Add, AddExtended, AddImmediate, AddImmediateCarrying, Divide, MultiplyHigh, MultiplyLow, MultiplyLowImmediate, Negate, SubtractFrom, SubtractFromExtended, SubtractFromImmediateCarrying};
 ghost use Rattle.ppc_effects.specs.Effects.{runs};
 
-use super::ending::finish;
+use super::ending::{finish, finish_arith, finish_result};
 use big_memory::Did;
 use mix_bits::onward;
 use ppc_alu::{Arith, add3, divide, mul_high, mul_low, xer_ca};
-use ppc_effects::{base, put_arith, put_result};
+use ppc_effects::base;
 use ppc_isa::{CarryUse, ExtendedOperand, RegsPpc};
 use ppc_ops::{a_of, b_of, d_of, is_last, is_overflow, low_of, offset_of};
 
@@ -24,37 +24,55 @@ use ppc_ops::{a_of, b_of, d_of, is_last, is_overflow, low_of, offset_of};
 pub fn add(regs: &mut RegsPpc, word: u32, carry: CarryUse) -> Did
     ensures { (why : Fault) (m : Memory) → let f = fields_of word in Does (runs regs.old m word (Add carry f.d f.a f.b ((f.xo / 512) == 1) f.last)) result why regs.old regs.new m m }
 {
+    if sets_ca(carry) {
+        add_apart(regs, word, carry)
+    } else {
+        add_words(regs, word, carry)
+    }
+}
+
+/// The same in a place of its own, for the forms that set CA.
+#[inline(never)]
+fn add_apart(regs: &mut RegsPpc, word: u32, carry: CarryUse) -> Did
+    ensures { (why : Fault) (m : Memory) → let f = fields_of word in Does (runs regs.old m word (Add carry f.d f.a f.b ((f.xo / 512) == 1) f.last)) result why regs.old regs.new m m }
+{
+    add_words(regs, word, carry)
+}
+
+/// Both kinds of form.
+#[inline(always)]
+fn add_words(regs: &mut RegsPpc, word: u32, carry: CarryUse) -> Did
+    ensures { (why : Fault) (m : Memory) → let f = fields_of word in Does (runs regs.old m word (Add carry f.d f.a f.b ((f.xo / 512) == 1) f.last)) result why regs.old regs.new m m }
+{
     let outcome = add3(
         regs.gpr[a_of(word)],
         regs.gpr[b_of(word)],
         carry_into(regs, carry, false),
     );
-    put_arith(
+    finish_arith(
         regs,
         d_of(word),
         sets_ca(carry),
         is_overflow(word),
         is_last(word),
         outcome,
-    );
-    finish(regs)
+    )
 }
 
 /// addze and addme.
-#[inline(always)]
+#[inline(never)]
 pub fn add_extended(regs: &mut RegsPpc, word: u32, operand: ExtendedOperand) -> Did
     ensures { (why : Fault) (m : Memory) → let f = fields_of word in Does (runs regs.old m word (AddExtended operand f.d f.a ((f.xo / 512) == 1) f.last)) result why regs.old regs.new m m }
 {
     let outcome = add3(regs.gpr[a_of(word)], number_of(operand), xer_ca(regs.xer));
-    put_arith(
+    finish_arith(
         regs,
         d_of(word),
         true,
         is_overflow(word),
         is_last(word),
         outcome,
-    );
-    finish(regs)
+    )
 }
 
 /// subf, subfc and subfe.
@@ -62,37 +80,55 @@ pub fn add_extended(regs: &mut RegsPpc, word: u32, operand: ExtendedOperand) -> 
 pub fn subtract_from(regs: &mut RegsPpc, word: u32, carry: CarryUse) -> Did
     ensures { (why : Fault) (m : Memory) → let f = fields_of word in Does (runs regs.old m word (SubtractFrom carry f.d f.a f.b ((f.xo / 512) == 1) f.last)) result why regs.old regs.new m m }
 {
+    if sets_ca(carry) {
+        subtract_apart(regs, word, carry)
+    } else {
+        subtract_words(regs, word, carry)
+    }
+}
+
+/// The same in a place of its own, for the forms that set CA.
+#[inline(never)]
+fn subtract_apart(regs: &mut RegsPpc, word: u32, carry: CarryUse) -> Did
+    ensures { (why : Fault) (m : Memory) → let f = fields_of word in Does (runs regs.old m word (SubtractFrom carry f.d f.a f.b ((f.xo / 512) == 1) f.last)) result why regs.old regs.new m m }
+{
+    subtract_words(regs, word, carry)
+}
+
+/// Both kinds of form.
+#[inline(always)]
+fn subtract_words(regs: &mut RegsPpc, word: u32, carry: CarryUse) -> Did
+    ensures { (why : Fault) (m : Memory) → let f = fields_of word in Does (runs regs.old m word (SubtractFrom carry f.d f.a f.b ((f.xo / 512) == 1) f.last)) result why regs.old regs.new m m }
+{
     let outcome = difference(
         regs.gpr[a_of(word)],
         regs.gpr[b_of(word)],
         carry_into(regs, carry, true),
     );
-    put_arith(
+    finish_arith(
         regs,
         d_of(word),
         sets_ca(carry),
         is_overflow(word),
         is_last(word),
         outcome,
-    );
-    finish(regs)
+    )
 }
 
 /// subfze and subfme.
-#[inline(always)]
+#[inline(never)]
 pub fn subtract_from_extended(regs: &mut RegsPpc, word: u32, operand: ExtendedOperand) -> Did
     ensures { (why : Fault) (m : Memory) → let f = fields_of word in Does (runs regs.old m word (SubtractFromExtended operand f.d f.a ((f.xo / 512) == 1) f.last)) result why regs.old regs.new m m }
 {
     let outcome = difference(regs.gpr[a_of(word)], number_of(operand), xer_ca(regs.xer));
-    put_arith(
+    finish_arith(
         regs,
         d_of(word),
         true,
         is_overflow(word),
         is_last(word),
         outcome,
-    );
-    finish(regs)
+    )
 }
 
 /// neg.
@@ -101,15 +137,14 @@ pub fn negate(regs: &mut RegsPpc, word: u32) -> Did
     ensures { (why : Fault) (m : Memory) → let f = fields_of word in Does (runs regs.old m word (Negate f.d f.a ((f.xo / 512) == 1) f.last)) result why regs.old regs.new m m }
 {
     let outcome = difference(regs.gpr[a_of(word)], 0, true);
-    put_arith(
+    finish_arith(
         regs,
         d_of(word),
         false,
         is_overflow(word),
         is_last(word),
         outcome,
-    );
-    finish(regs)
+    )
 }
 
 /// mullw.
@@ -118,42 +153,39 @@ pub fn multiply_low(regs: &mut RegsPpc, word: u32) -> Did
     ensures { (why : Fault) (m : Memory) → let f = fields_of word in Does (runs regs.old m word (MultiplyLow f.d f.a f.b ((f.xo / 512) == 1) f.last)) result why regs.old regs.new m m }
 {
     let outcome = mul_low(regs.gpr[a_of(word)], regs.gpr[b_of(word)]);
-    put_arith(
+    finish_arith(
         regs,
         d_of(word),
         false,
         is_overflow(word),
         is_last(word),
         outcome,
-    );
-    finish(regs)
+    )
 }
 
 /// mulhw and mulhwu.
-#[inline(always)]
+#[inline(never)]
 pub fn multiply_high(regs: &mut RegsPpc, word: u32, signed: bool) -> Did
     ensures { (why : Fault) (m : Memory) → let f = fields_of word in Does (runs regs.old m word (MultiplyHigh signed f.d f.a f.b f.last)) result why regs.old regs.new m m }
 {
     let high = mul_high(signed, regs.gpr[a_of(word)], regs.gpr[b_of(word)]);
-    put_result(regs, d_of(word), is_last(word), high);
-    finish(regs)
+    finish_result(regs, d_of(word), is_last(word), high)
 }
 
 /// divw and divwu.
-#[inline(always)]
+#[inline(never)]
 pub fn divide_words(regs: &mut RegsPpc, word: u32, signed: bool) -> Did
     ensures { (why : Fault) (m : Memory) → let f = fields_of word in Does (runs regs.old m word (Divide signed f.d f.a f.b ((f.xo / 512) == 1) f.last)) result why regs.old regs.new m m }
 {
     let outcome = divide(signed, regs.gpr[a_of(word)], regs.gpr[b_of(word)]);
-    put_arith(
+    finish_arith(
         regs,
         d_of(word),
         false,
         is_overflow(word),
         is_last(word),
         outcome,
-    );
-    finish(regs)
+    )
 }
 
 /// addi and addis.
@@ -172,7 +204,7 @@ pub fn add_immediate(regs: &mut RegsPpc, word: u32, shifted: bool) -> Did
 }
 
 /// addic, and addic. with `rc`.
-#[inline(always)]
+#[inline(never)]
 pub fn add_immediate_carrying(regs: &mut RegsPpc, word: u32, rc: bool) -> Did
     ensures { (why : Fault) (m : Memory) → let f = fields_of word in Does (runs regs.old m word (AddImmediateCarrying rc f.d f.a f.low)) result why regs.old regs.new m m }
 {
@@ -181,7 +213,7 @@ pub fn add_immediate_carrying(regs: &mut RegsPpc, word: u32, rc: bool) -> Did
 }
 
 /// subfic.
-#[inline(always)]
+#[inline(never)]
 pub fn subtract_from_immediate_carrying(regs: &mut RegsPpc, word: u32) -> Did
     ensures { (why : Fault) (m : Memory) → let f = fields_of word in Does (runs regs.old m word (SubtractFromImmediateCarrying f.d f.a f.low)) result why regs.old regs.new m m }
 {
@@ -204,8 +236,7 @@ pub fn multiply_low_immediate(regs: &mut RegsPpc, word: u32) -> Did
 fn put_carrying(regs: &mut RegsPpc, word: u32, rc: bool, sum: Arith) -> Did
     ensures { (why : Fault) (m : Memory) → Does (goes_on m (with_arith regs.old (fields_of word).d true false rc sum)) result why regs.old regs.new m m }
 {
-    put_arith(regs, d_of(word), true, false, rc, sum);
-    finish(regs)
+    finish_arith(regs, d_of(word), true, false, rc, sum)
 }
 
 /// The carry into a sum: CA for the extended forms, else what the operation takes.

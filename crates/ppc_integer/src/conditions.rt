@@ -48,7 +48,7 @@ pub fn compare_immediate(regs: &mut RegsPpc, word: u32, signed: bool) -> Did
 }
 
 /// mcrf.
-#[inline(always)]
+#[inline(never)]
 pub fn move_condition_field(regs: &mut RegsPpc, word: u32) -> Did
     ensures { (why : Fault) (m : Memory) → let f = fields_of word in Does (runs regs.old m word (MoveConditionField (f.d / 4) (f.a / 4))) result why regs.old regs.new m m }
 {
@@ -58,7 +58,7 @@ pub fn move_condition_field(regs: &mut RegsPpc, word: u32) -> Did
 }
 
 /// crand, cror, crxor, crnand, crnor, creqv, crandc and crorc.
-#[inline(always)]
+#[inline(never)]
 pub fn condition_logical(regs: &mut RegsPpc, word: u32, op: LogicalOp) -> Did
     ensures { (why : Fault) (m : Memory) → let f = fields_of word in Does (runs regs.old m word (ConditionLogical op f.d f.a f.b)) result why regs.old regs.new m m }
 {
@@ -70,7 +70,7 @@ pub fn condition_logical(regs: &mut RegsPpc, word: u32, op: LogicalOp) -> Did
 }
 
 /// mfcr.
-#[inline(always)]
+#[inline(never)]
 pub fn move_from_condition_register(regs: &mut RegsPpc, word: u32) -> Did
     ensures { (why : Fault) (m : Memory) → let f = fields_of word in Does (runs regs.old m word (MoveFromConditionRegister f.d)) result why regs.old regs.new m m }
 {
@@ -88,7 +88,7 @@ pub fn move_to_condition_fields(regs: &mut RegsPpc, word: u32) -> Did
 }
 
 /// mcrxr.
-#[inline(always)]
+#[inline(never)]
 pub fn move_xer_to_condition_field(regs: &mut RegsPpc, word: u32) -> Did
     ensures { (why : Fault) (m : Memory) → let f = fields_of word in Does (runs regs.old m word (MoveXerToConditionField (f.d / 4))) result why regs.old regs.new m m }
 {

@@ -8,10 +8,9 @@ ghost use Rattle.ppc_effects.specs.Logical.{combined_immediate, combined_words, 
 ghost use Rattle.ppc_isa.specs.declared.instruction.InstrPpc.TheVariants.{Logical, LogicalImmediate, Unary};
 ghost use Rattle.ppc_effects.specs.Effects.{runs};
 
-use super::ending::finish;
+use super::ending::finish_result;
 use big_memory::Did;
 use mix_bits::{Size, sext};
-use ppc_effects::put_result;
 use ppc_isa::{ImmediateOp, LogicalOp, RegsPpc, UnaryOp};
 use ppc_ops::{a_of, b_of, d_of, is_last, low_of};
 
@@ -21,8 +20,7 @@ pub fn logical_immediate(regs: &mut RegsPpc, word: u32, op: ImmediateOp) -> Did
     ensures { (why : Fault) (m : Memory) → let f = fields_of word in Does (runs regs.old m word (LogicalImmediate op f.a f.d f.low)) result why regs.old regs.new m m }
 {
     let value = combine_immediate(op, regs.gpr[d_of(word)], low_of(word));
-    put_result(regs, a_of(word), records(op), value);
-    finish(regs)
+    finish_result(regs, a_of(word), records(op), value)
 }
 
 /// and, or, xor, nand, nor, eqv, andc and orc.
@@ -31,8 +29,7 @@ pub fn logical(regs: &mut RegsPpc, word: u32, op: LogicalOp) -> Did
     ensures { (why : Fault) (m : Memory) → let f = fields_of word in Does (runs regs.old m word (Logical op f.a f.d f.b f.last)) result why regs.old regs.new m m }
 {
     let value = combine(op, regs.gpr[d_of(word)], regs.gpr[b_of(word)]);
-    put_result(regs, a_of(word), is_last(word), value);
-    finish(regs)
+    finish_result(regs, a_of(word), is_last(word), value)
 }
 
 /// extsb, extsh and cntlzw.
@@ -41,8 +38,7 @@ pub fn unary(regs: &mut RegsPpc, word: u32, op: UnaryOp) -> Did
     ensures { (why : Fault) (m : Memory) → let f = fields_of word in Does (runs regs.old m word (Unary op f.a f.d f.last)) result why regs.old regs.new m m }
 {
     let value = change(op, regs.gpr[d_of(word)]);
-    put_result(regs, a_of(word), is_last(word), value);
-    finish(regs)
+    finish_result(regs, a_of(word), is_last(word), value)
 }
 
 /// A word combined with sixteen bits, or with these as the upper half of a word.

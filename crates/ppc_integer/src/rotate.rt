@@ -8,10 +8,10 @@ ghost use Rattle.ppc_isa.specs.declared.instruction.ShiftOp.TheVariants.{Left, R
 ghost use Rattle.ppc_isa.specs.declared.instruction.InstrPpc.TheVariants.{RotateLeft, RotateLeftImmediate, Shift, ShiftRightAlgebraicImmediate};
 ghost use Rattle.ppc_effects.specs.Effects.{runs};
 
-use super::ending::finish;
+use super::ending::{finish, finish_arith, finish_result};
 use big_memory::Did;
 use ppc_alu::{insert, rotate_mask, shift_left, shift_right, shift_right_logical};
-use ppc_effects::{put_arith, put_result};
+use ppc_effects::put_result;
 use ppc_isa::{MaskUse, RegsPpc};
 use ppc_ops::{a_of, b_of, d_of, is_last, mask_begin_of, mask_end_of, shift_of};
 
@@ -30,12 +30,11 @@ pub fn rotate_left_immediate(regs: &mut RegsPpc, word: u32, outside: MaskUse) ->
         MaskUse::Insert => insert(mask, rotated, regs.gpr[a_of(word)]),
         MaskUse::Clear => rotated & mask,
     };
-    put_result(regs, a_of(word), is_last(word), value);
-    finish(regs)
+    finish_result(regs, a_of(word), is_last(word), value)
 }
 
 /// rlwnm.
-#[inline(always)]
+#[inline(never)]
 pub fn rotate_left(regs: &mut RegsPpc, word: u32) -> Did
     ensures { (why : Fault) (m : Memory) → let f = fields_of word in Does (runs regs.old m word (RotateLeft f.a f.d f.b (f.xo / 32) (f.xo % 32) f.last)) result why regs.old regs.new m m }
 {
@@ -56,8 +55,7 @@ pub fn shift_word_left(regs: &mut RegsPpc, word: u32) -> Did
     ensures { (why : Fault) (m : Memory) → let f = fields_of word in Does (runs regs.old m word (Shift Left f.a f.d f.b f.last)) result why regs.old regs.new m m }
 {
     let value = shift_left(regs.gpr[d_of(word)], regs.gpr[b_of(word)] % 64);
-    put_result(regs, a_of(word), is_last(word), value);
-    finish(regs)
+    finish_result(regs, a_of(word), is_last(word), value)
 }
 
 /// srw.
@@ -66,18 +64,16 @@ pub fn shift_word_right(regs: &mut RegsPpc, word: u32) -> Did
     ensures { (why : Fault) (m : Memory) → let f = fields_of word in Does (runs regs.old m word (Shift Right f.a f.d f.b f.last)) result why regs.old regs.new m m }
 {
     let value = shift_right_logical(regs.gpr[d_of(word)], regs.gpr[b_of(word)] % 64);
-    put_result(regs, a_of(word), is_last(word), value);
-    finish(regs)
+    finish_result(regs, a_of(word), is_last(word), value)
 }
 
 /// sraw.
-#[inline(always)]
+#[inline(never)]
 pub fn shift_word_right_algebraic(regs: &mut RegsPpc, word: u32) -> Did
     ensures { (why : Fault) (m : Memory) → let f = fields_of word in Does (runs regs.old m word (Shift RightAlgebraic f.a f.d f.b f.last)) result why regs.old regs.new m m }
 {
     let outcome = shift_right(regs.gpr[d_of(word)], regs.gpr[b_of(word)] % 64);
-    put_arith(regs, a_of(word), true, false, is_last(word), outcome);
-    finish(regs)
+    finish_arith(regs, a_of(word), true, false, is_last(word), outcome)
 }
 
 /// srawi.
@@ -86,6 +82,5 @@ pub fn shift_right_algebraic_immediate(regs: &mut RegsPpc, word: u32) -> Did
     ensures { (why : Fault) (m : Memory) → let f = fields_of word in Does (runs regs.old m word (ShiftRightAlgebraicImmediate f.a f.d f.b f.last)) result why regs.old regs.new m m }
 {
     let outcome = shift_right(regs.gpr[d_of(word)], shift_of(word));
-    put_arith(regs, a_of(word), true, false, is_last(word), outcome);
-    finish(regs)
+    finish_arith(regs, a_of(word), true, false, is_last(word), outcome)
 }

@@ -15,7 +15,7 @@ use ppc_isa::RegsPpc;
 use ppc_ops::{a_of, b_of, d_of, offset_of};
 
 /// tw.
-#[inline(always)]
+#[inline(never)]
 pub fn trap_word(regs: &mut RegsPpc, fault: &mut Fault, word: u32) -> Did
     ensures { (m : Memory) → let f = fields_of word in Does (runs regs.old m word (TrapWord f.d f.a f.b)) result fault.new regs.old regs.new m m }
 {
@@ -24,7 +24,7 @@ pub fn trap_word(regs: &mut RegsPpc, fault: &mut Fault, word: u32) -> Did
 }
 
 /// twi.
-#[inline(always)]
+#[inline(never)]
 pub fn trap_word_immediate(regs: &mut RegsPpc, fault: &mut Fault, word: u32) -> Did
     ensures { (m : Memory) → let f = fields_of word in Does (runs regs.old m word (TrapWordImmediate f.d f.a f.low)) result fault.new regs.old regs.new m m }
 {
