@@ -3,11 +3,10 @@ ghost use Rattle.std.specs.Prelude.{◌≡◌};
 ghost use Rattle.big_memory.specs.Steps.{Does};
 ghost use Rattle.ppc_isa.specs.Fields.{fields_of};
 ghost use Rattle.ppc_effects.specs.Effects.{runs};
-ghost use Rattle.ppc_effects.specs.Storage.{load as load_of, load_size, load_value as load_value_of};
+ghost use Rattle.ppc_effects.specs.Storage.{load as load_of, load_size as load_size_of, load_value as load_value_of};
 ghost use Rattle.ppc_isa.specs.declared.instruction.InstrPpc.TheVariants.{Load, LoadIndexed};
-ghost use Rattle.big_memory.specs.Memory.{loaded};
 
-use big_memory::{Access, Did, Ram, refuse};
+use big_memory::{Did, Ram, refuse};
 use mix_bits::{Fault, Size, sext};
 use ppc_effects::{advance, index_address, offset_address};
 use ppc_isa::{LoadKind, RegsPpc};
@@ -42,7 +41,11 @@ pub fn load_indexed(
     ensures { let f = fields_of word in Does (runs regs.old ram.now word (LoadIndexed kind update f.d f.a f.b)) result fault.new regs.old regs.new ram.now ram.now }
 {
     let at = index_address(regs, word);
-    load_at(regs, ram, fault, word, kind, update, at)
+    if update {
+        load_apart(regs, ram, fault, word, kind, update, at)
+    } else {
+        load_at(regs, ram, fault, word, kind, update, at)
+    }
 }
 
 /// Loads from an address into register D.
@@ -59,7 +62,7 @@ fn load_at(
 ) -> Did
     ensures { Does (load_of regs.old ram.now kind update (fields_of word).d (fields_of word).a at) result fault.new regs.old regs.new ram.now ram.now }
 {
-    match read(ram, at, kind) {
+    match ram.load(at, load_size(kind)) {
         Ok(v) => {
             if update {
                 regs.gpr[a_of(word)] = at;
@@ -72,16 +75,32 @@ fn load_at(
     }
 }
 
-/// The number in memory.
+/// The same in a place of its own, for the forms that programs use less.
+#[inline(never)]
+fn load_apart(
+    regs: &mut RegsPpc,
+    ram: &Ram,
+    fault: &mut Fault,
+    word: u32,
+    kind: LoadKind,
+    update: bool,
+    at: u32,
+) -> Did
+    ensures { Does (load_of regs.old ram.now kind update (fields_of word).d (fields_of word).a at) result fault.new regs.old regs.new ram.now ram.now }
+{
+    load_at(regs, ram, fault, word, kind, update, at)
+}
+
+/// How many bytes a load takes.
 #[inline(always)]
-fn read(ram: &Ram, at: u32, kind: LoadKind) -> Result<u32, Access>
-    ensures { result ≡ loaded ram.now at (load_size kind) }
+fn load_size(kind: LoadKind) -> Size
+    ensures { result ≡ load_size_of kind }
 {
     match kind {
-        LoadKind::Word => ram.load_long(at),
-        LoadKind::Byte => ram.load_byte(at),
-        LoadKind::Half => ram.load_word(at),
-        LoadKind::HalfAlgebraic => ram.load_word(at),
+        LoadKind::Word => Size::Four,
+        LoadKind::Byte => Size::One,
+        LoadKind::Half => Size::Two,
+        LoadKind::HalfAlgebraic => Size::Two,
     }
 }
 

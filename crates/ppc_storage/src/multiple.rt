@@ -14,6 +14,7 @@ use ppc_isa::RegsPpc;
 use ppc_ops::d_of;
 
 /// lmw.
+#[inline(never)]
 pub fn load_multiple(regs: &mut RegsPpc, ram: &Ram, fault: &mut Fault, word: u32) -> Did
     ensures { let f = fields_of word in Does (runs regs.old ram.now word (LoadMultiple f.d f.a f.low)) result fault.new regs.old regs.new ram.now ram.now }
 {
@@ -22,6 +23,7 @@ pub fn load_multiple(regs: &mut RegsPpc, ram: &Ram, fault: &mut Fault, word: u32
 }
 
 /// stmw.
+#[inline(never)]
 pub fn store_multiple(regs: &mut RegsPpc, ram: &mut Ram, fault: &mut Fault, word: u32) -> Did
     ensures { let f = fields_of word in Does (runs regs.old ram.old word (StoreMultiple f.d f.a f.low)) result fault.new regs.old regs.new ram.old ram.new }
 {

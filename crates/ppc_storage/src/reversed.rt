@@ -15,7 +15,7 @@ use ppc_isa::{RegsPpc, ReversedKind};
 use ppc_ops::d_of;
 
 /// lwbrx and lhbrx.
-#[inline(always)]
+#[inline(never)]
 #[tactic(auto, using(big_memory::proofs::Free::nothing_free))]
 pub fn load_reversed(
     regs: &mut RegsPpc,

@@ -19,6 +19,7 @@ use ppc_isa::{RegsPpc, is_filled};
 use ppc_ops::{a_of, b_of, d_of, shift_of};
 
 /// lswi.
+#[inline(never)]
 pub fn load_string_immediate(regs: &mut RegsPpc, ram: &Ram, fault: &mut Fault, word: u32) -> Did
     ensures { let f = fields_of word in Does (runs regs.old ram.now word (LoadStringImmediate f.d f.a f.b)) result fault.new regs.old regs.new ram.now ram.now }
 {
@@ -27,6 +28,7 @@ pub fn load_string_immediate(regs: &mut RegsPpc, ram: &Ram, fault: &mut Fault, w
 }
 
 /// stswi.
+#[inline(never)]
 pub fn store_string_immediate(
     regs: &mut RegsPpc,
     ram: &mut Ram,
@@ -40,6 +42,7 @@ pub fn store_string_immediate(
 }
 
 /// lswx.
+#[inline(never)]
 pub fn load_string_indexed(regs: &mut RegsPpc, ram: &Ram, fault: &mut Fault, word: u32) -> Did
     ensures { let f = fields_of word in Does (runs regs.old ram.now word (LoadStringIndexed f.d f.a f.b)) result fault.new regs.old regs.new ram.now ram.now }
 {
@@ -53,6 +56,7 @@ pub fn load_string_indexed(regs: &mut RegsPpc, ram: &Ram, fault: &mut Fault, wor
 }
 
 /// stswx.
+#[inline(never)]
 pub fn store_string_indexed(regs: &mut RegsPpc, ram: &mut Ram, fault: &mut Fault, word: u32) -> Did
     ensures { let f = fields_of word in Does (runs regs.old ram.old word (StoreStringIndexed f.d f.a f.b)) result fault.new regs.old regs.new ram.old ram.new }
 {
