@@ -18,20 +18,37 @@ pub fn op_of(word: u32) -> OpPpc
     ensures { Reads result word }
 {
     match primary_of(word) {
+        0 => OpPpc::Invalid,
+        1 => OpPpc::Invalid,
+        2 => OpPpc::Invalid,
         3 => OpPpc::Twi,
+        4 => OpPpc::Invalid,
+        5 => OpPpc::Invalid,
+        6 => OpPpc::Invalid,
         7 => OpPpc::Mulli,
         8 => OpPpc::Subfic,
-        10 if is_field(d_of(word)) => OpPpc::Cmpli,
-        11 if is_field(d_of(word)) => OpPpc::Cmpi,
+        9 => OpPpc::Invalid,
+        10 => if is_field(d_of(word)) {
+            OpPpc::Cmpli
+        } else {
+            OpPpc::Invalid
+        },
+        11 => if is_field(d_of(word)) {
+            OpPpc::Cmpi
+        } else {
+            OpPpc::Invalid
+        },
         12 => OpPpc::Addic,
         13 => OpPpc::AddicRecord,
         14 => OpPpc::Addi,
         15 => OpPpc::Addis,
         16 => OpPpc::Bc,
+        17 => OpPpc::Invalid,
         18 => OpPpc::B,
         19 => op_19(word),
         20 => OpPpc::Rlwimi,
         21 => OpPpc::Rlwinm,
+        22 => OpPpc::Invalid,
         23 => OpPpc::Rlwnm,
         24 => OpPpc::Ori,
         25 => OpPpc::Oris,
@@ -39,24 +56,73 @@ pub fn op_of(word: u32) -> OpPpc
         27 => OpPpc::Xoris,
         28 => OpPpc::Andi,
         29 => OpPpc::Andis,
+        30 => OpPpc::Invalid,
         31 => op_31(word),
         32 => OpPpc::Lwz,
-        33 if is_load_base(word) => OpPpc::Lwzu,
+        33 => if is_load_base(word) {
+            OpPpc::Lwzu
+        } else {
+            OpPpc::Invalid
+        },
         34 => OpPpc::Lbz,
-        35 if is_load_base(word) => OpPpc::Lbzu,
+        35 => if is_load_base(word) {
+            OpPpc::Lbzu
+        } else {
+            OpPpc::Invalid
+        },
         36 => OpPpc::Stw,
-        37 if a_of(word) != 0 => OpPpc::Stwu,
+        37 => if a_of(word) != 0 {
+            OpPpc::Stwu
+        } else {
+            OpPpc::Invalid
+        },
         38 => OpPpc::Stb,
-        39 if a_of(word) != 0 => OpPpc::Stbu,
+        39 => if a_of(word) != 0 {
+            OpPpc::Stbu
+        } else {
+            OpPpc::Invalid
+        },
         40 => OpPpc::Lhz,
-        41 if is_load_base(word) => OpPpc::Lhzu,
+        41 => if is_load_base(word) {
+            OpPpc::Lhzu
+        } else {
+            OpPpc::Invalid
+        },
         42 => OpPpc::Lha,
-        43 if is_load_base(word) => OpPpc::Lhau,
+        43 => if is_load_base(word) {
+            OpPpc::Lhau
+        } else {
+            OpPpc::Invalid
+        },
         44 => OpPpc::Sth,
-        45 if a_of(word) != 0 => OpPpc::Sthu,
-        46 if is_multiple_load(word) => OpPpc::Lmw,
+        45 => if a_of(word) != 0 {
+            OpPpc::Sthu
+        } else {
+            OpPpc::Invalid
+        },
+        46 => if is_multiple_load(word) {
+            OpPpc::Lmw
+        } else {
+            OpPpc::Invalid
+        },
         47 => OpPpc::Stmw,
-        _ => OpPpc::Invalid,
+        48 => OpPpc::Invalid,
+        49 => OpPpc::Invalid,
+        50 => OpPpc::Invalid,
+        51 => OpPpc::Invalid,
+        52 => OpPpc::Invalid,
+        53 => OpPpc::Invalid,
+        54 => OpPpc::Invalid,
+        55 => OpPpc::Invalid,
+        56 => OpPpc::Invalid,
+        57 => OpPpc::Invalid,
+        58 => OpPpc::Invalid,
+        59 => OpPpc::Invalid,
+        60 => OpPpc::Invalid,
+        61 => OpPpc::Invalid,
+        62 => OpPpc::Invalid,
+        63 => OpPpc::Invalid,
+        _ => unreachable!(),
     }
 }
 
