@@ -15,15 +15,15 @@ pub fn rotate_mask(v: u32, sh: u32, mb: u32, me: u32) -> (u32, u32)
     (v.rotate_left(sh), mask(mb, me))
 }
 
-/// The mask from bit `mb` to bit `me`.
+/// The mask from bit `mb` to bit `me`: as many ones from bit 0 on, rotated to their place.
+#[tactic(auto, using(crate::proofs::MaskLemmas::mask_is))]
 fn mask(mb: u32, me: u32) -> u32
     requires begin { mb < 32 }
     requires end { me < 32 }
     ensures { result ≡ mask_of mb me }
 {
-    let from = u32::MAX >> mb;
-    let after = 0x7FFF_FFFFu32 >> me;
-    from.wrapping_sub(after).wrapping_sub(u32::from(me < mb))
+    let zeros = 31 - (me + 32 - mb) % 32;
+    (u32::MAX << zeros).rotate_right(mb)
 }
 
 /// The places of the condition register whose fields a mask of eight bits names, as mtcrf has it: its
