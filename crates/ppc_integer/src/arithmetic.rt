@@ -24,24 +24,18 @@ use ppc_ops::{a_of, b_of, d_of, is_last, is_overflow, low_of, offset_of};
 pub fn add(regs: &mut RegsPpc, word: u32, carry: CarryUse) -> Did
     ensures { (why : Fault) (m : Memory) → let f = fields_of word in Does (runs regs.old m word (Add carry f.d f.a f.b ((f.xo / 512) == 1) f.last)) result why regs.old regs.new m m }
 {
-    if sets_ca(carry) {
-        add_apart(regs, word, carry)
-    } else {
-        add_words(regs, word, carry)
+    match carry {
+        CarryUse::Plain if !is_overflow(word) && !is_last(word) => {
+            let sum = add3(regs.gpr[a_of(word)], regs.gpr[b_of(word)], false);
+            finish_arith(regs, d_of(word), false, false, false, sum)
+        }
+        _ => add_apart(regs, word, carry),
     }
 }
 
-/// The same in a place of its own, for the forms that set CA.
+/// The same in a place of its own, also for the forms that set CA, OV or the condition register.
 #[inline(never)]
 fn add_apart(regs: &mut RegsPpc, word: u32, carry: CarryUse) -> Did
-    ensures { (why : Fault) (m : Memory) → let f = fields_of word in Does (runs regs.old m word (Add carry f.d f.a f.b ((f.xo / 512) == 1) f.last)) result why regs.old regs.new m m }
-{
-    add_words(regs, word, carry)
-}
-
-/// Both kinds of form.
-#[inline(always)]
-fn add_words(regs: &mut RegsPpc, word: u32, carry: CarryUse) -> Did
     ensures { (why : Fault) (m : Memory) → let f = fields_of word in Does (runs regs.old m word (Add carry f.d f.a f.b ((f.xo / 512) == 1) f.last)) result why regs.old regs.new m m }
 {
     let outcome = add3(
@@ -80,24 +74,18 @@ pub fn add_extended(regs: &mut RegsPpc, word: u32, operand: ExtendedOperand) -> 
 pub fn subtract_from(regs: &mut RegsPpc, word: u32, carry: CarryUse) -> Did
     ensures { (why : Fault) (m : Memory) → let f = fields_of word in Does (runs regs.old m word (SubtractFrom carry f.d f.a f.b ((f.xo / 512) == 1) f.last)) result why regs.old regs.new m m }
 {
-    if sets_ca(carry) {
-        subtract_apart(regs, word, carry)
-    } else {
-        subtract_words(regs, word, carry)
+    match carry {
+        CarryUse::Plain if !is_overflow(word) && !is_last(word) => {
+            let sum = difference(regs.gpr[a_of(word)], regs.gpr[b_of(word)], true);
+            finish_arith(regs, d_of(word), false, false, false, sum)
+        }
+        _ => subtract_apart(regs, word, carry),
     }
 }
 
-/// The same in a place of its own, for the forms that set CA.
+/// The same in a place of its own, also for the forms that set CA, OV or the condition register.
 #[inline(never)]
 fn subtract_apart(regs: &mut RegsPpc, word: u32, carry: CarryUse) -> Did
-    ensures { (why : Fault) (m : Memory) → let f = fields_of word in Does (runs regs.old m word (SubtractFrom carry f.d f.a f.b ((f.xo / 512) == 1) f.last)) result why regs.old regs.new m m }
-{
-    subtract_words(regs, word, carry)
-}
-
-/// Both kinds of form.
-#[inline(always)]
-fn subtract_words(regs: &mut RegsPpc, word: u32, carry: CarryUse) -> Did
     ensures { (why : Fault) (m : Memory) → let f = fields_of word in Does (runs regs.old m word (SubtractFrom carry f.d f.a f.b ((f.xo / 512) == 1) f.last)) result why regs.old regs.new m m }
 {
     let outcome = difference(
