@@ -1,5 +1,7 @@
 // Loads and stores of several registers.
-ghost use Rattle.std.specs.Prelude.{◌≡◌, ◌+◌, ◌-◌, ◌<◌, ◌≤◌, Ok};
+ghost use Rattle.std.specs.Prelude.{◌≡◌, ◌+◌, ◌-◌, ◌*◌, ◌<◌, ◌≤◌, length, None, Ok};
+ghost use Rattle.big_memory.specs.Memory.{IsRam, refusal};
+ghost use Rattle.big_memory.specs.Stores.{OnlyFree, Stores, stored_longs};
 ghost use Rattle.big_memory.specs.Steps.{Does};
 ghost use Rattle.ppc_isa.specs.Fields.{fields_of};
 ghost use Rattle.ppc_effects.specs.Effects.{runs};
@@ -7,8 +9,9 @@ ghost use Rattle.ppc_effects.specs.Strings.{in_order, load_multiple as load_mult
 ghost use Rattle.ppc_isa.specs.declared.instruction.InstrPpc.TheVariants.{LoadMultiple, StoreMultiple};
 ghost use Rattle.ppc_storage.specs.Tested.{WordsTested, WordsThere};
 
+use super::invariant::meets_invariant;
 use big_memory::{Access, Did, Ram, refuse};
-use mix_bits::{Fault, onward};
+use mix_bits::{Fault, Size, onward};
 use ppc_effects::{advance, offset_address};
 use ppc_isa::RegsPpc;
 use ppc_ops::d_of;
@@ -28,7 +31,7 @@ pub fn store_multiple(regs: &mut RegsPpc, ram: &mut Ram, fault: &mut Fault, word
     ensures { let f = fields_of word in Does (runs regs.old ram.old word (StoreMultiple f.d f.a f.low)) result fault.new regs.old regs.new ram.old ram.new }
 {
     let at = offset_address(regs, word);
-    match ram.store_longs(at, &regs.gpr[d_of(word)..]) {
+    match store_words(ram, at, &regs.gpr[d_of(word)..]) {
         Ok(()) => {
             advance(regs);
             Did::Next
@@ -53,11 +56,44 @@ fn load_registers(regs: &mut RegsPpc, ram: &Ram, fault: &mut Fault, first: usize
     }
 }
 
+/// Stores words one after another, all of them, or none where one is refused.
+fn store_words(ram: &mut Ram, at: u32, words: &[u32]) -> Result<(), Access>
+    requires { length words.now ≤ 32 }
+    ensures { Stores result (stored_longs ram.old at words.now) ram.old ram.new }
+{
+    meets_invariant(ram);
+    match ram.probe(at, 4 * words.len() as u32) {
+        Ok(()) => {
+            put_words(ram, at, words);
+            Ok(())
+        }
+        Err(_) => ram.store_longs(at, words),
+    }
+}
+
+/// Stores words one after another in a range of which no store is refused.
+fn put_words(ram: &mut Ram, at: u32, words: &[u32])
+    requires ram { IsRam ram.old }
+    requires free { refusal ram.old at (4 * length words.now) ≡ None }
+    ensures is { stored_longs ram.old at words.now ≡ Ok ram.new }
+    ensures free { OnlyFree ram.old ram.new }
+{
+    let mut place = at;
+    for word in words {
+        ram.put(place, Size::Four, *word);
+        place = onward(place, 4);
+    }
+}
+
 /// Whether words one after another can be loaded, or the first refusal.
 fn test_words(ram: &Ram, at: u32, count: u32) -> Result<(), Access>
     requires { count ≤ 32 }
     ensures { WordsTested ram.now at count result }
 {
+    meets_invariant(ram);
+    if count > 0 && ram.has(at, 4 * count) {
+        return Ok(());
+    }
     for k in 0..count {
         ram.load_long(onward(at, 4 * k))?;
     }

@@ -4,13 +4,13 @@ ghost use Rattle.big_memory.specs.Steps.{Does};
 ghost use Rattle.ppc_isa.specs.Fields.{fields_of};
 ghost use Rattle.ppc_effects.specs.Effects.{runs};
 ghost use Rattle.mix_bits.specs.Digits.{digit_of, digit_replaced};
-ghost use Rattle.big_memory.specs.Memory.{IsRam};
 ghost use Rattle.big_memory.specs.Stores.{OnlyFree};
 ghost use Rattle.ppc_isa.specs.Valid.{registers_from};
 ghost use Rattle.ppc_effects.specs.Strings.{fills as fills_lem, in_order, length_of as length_of_lem, load_byte, load_string as load_string_of, store_byte, store_string as store_string_of, string_byte as string_byte_of, string_place, string_register, with_string_byte};
 ghost use Rattle.ppc_isa.specs.declared.instruction.InstrPpc.TheVariants.{LoadStringImmediate, LoadStringIndexed, StoreStringImmediate, StoreStringIndexed};
 ghost use Rattle.ppc_storage.specs.Tested.{BytesOpen, BytesTested, BytesThere, OpenTested};
 
+use super::invariant::meets_invariant;
 use big_memory::{Access, Did, Ram, refuse, stop};
 use mix_bits::{Fault, FaultKind, digit, onward, with_digit};
 use ppc_alu::xer_string_length;
@@ -198,12 +198,4 @@ fn string_byte(gpr: &[u32; 32], first: usize, k: u32) -> u32
     ensures { result ≡ string_byte_of gpr.now first k }
 {
     digit(gpr[(first + k as usize / 4) % 32], 24 - 8 * (k % 4), 8)
-}
-
-/// What every memory meets. It does nothing: the clause is its point.
-#[inline(always)]
-fn meets_invariant(ram: &Ram)
-    ensures { IsRam ram.now }
-{
-    let _ = ram.len();
 }

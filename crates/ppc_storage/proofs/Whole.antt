@@ -1,0 +1,55 @@
+-- Words that lie one after another where a whole range may be loaded or stored into.
+use Rattle.std.proofs.Common.{◌≡◌, ℕ, suc, ◌+◌, ◌*◌, ◌<◌, ◌≤◌, List, [], length, drop, get_or, None, Ok, true, arith, sym, ◌∙◌, ap, refl, drop-cons, length-drop, add-one}
+use Rattle.std.proofs.lemmas.Bool.Decides.{nat_tests}
+use Rattle.std.proofs.lemmas.Grind.{same_number_lists}
+use Rattle.mix_bits.specs.Addresses.{onward}
+use Rattle.mix_bits.specs.Results.{◌>>=◌}
+use Rattle.mix_bits.specs.declared.size.Size.TheVariants.{Four}
+use Rattle.byteorder.specs.Endian.{big_bytes}
+use Rattle.big_memory.specs.Laws.{Passes}
+use Rattle.big_memory.specs.Memory.{Memory, IsRam, in_memory, refusal, stored}
+use Rattle.big_memory.specs.Stores.{OnlyFree, stored_longs, stored_unless, stored_value}
+use Rattle.big_memory.proofs.Free.{free_joins, free_ram, free_refusals, stores_free}
+use Rattle.big_memory.proofs.Guarded.{passes, passes_within}
+use Rattle.big_memory.proofs.Rams.{in_memory_within, loads_part}
+use Rattle.ppc_storage.specs.Tested.{WordsThere}
+
+inside : (m : Memory) (a n : ℕ) → 0 < n → in_memory m a n ≡ true → a + n ≤ length m.bytes
+inside m a n some is = grind (arith, nat_tests, some, is)
+
+pub words_in : (m : Memory) (at n : ℕ) → IsRam m → in_memory m at (4 * n) ≡ true → WordsThere m at n
+words_in m at n ram is = λ k below.
+    let within : at + 4 * n ≤ length m.bytes = inside m at (4 * n) (omega (arith, below)) is in
+    let most : length m.bytes ≤ 16777216 = ram.most in
+    let place : onward at (4 * k) ≡ at + 4 * k = omega arith in
+    let here : in_memory m (at + 4 * k) 4 ≡ true = in_memory_within m at (4 * n) (at + 4 * k) 4 is (omega arith) (omega arith) in
+    (_, loads_part m (onward at (4 * k)) Four (ap (λ a. in_memory m a 4) place ∙ here))
+
+-- a word of a range that no store is refused of, after words were stored there
+pub open_here : (m left : Memory) (at n k : ℕ) → IsRam m → refusal m at (4 * n) ≡ None → OnlyFree m left → k < n → refusal left (onward at (4 * k)) 4 ≡ None
+open_here m left at n k ram may free below =
+    let all : Passes m at (4 * n) = passes m at (4 * n) (omega arith) may in
+    let within : at + 4 * n ≤ length m.bytes = all.within in
+    let most : length m.bytes ≤ 16777216 = ram.most in
+    let place : onward at (4 * k) ≡ at + 4 * k = omega arith in
+    ap (λ a. refusal left a 4) place ∙ free_refusals m left (at + 4 * k) 4 free
+    ∙ passes_within m at (4 * n) (at + 4 * k) 4 ram may (omega arith) (omega arith)
+
+-- what a word more leaves
+pub free_more : (m left : Memory) (a v : ℕ) → IsRam m → OnlyFree m left → refusal left a 4 ≡ None → OnlyFree m (stored left a Four v)
+free_more m left a v ram free none =
+    free_joins m left (stored left a Four v) free (stores_free left a 4 (big_bytes 4 v) refl (free_ram m left ram free) none)
+
+pub stored_next : (m : Memory) (a k : ℕ) (vs : List ℕ) → k < length vs → refusal m a 4 ≡ None → stored_longs m a (drop k vs) ≡ stored_longs (stored m a Four (get_or vs k 0)) (onward a 4) (drop (k + 1) vs)
+unfolding stored_longs stored_value
+stored_next m a k vs below none =
+    ap (λ xs. stored_longs m a xs) (drop-cons vs k 0 below)
+    ∙ ap (λ r. stored_unless r (stored m a Four (get_or vs k 0)) >>= λ n. stored_longs n (onward a 4) (drop (suc k) vs)) none
+    ∙ ap (λ i. stored_longs (stored m a Four (get_or vs k 0)) (onward a 4) (drop i vs)) (sym (add-one k))
+
+nothing_left : (k : ℕ) (vs : List ℕ) → length vs ≤ k → drop k vs ≡ []
+nothing_left k vs after = same_number_lists (drop k vs) [] (omega (arith, length-drop k vs)) (λ i below. absurd (omega (arith, below, length-drop k vs)))
+
+pub stored_end : (m : Memory) (a k : ℕ) (vs : List ℕ) → length vs ≤ k → stored_longs m a (drop k vs) ≡ Ok m
+unfolding stored_longs
+stored_end m a k vs after = ap (λ xs. stored_longs m a xs) (nothing_left k vs after)
