@@ -120,7 +120,7 @@ pub fn subtract_from_extended(regs: &mut RegsPpc, word: u32, operand: ExtendedOp
 }
 
 /// neg.
-#[inline(always)]
+#[inline(never)]
 pub fn negate(regs: &mut RegsPpc, word: u32) -> Did
     ensures { (why : Fault) (m : Memory) → let f = fields_of word in Does (runs regs.old m word (Negate f.d f.a ((f.xo / 512) == 1) f.last)) result why regs.old regs.new m m }
 {
@@ -136,7 +136,7 @@ pub fn negate(regs: &mut RegsPpc, word: u32) -> Did
 }
 
 /// mullw.
-#[inline(always)]
+#[inline(never)]
 pub fn multiply_low(regs: &mut RegsPpc, word: u32) -> Did
     ensures { (why : Fault) (m : Memory) → let f = fields_of word in Does (runs regs.old m word (MultiplyLow f.d f.a f.b ((f.xo / 512) == 1) f.last)) result why regs.old regs.new m m }
 {

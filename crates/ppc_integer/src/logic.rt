@@ -28,6 +28,27 @@ pub fn logical_immediate(regs: &mut RegsPpc, word: u32, op: ImmediateOp) -> Did
 pub fn logical(regs: &mut RegsPpc, word: u32, op: LogicalOp) -> Did
     ensures { (why : Fault) (m : Memory) → let f = fields_of word in Does (runs regs.old m word (Logical op f.a f.d f.b f.last)) result why regs.old regs.new m m }
 {
+    match op {
+        LogicalOp::And | LogicalOp::Or | LogicalOp::Xor | LogicalOp::Nor => {
+            logical_words(regs, word, op)
+        }
+        _ => logical_apart(regs, word, op),
+    }
+}
+
+/// The same in a place of its own, for the forms that programs use less.
+#[inline(never)]
+fn logical_apart(regs: &mut RegsPpc, word: u32, op: LogicalOp) -> Did
+    ensures { (why : Fault) (m : Memory) → let f = fields_of word in Does (runs regs.old m word (Logical op f.a f.d f.b f.last)) result why regs.old regs.new m m }
+{
+    logical_words(regs, word, op)
+}
+
+/// Each of the forms.
+#[inline(always)]
+fn logical_words(regs: &mut RegsPpc, word: u32, op: LogicalOp) -> Did
+    ensures { (why : Fault) (m : Memory) → let f = fields_of word in Does (runs regs.old m word (Logical op f.a f.d f.b f.last)) result why regs.old regs.new m m }
+{
     let value = combine(op, regs.gpr[d_of(word)], regs.gpr[b_of(word)]);
     finish_result(regs, a_of(word), is_last(word), value)
 }
