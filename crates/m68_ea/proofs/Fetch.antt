@@ -1,12 +1,17 @@
 -- A word of an instruction is the word in memory at its address: memory ends far below the last address.
-use Rattle.std.proofs.Common.{◌≡◌, ℕ, zero, suc, ◌+◌, ◌*◌, ◌^◌, ◌<◌, ◌≤◌, inl, inr, List, length, get_or, drop, arith, add-zero, sym, ap, ◌∙◌, refl, Result, Ok, Err}
+use Rattle.std.proofs.Common.{◌≡◌, ℕ, zero, suc, ◌+◌, ◌-◌, ◌*◌, ◌<◌, ◌≤◌, inl, inr, true, List, [], ◌∷◌, length, get_or, drop, take, arith, add-zero, sym, ap, ◌∙◌, refl, Result, Ok, Err}
+use Rattle.std.proofs.Math.Seq.{drop-nil}
+use Rattle.std.proofs.lemmas.Grind.{common_steps}
+use Rattle.std.proofs.lemmas.List.{drop-take}
 use Rattle.std.proofs.lemmas.Bool.{cases_lt}
 use Rattle.std.proofs.lemmas.Bool.Decides.{nat_tests}
 use Rattle.byteorder.specs.Endian.{big_number}
 use Rattle.mix_bits.specs.declared.size.Size.TheVariants.{Two}
 use Rattle.big_memory.specs.declared.refusals.Access.{Access}
 use Rattle.big_memory.specs.declared.refusals.Access.TheVariants.{Outside}
-use Rattle.big_memory.specs.Memory.{Memory, loaded}
+use Rattle.big_memory.specs.Laws.{LoadsPart}
+use Rattle.big_memory.specs.Lists.{part}
+use Rattle.big_memory.specs.Memory.{Memory, in_memory, loaded}
 use Rattle.m68_ea.specs.Words.{words_from, word_and, or_zero}
 use Rattle.mix_bits.specs.Addresses.{onward}
 
@@ -35,6 +40,23 @@ word_in (suc n) (suc k) a m small below =
       | inl past ↦ rw (loaded-out m a past, loaded-out m (a + 2 * suc k) (omega arith)) refl
     ]
 
--- no word lies behind the last address
-pub word_past : (at pc : ℕ) (m : Memory) → length m.bytes ≤ 16777216 → at < 5 → 2 ^ 32 ≤ pc + 2 * at → 0 ≡ get_or (words_from 5 m pc) at 0
+-- no word lies behind the end of memory
+pub word_past : (at pc : ℕ) (m : Memory) → length m.bytes ≤ 16777216 → at < 5 → length m.bytes < pc + (2 * at + 2) → 0 ≡ get_or (words_from 5 m pc) at 0
 word_past at pc m small below past = sym (word_in 5 at pc m small below ∙ ap or_zero (loaded-out m (pc + 2 * at) (omega arith)))
+
+drop-both : (a b : ℕ) (xs : List ℕ) → drop a (drop b xs) ≡ drop (b + a) xs
+drop-both a zero xs = let same : zero + a ≡ a = omega arith in rw same refl
+drop-both a (suc b) [] = rw (drop-nil a, drop-nil (suc b + a)) refl
+drop-both a (suc b) (x ∷ xs) = let same : suc b + a ≡ suc (b + a) = omega arith in rw same (drop-both a b xs)
+
+-- the last of the bytes up to the end of a word are that word
+pub word_of_bytes : (m : Memory) (pc at : ℕ) (bytes : List ℕ) → LoadsPart → length m.bytes ≤ 16777216 → at < 5 → in_memory m pc (2 * at + 2) ≡ true → bytes ≡ part pc (2 * at + 2) m.bytes
+    → big_number 2 (drop (length bytes - 2) bytes) ≡ get_or (words_from 5 m pc) at 0
+word_of_bytes m pc at bytes loads small below within is =
+    let inside : pc + (2 * at + 2) ≤ length m.bytes = grind (arith, nat_tests, within) in
+    let long : length bytes ≡ 2 * at + 2 = rw is (grind (arith, common_steps)) in
+    let from : length bytes - 2 ≡ 2 * at = omega arith in
+    let piece : drop (length bytes - 2) bytes ≡ part (pc + 2 * at) 2 m.bytes =
+    rw (from, is) (drop-take (2 * at) 2 (drop pc m.bytes) ∙ ap (take 2) (drop-both (2 * at) pc m.bytes)) in
+    let there : in_memory m (pc + 2 * at) 2 ≡ true = grind (arith, nat_tests) in
+    rw piece (sym (word_in 5 at pc m small below ∙ ap or_zero (loads m (pc + 2 * at) Two there)))

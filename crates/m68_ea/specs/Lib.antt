@@ -3,3 +3,4 @@ pub mod Accesses
 pub mod Words
 pub mod Operands
 pub mod Finds
+pub mod Usual

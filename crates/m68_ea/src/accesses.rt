@@ -12,7 +12,7 @@ use mix_bits::{Fault, FaultKind, Size, sext, trunc, with_low};
 
 /// Whether an access of this size may not be at this address.
 #[inline(always)]
-fn is_odd(a: u32, size: Size) -> bool
+pub fn is_odd(a: u32, size: Size) -> bool
     ensures { result ≡ is_odd_of a size }
 {
     match size {

@@ -1,12 +1,13 @@
-ghost use Rattle.std.specs.Prelude.{◌≡◌, ℕ, ◌+◌, ◌*◌, ◌<◌, ◌≤◌, ◌^◌, List, slice_index};
-ghost use Rattle.big_memory.specs.Memory.{loaded};
+ghost use Rattle.std.specs.Prelude.{◌≡◌, ℕ, ◌+◌, ◌-◌, ◌*◌, ◌<◌, ◌≤◌, ◌^◌, List, length, drop, slice_index};
+ghost use Rattle.byteorder.specs.Endian.{big_number};
 ghost use Rattle.mix_bits.specs.declared.size.Size.TheVariants.{Two};
 ghost use Rattle.mix_bits.specs.declared.size.Size.{Size};
 ghost use Rattle.mix_bits.specs.Addresses.{onward as onward_of};
 ghost use Rattle.m68_isa.specs.Operands.{extended_word as extended_word_of, immediate_at as immediate_at_of, immediate_words as immediate_words_of, index_of as index_of_word, is_index as is_index_word, long_at as long_at_of, operand_at, special_at};
-ghost use Rattle.m68_ea.specs.Words.{or_zero, words_at};
+ghost use Rattle.m68_ea.specs.Words.{words_at};
 
-use big_memory::{Did, Ram};
+use big_memory::{Did, Ram, memory_laws};
+use byteorder::{BigEndian, ByteOrder};
 use m68_isa::{Index, Regs68};
 use mix_bits::{Size, onward, sext};
 
@@ -18,23 +19,22 @@ pub fn word_at(ram: &Ram, pc: u32, at: u32) -> u32
     ensures value { result ≡ slice_index (words_at ram.now pc) at }
     ensures below { result < 2 ^ 16 }
 {
+    memory_laws();
     let _len = ram.len();
-    match pc.checked_add(2 * at) {
-        Some(address) => word_or_zero(ram, address),
-        None => 0,
+    match ram.span(pc, 2 * at + 2) {
+        Ok(words) => last_word(words),
+        Err(_) => 0,
     }
 }
 
-/// The word at an address, 0 where it doesn't lie in memory.
+/// The last word of some bytes.
 #[inline(always)]
-fn word_or_zero(ram: &Ram, address: u32) -> u32
-    ensures value { result ≡ or_zero (loaded ram.now address Two) }
+fn last_word(bytes: &[u8]) -> u32
+    requires { 2 ≤ length bytes.now }
+    ensures value { result ≡ big_number 2 (drop (length bytes.now - 2) bytes.now) }
     ensures below { result < 2 ^ 16 }
 {
-    match ram.load_word(address) {
-        Ok(word) => word,
-        Err(_) => 0,
-    }
+    u32::from(BigEndian::read_u16(&bytes[bytes.len() - 2..]))
 }
 
 /// The word with this number, its sign repeated above it.

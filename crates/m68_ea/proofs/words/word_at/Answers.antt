@@ -1,12 +1,13 @@
-use Rattle.std.proofs.Common.{arith}
-use Rattle.m68_ea.proofs.Fetch.{word_in, word_past}
+use Rattle.std.proofs.Common.{◌<◌, ◌+◌, ◌*◌, length, ◌∙◌, arith}
+use Rattle.std.proofs.lemmas.Bool.Decides.{nat_tests}
+use Rattle.m68_ea.proofs.Fetch.{word_of_bytes, word_past}
 use Rattle.m68_ea.proofs.words.word_at.Goals as goal
 
-pub returns-in-Some-clause-value : goal.returns-in-Some-clause-value
-returns-in-Some-clause-value c =
-    let e = word_in 5 c.args.at c.args.pc c.args.ram.now c.len-len.ensures.whole.most c.requires in
-    let address = c.in-Some.ensures.1 in
-    cc
+pub returns-in-Ok-clause-value : goal.returns-in-Ok-clause-value
+returns-in-Ok-clause-value c =
+    c.last_word.ensures.value ∙ word_of_bytes c.args.ram.now c.args.pc c.args.at _ c.memory_laws.ensures.loads c.len-len.ensures.whole.most c.requires c.in-Ok.ensures.0 c.in-Ok.ensures.1
 
-pub returns-in-None-clause-value : goal.returns-in-None-clause-value
-returns-in-None-clause-value c = word_past c.args.at c.args.pc c.args.ram.now c.len-len.ensures.whole.most c.requires (omega (arith, c.in-None.ensures))
+pub returns-in-Err-clause-value : goal.returns-in-Err-clause-value
+returns-in-Err-clause-value c =
+    let past : length c.args.ram.now.bytes < c.args.pc + (2 * c.args.at + 2) = grind (arith, nat_tests, c.in-Err.ensures.0) in
+    word_past c.args.at c.args.pc c.args.ram.now c.len-len.ensures.whole.most c.requires past
