@@ -1,4 +1,4 @@
-ghost use Rattle.std.specs.Prelude.{◌≡◌, ◌+◌, ◌<◌, ◌≤◌, ◌&&◌};
+ghost use Rattle.std.specs.Prelude.{◌≡◌, ◌+◌, ◌<◌, ◌≤◌, ◌&&◌, true, Ok};
 ghost use Rattle.mix_bits.specs.declared.size.Size.TheVariants.{Two, Four};
 ghost use Rattle.m68_isa.specs.declared.instructions.Instr68.TheVariants.{Move, Movea};
 ghost use Rattle.m68_isa.specs.declared.found.Found.TheVariants.{Made};
@@ -7,13 +7,15 @@ ghost use Rattle.m68_isa.specs.Moves.{move_mode};
 ghost use Rattle.m68_isa.specs.Operands.{operand_at};
 ghost use Rattle.m68_isa.specs.Rows.{taken};
 ghost use Rattle.big_memory.specs.Steps.{Does};
+ghost use Rattle.m68_ea.specs.Operands.{sourced};
+ghost use Rattle.m68_ea.specs.Usual.{Tries};
 ghost use Rattle.m68_ea.specs.Words.{words_at};
 ghost use Rattle.m68_effects.specs.Ops.{by_op, runs_made};
 
 use super::parts::write;
 use big_memory::{Did, Ram, stop};
 use m68_alu::result_flags;
-use m68_ea::{go_on, is_second_good, source};
+use m68_ea::{go_on, is_second_good, push_onto, source, usual_source, usual_write};
 use m68_isa::Regs68;
 use m68_ops::{Op68, lower_of, mode_of, move_mode_of, upper_of};
 use mix_bits::{Fault, FaultKind, Size, sext, trunc, with_low};
@@ -23,15 +25,57 @@ use mix_bits::{Fault, FaultKind, Size, sext, trunc, with_low};
 pub fn do_move_byte(regs: &mut Regs68, ram: &mut Ram, fault: &mut Fault, word: u32) -> Did
     ensures { Does (by_op Op68.MoveByte regs.old ram.old word) result fault.new regs.old regs.new ram.old ram.new }
 {
-    let (from, to) = (mode_of(word), move_mode_of(word));
-    if from == 0 && to == 0 {
-        move_registers(regs, ram, fault, word, Size::One)
+    if move_mode_of(word) == 0 {
+        if move_in(regs, ram, word, Size::One) {
+            Did::Next
+        } else {
+            move_byte(regs, ram, fault, word)
+        }
+    } else if mode_of(word) > 1 {
+        move_byte_in_memory(regs, ram, fault, word)
+    } else if move_mode_of(word) == 4 {
+        move_byte_before(regs, ram, fault, word)
+    } else {
+        move_byte_out(regs, ram, fault, word)
+    }
+}
+
+/// move.b of a register into memory.
+#[inline(never)]
+fn move_byte_out(regs: &mut Regs68, ram: &mut Ram, fault: &mut Fault, word: u32) -> Did
+    requires { (first_of word).mode < 2 }
+    ensures { Does (by_op Op68.MoveByte regs.old ram.old word) result fault.new regs.old regs.new ram.old ram.new }
+{
+    if move_out(regs, ram, word, Size::One) {
+        Did::Next
     } else {
         move_byte(regs, ram, fault, word)
     }
 }
 
-/// move.b with at most one data register.
+/// move.b of a register onto a stack.
+#[inline(never)]
+fn move_byte_before(regs: &mut Regs68, ram: &mut Ram, fault: &mut Fault, word: u32) -> Did
+    requires from { (first_of word).mode < 2 }
+    requires to { move_mode (first_of word) ≡ 4 }
+    ensures { Does (by_op Op68.MoveByte regs.old ram.old word) result fault.new regs.old regs.new ram.old ram.new }
+{
+    move_before(regs, ram, fault, word, Size::One)
+}
+
+/// move.b without a register that is moved.
+#[inline(never)]
+fn move_byte_in_memory(regs: &mut Regs68, ram: &mut Ram, fault: &mut Fault, word: u32) -> Did
+    ensures { Does (by_op Op68.MoveByte regs.old ram.old word) result fault.new regs.old regs.new ram.old ram.new }
+{
+    if move_usual(regs, ram, word, Size::One) {
+        Did::Next
+    } else {
+        move_byte(regs, ram, fault, word)
+    }
+}
+
+/// move.b of any operands.
 #[inline(never)]
 fn move_byte(regs: &mut Regs68, ram: &mut Ram, fault: &mut Fault, word: u32) -> Did
     ensures { Does (by_op Op68.MoveByte regs.old ram.old word) result fault.new regs.old regs.new ram.old ram.new }
@@ -52,15 +96,57 @@ fn move_byte(regs: &mut Regs68, ram: &mut Ram, fault: &mut Fault, word: u32) -> 
 pub fn do_move_word(regs: &mut Regs68, ram: &mut Ram, fault: &mut Fault, word: u32) -> Did
     ensures { Does (by_op Op68.MoveWord regs.old ram.old word) result fault.new regs.old regs.new ram.old ram.new }
 {
-    let (from, to) = (mode_of(word), move_mode_of(word));
-    if from == 0 && to == 0 {
-        move_registers(regs, ram, fault, word, Size::Two)
+    if move_mode_of(word) == 0 {
+        if move_in(regs, ram, word, Size::Two) {
+            Did::Next
+        } else {
+            move_word(regs, ram, fault, word)
+        }
+    } else if mode_of(word) > 1 {
+        move_word_in_memory(regs, ram, fault, word)
+    } else if move_mode_of(word) == 4 {
+        move_word_before(regs, ram, fault, word)
+    } else {
+        move_word_out(regs, ram, fault, word)
+    }
+}
+
+/// move.w of a register into memory.
+#[inline(never)]
+fn move_word_out(regs: &mut Regs68, ram: &mut Ram, fault: &mut Fault, word: u32) -> Did
+    requires { (first_of word).mode < 2 }
+    ensures { Does (by_op Op68.MoveWord regs.old ram.old word) result fault.new regs.old regs.new ram.old ram.new }
+{
+    if move_out(regs, ram, word, Size::Two) {
+        Did::Next
     } else {
         move_word(regs, ram, fault, word)
     }
 }
 
-/// move.w with at most one data register.
+/// move.w of a register onto a stack.
+#[inline(never)]
+fn move_word_before(regs: &mut Regs68, ram: &mut Ram, fault: &mut Fault, word: u32) -> Did
+    requires from { (first_of word).mode < 2 }
+    requires to { move_mode (first_of word) ≡ 4 }
+    ensures { Does (by_op Op68.MoveWord regs.old ram.old word) result fault.new regs.old regs.new ram.old ram.new }
+{
+    move_before(regs, ram, fault, word, Size::Two)
+}
+
+/// move.w without a register that is moved.
+#[inline(never)]
+fn move_word_in_memory(regs: &mut Regs68, ram: &mut Ram, fault: &mut Fault, word: u32) -> Did
+    ensures { Does (by_op Op68.MoveWord regs.old ram.old word) result fault.new regs.old regs.new ram.old ram.new }
+{
+    if move_usual(regs, ram, word, Size::Two) {
+        Did::Next
+    } else {
+        move_word(regs, ram, fault, word)
+    }
+}
+
+/// move.w of any operands.
 #[inline(never)]
 fn move_word(regs: &mut Regs68, ram: &mut Ram, fault: &mut Fault, word: u32) -> Did
     ensures { Does (by_op Op68.MoveWord regs.old ram.old word) result fault.new regs.old regs.new ram.old ram.new }
@@ -81,15 +167,57 @@ fn move_word(regs: &mut Regs68, ram: &mut Ram, fault: &mut Fault, word: u32) -> 
 pub fn do_move_long(regs: &mut Regs68, ram: &mut Ram, fault: &mut Fault, word: u32) -> Did
     ensures { Does (by_op Op68.MoveLong regs.old ram.old word) result fault.new regs.old regs.new ram.old ram.new }
 {
-    let (from, to) = (mode_of(word), move_mode_of(word));
-    if from == 0 && to == 0 {
-        move_registers(regs, ram, fault, word, Size::Four)
+    if move_mode_of(word) == 0 {
+        if move_in(regs, ram, word, Size::Four) {
+            Did::Next
+        } else {
+            move_long(regs, ram, fault, word)
+        }
+    } else if mode_of(word) > 1 {
+        move_long_in_memory(regs, ram, fault, word)
+    } else if move_mode_of(word) == 4 {
+        move_long_before(regs, ram, fault, word)
+    } else {
+        move_long_out(regs, ram, fault, word)
+    }
+}
+
+/// move.l of a register into memory.
+#[inline(never)]
+fn move_long_out(regs: &mut Regs68, ram: &mut Ram, fault: &mut Fault, word: u32) -> Did
+    requires { (first_of word).mode < 2 }
+    ensures { Does (by_op Op68.MoveLong regs.old ram.old word) result fault.new regs.old regs.new ram.old ram.new }
+{
+    if move_out(regs, ram, word, Size::Four) {
+        Did::Next
     } else {
         move_long(regs, ram, fault, word)
     }
 }
 
-/// move.l with at most one data register.
+/// move.l of a register onto a stack.
+#[inline(never)]
+fn move_long_before(regs: &mut Regs68, ram: &mut Ram, fault: &mut Fault, word: u32) -> Did
+    requires from { (first_of word).mode < 2 }
+    requires to { move_mode (first_of word) ≡ 4 }
+    ensures { Does (by_op Op68.MoveLong regs.old ram.old word) result fault.new regs.old regs.new ram.old ram.new }
+{
+    move_before(regs, ram, fault, word, Size::Four)
+}
+
+/// move.l without a register that is moved.
+#[inline(never)]
+fn move_long_in_memory(regs: &mut Regs68, ram: &mut Ram, fault: &mut Fault, word: u32) -> Did
+    ensures { Does (by_op Op68.MoveLong regs.old ram.old word) result fault.new regs.old regs.new ram.old ram.new }
+{
+    if move_usual(regs, ram, word, Size::Four) {
+        Did::Next
+    } else {
+        move_long(regs, ram, fault, word)
+    }
+}
+
+/// move.l of any operands.
 #[inline(never)]
 fn move_long(regs: &mut Regs68, ram: &mut Ram, fault: &mut Fault, word: u32) -> Did
     ensures { Does (by_op Op68.MoveLong regs.old ram.old word) result fault.new regs.old regs.new ram.old ram.new }
@@ -105,18 +233,108 @@ fn move_long(regs: &mut Regs68, ram: &mut Ram, fault: &mut Fault, word: u32) -> 
     }
 }
 
-/// A move of this size from a data register to another one.
+/// Tries a move of this size into a data register.
 #[inline(always)]
-fn move_registers(regs: &mut Regs68, ram: &Ram, fault: &mut Fault, word: u32, size: Size) -> Did
-    requires from { (first_of word).mode ≡ 0 }
-    requires to { move_mode (first_of word) ≡ 0 }
+fn move_in(regs: &mut Regs68, ram: &Ram, word: u32, size: Size) -> bool
+    requires { move_mode (first_of word) ≡ 0 }
     ensures { let f = first_of word in
         let source = operand_at (words_at ram.now regs.old.pc) 1 size f.mode f.lower in
         let target = operand_at (words_at ram.now regs.old.pc) source.next size (move_mode f) f.upper in
-        Does (runs_made regs.old ram.now word (Made (Move size source.ea target.ea) target.next (source.good && target.good))) result fault.new regs.old regs.new ram.now ram.now }
+        Tries (runs_made regs.old ram.now word (Made (Move size source.ea target.ea) target.next (source.good && target.good))) result regs.old regs.new ram.now ram.now }
 {
-    let (lower, upper) = (lower_of(word), upper_of(word));
-    move_to_register(regs, ram, fault, word, size, (0, lower), upper)
+    let to = upper_of(word);
+    let mut next = 1;
+    let Some(value) = usual_source(regs, ram, &mut next, size, mode_of(word), lower_of(word)) else {
+        return false;
+    };
+    regs.d[to] = with_low(regs.d[to], value, size);
+    regs.ccr = result_flags(size, value, regs.ccr);
+    go_on(regs, next);
+    true
+}
+
+/// Tries a move of this size out of a register.
+#[inline(always)]
+fn move_out(regs: &mut Regs68, ram: &mut Ram, word: u32, size: Size) -> bool
+    requires { (first_of word).mode < 2 }
+    ensures { let f = first_of word in
+        let source = operand_at (words_at ram.old regs.old.pc) 1 size f.mode f.lower in
+        let target = operand_at (words_at ram.old regs.old.pc) source.next size (move_mode f) f.upper in
+        Tries (runs_made regs.old ram.old word (Made (Move size source.ea target.ea) target.next (source.good && target.good))) result regs.old regs.new ram.old ram.new }
+{
+    let value = register_value(regs, ram, size, mode_of(word), lower_of(word));
+    let mut next = 1;
+    if !usual_write(
+        regs,
+        ram,
+        &mut next,
+        size,
+        move_mode_of(word),
+        upper_of(word),
+        value,
+    ) {
+        return false;
+    }
+    regs.ccr = result_flags(size, value, regs.ccr);
+    go_on(regs, next);
+    true
+}
+
+/// A move of this size of a register to the place before an address register.
+#[inline(always)]
+fn move_before(regs: &mut Regs68, ram: &mut Ram, fault: &mut Fault, word: u32, size: Size) -> Did
+    requires from { (first_of word).mode < 2 }
+    requires to { move_mode (first_of word) ≡ 4 }
+    ensures { let f = first_of word in
+        let source = operand_at (words_at ram.old regs.old.pc) 1 size f.mode f.lower in
+        let target = operand_at (words_at ram.old regs.old.pc) source.next size (move_mode f) f.upper in
+        Does (runs_made regs.old ram.old word (Made (Move size source.ea target.ea) target.next (source.good && target.good))) result fault.new regs.old regs.new ram.old ram.new }
+{
+    let value = register_value(regs, ram, size, mode_of(word), lower_of(word));
+    if !push_onto(regs, ram, fault, upper_of(word), size, value) {
+        return Did::Stop;
+    }
+    regs.ccr = result_flags(size, value, regs.ccr);
+    go_on(regs, 1)
+}
+
+/// The value of an operand in a register.
+#[inline(always)]
+fn register_value(regs: &Regs68, ram: &Ram, size: Size, mode: u32, lower: usize) -> u32
+    requires mode { mode < 2 }
+    requires number { lower < 8 }
+    ensures { let e = operand_at (words_at ram.now regs.now.pc) 1 size mode lower in
+        (e.good ≡ true) × (e.next ≡ 1) × (sourced regs.now ram.now size e.ea ≡ Ok (regs.now, result)) }
+{
+    if mode == 0 {
+        trunc(regs.d[lower], size)
+    } else {
+        trunc(regs.a[lower], size)
+    }
+}
+
+/// Tries a move of this size whose operands are registers or memory of usual modes, and tells whether it is
+/// done.
+#[inline(always)]
+fn move_usual(regs: &mut Regs68, ram: &mut Ram, word: u32, size: Size) -> bool
+    ensures { let f = first_of word in
+        let source = operand_at (words_at ram.old regs.old.pc) 1 size f.mode f.lower in
+        let target = operand_at (words_at ram.old regs.old.pc) source.next size (move_mode f) f.upper in
+        Tries (runs_made regs.old ram.old word (Made (Move size source.ea target.ea) target.next (source.good && target.good))) result regs.old regs.new ram.old ram.new }
+{
+    let (from, to) = (lower_of(word), upper_of(word));
+    let before = regs.a[from];
+    let mut next = 1;
+    let Some(value) = usual_source(regs, ram, &mut next, size, mode_of(word), from) else {
+        return false;
+    };
+    if !usual_write(regs, ram, &mut next, size, move_mode_of(word), to, value) {
+        regs.a[from] = before;
+        return false;
+    }
+    regs.ccr = result_flags(size, value, regs.ccr);
+    go_on(regs, next);
+    true
 }
 
 /// A move of this size from an operand, a mode and a register, to a data register.

@@ -1,21 +1,28 @@
 // movem: several registers to memory or from it.
-ghost use Rattle.std.specs.Prelude.{◌≡◌, ◌≢◌, ◌-◌, ◌*◌, ◌<◌, ◌≤◌, length, map, if◌then◌else◌};
+ghost use Rattle.std.specs.Prelude.{◌≡◌, ◌≢◌, ◌-◌, ◌*◌, ◌%◌, ◌<◌, ◌≤◌, IsTrue, None, Ok, length, true, map, if◌then◌else◌};
 ghost use Rattle.mix_bits.specs.Addresses.{onward as onward_of};
 ghost use Rattle.mix_bits.specs.declared.size.Size.TheVariants.{Zero};
+ghost use Rattle.mix_bits.specs.Sizes.{bytes_of};
+ghost use Rattle.big_memory.specs.Memory.{in_memory, refusal};
 ghost use Rattle.big_memory.specs.Steps.{Does};
-ghost use Rattle.m68_effects.specs.Multiple.{listed, movem_before, movem_onto, register_of, with_register};
+ghost use Rattle.big_memory.specs.Stores.{OnlyFree};
+ghost use Rattle.m68_ea.specs.Places.{backward as backward_of};
+ghost use Rattle.m68_effects.specs.Multiple.{listed, movem_before, movem_onto, register_of, loaded_along, span_of, stored_down, with_register};
 ghost use Rattle.m68_effects.specs.Ops.{by_op};
 ghost use Rattle.m68_effects.specs.Parts.{after};
 ghost use Rattle.m68_ops.specs.Ops.{Fits};
-ghost use Rattle.m68_movement.specs.Along.{Loads};
+ghost use Rattle.m68_movement.specs.Along.{Loads, StoresOpen};
 
 use super::along::{store_along, store_down};
 use arrayvec::ArrayVec;
-use big_memory::{Did, Ram};
-use m68_ea::{backward, control, go_on, load, word_at};
+use big_memory::{Did, Ram, memory_laws};
+use m68_ea::{backward, control, go_on, is_below_stack, load, word_at};
 use m68_isa::Regs68;
 use m68_ops::{Op68, lower_of, mode_of, transfer_size_of};
 use mix_bits::{Fault, Size, digit, onward, sext};
+
+/// How many bytes sixteen longs take.
+const SIXTEEN_LONGS: u32 = 64;
 
 /// movem to memory: upwards from D0 to A7, or before an address register downwards from A7 to D0.
 #[inline(never)]
@@ -50,12 +57,68 @@ fn store_before(
     ensures { Does (after (movem_before regs.old ram.old (onward_of regs.old.pc 4) size mask register)) result fault.new regs.old regs.new ram.old ram.new }
 {
     let base = regs.a[register];
+    if let Some(end) = store_open(regs, ram, size, mask, base) {
+        regs.a[register] = end;
+        return go_on(regs, 2);
+    }
     let values = values_of(regs, mask, true);
     if !store_down(ram, fault, regs.pc, base, size, &values) {
         return Did::Stop;
     }
     regs.a[register] = backward(base, size.bytes() * values.len() as u32);
     go_on(regs, 2)
+}
+
+/// Stores the registers of a mask downwards from an address, where sixteen longs plainly can be stored, and
+/// tells where the last one stands; else nothing is changed.
+#[inline(always)]
+fn store_open(regs: &Regs68, ram: &mut Ram, size: Size, mask: u32, base: u32) -> Option<u32>
+    ensures { StoresOpen regs.now ram.old base size mask result ram.new }
+{
+    let lowest = base.checked_sub(SIXTEEN_LONGS)?;
+    if !is_open(ram, lowest) {
+        return None;
+    }
+    match size {
+        Size::Zero => None,
+        Size::One => None,
+        Size::Two => Some(put_down(regs, ram, Size::Two, mask, base)),
+        Size::Four => Some(put_down(regs, ram, Size::Four, mask, base)),
+    }
+}
+
+/// Whether sixteen longs can be stored from an even address on.
+#[inline(always)]
+fn is_open(ram: &Ram, a: u32) -> bool
+    ensures even { IsTrue result → a % 2 ≡ 0 }
+    ensures passes { IsTrue result → refusal ram.now a 64 ≡ None }
+{
+    a % 2 == 0 && (is_below_stack(ram, a, SIXTEEN_LONGS) || ram.probe(a, SIXTEEN_LONGS).is_ok())
+}
+
+/// Stores the registers of a mask downwards from an address, none of which is refused, and tells where the
+/// last one stands.
+#[inline(always)]
+fn put_down(regs: &Regs68, ram: &mut Ram, size: Size, mask: u32, base: u32) -> u32
+    requires size { bytes_of size % 2 ≡ 0 }
+    requires some { size ≢ Zero }
+    requires even { base % 2 ≡ 0 }
+    requires from { 64 ≤ base }
+    requires open { refusal ram.old (base - 64) 64 ≡ None }
+    ensures is { stored_down regs.now.pc ram.old base size (map (λ k. register_of regs.now (15 - k)) (listed mask)) ≡ Ok ram.new }
+    ensures free { OnlyFree ram.old ram.new }
+    ensures end { result ≡ backward_of base (span_of size mask) }
+{
+    memory_laws();
+    let _len = ram.len();
+    let mut at = base;
+    for k in 0..16 {
+        if digit(mask, k, 1) == 1 {
+            at -= size.bytes();
+            ram.put(at, size, register(regs, 15 - k as usize));
+        }
+    }
+    at
 }
 
 /// The registers of a mask at an address, by an instruction of so many words.
@@ -91,7 +154,7 @@ pub fn do_movem_from_memory(regs: &mut Regs68, ram: &Ram, fault: &mut Fault, wor
     let mask = word_at(ram, regs.pc, 1);
     if mode == 3 {
         let base = regs.a[lower];
-        let Some(count) = load_along(regs, ram, fault, base, size, mask) else {
+        let Some(count) = load_all(regs, ram, fault, base, size, mask) else {
             return Did::Stop;
         };
         regs.a[lower] = onward(base, size.bytes() * count);
@@ -101,7 +164,7 @@ pub fn do_movem_from_memory(regs: &mut Regs68, ram: &Ram, fault: &mut Fault, wor
     let Some(at) = control(regs, ram, fault, word, &mut next, mode, lower) else {
         return Did::Stop;
     };
-    let Some(_) = load_along(regs, ram, fault, at, size, mask) else {
+    let Some(_) = load_all(regs, ram, fault, at, size, mask) else {
         return Did::Stop;
     };
     go_on(regs, next)
@@ -125,6 +188,58 @@ fn values_of(regs: &Regs68, mask: u32, down: bool) -> ArrayVec<u32, 16>
 
 /// Loads the registers that a mask names from an address on, and tells how many; or none, and the fault is
 /// in the cell.
+fn load_all(
+    regs: &mut Regs68,
+    ram: &Ram,
+    fault: &mut Fault,
+    a: u32,
+    size: Size,
+    mask: u32,
+) -> Option<u32>
+    ensures { Loads regs.old ram.now a size mask result fault.new regs.new }
+{
+    if a % 2 == 1 || !ram.has(a, SIXTEEN_LONGS) {
+        return load_along(regs, ram, fault, a, size, mask);
+    }
+    match size {
+        Size::Zero => load_along(regs, ram, fault, a, size, mask),
+        Size::One => load_along(regs, ram, fault, a, size, mask),
+        Size::Two => Some(take_all(regs, ram, a, Size::Two, mask)),
+        Size::Four => Some(take_all(regs, ram, a, Size::Four, mask)),
+    }
+}
+
+/// Loads the registers of a mask from an even address on, from which sixteen longs lie in memory, and tells
+/// how many.
+#[inline(always)]
+fn take_all(regs: &mut Regs68, ram: &Ram, a: u32, size: Size, mask: u32) -> u32
+    requires size { bytes_of size % 2 ≡ 0 }
+    requires even { a % 2 ≡ 0 }
+    requires within { in_memory ram.now a 64 ≡ true }
+    ensures is { loaded_along regs.old.pc regs.old ram.now a size (listed mask) ≡ Ok regs.new }
+    ensures count { result ≡ length (listed mask) }
+    ensures most { result ≤ 16 }
+    ensures pc { regs.new.pc ≡ regs.old.pc }
+{
+    memory_laws();
+    let _len = ram.len();
+    let mut at = a;
+    let mut count = 0;
+    for k in 0..16 {
+        if digit(mask, k, 1) == 1 {
+            let Ok(value) = ram.load(at, size) else {
+                return count;
+            };
+            set_register(regs, k as usize, sext(value, size));
+            at = onward(at, size.bytes());
+            count += 1;
+        }
+    }
+    count
+}
+
+/// The same, with each load tested.
+#[inline(never)]
 #[tactic(auto, using(crate::proofs::Masks::all_listed, crate::proofs::Masks::none_loaded))]
 fn load_along(
     regs: &mut Regs68,
@@ -141,11 +256,11 @@ fn load_along(
     let mut count = 0;
     for k in 0..16 {
         if digit(mask, k, 1) == 1 {
-            let Some(value) = load(ram, fault, before.pc, at, size) else {
+            let Some(loaded) = load(ram, fault, before.pc, at, size) else {
                 *regs = before;
                 return None;
             };
-            set_register(regs, k as usize, sext(value, size));
+            set_register(regs, k as usize, sext(loaded, size));
             at = onward(at, size.bytes());
             count += 1;
         }

@@ -5,13 +5,14 @@ ghost use Rattle.m68_isa.specs.First.{first_of};
 ghost use Rattle.m68_isa.specs.Operands.{operand_at};
 ghost use Rattle.m68_isa.specs.Rows.{taken};
 ghost use Rattle.big_memory.specs.Steps.{Does};
+ghost use Rattle.m68_ea.specs.Usual.{Tries};
 ghost use Rattle.m68_ea.specs.Words.{words_at};
 ghost use Rattle.m68_effects.specs.Ops.{by_op, runs_made};
 
 use super::parts::write;
 use big_memory::{Did, Ram};
 use m68_alu::result_flags;
-use m68_ea::{find, go_on, put, source, value};
+use m68_ea::{find, go_on, put, source, usual_source, value};
 use m68_isa::{Regs68, holds};
 use m68_ops::{Op68, condition_of, lower_of, mode_of, size_bits_of};
 use mix_bits::{Fault, Size, trunc, with_low};
@@ -102,28 +103,26 @@ fn clear(
 pub fn do_tst(regs: &mut Regs68, ram: &Ram, fault: &mut Fault, word: u32) -> Did
     ensures { Does (by_op Op68.Tst regs.old ram.now word) result fault.new regs.old regs.new ram.now ram.now }
 {
-    if mode_of(word) == 0 {
-        tst_register(regs, ram, fault, word)
+    if tst_usual(regs, ram, word) {
+        Did::Next
     } else {
         tst_operand(regs, ram, fault, word)
     }
 }
 
-/// tst of a data register.
+/// Tries a tst of a register or of memory of a usual mode, and tells whether it is done.
 #[inline(always)]
-fn tst_register(regs: &mut Regs68, ram: &Ram, fault: &mut Fault, word: u32) -> Did
-    requires { (first_of word).mode ≡ 0 }
-    ensures { Does (by_op Op68.Tst regs.old ram.now word) result fault.new regs.old regs.new ram.now ram.now }
+fn tst_usual(regs: &mut Regs68, ram: &Ram, word: u32) -> bool
+    ensures { Tries (by_op Op68.Tst regs.old ram.now word) result regs.old regs.new ram.now ram.now }
 {
-    let lower = lower_of(word);
     match size_bits_of(word) {
-        0 => test_in_register(regs, ram, fault, word, Size::One, lower),
-        1 => test_in_register(regs, ram, fault, word, Size::Two, lower),
-        _ => test_in_register(regs, ram, fault, word, Size::Four, lower),
+        0 => test_usual(regs, ram, word, Size::One),
+        1 => test_usual(regs, ram, word, Size::Two),
+        _ => test_usual(regs, ram, word, Size::Four),
     }
 }
 
-/// tst of any other operand.
+/// tst of any operand.
 #[inline(never)]
 fn tst_operand(regs: &mut Regs68, ram: &Ram, fault: &mut Fault, word: u32) -> Did
     ensures { Does (by_op Op68.Tst regs.old ram.now word) result fault.new regs.old regs.new ram.now ram.now }
@@ -136,22 +135,20 @@ fn tst_operand(regs: &mut Regs68, ram: &Ram, fault: &mut Fault, word: u32) -> Di
     }
 }
 
-/// The flags of a data register of this size.
+/// Tries the flags of a register of this size, or of memory of a usual mode.
 #[inline(always)]
-fn test_in_register(
-    regs: &mut Regs68,
-    ram: &Ram,
-    fault: &mut Fault,
-    word: u32,
-    size: Size,
-    lower: usize,
-) -> Did
-    requires { lower < 8 }
-    ensures { let of = operand_at (words_at ram.now regs.old.pc) 1 size 0 lower in
-        Does (runs_made regs.old ram.now word (taken (Tst size of.ea) of)) result fault.new regs.old regs.new ram.now ram.now }
+fn test_usual(regs: &mut Regs68, ram: &Ram, word: u32, size: Size) -> bool
+    ensures { let f = first_of word in
+        let of = operand_at (words_at ram.now regs.old.pc) 1 size f.mode f.lower in
+        Tries (runs_made regs.old ram.now word (taken (Tst size of.ea) of)) result regs.old regs.new ram.now ram.now }
 {
-    regs.ccr = result_flags(size, trunc(regs.d[lower], size), regs.ccr);
-    go_on(regs, 1)
+    let mut next = 1;
+    let Some(value) = usual_source(regs, ram, &mut next, size, mode_of(word), lower_of(word)) else {
+        return false;
+    };
+    regs.ccr = result_flags(size, value, regs.ccr);
+    go_on(regs, next);
+    true
 }
 
 /// The flags of an operand of this size.
