@@ -5,16 +5,19 @@ ghost use Rattle.mix_bits.specs.Sizes.{modulus, truncated};
 ghost use Rattle.m68_isa.specs.First.{first_of, size_of as size_bits};
 ghost use Rattle.m68_isa.specs.Operands.{immediate_at as immediate_word, immediate_words as words_of, operand_at};
 ghost use Rattle.big_memory.specs.Steps.{Does};
+ghost use Rattle.m68_ea.specs.Usual.{Tries};
 ghost use Rattle.m68_ea.specs.Words.{words_at};
 ghost use Rattle.m68_alu.specs.Logical.{combination};
 ghost use Rattle.m68_effects.specs.Logic.{complement as complement_out, logic_immediate, not as not_effect};
 ghost use Rattle.m68_effects.specs.Ops.{by_op};
 ghost use Rattle.m68_effects.specs.Parts.{changed, either_way, into_data};
-ghost use Rattle.m68_logic.specs.Parts.{with_operand};
+ghost use Rattle.m68_logic.specs.Parts.{combined, with_operand};
 
 use big_memory::{Did, Ram};
 use m68_alu::{logic, result_flags};
-use m68_ea::{find, go_on, immediate_at, immediate_words, put, source, value};
+use m68_ea::{
+    find, find_usual, go_on, immediate_at, immediate_words, put, put_usual, source, value,
+};
 use m68_isa::{LogicOp, Regs68};
 use m68_ops::{Op68, lower_of, mode_of, size_bits_of, size_of, upper_of};
 use mix_bits::{Fault, Size, trunc, with_low};
@@ -91,8 +94,16 @@ pub fn do_eor(regs: &mut Regs68, ram: &mut Ram, fault: &mut Fault, word: u32) ->
     if mode_of(word) == 0 {
         onto_register(regs, ram, fault, word, LogicOp::Eor)
     } else {
-        from_register(regs, ram, fault, word, LogicOp::Eor)
+        eor_to_memory(regs, ram, fault, word)
     }
+}
+
+/// eor of a data register into memory.
+#[inline(never)]
+fn eor_to_memory(regs: &mut Regs68, ram: &mut Ram, fault: &mut Fault, word: u32) -> Did
+    ensures { Does (by_op Op68.Eor regs.old ram.old word) result fault.new regs.old regs.new ram.old ram.new }
+{
+    from_register(regs, ram, fault, word, LogicOp::Eor)
 }
 
 /// not: the ones complement of an operand.
@@ -154,7 +165,11 @@ fn from_register(regs: &mut Regs68, ram: &mut Ram, fault: &mut Fault, word: u32,
         Does (with_operand regs.old word to (λ next. changed regs.old ram.old next size to.ea (λ d. combination op size regs.old.ccr d (slice_index regs.old.d (first_of word).upper)))) result fault.new regs.old regs.new ram.old ram.new }
 {
     let bits = regs.d[upper_of(word)];
-    combine_sized(regs, ram, fault, word, op, 1, bits)
+    if combine_usual(regs, ram, word, op, 1, bits) {
+        Did::Next
+    } else {
+        combine_sized(regs, ram, fault, word, op, 1, bits)
+    }
 }
 
 /// A data register into another one.
@@ -195,6 +210,56 @@ fn combine_register(
     go_on(regs, 1)
 }
 
+/// Tries a value into memory of a usual mode, whose words begin with word `first`, and tells whether it is
+/// done.
+#[inline(always)]
+fn combine_usual(
+    regs: &mut Regs68,
+    ram: &mut Ram,
+    word: u32,
+    op: LogicOp,
+    first: u32,
+    bits: u32,
+) -> bool
+    requires { first < 4 }
+    ensures { Tries (combined op first bits word regs.old ram.old) result regs.old regs.new ram.old ram.new }
+{
+    match size_bits_of(word) {
+        0 => combine_in_memory(regs, ram, word, op, Size::One, first, bits),
+        1 => combine_in_memory(regs, ram, word, op, Size::Two, first, bits),
+        _ => combine_in_memory(regs, ram, word, op, Size::Four, first, bits),
+    }
+}
+
+/// The same with a value of this size.
+#[inline(always)]
+fn combine_in_memory(
+    regs: &mut Regs68,
+    ram: &mut Ram,
+    word: u32,
+    op: LogicOp,
+    size: Size,
+    first: u32,
+    bits: u32,
+) -> bool
+    requires size { size ≢ Zero }
+    requires first { first < 4 }
+    ensures { let to = operand_at (words_at ram.old regs.old.pc) first size (first_of word).mode (first_of word).lower in
+        Tries (with_operand regs.old word to (λ next. changed regs.old ram.old next size to.ea (λ d. combination op size regs.old.ccr d bits))) result regs.old regs.new ram.old ram.new }
+{
+    let lower = lower_of(word);
+    let Some((to, old)) = find_usual(regs, ram, first, size, mode_of(word), lower) else {
+        return false;
+    };
+    let out = logic(op, size, old, bits, regs.ccr);
+    if !put_usual(regs, ram, to, lower, size, out.value) {
+        return false;
+    }
+    regs.ccr = out.ccr;
+    go_on(regs, to.next);
+    true
+}
+
 /// A value into an operand, whose words begin with word `first`.
 #[inline(never)]
 fn combine_sized(
@@ -207,9 +272,7 @@ fn combine_sized(
     bits: u32,
 ) -> Did
     requires { first < 4 }
-    ensures { let size = size_bits (first_of word).size in
-        let to = operand_at (words_at ram.old regs.old.pc) first size (first_of word).mode (first_of word).lower in
-        Does (with_operand regs.old word to (λ next. changed regs.old ram.old next size to.ea (λ d. combination op size regs.old.ccr d bits))) result fault.new regs.old regs.new ram.old ram.new }
+    ensures { Does (combined op first bits word regs.old ram.old) result fault.new regs.old regs.new ram.old ram.new }
 {
     match size_of(word) {
         Size::One => combine(regs, ram, fault, word, op, Size::One, first, bits),
