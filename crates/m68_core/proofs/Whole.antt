@@ -20,8 +20,8 @@ unfolding words_from
 words_whole zero a m small within = refl
 words_whole (suc n) a m small within = rw (loaded-in m a (omega arith), onward-two a (omega arith)) (ap suc (words_whole n (a + 2) m small (omega arith)))
 
-pub five_words : (pc end : ℕ) (m : Memory) → length m.bytes ≤ 16777216 → end ≡ length m.bytes → pc + 10 ≤ end → 5 ≤ length (words_at m pc)
-five_words pc end m small is within = let whole = words_whole 5 pc m small (omega arith) in omega arith
+pub five_words : (pc : ℕ) (m : Memory) → length m.bytes ≤ 16777216 → pc + 10 ≤ length m.bytes → 5 ≤ length (words_at m pc)
+five_words pc m small within = let whole = words_whole 5 pc m small (omega arith) in omega arith
 
 loaded-out : (m : Memory) (a : ℕ) → length m.bytes < a + 2 → loaded m a Two ≡ Err (Outside a)
 loaded-out m a h = grind (arith, nat_tests)
@@ -38,5 +38,5 @@ words_fewer (suc n) a m small past =
       | inl past ↦ rw (loaded-out m a past) (omega arith)
     ]
 
-pub fewer_words : (pc end : ℕ) (m : Memory) → length m.bytes ≤ 16777216 → end ≡ length m.bytes → end < pc + 10 → length (words_at m pc) < 5
-fewer_words pc end m small is past = words_fewer 4 pc m small (omega arith)
+pub fewer_words : (pc : ℕ) (m : Memory) → length m.bytes ≤ 16777216 → length m.bytes < pc + 10 → length (words_at m pc) < 5
+fewer_words pc m small past = words_fewer 4 pc m small (omega arith)

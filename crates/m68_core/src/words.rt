@@ -13,7 +13,8 @@ pub fn has_five(ram: &Ram, pc: u32) -> bool
     ensures five { IsTrue result → 5 ≤ length (words_at ram.now pc) }
     ensures fewer { result ≡ false → length (words_at ram.now pc) < 5 }
 {
-    u64::from(pc) + 10 <= u64::from(ram.len())
+    let _len = ram.len();
+    ram.has(pc, 10)
 }
 
 /// Reads words from `a` on, as far as they lie in memory and there is place for them, and tells how many.
