@@ -7,6 +7,8 @@ use Rattle.mix_bits.specs.Sizes.{sign_extended}
 use Rattle.mix_bits.specs.Results.{◌>>=◌}
 use Rattle.m68_isa.specs.declared.registers.Ccr.{Ccr}
 use Rattle.m68_isa.specs.declared.registers.Regs68.{Regs68}
+use Rattle.m68_isa.specs.First.{first_of, size_of}
+use Rattle.m68_isa.specs.Operands.{operand_at}
 use Rattle.m68_isa.specs.declared.ea.Ea.{Ea}
 use Rattle.m68_isa.specs.declared.operand.Operand.{Operand}
 use Rattle.m68_alu.specs.declared.sums.Out.{Out}
@@ -15,7 +17,8 @@ use Rattle.big_memory.specs.Memory.{Memory}
 use Rattle.big_memory.specs.Steps.{After}
 use Rattle.m68_ea.specs.Places.{backward, with_address}
 use Rattle.m68_ea.specs.Operands.{sourced}
-use Rattle.m68_effects.specs.Parts.{Effect, after, goes_on}
+use Rattle.m68_ea.specs.Words.{words_at}
+use Rattle.m68_effects.specs.Parts.{Effect, after, changed, goes_on, into_data}
 use Rattle.m68_effects.specs.Step.{stops}
 use Rattle.m68_alu.specs.Sums.{sum, sum_with_x, difference, difference_with_x}
 use Rattle.m68_arithmetic.specs.declared.operation.Operation.{Operation}
@@ -52,3 +55,17 @@ into_address way r m next size from n =
 -- an instruction that ends with an operand's words; `row` is over the address behind them
 abbrev pub runs_with : Regs68 → ℕ → Operand → (ℕ → Effect) → After Regs68
 runs_with r word last row = if last.good then after (row (onward r.pc (2 * last.next))) else stops r Illegal word
+
+-- an operation with a number on the operand of a first word, whose words begin with word `first`
+abbrev pub changed_by : Operation → ℕ → ℕ → ℕ → Regs68 → Memory → After Regs68
+changed_by op first by w r m =
+    let size = size_of (first_of w).size in
+    let to = operand_at (words_at m r.pc) first size (first_of w).mode (first_of w).lower in
+    runs_with r w to (λ next. changed r m next size to.ea (λ d. result_of op size r.ccr d by))
+
+-- an operation on the data register and the operand of a first word
+abbrev pub taken_by : Operation → ℕ → Regs68 → Memory → After Regs68
+taken_by op w r m =
+    let size = size_of (first_of w).size in
+    let from = operand_at (words_at m r.pc) 1 size (first_of w).mode (first_of w).lower in
+    runs_with r w from (λ next. into_data r m next size from.ea (first_of w).upper (result_of op size r.ccr))

@@ -7,10 +7,10 @@ ghost use Rattle.big_memory.specs.Steps.{Does};
 ghost use Rattle.m68_ea.specs.Words.{words_at};
 ghost use Rattle.m68_effects.specs.Ops.{by_op};
 ghost use Rattle.m68_effects.specs.Parts.{changed};
-ghost use Rattle.m68_arithmetic.specs.Parts.{result_of, runs_with};
+ghost use Rattle.m68_arithmetic.specs.Parts.{changed_by, result_of, runs_with};
 
 use super::operation::Operation;
-use super::parts::change;
+use super::parts::{change, change_usual};
 use big_memory::{Did, Ram};
 use m68_ea::{immediate_at, immediate_words};
 use m68_isa::Regs68;
@@ -33,16 +33,32 @@ pub fn do_sub_to_memory(regs: &mut Regs68, ram: &mut Ram, fault: &mut Fault, wor
     by_register(regs, ram, fault, word, Operation::Sub)
 }
 
-/// An operation on an operand and a data register.
+/// An operation on memory and a data register.
 #[inline(always)]
 fn by_register(regs: &mut Regs68, ram: &mut Ram, fault: &mut Fault, word: u32, op: Operation) -> Did
-    ensures { let f = first_of word in
-        let size = size_of_bits f.size in
-        let to = operand_at (words_at ram.old regs.old.pc) 1 size f.mode f.lower in
-        Does (runs_with regs.old word to (λ next. changed regs.old ram.old next size to.ea (λ d. result_of op size regs.old.ccr d (slice_index regs.old.d f.upper)))) result fault.new regs.old regs.new ram.old ram.new }
+    ensures { Does (changed_by op 1 (slice_index regs.old.d (first_of word).upper) word regs.old ram.old) result fault.new regs.old regs.new ram.old ram.new }
 {
-    let (mode, lower, upper) = (mode_of(word), lower_of(word), upper_of(word));
-    let by = regs.d[upper];
+    let by = regs.d[upper_of(word)];
+    if change_usual(regs, ram, word, 1, op, by) {
+        Did::Next
+    } else {
+        change_sized(regs, ram, fault, word, op, by)
+    }
+}
+
+/// An operation with a number on an operand of the size in bits 7 and 6.
+#[inline(never)]
+fn change_sized(
+    regs: &mut Regs68,
+    ram: &mut Ram,
+    fault: &mut Fault,
+    word: u32,
+    op: Operation,
+    by: u32,
+) -> Did
+    ensures { Does (changed_by op 1 by word regs.old ram.old) result fault.new regs.old regs.new ram.old ram.new }
+{
+    let (mode, lower) = (mode_of(word), lower_of(word));
     match size_bits_of(word) {
         0 => change(regs, ram, fault, word, 1, Size::One, mode, lower, op, by),
         1 => change(regs, ram, fault, word, 1, Size::Two, mode, lower, op, by),

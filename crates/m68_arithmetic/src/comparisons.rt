@@ -5,6 +5,7 @@ ghost use Rattle.mix_bits.specs.declared.size.Size.TheVariants.{Zero};
 ghost use Rattle.m68_isa.specs.First.{first_of, size_of as size_of_bits};
 ghost use Rattle.m68_isa.specs.Operands.{immediate_at as immediate_at_of, immediate_words as immediate_words_of, operand_at};
 ghost use Rattle.big_memory.specs.Steps.{Does};
+ghost use Rattle.m68_ea.specs.Usual.{Tries};
 ghost use Rattle.m68_ea.specs.Words.{words_at};
 ghost use Rattle.m68_effects.specs.Arithmetic.{cmp, cmpa, cmpi, cmpm, comparison};
 ghost use Rattle.m68_effects.specs.Ops.{by_op};
@@ -13,7 +14,7 @@ ghost use Rattle.m68_arithmetic.specs.Parts.{runs_with};
 
 use big_memory::{Did, Ram};
 use m68_alu::cmp;
-use m68_ea::{go_on, immediate_at, immediate_words, source};
+use m68_ea::{go_on, immediate_at, immediate_words, source, usual_source};
 use m68_isa::{Ccr, Regs68};
 use m68_ops::{Op68, bit8_of, lower_of, mode_of, size_bits_of, upper_of};
 use mix_bits::{Fault, Size, sext, trunc};
@@ -34,6 +35,8 @@ pub fn do_cmp(regs: &mut Regs68, ram: &Ram, fault: &mut Fault, word: u32) -> Did
 {
     if mode_of(word) == 0 {
         compare_registers(regs, ram, fault, word)
+    } else if compare_usual(regs, ram, word) {
+        Did::Next
     } else {
         compare_operand(regs, ram, fault, word)
     }
@@ -72,6 +75,36 @@ fn with_other(
 {
     regs.ccr = compare(size, regs.d[upper], trunc(regs.d[lower], size), regs.ccr);
     go_on(regs, 1)
+}
+
+/// Tries a cmp of a data register and a register, or memory of a usual mode, and tells whether it is done.
+#[inline(always)]
+fn compare_usual(regs: &mut Regs68, ram: &Ram, word: u32) -> bool
+    ensures { Tries (by_op Op68.Cmp regs.old ram.now word) result regs.old regs.new ram.now ram.now }
+{
+    match size_bits_of(word) {
+        0 => compare_sized(regs, ram, word, Size::One),
+        1 => compare_sized(regs, ram, word, Size::Two),
+        _ => compare_sized(regs, ram, word, Size::Four),
+    }
+}
+
+/// The same of this size.
+#[inline(always)]
+fn compare_sized(regs: &mut Regs68, ram: &Ram, word: u32, size: Size) -> bool
+    requires { size ≢ Zero }
+    ensures { let f = first_of word in
+        let from = operand_at (words_at ram.now regs.old.pc) 1 size f.mode f.lower in
+        Tries (runs_with regs.old word from (λ next. cmp regs.old ram.now next size from.ea f.upper)) result regs.old regs.new ram.now ram.now }
+{
+    let upper = upper_of(word);
+    let mut next = 1;
+    let Some(value) = usual_source(regs, ram, &mut next, size, mode_of(word), lower_of(word)) else {
+        return false;
+    };
+    regs.ccr = compare(size, regs.d[upper], value, regs.ccr);
+    go_on(regs, next);
+    true
 }
 
 /// cmp of a data register and any other operand.

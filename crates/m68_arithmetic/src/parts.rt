@@ -1,15 +1,18 @@
 ghost use Rattle.std.specs.Prelude.{◌≢◌, ◌<◌};
 ghost use Rattle.mix_bits.specs.declared.size.Size.TheVariants.{Zero};
+ghost use Rattle.m68_isa.specs.First.{first_of};
 ghost use Rattle.m68_isa.specs.Operands.{operand_at};
 ghost use Rattle.big_memory.specs.Steps.{Does};
+ghost use Rattle.m68_ea.specs.Usual.{Tries};
 ghost use Rattle.m68_ea.specs.Words.{words_at};
 ghost use Rattle.m68_effects.specs.Parts.{changed};
-ghost use Rattle.m68_arithmetic.specs.Parts.{result_of, runs_with};
+ghost use Rattle.m68_arithmetic.specs.Parts.{changed_by, result_of, runs_with};
 
 use super::operation::{Operation, apply};
 use big_memory::{Did, Ram};
-use m68_ea::{find, go_on, put, value};
+use m68_ea::{find, find_usual, go_on, put, put_usual, value};
 use m68_isa::Regs68;
+use m68_ops::{lower_of, mode_of, size_bits_of};
 use mix_bits::{Fault, Size, onward, trunc, with_low};
 
 /// An operand that is changed by an operation with a source. Its extension words begin with word `first`.
@@ -70,4 +73,54 @@ pub fn change_register(
     regs.d[lower] = with_low(regs.d[lower], out.value, size);
     regs.ccr = out.ccr;
     go_on(regs, 1)
+}
+
+/// Tries an operation with a number on an operand in memory of a usual mode, of the size in bits 7 and 6, and
+/// tells whether it is done. Its extension words begin with word `first`.
+#[inline(always)]
+pub fn change_usual(
+    regs: &mut Regs68,
+    ram: &mut Ram,
+    word: u32,
+    first: u32,
+    op: Operation,
+    by: u32,
+) -> bool
+    requires { first < 4 }
+    ensures { Tries (changed_by op first by word regs.old ram.old) result regs.old regs.new ram.old ram.new }
+{
+    match size_bits_of(word) {
+        0 => change_in_memory(regs, ram, word, first, Size::One, op, by),
+        1 => change_in_memory(regs, ram, word, first, Size::Two, op, by),
+        _ => change_in_memory(regs, ram, word, first, Size::Four, op, by),
+    }
+}
+
+/// The same with an operand of this size.
+#[inline(always)]
+fn change_in_memory(
+    regs: &mut Regs68,
+    ram: &mut Ram,
+    word: u32,
+    first: u32,
+    size: Size,
+    op: Operation,
+    by: u32,
+) -> bool
+    requires some { size ≢ Zero }
+    requires first { first < 4 }
+    ensures { let to = operand_at (words_at ram.old regs.old.pc) first size (first_of word).mode (first_of word).lower in
+        Tries (runs_with regs.old word to (λ next. changed regs.old ram.old next size to.ea (λ d. result_of op size regs.old.ccr d by))) result regs.old regs.new ram.old ram.new }
+{
+    let lower = lower_of(word);
+    let Some((to, old)) = find_usual(regs, ram, first, size, mode_of(word), lower) else {
+        return false;
+    };
+    let out = apply(op, size, old, by, regs.ccr);
+    if !put_usual(regs, ram, to, lower, size, out.value) {
+        return false;
+    }
+    regs.ccr = out.ccr;
+    go_on(regs, to.next);
+    true
 }

@@ -7,10 +7,10 @@ ghost use Rattle.big_memory.specs.Steps.{Does};
 ghost use Rattle.m68_ea.specs.Words.{words_at};
 ghost use Rattle.m68_effects.specs.Ops.{by_op};
 ghost use Rattle.m68_effects.specs.Parts.{after, changed, goes_on};
-ghost use Rattle.m68_arithmetic.specs.Parts.{result_of, runs_with, with_away};
+ghost use Rattle.m68_arithmetic.specs.Parts.{changed_by, result_of, runs_with, with_away};
 
 use super::operation::{Operation, Way, away};
-use super::parts::{change, change_register};
+use super::parts::{change, change_register, change_usual};
 use big_memory::{Did, Ram};
 use m68_ea::go_on;
 use m68_isa::Regs68;
@@ -25,7 +25,7 @@ pub fn do_addq(regs: &mut Regs68, ram: &mut Ram, fault: &mut Fault, word: u32) -
     match mode_of(word) {
         0 => register_by_number(regs, ram, fault, word, Operation::Add),
         1 => move_address(regs, ram, fault, word, Way::Onward),
-        _ => by_number(regs, ram, fault, word, Operation::Add),
+        _ => add_number(regs, ram, fault, word),
     }
 }
 
@@ -37,7 +37,7 @@ pub fn do_subq(regs: &mut Regs68, ram: &mut Ram, fault: &mut Fault, word: u32) -
     match mode_of(word) {
         0 => register_by_number(regs, ram, fault, word, Operation::Sub),
         1 => move_address(regs, ram, fault, word, Way::Backward),
-        _ => by_number(regs, ram, fault, word, Operation::Sub),
+        _ => subtract_number(regs, ram, fault, word),
     }
 }
 
@@ -75,13 +75,38 @@ fn register_by_number(
     }
 }
 
+/// A number from 1 to 8 to memory.
+#[inline(never)]
+fn add_number(regs: &mut Regs68, ram: &mut Ram, fault: &mut Fault, word: u32) -> Did
+    ensures { Does (changed_by Operation.Add 1 (one_to_eight (first_of word).upper) word regs.old ram.old) result fault.new regs.old regs.new ram.old ram.new }
+{
+    to_memory(regs, ram, fault, word, Operation::Add)
+}
+
+/// A number from 1 to 8 from memory.
+#[inline(never)]
+fn subtract_number(regs: &mut Regs68, ram: &mut Ram, fault: &mut Fault, word: u32) -> Did
+    ensures { Does (changed_by Operation.Sub 1 (one_to_eight (first_of word).upper) word regs.old ram.old) result fault.new regs.old regs.new ram.old ram.new }
+{
+    to_memory(regs, ram, fault, word, Operation::Sub)
+}
+
+/// An operation on memory of the size in bits 7 and 6 and the number.
+#[inline(always)]
+fn to_memory(regs: &mut Regs68, ram: &mut Ram, fault: &mut Fault, word: u32, op: Operation) -> Did
+    ensures { Does (changed_by op 1 (one_to_eight (first_of word).upper) word regs.old ram.old) result fault.new regs.old regs.new ram.old ram.new }
+{
+    if change_usual(regs, ram, word, 1, op, quick_of(word)) {
+        Did::Next
+    } else {
+        by_number(regs, ram, fault, word, op)
+    }
+}
+
 /// An operation on an operand of the size in bits 7 and 6 and the number.
 #[inline(never)]
 fn by_number(regs: &mut Regs68, ram: &mut Ram, fault: &mut Fault, word: u32, op: Operation) -> Did
-    ensures { let f = first_of word in
-        let size = size_of_bits f.size in
-        let to = operand_at (words_at ram.old regs.old.pc) 1 size f.mode f.lower in
-        Does (runs_with regs.old word to (λ next. changed regs.old ram.old next size to.ea (λ d. result_of op size regs.old.ccr d (one_to_eight f.upper)))) result fault.new regs.old regs.new ram.old ram.new }
+    ensures { Does (changed_by op 1 (one_to_eight (first_of word).upper) word regs.old ram.old) result fault.new regs.old regs.new ram.old ram.new }
 {
     let (mode, lower, by) = (mode_of(word), lower_of(word), quick_of(word));
     match size_bits_of(word) {

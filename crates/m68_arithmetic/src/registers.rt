@@ -5,14 +5,15 @@ ghost use Rattle.mix_bits.specs.Sizes.{sign_extended};
 ghost use Rattle.m68_isa.specs.First.{first_of, long_or_word, size_of as size_of_bits};
 ghost use Rattle.m68_isa.specs.Operands.{operand_at};
 ghost use Rattle.big_memory.specs.Steps.{Does};
+ghost use Rattle.m68_ea.specs.Usual.{Tries};
 ghost use Rattle.m68_ea.specs.Words.{words_at};
 ghost use Rattle.m68_effects.specs.Ops.{by_op};
 ghost use Rattle.m68_effects.specs.Parts.{into_data};
-ghost use Rattle.m68_arithmetic.specs.Parts.{into_address as into_address_of, result_of, runs_with};
+ghost use Rattle.m68_arithmetic.specs.Parts.{into_address as into_address_of, result_of, runs_with, taken_by};
 
 use super::operation::{Operation, Way, apply, away};
 use big_memory::{Did, Ram};
-use m68_ea::{go_on, source};
+use m68_ea::{go_on, source, usual_source};
 use m68_isa::Regs68;
 use m68_ops::{Op68, bit8_of, lower_of, mode_of, size_bits_of, upper_of};
 use mix_bits::{Fault, Size, sext, trunc, with_low};
@@ -25,7 +26,7 @@ pub fn do_add_to_register(regs: &mut Regs68, ram: &Ram, fault: &mut Fault, word:
     if mode_of(word) == 0 {
         between_registers(regs, ram, fault, word, Operation::Add)
     } else {
-        add_or_sub(regs, ram, fault, word, Operation::Add)
+        from_operand(regs, ram, fault, word, Operation::Add)
     }
 }
 
@@ -37,7 +38,7 @@ pub fn do_sub_to_register(regs: &mut Regs68, ram: &Ram, fault: &mut Fault, word:
     if mode_of(word) == 0 {
         between_registers(regs, ram, fault, word, Operation::Sub)
     } else {
-        add_or_sub(regs, ram, fault, word, Operation::Sub)
+        from_operand(regs, ram, fault, word, Operation::Sub)
     }
 }
 
@@ -92,6 +93,51 @@ fn on_registers(
     regs.d[upper] = with_low(regs.d[upper], out.value, size);
     regs.ccr = out.ccr;
     go_on(regs, 1)
+}
+
+/// An operation on a data register and an operand that is no data register.
+#[inline(always)]
+fn from_operand(regs: &mut Regs68, ram: &Ram, fault: &mut Fault, word: u32, op: Operation) -> Did
+    ensures { Does (taken_by op word regs.old ram.now) result fault.new regs.old regs.new ram.now ram.now }
+{
+    if take_usual(regs, ram, word, op) {
+        Did::Next
+    } else {
+        add_or_sub(regs, ram, fault, word, op)
+    }
+}
+
+/// Tries an operation on a data register and a register, or memory of a usual mode, of the size in bits 7 and
+/// 6, and tells whether it is done.
+#[inline(always)]
+fn take_usual(regs: &mut Regs68, ram: &Ram, word: u32, op: Operation) -> bool
+    ensures { Tries (taken_by op word regs.old ram.now) result regs.old regs.new ram.now ram.now }
+{
+    match size_bits_of(word) {
+        0 => take_sized(regs, ram, word, Size::One, op),
+        1 => take_sized(regs, ram, word, Size::Two, op),
+        _ => take_sized(regs, ram, word, Size::Four, op),
+    }
+}
+
+/// The same of this size.
+#[inline(always)]
+fn take_sized(regs: &mut Regs68, ram: &Ram, word: u32, size: Size, op: Operation) -> bool
+    requires { size ≢ Zero }
+    ensures { let f = first_of word in
+        let from = operand_at (words_at ram.now regs.old.pc) 1 size f.mode f.lower in
+        Tries (runs_with regs.old word from (λ next. into_data regs.old ram.now next size from.ea f.upper (result_of op size regs.old.ccr))) result regs.old regs.new ram.now ram.now }
+{
+    let upper = upper_of(word);
+    let mut next = 1;
+    let Some(value) = usual_source(regs, ram, &mut next, size, mode_of(word), lower_of(word)) else {
+        return false;
+    };
+    let out = apply(op, size, regs.d[upper], value, regs.ccr);
+    regs.d[upper] = with_low(regs.d[upper], out.value, size);
+    regs.ccr = out.ccr;
+    go_on(regs, next);
+    true
 }
 
 /// An operation on a data register and an operand of the size in bits 7 and 6.

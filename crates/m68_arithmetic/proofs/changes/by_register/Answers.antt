@@ -1,16 +1,13 @@
-use Rattle.std.proofs.Common.{◌≡◌, arith}
-use Rattle.std.proofs.lemmas.Bool.Decides.{nat_tests}
-use Rattle.mix_bits.specs.declared.size.Size.TheVariants.{Four}
-use Rattle.m68_isa.specs.First.{size_of}
+use Rattle.std.proofs.Common.{slice_index}
+use Rattle.m68_arithmetic.specs.Parts.{changed_by}
+use Rattle.m68_arithmetic.proofs.Tried.{then_by_others}
 use Rattle.m68_arithmetic.proofs.changes.by_register.Goals as goal
 
-pub returns-in-0 : goal.returns-in-0
-returns-in-0 c = rw (← c.size_bits_of.ensures.is, c.in-0.is, ← c.mode_of-mode.ensures.is, ← c.lower_of-lower.ensures.is, ← c.upper_of-upper.ensures.is) c.change.ensures
+pub returns-then-change_usual : goal.returns-then-change_usual
+returns-then-change_usual c = rw (← c.upper_of.ensures.is) (rw c.if-change_usual.true at c.change_usual.ensures)
 
-pub returns-in-1 : goal.returns-in-1
-returns-in-1 c = rw (← c.size_bits_of.ensures.is, c.in-1.is, ← c.mode_of-mode.ensures.is, ← c.lower_of-lower.ensures.is, ← c.upper_of-upper.ensures.is) c.change-in-1.ensures
-
-pub returns-in_default : goal.returns-in_default
-returns-in_default c =
-    let four : size_of c.size_bits_of.result ≡ Four = grind (arith, nat_tests) in
-    rw (← c.size_bits_of.ensures.is, four, ← c.mode_of-mode.ensures.is, ← c.lower_of-lower.ensures.is, ← c.upper_of-upper.ensures.is) c.change-in_default.ensures
+pub returns-else-change_usual : goal.returns-else-change_usual
+returns-else-change_usual c =
+    rw (← c.upper_of.ensures.is)
+    (then_by_others (λ r m. changed_by c.args.op 1 (slice_index c.args.regs.now.d c.upper_of.result) c.args.word r m) _ _ _ _ _ _ _ _ _ _ c.if-change_usual.false
+    c.change_usual.ensures c.change_sized.ensures)

@@ -11,4 +11,4 @@ returns-in-0 c =
 pub returns-in_default : goal.returns-in_default
 returns-in_default c =
     let other : digit_of c.args.word 3 3 ≢ 1 = omega arith in
-    rw subq_else c.by_number.ensures
+    rw subq_else c.subtract_number.ensures
