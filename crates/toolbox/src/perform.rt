@@ -62,7 +62,7 @@ pub fn perform<I: Source, O: Sink, D: Devices>(
         Function::BlockMove => move_block(operands, ram),
         Function::ExitToShell => Outcome::Left(0),
         Function::PutByte => put_byte(operands, out),
-        Function::GetByte => get_byte(operands, input),
+        Function::GetByte => get_byte(input),
         Function::PutBlock => put_block(operands, ram, out),
         Function::AskDevice => ask_device(operands, rack),
         Function::EjectDevice => Outcome::Given(of_eject(rack.eject(first))),

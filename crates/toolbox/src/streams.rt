@@ -61,8 +61,8 @@ fn say<O: Sink>(out: &mut O, piece: &[u8]) -> Outcome
 }
 
 /// GetByte: takes a byte.
-pub fn get_byte<I: Source>(operands: Operands, input: &mut I) -> Outcome
-    ensures { (memory : Memory) (heap : Space) (rack : State) (out : Output) →
+pub fn get_byte<I: Source>(input: &mut I) -> Outcome
+    ensures { (operands : AllOperands) (memory : Memory) (heap : Space) (rack : State) (out : Output) →
         Performs GetByte operands result
         (place memory heap (with_input (I.left input.old) (I.faults input.old) rack out))
         (place memory heap (with_input (I.left input.new) (I.faults input.new) rack out)) }
