@@ -228,7 +228,7 @@ fn take_all(regs: &mut Regs68, ram: &Ram, a: u32, size: Size, mask: u32) -> u32
     for k in 0..16 {
         if digit(mask, k, 1) == 1 {
             let Ok(value) = ram.load(at, size) else {
-                return count;
+                unreachable!()
             };
             set_register(regs, k as usize, sext(value, size));
             at = onward(at, size.bytes());

@@ -21,8 +21,8 @@ loop-k-init c =
       omega arith,
     )
 
-pub returns-in_default : goal.returns-in_default
-returns-in_default c =
+pub unreachable-requires : goal.unreachable-requires
+unreachable-requires c =
     absurd (not_refused c.args.ram.now c.loop-k.at c.args.size _
     (there_above c.args.ram.now c.args.a c.loop-k.at c.loop-k.k (bytes_of c.args.size) c.memory_laws.ensures.inside c.requires.within c.loop-k.invariant.5 c.loop-k.invariant.6 (omega arith) (most_bytes c.args.size))
     c.in_default.ensures.is)
