@@ -7,6 +7,7 @@ use super::op::Op68;
 use super::places::{is_control, is_control_alterable, is_data, is_data_alterable, is_sized};
 
 /// Words 0100.
+#[inline(always)]
 pub fn line_4(word: u32) -> Op68
     requires { (first_of word).line ≡ 4 }
     ensures reads { Reads result word }
