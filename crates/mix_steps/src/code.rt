@@ -74,7 +74,7 @@ fn run_68k(body: &mut Body, regs: &mut Regs68, fault: &mut Fault, left: &mut u32
     }
 }
 
-#[inline(always)]
+#[inline(never)]
 fn run_ppc(body: &mut Body, regs: &mut RegsPpc, fault: &mut Fault, left: &mut u32) -> Code
     requires whole { IsWhole body.old set_ppc }
     requires some { 0 < left.old }

@@ -127,6 +127,7 @@ pub fn op_of(word: u32) -> OpPpc
 }
 
 /// Opcode 19.
+#[inline(always)]
 #[tactic(auto, unfolding(ppc_isa::specs::Rows::decoded))]
 fn op_19(word: u32) -> OpPpc
     requires { (fields_of word).op ≡ 19 }
@@ -150,6 +151,7 @@ fn op_19(word: u32) -> OpPpc
 }
 
 /// Opcode 31.
+#[inline(always)]
 #[tactic(auto, unfolding(ppc_isa::specs::Rows::decoded))]
 fn op_31(word: u32) -> OpPpc
     requires { (fields_of word).op ≡ 31 }
