@@ -1,5 +1,5 @@
-// Operands in registers, and in memory by the usual modes: (An), (An)+, -(An) and (d16,An). What is refused,
-// or stands elsewhere, changes nothing here and is left to the calls for operands of any mode.
+// Operands in registers, immediate ones, and in memory by the usual modes: (An), (An)+, -(An) and (d16,An).
+// What is refused, or stands elsewhere, changes nothing here and is left to the calls for operands of any mode.
 ghost use Rattle.std.specs.Prelude.{◌≡◌, ◌+◌, ◌<◌, ◌≤◌, IsTrue, IfSome, None, OnSome, slice_index};
 ghost use Rattle.big_memory.specs.Memory.{refusal};
 ghost use Rattle.m68_isa.specs.Operands.{operand_at};
@@ -12,7 +12,7 @@ ghost use Rattle.m68_ea.specs.declared.places.Place68.TheVariants.{Mem};
 
 use super::accesses::is_odd;
 use super::places::{backward, step};
-use super::words::extended_word;
+use super::words::{extended_word, immediate_at, immediate_words};
 use big_memory::{GATE_PAGE_END, Ram, memory_laws};
 use m68_isa::Regs68;
 use mix_bits::{Size, onward, trunc, with_low};
@@ -144,8 +144,8 @@ pub fn put_usual(
     done
 }
 
-/// The value of an operand in a register or in memory of a usual mode, with its increment or decrement
-/// applied. An operand of another mode, or one that can't be read, has no value here.
+/// The value of an operand in a register, of an immediate one, or in memory of a usual mode, with its
+/// increment or decrement applied. An operand of another mode, or one that can't be read, has no value here.
 #[inline(always)]
 pub fn usual_source(
     regs: &mut Regs68,
@@ -158,12 +158,17 @@ pub fn usual_source(
     requires number { lower < 8 }
     requires first { next.old < 4 }
     ensures is { TakesUsual regs.old ram.now size (operand_at (words_at ram.now regs.old.pc) next.old size mode lower) result next.new regs.new }
-    ensures near { next.new ≤ next.old + 1 }
+    ensures near { next.new ≤ next.old + 2 }
     ensures back { OnSome result (with_address regs.new lower (slice_index regs.old.a lower) ≡ regs.old) }
 {
     match mode {
         0 => Some(trunc(regs.d[lower], size)),
         1 => Some(trunc(regs.a[lower], size)),
+        7 if lower == 4 => {
+            let value = immediate_at(ram, regs.pc, *next, size);
+            *next += immediate_words(size);
+            Some(trunc(value, size))
+        }
         _ => source_in_memory(regs, ram, next, size, mode, lower),
     }
 }
