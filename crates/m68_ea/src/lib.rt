@@ -15,7 +15,9 @@ pub use accesses::{load, read_at, store, write_at};
 pub use operands::{Target, control, find, put, source, value};
 pub use places::{Bad, Place68, backward, place};
 pub use stack::{pop, push, push_onto};
-pub use usual::{Usual, find_usual, is_below_stack, put_usual, usual_source, usual_write};
+pub use usual::{
+    Usual, find_usual, is_below_stack, put_usual, usual_or_immediate, usual_source, usual_write,
+};
 pub use words::{
     extended_word, extension_words, go_on, immediate_at, immediate_words, is_second_good, word_at,
 };

@@ -144,10 +144,33 @@ pub fn put_usual(
     done
 }
 
-/// The value of an operand in a register, of an immediate one, or in memory of a usual mode, with its
-/// increment or decrement applied. An operand of another mode, or one that can't be read, has no value here.
+/// The value of an operand in a register or in memory of a usual mode, with its increment or decrement
+/// applied. An operand of another mode, or one that can't be read, has no value here.
 #[inline(always)]
 pub fn usual_source(
+    regs: &mut Regs68,
+    ram: &Ram,
+    next: &mut u32,
+    size: Size,
+    mode: u32,
+    lower: usize,
+) -> Option<u32>
+    requires number { lower < 8 }
+    requires first { next.old < 4 }
+    ensures is { TakesUsual regs.old ram.now size (operand_at (words_at ram.now regs.old.pc) next.old size mode lower) result next.new regs.new }
+    ensures near { next.new ≤ next.old + 1 }
+    ensures back { OnSome result (with_address regs.new lower (slice_index regs.old.a lower) ≡ regs.old) }
+{
+    match mode {
+        0 => Some(trunc(regs.d[lower], size)),
+        1 => Some(trunc(regs.a[lower], size)),
+        _ => source_in_memory(regs, ram, next, size, mode, lower),
+    }
+}
+
+/// The same, also of an immediate operand.
+#[inline(always)]
+pub fn usual_or_immediate(
     regs: &mut Regs68,
     ram: &Ram,
     next: &mut u32,
@@ -161,15 +184,12 @@ pub fn usual_source(
     ensures near { next.new ≤ next.old + 2 }
     ensures back { OnSome result (with_address regs.new lower (slice_index regs.old.a lower) ≡ regs.old) }
 {
-    match mode {
-        0 => Some(trunc(regs.d[lower], size)),
-        1 => Some(trunc(regs.a[lower], size)),
-        7 if lower == 4 => {
-            let value = immediate_at(ram, regs.pc, *next, size);
-            *next += immediate_words(size);
-            Some(trunc(value, size))
-        }
-        _ => source_in_memory(regs, ram, next, size, mode, lower),
+    if mode == 7 && lower == 4 {
+        let value = immediate_at(ram, regs.pc, *next, size);
+        *next += immediate_words(size);
+        Some(trunc(value, size))
+    } else {
+        usual_source(regs, ram, next, size, mode, lower)
     }
 }
 

@@ -15,7 +15,9 @@ ghost use Rattle.m68_effects.specs.Ops.{by_op, runs_made};
 use super::parts::write;
 use big_memory::{Did, Ram, stop};
 use m68_alu::result_flags;
-use m68_ea::{go_on, is_second_good, push_onto, source, usual_source, usual_write};
+use m68_ea::{
+    go_on, is_second_good, push_onto, source, usual_or_immediate, usual_source, usual_write,
+};
 use m68_isa::Regs68;
 use m68_ops::{Op68, lower_of, mode_of, move_mode_of, upper_of};
 use mix_bits::{Fault, FaultKind, Size, sext, trunc, with_low};
@@ -325,7 +327,7 @@ fn move_usual(regs: &mut Regs68, ram: &mut Ram, word: u32, size: Size) -> bool
     let (from, to) = (lower_of(word), upper_of(word));
     let before = regs.a[from];
     let mut next = 1;
-    let Some(value) = usual_source(regs, ram, &mut next, size, mode_of(word), from) else {
+    let Some(value) = usual_or_immediate(regs, ram, &mut next, size, mode_of(word), from) else {
         return false;
     };
     if !usual_write(regs, ram, &mut next, size, move_mode_of(word), to, value) {
