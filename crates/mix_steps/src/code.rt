@@ -57,12 +57,12 @@ fn run_68k(body: &mut Body, regs: &mut Regs68, fault: &mut Fault, left: &mut u32
     ensures codes { CodesAfter (left.old - left.new) result fault.new (M68 regs.old) (M68 regs.new) body.old body.new }
 {
     let mut count = *left;
+    *left = 1;
     'codes: loop {
         match code_68k(body, regs, fault) {
             Code::Next => {
                 count -= 1;
                 if count == 0 {
-                    *left = 1;
                     return Code::Next;
                 }
             }
@@ -84,12 +84,12 @@ fn run_ppc(body: &mut Body, regs: &mut RegsPpc, fault: &mut Fault, left: &mut u3
     ensures codes { CodesAfter (left.old - left.new) result fault.new (Ppc regs.old) (Ppc regs.new) body.old body.new }
 {
     let mut count = *left;
+    *left = 1;
     'codes: loop {
         match code_ppc(body, regs, fault) {
             Code::Next => {
                 count -= 1;
                 if count == 0 {
-                    *left = 1;
                     return Code::Next;
                 }
             }

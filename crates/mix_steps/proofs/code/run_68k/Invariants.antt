@@ -1,5 +1,5 @@
 -- The steps done so far are the code's own.
-use Rattle.std.proofs.Common.{◌-◌, ◌<◌, ◌≤◌}
+use Rattle.std.proofs.Common.{◌≡◌, ◌-◌, ◌<◌, ◌≤◌}
 use Rattle.mix_bits.specs.declared.isa.Isa.TheVariants.{M68 as set_m68}
 use Rattle.switch_frame.specs.declared.active.Active.TheVariants.{M68}
 use Rattle.mixed_machine.specs.Machine.{IsWhole}
@@ -15,5 +15,6 @@ invariant-codes l =
       whole : IsWhole l.body set_m68;
       some : 0 < l.count;
       fewer : l.count ≤ l.initial.count;
+      rest : l.left ≡ 1;
       own : AreOwn (l.initial.count - l.count) (M68 l.initial.regs) (M68 l.regs) l.initial.body l.body;
     }

@@ -11,6 +11,7 @@ codes-preserved c =
       whole = c.in-Next.ensures.1;
       some = omega arith;
       fewer = omega arith;
+      rest = codes.invariant.rest;
       own = own-more c.args.left.now codes.count (Ppc c.args.regs.now) (Ppc codes.regs) (Ppc new.regs) c.args.body.now codes.body new.body codes.invariant.some codes.invariant.fewer codes.invariant.own c.in-Next.ensures;
     }
 
@@ -18,4 +19,10 @@ pub returns-then-count-eq0-clause-codes : goal.returns-then-count-eq0-clause-cod
 returns-then-count-eq0-clause-codes c =
     let codes = c.codes in
     let new = c.code_ppc.new in
-    own-last c.args.left.now codes.count new.fault (Ppc c.args.regs.now) (Ppc codes.regs) (Ppc new.regs) c.args.body.now codes.body new.body codes.invariant.some c.if-count-eq0.true codes.invariant.own c.in-Next.ensures
+    rw codes.invariant.rest (own-last c.args.left.now codes.count new.fault (Ppc c.args.regs.now) (Ppc codes.regs) (Ppc new.regs) c.args.body.now codes.body new.body codes.invariant.some c.if-count-eq0.true codes.invariant.own c.in-Next.ensures)
+
+pub returns-then-count-eq0-clause-some : goal.returns-then-count-eq0-clause-some
+returns-then-count-eq0-clause-some c = omega (arith, c.codes.invariant.rest)
+
+pub returns-then-count-eq0-clause-fewer : goal.returns-then-count-eq0-clause-fewer
+returns-then-count-eq0-clause-fewer c = omega (arith, c.codes.invariant.rest, c.codes.invariant.some, c.codes.invariant.fewer)
