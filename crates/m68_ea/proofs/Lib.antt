@@ -1,2 +1,3 @@
 pub mod Fetch
 pub mod Back
+pub mod Tried

@@ -4,3 +4,4 @@ pub mod Words
 pub mod Operands
 pub mod Finds
 pub mod Usual
+pub mod Laws

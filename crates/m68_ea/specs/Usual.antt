@@ -1,6 +1,6 @@
 -- Operands in registers, and in memory by the usual modes, (An), (An)+, -(An) and (d16,An), where nothing
 -- is refused.
-use Rattle.std.specs.Prelude.{◌≡◌, ℕ, Bool, true, false, Option, Some, None, Result, Ok}
+use Rattle.std.specs.Prelude.{◌≡◌, ℕ, nat_le, Bool, true, false, ◌&&◌, Option, Some, None, Result, Ok, is_ok}
 use Rattle.mix_bits.specs.declared.size.Size.{Size}
 use Rattle.mix_bits.specs.declared.fault.Fault.{Fault}
 use Rattle.m68_isa.specs.declared.registers.Regs68.{Regs68}
@@ -16,6 +16,14 @@ use Rattle.m68_ea.specs.Finds.{KeepsControl, KeepsOthers}
 use Rattle.m68_ea.specs.Operands.{sourced, put_into, value_at}
 use Rattle.m68_ea.specs.Places.{placed, with_address}
 
+-- the usual modes in memory
+abbrev pub is_usual : ℕ → Bool
+is_usual mode = nat_le 2 mode && nat_le mode 5
+
+-- what is not done here is of no kind that is tried, or it is refused
+abbrev pub IsLeft : {T E : Type 0} → Bool → Result T E → Type 0
+IsLeft tried all = (tried && is_ok all) ≡ false
+
 -- where an operand e stands, and its address register n behind the instruction
 pub record IsUsual (r : Regs68) (s : Size) (e : Operand) (n : ℕ) (found : Usual) : Type 0 where
   pub good : e.good ≡ true
@@ -27,25 +35,26 @@ pub record FindsUsual (r : Regs68) (m : Memory) (s : Size) (e : Operand) (n : �
   pub usual : IsUsual r s e n found
   pub value : value_at (with_address r n found.after) m (Mem found.at) s ≡ Ok v
 
--- a value that is stored at an address; or nothing is changed
+-- a value that is stored at an address; or that is refused, and nothing is changed
 abbrev pub Pokes : Result Memory Bad → Bool → Memory → Memory → Type 0
 Pokes all true m n = (all ≡ Ok n) × OnlyFree m n
-Pokes all false m n = n ≡ m
+Pokes all false m n = (is_ok all ≡ false) × (n ≡ m)
 
--- a value that is stored at a place, and the registers p of the instruction's operand; or nothing is changed
+-- a value that is stored at a place, and the registers p of the instruction's operand; or that is refused,
+-- and nothing is changed
 abbrev pub PutsUsual : Regs68 → Result (Regs68 × Memory) Fault → Bool → Regs68 → Regs68 → Memory → Memory → Type 0
 PutsUsual p all true r q m n = (all ≡ Ok (q, n)) × OnlyFree m n × (q ≡ p)
-PutsUsual p all false r q m n = (q ≡ r) × (n ≡ m)
+PutsUsual p all false r q m n = (is_ok all ≡ false) × (q ≡ r) × (n ≡ m)
 
--- an operand e that is found and read; or nothing is changed
-abbrev pub TakesUsual : Regs68 → Memory → Size → Operand → Option ℕ → ℕ → Regs68 → Type 0
-TakesUsual r m s e (Some v) next q = (e.good ≡ true) × (sourced r m s e.ea ≡ Ok (q, v)) × (next ≡ e.next) × KeepsOthers r q
-TakesUsual r m s e None next q = q ≡ r
+-- an operand e that is found and read, from word `first` on; or it is left, and nothing is changed
+abbrev pub TakesUsual : Regs68 → Memory → ℕ → Size → Operand → Bool → Option ℕ → ℕ → Regs68 → Type 0
+TakesUsual r m first s e tried (Some v) next q = (e.good ≡ true) × (sourced r m s e.ea ≡ Ok (q, v)) × (next ≡ e.next) × KeepsOthers r q
+TakesUsual r m first s e tried None next q = IsLeft tried (sourced r m s e.ea) × (next ≡ first) × (q ≡ r)
 
--- an operand e that is found, and a value that is written there; or nothing is changed
-abbrev pub WritesUsual : Regs68 → Memory → Size → Operand → ℕ → Bool → ℕ → Regs68 → Memory → Type 0
-WritesUsual r m s e v true next q n = (e.good ≡ true) × (put_into r m s e.ea v ≡ Ok (q, n)) × (next ≡ e.next) × KeepsControl r q × OnlyFree m n
-WritesUsual r m s e v false next q n = (q ≡ r) × (n ≡ m)
+-- an operand e that is found, and a value that is written there; or it is left, and nothing is changed
+abbrev pub WritesUsual : Regs68 → Memory → ℕ → Size → Operand → ℕ → Bool → Bool → ℕ → Regs68 → Memory → Type 0
+WritesUsual r m first s e v tried true next q n = (e.good ≡ true) × (put_into r m s e.ea v ≡ Ok (q, n)) × (next ≡ e.next) × KeepsControl r q × OnlyFree m n
+WritesUsual r m first s e v tried false next q n = IsLeft tried (put_into r m s e.ea v) × (next ≡ first) × (q ≡ r) × (n ≡ m)
 
 -- a step that is done; or it is left to others, and nothing is changed
 abbrev pub Tries : After Regs68 → Bool → Regs68 → Regs68 → Memory → Memory → Type 0

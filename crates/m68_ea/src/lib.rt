@@ -5,6 +5,7 @@
 #![tactic(auto)]
 
 mod accesses;
+mod laws;
 mod operands;
 mod places;
 mod stack;
@@ -12,6 +13,7 @@ mod usual;
 mod words;
 
 pub use accesses::{load, read_at, store, write_at};
+pub use laws::tried_laws;
 pub use operands::{Target, control, find, put, source, value};
 pub use places::{Bad, Place68, backward, place};
 pub use stack::{pop, push, push_onto};

@@ -1,12 +1,12 @@
 // Operands in registers, immediate ones, and in memory by the usual modes: (An), (An)+, -(An) and (d16,An).
 // What is refused, or stands elsewhere, changes nothing here and is left to the calls for operands of any mode.
-ghost use Rattle.std.specs.Prelude.{◌≡◌, ◌+◌, ◌<◌, ◌≤◌, IsTrue, IfSome, None, OnSome, slice_index};
-ghost use Rattle.big_memory.specs.Memory.{refusal};
+ghost use Rattle.std.specs.Prelude.{◌≡◌, ◌+◌, ◌<◌, ◌≤◌, ◌==◌, nat_le, ◌&&◌, ◌||◌, IsTrue, IfSome, IfNone, MatchOption, None, Ok, OnSome, is_ok, false, slice_index};
+ghost use Rattle.big_memory.specs.Memory.{floor_of, refusal};
 ghost use Rattle.m68_isa.specs.Operands.{operand_at};
 ghost use Rattle.m68_ea.specs.Accesses.{read_in, written_in};
-ghost use Rattle.m68_ea.specs.Operands.{written_at};
+ghost use Rattle.m68_ea.specs.Operands.{sourced, written_at};
 ghost use Rattle.m68_ea.specs.Places.{with_address};
-ghost use Rattle.m68_ea.specs.Usual.{FindsUsual, IsUsual, Pokes, PutsUsual, TakesUsual, WritesUsual};
+ghost use Rattle.m68_ea.specs.Usual.{FindsUsual, IsLeft, IsUsual, Pokes, PutsUsual, TakesUsual, WritesUsual, is_usual};
 ghost use Rattle.m68_ea.specs.Words.{words_at};
 ghost use Rattle.m68_ea.specs.declared.places.Place68.TheVariants.{Mem};
 
@@ -42,6 +42,7 @@ fn place_usual(
     requires first { next < 5 }
     ensures is { IfSome result (λ found. IsUsual regs.now size (operand_at (words_at ram.now regs.now.pc) next size mode lower) lower found) }
     ensures near { IfSome result (λ found. found.next ≤ next + 1) }
+    ensures left { IfNone result (is_usual mode ≡ false) }
 {
     let before = regs.a[lower];
     match mode {
@@ -75,7 +76,7 @@ fn place_usual(
 /// The value at an address, where it can be read.
 #[inline(always)]
 fn peek(ram: &Ram, a: u32, size: Size) -> Option<u32>
-    ensures { IfSome result (λ value. read_in ram.now a size ≡ Ok value) }
+    ensures { MatchOption result (is_ok (read_in ram.now a size) ≡ false) (λ value. read_in ram.now a size ≡ Ok value) }
 {
     if is_odd(a, size) {
         None
@@ -95,7 +96,8 @@ fn poke(ram: &mut Ram, a: u32, size: Size, value: u32) -> bool
 /// Whether `n` bytes lie between the gate page and the stack, where every store is done.
 #[inline(always)]
 pub fn is_below_stack(ram: &Ram, a: u32, n: u32) -> bool
-    ensures { IsTrue result → refusal ram.now a n ≡ None }
+    ensures is { result ≡ (nat_le 0x2000 a && nat_le (a + n) (floor_of ram.now)) }
+    ensures passes { IsTrue result → refusal ram.now a n ≡ None }
 {
     memory_laws();
     let _len = ram.len();
@@ -116,6 +118,7 @@ pub fn find_usual(
     requires first { next < 4 }
     ensures is { IfSome result (λ found. FindsUsual regs.now ram.now size (operand_at (words_at ram.now regs.now.pc) next size mode lower) lower found.0 found.1) }
     ensures near { IfSome result (λ found. found.0.next ≤ next + 1) }
+    ensures left { IfNone result (IsLeft (is_usual mode) (sourced regs.now ram.now size (operand_at (words_at ram.now regs.now.pc) next size mode lower).ea)) }
 {
     let found = place_usual(regs, ram, next, size, mode, lower)?;
     let value = peek(ram, found.at, size)?;
@@ -157,7 +160,7 @@ pub fn usual_source(
 ) -> Option<u32>
     requires number { lower < 8 }
     requires first { next.old < 4 }
-    ensures is { TakesUsual regs.old ram.now size (operand_at (words_at ram.now regs.old.pc) next.old size mode lower) result next.new regs.new }
+    ensures is { TakesUsual regs.old ram.now next.old size (operand_at (words_at ram.now regs.old.pc) next.old size mode lower) (nat_le mode 5) result next.new regs.new }
     ensures near { next.new ≤ next.old + 1 }
     ensures back { OnSome result (with_address regs.new lower (slice_index regs.old.a lower) ≡ regs.old) }
 {
@@ -180,7 +183,7 @@ pub fn usual_or_immediate(
 ) -> Option<u32>
     requires number { lower < 8 }
     requires first { next.old < 4 }
-    ensures is { TakesUsual regs.old ram.now size (operand_at (words_at ram.now regs.old.pc) next.old size mode lower) result next.new regs.new }
+    ensures is { TakesUsual regs.old ram.now next.old size (operand_at (words_at ram.now regs.old.pc) next.old size mode lower) (nat_le mode 5 || (mode == 7 && lower == 4)) result next.new regs.new }
     ensures near { next.new ≤ next.old + 2 }
     ensures back { OnSome result (with_address regs.new lower (slice_index regs.old.a lower) ≡ regs.old) }
 {
@@ -205,7 +208,7 @@ fn source_in_memory(
 ) -> Option<u32>
     requires number { lower < 8 }
     requires first { next.old < 4 }
-    ensures is { TakesUsual regs.old ram.now size (operand_at (words_at ram.now regs.old.pc) next.old size mode lower) result next.new regs.new }
+    ensures is { TakesUsual regs.old ram.now next.old size (operand_at (words_at ram.now regs.old.pc) next.old size mode lower) (is_usual mode) result next.new regs.new }
     ensures near { next.new ≤ next.old + 1 }
     ensures back { OnSome result (with_address regs.new lower (slice_index regs.old.a lower) ≡ regs.old) }
 {
@@ -247,7 +250,7 @@ pub fn usual_write(
 ) -> bool
     requires number { lower < 8 }
     requires first { next.old < 4 }
-    ensures is { WritesUsual regs.old ram.old size (operand_at (words_at ram.old regs.old.pc) next.old size mode lower) value result next.new regs.new ram.new }
+    ensures is { WritesUsual regs.old ram.old next.old size (operand_at (words_at ram.old regs.old.pc) next.old size mode lower) value (mode == 0 || is_usual mode) result next.new regs.new ram.new }
     ensures near { next.new ≤ next.old + 1 }
 {
     if mode == 0 {
@@ -271,7 +274,7 @@ fn write_in_memory(
 ) -> bool
     requires number { lower < 8 }
     requires first { next.old < 4 }
-    ensures is { WritesUsual regs.old ram.old size (operand_at (words_at ram.old regs.old.pc) next.old size mode lower) value result next.new regs.new ram.new }
+    ensures is { WritesUsual regs.old ram.old next.old size (operand_at (words_at ram.old regs.old.pc) next.old size mode lower) value (is_usual mode) result next.new regs.new ram.new }
     ensures near { next.new ≤ next.old + 1 }
 {
     let before = regs.a[lower];

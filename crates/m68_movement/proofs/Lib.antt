@@ -3,6 +3,5 @@ pub mod Sizes
 pub mod Stores
 pub mod Masks
 pub mod Bases
-pub mod Tried
 pub mod Down
 pub mod Up

@@ -1,5 +1,6 @@
 ghost use Rattle.std.specs.Prelude.{◌≡◌, ◌+◌, ◌<◌, ◌≤◌, ◌&&◌, true, Ok};
-ghost use Rattle.mix_bits.specs.declared.size.Size.TheVariants.{Two, Four};
+ghost use Rattle.mix_bits.specs.declared.size.Size.{Size as ASize};
+ghost use Rattle.mix_bits.specs.declared.size.Size.TheVariants.{One, Two, Four};
 ghost use Rattle.m68_isa.specs.declared.instructions.Instr68.TheVariants.{Move, Movea};
 ghost use Rattle.m68_isa.specs.declared.found.Found.TheVariants.{Made};
 ghost use Rattle.m68_isa.specs.First.{first_of};
@@ -11,6 +12,7 @@ ghost use Rattle.m68_ea.specs.Operands.{sourced};
 ghost use Rattle.m68_ea.specs.Usual.{Tries};
 ghost use Rattle.m68_ea.specs.Words.{words_at};
 ghost use Rattle.m68_effects.specs.Ops.{by_op, runs_made};
+ghost use Rattle.m68_movement.specs.Moves.{moved, moves};
 
 use super::parts::write;
 use big_memory::{Did, Ram, stop};
@@ -22,75 +24,47 @@ use m68_isa::Regs68;
 use m68_ops::{Op68, lower_of, mode_of, move_mode_of, upper_of};
 use mix_bits::{Fault, FaultKind, Size, sext, trunc, with_low};
 
+/// The size of a move, for which each function of a move is compiled.
+trait Width {
+    ghost SIZE: { ASize };
+
+    /// The size.
+    const SIZE: Size;
+}
+
+/// A byte is moved.
+struct Byte;
+
+/// A word is moved.
+struct Word;
+
+/// A long is moved.
+struct Long;
+
+impl Width for Byte {
+    ghost SIZE = { One };
+
+    const SIZE: Size = Size::One;
+}
+
+impl Width for Word {
+    ghost SIZE = { Two };
+
+    const SIZE: Size = Size::Two;
+}
+
+impl Width for Long {
+    ghost SIZE = { Four };
+
+    const SIZE: Size = Size::Four;
+}
+
 /// move.b: any operand but an address register into one that can be written.
 #[inline(never)]
 pub fn do_move_byte(regs: &mut Regs68, ram: &mut Ram, fault: &mut Fault, word: u32) -> Did
     ensures { Does (by_op Op68.MoveByte regs.old ram.old word) result fault.new regs.old regs.new ram.old ram.new }
 {
-    if move_mode_of(word) == 0 {
-        if move_in(regs, ram, word, Size::One) {
-            Did::Next
-        } else {
-            move_byte(regs, ram, fault, word)
-        }
-    } else if mode_of(word) > 1 {
-        move_byte_in_memory(regs, ram, fault, word)
-    } else if move_mode_of(word) == 4 {
-        move_byte_before(regs, ram, fault, word)
-    } else {
-        move_byte_out(regs, ram, fault, word)
-    }
-}
-
-/// move.b of a register into memory.
-#[inline(never)]
-fn move_byte_out(regs: &mut Regs68, ram: &mut Ram, fault: &mut Fault, word: u32) -> Did
-    requires { (first_of word).mode < 2 }
-    ensures { Does (by_op Op68.MoveByte regs.old ram.old word) result fault.new regs.old regs.new ram.old ram.new }
-{
-    if move_out(regs, ram, word, Size::One) {
-        Did::Next
-    } else {
-        move_byte(regs, ram, fault, word)
-    }
-}
-
-/// move.b of a register onto a stack.
-#[inline(never)]
-fn move_byte_before(regs: &mut Regs68, ram: &mut Ram, fault: &mut Fault, word: u32) -> Did
-    requires from { (first_of word).mode < 2 }
-    requires to { move_mode (first_of word) ≡ 4 }
-    ensures { Does (by_op Op68.MoveByte regs.old ram.old word) result fault.new regs.old regs.new ram.old ram.new }
-{
-    move_before(regs, ram, fault, word, Size::One)
-}
-
-/// move.b without a register that is moved.
-#[inline(never)]
-fn move_byte_in_memory(regs: &mut Regs68, ram: &mut Ram, fault: &mut Fault, word: u32) -> Did
-    ensures { Does (by_op Op68.MoveByte regs.old ram.old word) result fault.new regs.old regs.new ram.old ram.new }
-{
-    if move_usual(regs, ram, word, Size::One) {
-        Did::Next
-    } else {
-        move_byte(regs, ram, fault, word)
-    }
-}
-
-/// move.b of any operands.
-#[inline(never)]
-fn move_byte(regs: &mut Regs68, ram: &mut Ram, fault: &mut Fault, word: u32) -> Did
-    ensures { Does (by_op Op68.MoveByte regs.old ram.old word) result fault.new regs.old regs.new ram.old ram.new }
-{
-    let from = (mode_of(word), lower_of(word));
-    let to = (move_mode_of(word), upper_of(word));
-    if to.0 == 0 {
-        move_to_register(regs, ram, fault, word, Size::One, from, to.1)
-    } else if from.0 == 0 {
-        move_from_register(regs, ram, fault, word, Size::One, from.1, to)
-    } else {
-        move_between(regs, ram, fault, word, Size::One, from, to)
-    }
+    do_move::<Byte>(regs, ram, fault, word)
 }
 
 /// move.w
@@ -98,70 +72,7 @@ fn move_byte(regs: &mut Regs68, ram: &mut Ram, fault: &mut Fault, word: u32) -> 
 pub fn do_move_word(regs: &mut Regs68, ram: &mut Ram, fault: &mut Fault, word: u32) -> Did
     ensures { Does (by_op Op68.MoveWord regs.old ram.old word) result fault.new regs.old regs.new ram.old ram.new }
 {
-    if move_mode_of(word) == 0 {
-        if move_in(regs, ram, word, Size::Two) {
-            Did::Next
-        } else {
-            move_word(regs, ram, fault, word)
-        }
-    } else if mode_of(word) > 1 {
-        move_word_in_memory(regs, ram, fault, word)
-    } else if move_mode_of(word) == 4 {
-        move_word_before(regs, ram, fault, word)
-    } else {
-        move_word_out(regs, ram, fault, word)
-    }
-}
-
-/// move.w of a register into memory.
-#[inline(never)]
-fn move_word_out(regs: &mut Regs68, ram: &mut Ram, fault: &mut Fault, word: u32) -> Did
-    requires { (first_of word).mode < 2 }
-    ensures { Does (by_op Op68.MoveWord regs.old ram.old word) result fault.new regs.old regs.new ram.old ram.new }
-{
-    if move_out(regs, ram, word, Size::Two) {
-        Did::Next
-    } else {
-        move_word(regs, ram, fault, word)
-    }
-}
-
-/// move.w of a register onto a stack.
-#[inline(never)]
-fn move_word_before(regs: &mut Regs68, ram: &mut Ram, fault: &mut Fault, word: u32) -> Did
-    requires from { (first_of word).mode < 2 }
-    requires to { move_mode (first_of word) ≡ 4 }
-    ensures { Does (by_op Op68.MoveWord regs.old ram.old word) result fault.new regs.old regs.new ram.old ram.new }
-{
-    move_before(regs, ram, fault, word, Size::Two)
-}
-
-/// move.w without a register that is moved.
-#[inline(never)]
-fn move_word_in_memory(regs: &mut Regs68, ram: &mut Ram, fault: &mut Fault, word: u32) -> Did
-    ensures { Does (by_op Op68.MoveWord regs.old ram.old word) result fault.new regs.old regs.new ram.old ram.new }
-{
-    if move_usual(regs, ram, word, Size::Two) {
-        Did::Next
-    } else {
-        move_word(regs, ram, fault, word)
-    }
-}
-
-/// move.w of any operands.
-#[inline(never)]
-fn move_word(regs: &mut Regs68, ram: &mut Ram, fault: &mut Fault, word: u32) -> Did
-    ensures { Does (by_op Op68.MoveWord regs.old ram.old word) result fault.new regs.old regs.new ram.old ram.new }
-{
-    let from = (mode_of(word), lower_of(word));
-    let to = (move_mode_of(word), upper_of(word));
-    if to.0 == 0 {
-        move_to_register(regs, ram, fault, word, Size::Two, from, to.1)
-    } else if from.0 == 0 {
-        move_from_register(regs, ram, fault, word, Size::Two, from.1, to)
-    } else {
-        move_between(regs, ram, fault, word, Size::Two, from, to)
-    }
+    do_move::<Word>(regs, ram, fault, word)
 }
 
 /// move.l
@@ -169,69 +80,77 @@ fn move_word(regs: &mut Regs68, ram: &mut Ram, fault: &mut Fault, word: u32) -> 
 pub fn do_move_long(regs: &mut Regs68, ram: &mut Ram, fault: &mut Fault, word: u32) -> Did
     ensures { Does (by_op Op68.MoveLong regs.old ram.old word) result fault.new regs.old regs.new ram.old ram.new }
 {
+    do_move::<Long>(regs, ram, fault, word)
+}
+
+/// A move of a known size. Usual operands are tried first, each kind in a place of its own.
+#[inline(always)]
+fn do_move<W: Width>(regs: &mut Regs68, ram: &mut Ram, fault: &mut Fault, word: u32) -> Did
+    ensures { Does (moves W.SIZE regs.old ram.old word) result fault.new regs.old regs.new ram.old ram.new }
+{
     if move_mode_of(word) == 0 {
-        if move_in(regs, ram, word, Size::Four) {
+        if move_in(regs, ram, word, W::SIZE) {
             Did::Next
         } else {
-            move_long(regs, ram, fault, word)
+            move_any::<W>(regs, ram, fault, word)
         }
     } else if mode_of(word) > 1 {
-        move_long_in_memory(regs, ram, fault, word)
+        move_in_memory::<W>(regs, ram, fault, word)
     } else if move_mode_of(word) == 4 {
-        move_long_before(regs, ram, fault, word)
+        move_onto_stack::<W>(regs, ram, fault, word)
     } else {
-        move_long_out(regs, ram, fault, word)
+        move_register::<W>(regs, ram, fault, word)
     }
 }
 
-/// move.l of a register into memory.
+/// A move of a register into memory.
 #[inline(never)]
-fn move_long_out(regs: &mut Regs68, ram: &mut Ram, fault: &mut Fault, word: u32) -> Did
+fn move_register<W: Width>(regs: &mut Regs68, ram: &mut Ram, fault: &mut Fault, word: u32) -> Did
     requires { (first_of word).mode < 2 }
-    ensures { Does (by_op Op68.MoveLong regs.old ram.old word) result fault.new regs.old regs.new ram.old ram.new }
+    ensures { Does (moves W.SIZE regs.old ram.old word) result fault.new regs.old regs.new ram.old ram.new }
 {
-    if move_out(regs, ram, word, Size::Four) {
+    if move_out(regs, ram, word, W::SIZE) {
         Did::Next
     } else {
-        move_long(regs, ram, fault, word)
+        move_any::<W>(regs, ram, fault, word)
     }
 }
 
-/// move.l of a register onto a stack.
+/// A move of a register onto a stack.
 #[inline(never)]
-fn move_long_before(regs: &mut Regs68, ram: &mut Ram, fault: &mut Fault, word: u32) -> Did
+fn move_onto_stack<W: Width>(regs: &mut Regs68, ram: &mut Ram, fault: &mut Fault, word: u32) -> Did
     requires from { (first_of word).mode < 2 }
     requires to { move_mode (first_of word) ≡ 4 }
-    ensures { Does (by_op Op68.MoveLong regs.old ram.old word) result fault.new regs.old regs.new ram.old ram.new }
+    ensures { Does (moves W.SIZE regs.old ram.old word) result fault.new regs.old regs.new ram.old ram.new }
 {
-    move_before(regs, ram, fault, word, Size::Four)
+    move_before(regs, ram, fault, word, W::SIZE)
 }
 
-/// move.l without a register that is moved.
+/// A move of what is in no register.
 #[inline(never)]
-fn move_long_in_memory(regs: &mut Regs68, ram: &mut Ram, fault: &mut Fault, word: u32) -> Did
-    ensures { Does (by_op Op68.MoveLong regs.old ram.old word) result fault.new regs.old regs.new ram.old ram.new }
+fn move_in_memory<W: Width>(regs: &mut Regs68, ram: &mut Ram, fault: &mut Fault, word: u32) -> Did
+    ensures { Does (moves W.SIZE regs.old ram.old word) result fault.new regs.old regs.new ram.old ram.new }
 {
-    if move_usual(regs, ram, word, Size::Four) {
+    if move_usual(regs, ram, word, W::SIZE) {
         Did::Next
     } else {
-        move_long(regs, ram, fault, word)
+        move_any::<W>(regs, ram, fault, word)
     }
 }
 
-/// move.l of any operands.
+/// A move of any operands.
 #[inline(never)]
-fn move_long(regs: &mut Regs68, ram: &mut Ram, fault: &mut Fault, word: u32) -> Did
-    ensures { Does (by_op Op68.MoveLong regs.old ram.old word) result fault.new regs.old regs.new ram.old ram.new }
+fn move_any<W: Width>(regs: &mut Regs68, ram: &mut Ram, fault: &mut Fault, word: u32) -> Did
+    ensures { Does (moves W.SIZE regs.old ram.old word) result fault.new regs.old regs.new ram.old ram.new }
 {
     let from = (mode_of(word), lower_of(word));
     let to = (move_mode_of(word), upper_of(word));
     if to.0 == 0 {
-        move_to_register(regs, ram, fault, word, Size::Four, from, to.1)
+        move_to_register(regs, ram, fault, word, W::SIZE, from, to.1)
     } else if from.0 == 0 {
-        move_from_register(regs, ram, fault, word, Size::Four, from.1, to)
+        move_from_register(regs, ram, fault, word, W::SIZE, from.1, to)
     } else {
-        move_between(regs, ram, fault, word, Size::Four, from, to)
+        move_between(regs, ram, fault, word, W::SIZE, from, to)
     }
 }
 
@@ -239,10 +158,7 @@ fn move_long(regs: &mut Regs68, ram: &mut Ram, fault: &mut Fault, word: u32) -> 
 #[inline(always)]
 fn move_in(regs: &mut Regs68, ram: &Ram, word: u32, size: Size) -> bool
     requires { move_mode (first_of word) ≡ 0 }
-    ensures { let f = first_of word in
-        let source = operand_at (words_at ram.now regs.old.pc) 1 size f.mode f.lower in
-        let target = operand_at (words_at ram.now regs.old.pc) source.next size (move_mode f) f.upper in
-        Tries (runs_made regs.old ram.now word (Made (Move size source.ea target.ea) target.next (source.good && target.good))) result regs.old regs.new ram.now ram.now }
+    ensures { Tries (moves size regs.old ram.now word) result regs.old regs.new ram.now ram.now }
 {
     let to = upper_of(word);
     let mut next = 1;
@@ -259,10 +175,7 @@ fn move_in(regs: &mut Regs68, ram: &Ram, word: u32, size: Size) -> bool
 #[inline(always)]
 fn move_out(regs: &mut Regs68, ram: &mut Ram, word: u32, size: Size) -> bool
     requires { (first_of word).mode < 2 }
-    ensures { let f = first_of word in
-        let source = operand_at (words_at ram.old regs.old.pc) 1 size f.mode f.lower in
-        let target = operand_at (words_at ram.old regs.old.pc) source.next size (move_mode f) f.upper in
-        Tries (runs_made regs.old ram.old word (Made (Move size source.ea target.ea) target.next (source.good && target.good))) result regs.old regs.new ram.old ram.new }
+    ensures { Tries (moves size regs.old ram.old word) result regs.old regs.new ram.old ram.new }
 {
     let value = register_value(regs, ram, size, mode_of(word), lower_of(word));
     let mut next = 1;
@@ -287,10 +200,7 @@ fn move_out(regs: &mut Regs68, ram: &mut Ram, word: u32, size: Size) -> bool
 fn move_before(regs: &mut Regs68, ram: &mut Ram, fault: &mut Fault, word: u32, size: Size) -> Did
     requires from { (first_of word).mode < 2 }
     requires to { move_mode (first_of word) ≡ 4 }
-    ensures { let f = first_of word in
-        let source = operand_at (words_at ram.old regs.old.pc) 1 size f.mode f.lower in
-        let target = operand_at (words_at ram.old regs.old.pc) source.next size (move_mode f) f.upper in
-        Does (runs_made regs.old ram.old word (Made (Move size source.ea target.ea) target.next (source.good && target.good))) result fault.new regs.old regs.new ram.old ram.new }
+    ensures { Does (moves size regs.old ram.old word) result fault.new regs.old regs.new ram.old ram.new }
 {
     let value = register_value(regs, ram, size, mode_of(word), lower_of(word));
     if !push_onto(regs, ram, fault, upper_of(word), size, value) {
@@ -319,10 +229,7 @@ fn register_value(regs: &Regs68, ram: &Ram, size: Size, mode: u32, lower: usize)
 /// done.
 #[inline(always)]
 fn move_usual(regs: &mut Regs68, ram: &mut Ram, word: u32, size: Size) -> bool
-    ensures { let f = first_of word in
-        let source = operand_at (words_at ram.old regs.old.pc) 1 size f.mode f.lower in
-        let target = operand_at (words_at ram.old regs.old.pc) source.next size (move_mode f) f.upper in
-        Tries (runs_made regs.old ram.old word (Made (Move size source.ea target.ea) target.next (source.good && target.good))) result regs.old regs.new ram.old ram.new }
+    ensures { Tries (moves size regs.old ram.old word) result regs.old regs.new ram.old ram.new }
 {
     let (from, to) = (lower_of(word), upper_of(word));
     let before = regs.a[from];
@@ -352,9 +259,7 @@ fn move_to_register(
 ) -> Did
     requires from { from.1 < 8 }
     requires to { to < 8 }
-    ensures { let source = operand_at (words_at ram.now regs.old.pc) 1 size from.0 from.1 in
-        let target = operand_at (words_at ram.now regs.old.pc) source.next size 0 to in
-        Does (runs_made regs.old ram.now word (Made (Move size source.ea target.ea) target.next (source.good && target.good))) result fault.new regs.old regs.new ram.now ram.now }
+    ensures { Does (moved size from (0, to) regs.old ram.now word) result fault.new regs.old regs.new ram.now ram.now }
 {
     let mut next = 1;
     let Some(value) = source(regs, ram, fault, word, &mut next, size, from.0, from.1) else {
@@ -378,9 +283,7 @@ fn move_from_register(
 ) -> Did
     requires from { from < 8 }
     requires to { to.1 < 8 }
-    ensures { let source = operand_at (words_at ram.old regs.old.pc) 1 size 0 from in
-        let target = operand_at (words_at ram.old regs.old.pc) source.next size to.0 to.1 in
-        Does (runs_made regs.old ram.old word (Made (Move size source.ea target.ea) target.next (source.good && target.good))) result fault.new regs.old regs.new ram.old ram.new }
+    ensures { Does (moved size (0, from) to regs.old ram.old word) result fault.new regs.old regs.new ram.old ram.new }
 {
     let value = trunc(regs.d[from], size);
     let mut next = 1;
@@ -405,9 +308,7 @@ fn move_between(
 ) -> Did
     requires from { from.1 < 8 }
     requires to { to.1 < 8 }
-    ensures { let source = operand_at (words_at ram.old regs.old.pc) 1 size from.0 from.1 in
-        let target = operand_at (words_at ram.old regs.old.pc) source.next size to.0 to.1 in
-        Does (runs_made regs.old ram.old word (Made (Move size source.ea target.ea) target.next (source.good && target.good))) result fault.new regs.old regs.new ram.old ram.new }
+    ensures { Does (moved size from to regs.old ram.old word) result fault.new regs.old regs.new ram.old ram.new }
 {
     if !is_second_good(ram, regs.pc, size, from, to) {
         return stop::<Regs68>(fault, FaultKind::Illegal, regs.pc, word);

@@ -1,6 +1,6 @@
 use Rattle.std.proofs.Common.{slice_index}
 use Rattle.m68_arithmetic.specs.Parts.{changed_by}
-use Rattle.m68_arithmetic.proofs.Tried.{then_by_others}
+use Rattle.m68_ea.proofs.Tried.{then_by_others}
 use Rattle.m68_arithmetic.proofs.changes.by_register.Goals as goal
 
 pub returns-then-change_usual : goal.returns-then-change_usual

@@ -1,6 +1,6 @@
 use Rattle.m68_ops.specs.declared.op.Op68.TheVariants.{Cmp}
 use Rattle.m68_effects.specs.Ops.{by_op}
-use Rattle.m68_arithmetic.proofs.Tried.{then_by_others}
+use Rattle.m68_ea.proofs.Tried.{then_by_others}
 use Rattle.m68_arithmetic.proofs.comparisons.do_cmp.Goals as goal
 
 pub returns-else-compare_usual : goal.returns-else-compare_usual

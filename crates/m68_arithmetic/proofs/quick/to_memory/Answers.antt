@@ -1,6 +1,6 @@
 use Rattle.m68_isa.specs.First.{first_of, one_to_eight}
 use Rattle.m68_arithmetic.specs.Parts.{changed_by}
-use Rattle.m68_arithmetic.proofs.Tried.{then_by_others}
+use Rattle.m68_ea.proofs.Tried.{then_by_others}
 use Rattle.m68_arithmetic.proofs.quick.to_memory.Goals as goal
 
 pub returns-then-change_usual : goal.returns-then-change_usual

@@ -1,5 +1,5 @@
 use Rattle.m68_arithmetic.specs.Parts.{taken_by}
-use Rattle.m68_arithmetic.proofs.Tried.{then_by_others}
+use Rattle.m68_ea.proofs.Tried.{then_by_others}
 use Rattle.m68_arithmetic.proofs.registers.from_operand.Goals as goal
 
 pub returns-else-take_usual : goal.returns-else-take_usual

@@ -1,6 +1,6 @@
 use Rattle.std.proofs.Common.{slice_index}
 use Rattle.m68_logic.specs.Parts.{combined}
-use Rattle.m68_logic.proofs.Tried.{then_by_others}
+use Rattle.m68_ea.proofs.Tried.{then_by_others}
 use Rattle.m68_logic.proofs.logic.from_register.Goals as goal
 
 pub returns-then-combine_usual : goal.returns-then-combine_usual

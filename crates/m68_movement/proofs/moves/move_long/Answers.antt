@@ -1,8 +1,0 @@
-use Rattle.std.proofs.Common.{◌≡◌, ◌∙◌, sym}
-use Rattle.mix_bits.specs.Digits.{digit_of}
-use Rattle.m68_movement.proofs.moves.move_long.Goals as goal
-
-pub returns-then-from-eq0 : goal.returns-then-from-eq0
-returns-then-from-eq0 c =
-    let zero : digit_of c.args.word 3 3 ≡ 0 = sym c.mode_of.ensures.is ∙ c.if-from-eq0.true in
-    rw (zero, ← c.lower_of.ensures.is, ← c.move_mode_of.ensures.is, ← c.upper_of.ensures.is) c.move_from_register.ensures
