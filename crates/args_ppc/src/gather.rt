@@ -2,7 +2,7 @@
 ghost use Rattle.std.specs.Prelude.{◌≡◌, ◌+◌, ◌-◌, ◌≤◌, true, IfOk, length, drop, replicate};
 ghost use Rattle.proc_info.specs.Codes.{is_dispatched};
 ghost use Rattle.proc_info.specs.Views.{signature};
-ghost use Rattle.args_ppc.specs.Words.{Appends, answered, first_passed, gathered, selector_in, value_at, values_at, word_at};
+ghost use Rattle.args_ppc.specs.Words.{Appends, answered, gathered, selector_in, value_at, values_at, word_at};
 
 use super::words::PpcWords;
 use arrayvec::ArrayVec;

@@ -1,5 +1,5 @@
 use big_memory::Ram;
-use std::alloc::{AllocError, Global};
+use std::alloc::AllocError;
 
 /// Where the instruction stands.
 pub const CODE: u32 = 0x1_0000;

@@ -4,7 +4,7 @@ use crate::setting::{Setting, number};
 use big_memory::Ram;
 use m68_core::{Out68, step68};
 use m68_isa::{Ccr, Regs68};
-use mix_bits::{Fault, FaultKind, Size};
+use mix_bits::Size;
 use std::alloc::{AllocError, Global};
 
 /// What the instruction of a line does, as text.

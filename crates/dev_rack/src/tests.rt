@@ -1,5 +1,5 @@
 // What no clause says: that the calls succeed with ample memory, and that an ejected device is dropped.
-ghost use Rattle.std.specs.Prelude.{ℕ, None};
+ghost use Rattle.std.specs.Prelude.{None};
 
 use super::{Answer, Asked, Devices, Rack};
 use mix_io::{Counter, Device, Failed, ScriptDevice};

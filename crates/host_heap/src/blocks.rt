@@ -1,7 +1,7 @@
 //! The steps of the heap on its list of blocks, which stands in order of address. Sums are 64 bits wide, so none wraps.
 ghost use Rattle.std.specs.Prelude.{◌≡◌, ◌≢◌, ◌+◌, ◌<◌, ◌≤◌, ◌^◌, IfSome, All, vec_len, vec_capacity};
 ghost use Rattle.std.specs.List.Sorted.{IsNonDecreasingBy};
-ghost use Rattle.host_heap.specs.Space.{Space, rounded};
+ghost use Rattle.host_heap.specs.Space.{rounded};
 ghost use Rattle.host_heap.specs.Place.{lowest_fit, with_block, begins_at, without};
 ghost use Rattle.host_heap.specs.Sound.{IsSound};
 

@@ -1,6 +1,6 @@
 // Sums and differences.
-ghost use Rattle.std.specs.Prelude.{◌≡◌, ◌≢◌, ◌<◌, ◌≤ℤ◌, ◌+ℤ◌, ◌-ℤ◌, pos, neg_ℤ, FitsSigned};
-ghost use Rattle.std.specs.Int.{from_bool, w64};
+ghost use Rattle.std.specs.Prelude.{◌≡◌, ◌≢◌, ◌<◌, ◌≤ℤ◌, pos, neg_ℤ, FitsSigned};
+ghost use Rattle.std.specs.Int.{w64};
 ghost use Rattle.mix_bits.specs.Sizes.{modulus as modulus_lem, signed_of};
 ghost use Rattle.mix_bits.specs.declared.size.Size.TheVariants.{Zero};
 ghost use Rattle.m68_alu.specs.Sizes.{leaves as leaves_lem};

@@ -1,5 +1,5 @@
 // Operands that are changed.
-ghost use Rattle.std.specs.Prelude.{◌≡◌, ◌≢◌, ◌+◌, ◌<◌, slice_index};
+ghost use Rattle.std.specs.Prelude.{◌≢◌, ◌+◌, ◌<◌, slice_index};
 ghost use Rattle.mix_bits.specs.declared.size.Size.TheVariants.{Zero};
 ghost use Rattle.m68_isa.specs.First.{first_of, size_of as size_of_bits};
 ghost use Rattle.m68_isa.specs.Operands.{immediate_at as immediate_at_of, immediate_words as immediate_words_of, operand_at};
@@ -39,7 +39,7 @@ fn by_register(regs: &mut Regs68, ram: &mut Ram, fault: &mut Fault, word: u32, o
     ensures { Does (changed_by op 1 (slice_index regs.old.d (first_of word).upper) word regs.old ram.old) result fault.new regs.old regs.new ram.old ram.new }
 {
     let by = regs.d[upper_of(word)];
-    if change_usual(regs, ram, word, 1, op, by) {
+    if change_usual(regs, ram, word, op, by) {
         Did::Next
     } else {
         change_sized(regs, ram, fault, word, op, by)

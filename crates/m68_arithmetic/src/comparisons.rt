@@ -1,8 +1,8 @@
 // Comparisons: a difference whose flags alone are kept, but for X.
-ghost use Rattle.std.specs.Prelude.{◌≡◌, ◌≢◌, ◌+◌, ◌<◌, ◌≤◌};
+ghost use Rattle.std.specs.Prelude.{◌≡◌, ◌≢◌, ◌+◌, ◌<◌};
 ghost use Rattle.mix_bits.specs.Addresses.{onward};
 ghost use Rattle.mix_bits.specs.declared.size.Size.TheVariants.{Zero};
-ghost use Rattle.m68_isa.specs.First.{first_of, size_of as size_of_bits};
+ghost use Rattle.m68_isa.specs.First.{first_of};
 ghost use Rattle.m68_isa.specs.Operands.{immediate_at as immediate_at_of, immediate_words as immediate_words_of, operand_at};
 ghost use Rattle.big_memory.specs.Steps.{Does};
 ghost use Rattle.m68_ea.specs.Usual.{Tries};

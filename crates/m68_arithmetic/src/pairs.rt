@@ -1,5 +1,5 @@
 // A pair of data registers, or of places below two address registers.
-ghost use Rattle.std.specs.Prelude.{◌≡◌, ◌≢◌, ◌==◌, ◌<◌, true, false};
+ghost use Rattle.std.specs.Prelude.{◌≢◌, ◌==◌, ◌<◌, true, false};
 ghost use Rattle.mix_bits.specs.Addresses.{onward as onward_of};
 ghost use Rattle.mix_bits.specs.declared.size.Size.TheVariants.{Zero};
 ghost use Rattle.m68_isa.specs.First.{first_of, size_of as size_of_bits};

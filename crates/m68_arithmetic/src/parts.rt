@@ -76,23 +76,15 @@ pub fn change_register(
 }
 
 /// Tries an operation with a number on an operand in memory of a usual mode, of the size in bits 7 and 6, and
-/// tells whether it is done. Its extension words begin with word `first`.
+/// tells whether it is done. Its extension words stand behind the first word.
 #[inline(always)]
-pub fn change_usual(
-    regs: &mut Regs68,
-    ram: &mut Ram,
-    word: u32,
-    first: u32,
-    op: Operation,
-    by: u32,
-) -> bool
-    requires { first < 4 }
-    ensures { Tries (changed_by op first by word regs.old ram.old) result regs.old regs.new ram.old ram.new }
+pub fn change_usual(regs: &mut Regs68, ram: &mut Ram, word: u32, op: Operation, by: u32) -> bool
+    ensures { Tries (changed_by op 1 by word regs.old ram.old) result regs.old regs.new ram.old ram.new }
 {
     match size_bits_of(word) {
-        0 => change_in_memory(regs, ram, word, first, Size::One, op, by),
-        1 => change_in_memory(regs, ram, word, first, Size::Two, op, by),
-        _ => change_in_memory(regs, ram, word, first, Size::Four, op, by),
+        0 => change_in_memory(regs, ram, word, Size::One, op, by),
+        1 => change_in_memory(regs, ram, word, Size::Two, op, by),
+        _ => change_in_memory(regs, ram, word, Size::Four, op, by),
     }
 }
 
@@ -102,18 +94,16 @@ fn change_in_memory(
     regs: &mut Regs68,
     ram: &mut Ram,
     word: u32,
-    first: u32,
     size: Size,
     op: Operation,
     by: u32,
 ) -> bool
-    requires some { size ≢ Zero }
-    requires first { first < 4 }
-    ensures { let to = operand_at (words_at ram.old regs.old.pc) first size (first_of word).mode (first_of word).lower in
+    requires { size ≢ Zero }
+    ensures { let to = operand_at (words_at ram.old regs.old.pc) 1 size (first_of word).mode (first_of word).lower in
         Tries (runs_with regs.old word to (λ next. changed regs.old ram.old next size to.ea (λ d. result_of op size regs.old.ccr d by))) result regs.old regs.new ram.old ram.new }
 {
     let lower = lower_of(word);
-    let Some((to, old)) = find_usual(regs, ram, first, size, mode_of(word), lower) else {
+    let Some((to, old)) = find_usual(regs, ram, 1, size, mode_of(word), lower) else {
         return false;
     };
     let out = apply(op, size, old, by, regs.ccr);

@@ -1,5 +1,5 @@
 // Products, quotients, and the test against a bound.
-ghost use Rattle.std.specs.Prelude.{◌≡◌, ◌==◌, ◌≤ℤ◌, ◌<ℤ◌, FitsSigned};
+ghost use Rattle.std.specs.Prelude.{◌≡◌, FitsSigned};
 ghost use Rattle.std.specs.Int.{w32};
 ghost use Rattle.mix_bits.specs.Sizes.{signed_of};
 ghost use Rattle.mix_bits.specs.declared.size.Size.TheVariants.{Two};

@@ -96,7 +96,7 @@ fn subtract_number(regs: &mut Regs68, ram: &mut Ram, fault: &mut Fault, word: u3
 fn to_memory(regs: &mut Regs68, ram: &mut Ram, fault: &mut Fault, word: u32, op: Operation) -> Did
     ensures { Does (changed_by op 1 (one_to_eight (first_of word).upper) word regs.old ram.old) result fault.new regs.old regs.new ram.old ram.new }
 {
-    if change_usual(regs, ram, word, 1, op, quick_of(word)) {
+    if change_usual(regs, ram, word, op, quick_of(word)) {
         Did::Next
     } else {
         by_number(regs, ram, fault, word, op)

@@ -1,7 +1,6 @@
 // An operand and a register into the register.
 ghost use Rattle.std.specs.Prelude.{◌≡◌, ◌≢◌, ◌<◌};
 ghost use Rattle.mix_bits.specs.declared.size.Size.TheVariants.{Zero};
-ghost use Rattle.mix_bits.specs.Sizes.{sign_extended};
 ghost use Rattle.m68_isa.specs.First.{first_of, long_or_word, size_of as size_of_bits};
 ghost use Rattle.m68_isa.specs.Operands.{operand_at};
 ghost use Rattle.big_memory.specs.Steps.{Does};

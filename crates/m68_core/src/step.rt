@@ -26,8 +26,7 @@ pub enum Out68 {
 }
 
 /// One step of the instruction at `regs.pc`: it is done, and has changed of memory only what a store may
-/// change; or it answers why not, and has changed nothing. It takes no memory, and a time that does not
-/// depend on what memory holds.
+/// change; or it answers why not, and has changed nothing.
 pub fn step68(regs: &mut Regs68, ram: &mut Ram) -> Out68
     ensures { Steps (stepped regs.old ram.old) result regs.old regs.new ram.old ram.new }
 {

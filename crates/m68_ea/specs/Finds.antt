@@ -1,5 +1,5 @@
 -- What code that reads operands from an instruction's words answers. A fault stands in a cell beside
--- the answer, and has changed nothing.
+-- the answer, and has changed neither registers nor memory.
 use Rattle.std.specs.Prelude.{◌≡◌, ℕ, ◌<◌, Bool, true, false, slice_index, Option, Some, None, Result, Ok, Err}
 use Rattle.mix_bits.specs.declared.size.Size.{Size}
 use Rattle.mix_bits.specs.declared.fault.Fault.{Fault}

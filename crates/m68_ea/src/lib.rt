@@ -1,7 +1,8 @@
 //! Operands of 68000 instructions: the addressing modes, and reading and writing what they name.
 //!
 //! [`place`], [`read_at`] and [`write_at`] work on a decoded operand. The other calls read an operand from
-//! the words of an instruction, each word as it is used; a fault is left in a cell, and has changed nothing.
+//! the words of an instruction, each word as it is used; a fault is left in a cell, and has changed neither
+//! registers nor memory.
 #![tactic(auto)]
 
 mod accesses;

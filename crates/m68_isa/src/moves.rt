@@ -1,4 +1,4 @@
-ghost use Rattle.std.specs.Prelude.{◌≡◌, ◌≢◌, ◌<◌};
+ghost use Rattle.std.specs.Prelude.{◌≡◌, ◌≢◌};
 ghost use Rattle.m68_isa.specs.First.{IsFirst};
 ghost use Rattle.m68_isa.specs.Fields.{HasFound};
 ghost use Rattle.m68_isa.specs.Extended.{IsExtendedFound};

@@ -3,7 +3,6 @@ ghost use Rattle.m68_isa.specs.Operands.{extended_word, long_at, index_of, is_in
 ghost use Rattle.mix_bits.specs.Sizes.{modulus};
 ghost use Rattle.m68_isa.specs.Fields.{HasRegisters};
 ghost use Rattle.m68_isa.specs.Classes.{up_to, in_class};
-ghost use Rattle.m68_isa.specs.declared.classes.Class.{Class};
 ghost use Rattle.m68_isa.specs.declared.classes.Class.TheVariants.{Control};
 ghost use Rattle.m68_isa.specs.Places.{IsAlterable, IsMemory, IsControl};
 ghost use Rattle.m68_isa.specs.Extended.{IsWord, IsByte, IsExtendedEa};

@@ -8,9 +8,9 @@ ghost use Rattle.big_memory.specs.Steps.{Does};
 ghost use Rattle.m68_ea.specs.Usual.{Tries};
 ghost use Rattle.m68_ea.specs.Words.{words_at};
 ghost use Rattle.m68_alu.specs.Logical.{combination};
-ghost use Rattle.m68_effects.specs.Logic.{complement as complement_out, logic_immediate, not as not_effect};
+ghost use Rattle.m68_effects.specs.Logic.{logic_immediate, not as not_effect};
 ghost use Rattle.m68_effects.specs.Ops.{by_op};
-ghost use Rattle.m68_effects.specs.Parts.{changed, either_way, into_data};
+ghost use Rattle.m68_effects.specs.Parts.{changed, into_data};
 ghost use Rattle.m68_logic.specs.Parts.{combined, with_operand};
 
 use big_memory::{Did, Ram};
@@ -157,28 +157,24 @@ fn immediate(regs: &mut Regs68, ram: &mut Ram, fault: &mut Fault, word: u32, op:
     combine_sized(regs, ram, fault, word, op, 1 + immediate_words(size), bits)
 }
 
-/// A data register into an operand.
+/// A data register, combined with any operand, which takes the result.
 #[inline(always)]
 fn from_register(regs: &mut Regs68, ram: &mut Ram, fault: &mut Fault, word: u32, op: LogicOp) -> Did
-    ensures { let size = size_bits (first_of word).size in
-        let to = operand_at (words_at ram.old regs.old.pc) 1 size (first_of word).mode (first_of word).lower in
-        Does (with_operand regs.old word to (λ next. changed regs.old ram.old next size to.ea (λ d. combination op size regs.old.ccr d (slice_index regs.old.d (first_of word).upper)))) result fault.new regs.old regs.new ram.old ram.new }
+    ensures { Does (combined op 1 (slice_index regs.old.d (first_of word).upper) word regs.old ram.old) result fault.new regs.old regs.new ram.old ram.new }
 {
     let bits = regs.d[upper_of(word)];
-    if combine_usual(regs, ram, word, op, 1, bits) {
+    if combine_usual(regs, ram, word, op, bits) {
         Did::Next
     } else {
         combine_sized(regs, ram, fault, word, op, 1, bits)
     }
 }
 
-/// A data register into another one.
+/// The data register of bits 11 to 9, combined with that of bits 2 to 0, which takes the result.
 #[inline(always)]
 fn onto_register(regs: &mut Regs68, ram: &Ram, fault: &mut Fault, word: u32, op: LogicOp) -> Did
     requires { (first_of word).mode ≡ 0 }
-    ensures { let size = size_bits (first_of word).size in
-        let to = operand_at (words_at ram.now regs.old.pc) 1 size (first_of word).mode (first_of word).lower in
-        Does (with_operand regs.old word to (λ next. changed regs.old ram.now next size to.ea (λ d. combination op size regs.old.ccr d (slice_index regs.old.d (first_of word).upper)))) result fault.new regs.old regs.new ram.now ram.now }
+    ensures { Does (combined op 1 (slice_index regs.old.d (first_of word).upper) word regs.old ram.now) result fault.new regs.old regs.new ram.now ram.now }
 {
     let bits = regs.d[upper_of(word)];
     match size_bits_of(word) {
@@ -188,7 +184,7 @@ fn onto_register(regs: &mut Regs68, ram: &Ram, fault: &mut Fault, word: u32, op:
     }
 }
 
-/// A value of this size into a data register.
+/// A value of this size, combined with the data register of bits 2 to 0, which takes the result.
 #[inline(always)]
 fn combine_register(
     regs: &mut Regs68,
@@ -210,24 +206,16 @@ fn combine_register(
     go_on(regs, 1)
 }
 
-/// Tries a value into memory of a usual mode, whose words begin with word `first`, and tells whether it is
-/// done.
+/// Tries a value into memory of a usual mode, whose words stand behind the first word, and tells whether it
+/// is done.
 #[inline(always)]
-fn combine_usual(
-    regs: &mut Regs68,
-    ram: &mut Ram,
-    word: u32,
-    op: LogicOp,
-    first: u32,
-    bits: u32,
-) -> bool
-    requires { first < 4 }
-    ensures { Tries (combined op first bits word regs.old ram.old) result regs.old regs.new ram.old ram.new }
+fn combine_usual(regs: &mut Regs68, ram: &mut Ram, word: u32, op: LogicOp, bits: u32) -> bool
+    ensures { Tries (combined op 1 bits word regs.old ram.old) result regs.old regs.new ram.old ram.new }
 {
     match size_bits_of(word) {
-        0 => combine_in_memory(regs, ram, word, op, Size::One, first, bits),
-        1 => combine_in_memory(regs, ram, word, op, Size::Two, first, bits),
-        _ => combine_in_memory(regs, ram, word, op, Size::Four, first, bits),
+        0 => combine_in_memory(regs, ram, word, op, Size::One, bits),
+        1 => combine_in_memory(regs, ram, word, op, Size::Two, bits),
+        _ => combine_in_memory(regs, ram, word, op, Size::Four, bits),
     }
 }
 
@@ -239,16 +227,14 @@ fn combine_in_memory(
     word: u32,
     op: LogicOp,
     size: Size,
-    first: u32,
     bits: u32,
 ) -> bool
-    requires size { size ≢ Zero }
-    requires first { first < 4 }
-    ensures { let to = operand_at (words_at ram.old regs.old.pc) first size (first_of word).mode (first_of word).lower in
+    requires { size ≢ Zero }
+    ensures { let to = operand_at (words_at ram.old regs.old.pc) 1 size (first_of word).mode (first_of word).lower in
         Tries (with_operand regs.old word to (λ next. changed regs.old ram.old next size to.ea (λ d. combination op size regs.old.ccr d bits))) result regs.old regs.new ram.old ram.new }
 {
     let lower = lower_of(word);
-    let Some((to, old)) = find_usual(regs, ram, first, size, mode_of(word), lower) else {
+    let Some((to, old)) = find_usual(regs, ram, 1, size, mode_of(word), lower) else {
         return false;
     };
     let out = logic(op, size, old, bits, regs.ccr);
@@ -260,7 +246,7 @@ fn combine_in_memory(
     true
 }
 
-/// A value into an operand, whose words begin with word `first`.
+/// A value, combined with an operand whose words begin with word `first`, and which takes the result.
 #[inline(never)]
 fn combine_sized(
     regs: &mut Regs68,
@@ -281,7 +267,7 @@ fn combine_sized(
     }
 }
 
-/// A value of this size into an operand, whose words begin with word `first`.
+/// The same of this size.
 #[inline(always)]
 fn combine(
     regs: &mut Regs68,
@@ -314,7 +300,7 @@ fn combine(
     go_on(regs, next)
 }
 
-/// A data register into another one, as an operand.
+/// The data register of bits 2 to 0, combined with that of bits 11 to 9, which takes the result.
 #[inline(always)]
 fn between_registers(regs: &mut Regs68, ram: &Ram, fault: &mut Fault, word: u32, op: LogicOp) -> Did
     requires { (first_of word).mode ≡ 0 }
@@ -329,7 +315,7 @@ fn between_registers(regs: &mut Regs68, ram: &Ram, fault: &mut Fault, word: u32,
     }
 }
 
-/// A data register of this size into another one.
+/// The same of this size.
 #[inline(always)]
 fn take_register(
     regs: &mut Regs68,
@@ -356,7 +342,7 @@ fn take_register(
     go_on(regs, 1)
 }
 
-/// An operand into a data register.
+/// An operand, combined with the data register of bits 11 to 9, which takes the result.
 #[inline(never)]
 fn to_register(regs: &mut Regs68, ram: &Ram, fault: &mut Fault, word: u32, op: LogicOp) -> Did
     ensures { let size = size_bits (first_of word).size in
@@ -370,7 +356,7 @@ fn to_register(regs: &mut Regs68, ram: &Ram, fault: &mut Fault, word: u32, op: L
     }
 }
 
-/// An operand of this size into a data register.
+/// The same of this size.
 #[inline(always)]
 fn take(regs: &mut Regs68, ram: &Ram, fault: &mut Fault, word: u32, op: LogicOp, size: Size) -> Did
     requires { size ≢ Zero }

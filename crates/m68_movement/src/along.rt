@@ -1,5 +1,5 @@
 // Several accesses one after another, all of which are done, or none.
-ghost use Rattle.std.specs.Prelude.{◌≡◌, ◌<◌, ◌≢◌, Ok};
+ghost use Rattle.std.specs.Prelude.{◌≡◌, ◌≢◌, Ok};
 ghost use Rattle.std.specs.Result.{IsOk};
 ghost use Rattle.mix_bits.specs.declared.size.Size.TheVariants.{Zero};
 ghost use Rattle.big_memory.specs.Stores.{OnlyFree};

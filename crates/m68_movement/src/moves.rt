@@ -1,8 +1,7 @@
-ghost use Rattle.std.specs.Prelude.{◌≡◌, ◌+◌, ◌<◌, ◌≤◌, ◌&&◌, true, Ok};
+ghost use Rattle.std.specs.Prelude.{◌≡◌, ◌<◌, true, Ok};
 ghost use Rattle.mix_bits.specs.declared.size.Size.{Size as ASize};
 ghost use Rattle.mix_bits.specs.declared.size.Size.TheVariants.{One, Two, Four};
-ghost use Rattle.m68_isa.specs.declared.instructions.Instr68.TheVariants.{Move, Movea};
-ghost use Rattle.m68_isa.specs.declared.found.Found.TheVariants.{Made};
+ghost use Rattle.m68_isa.specs.declared.instructions.Instr68.TheVariants.{Movea};
 ghost use Rattle.m68_isa.specs.First.{first_of};
 ghost use Rattle.m68_isa.specs.Moves.{move_mode};
 ghost use Rattle.m68_isa.specs.Operands.{operand_at};

@@ -1,5 +1,5 @@
 // movep: a register to or from bytes at every second address.
-ghost use Rattle.std.specs.Prelude.{◌≡◌, ◌<◌, ◌≢◌, ◌^◌, OnSome, IfSome};
+ghost use Rattle.std.specs.Prelude.{◌<◌, ◌≢◌, ◌^◌, IfSome};
 ghost use Rattle.byteorder.specs.Endian.{big_bytes};
 ghost use Rattle.mix_bits.specs.Sizes.{bytes_of};
 ghost use Rattle.mix_bits.specs.declared.size.Size.TheVariants.{One, Zero};

@@ -15,7 +15,7 @@ use m68_alu::result_flags;
 use m68_ea::{find, go_on, put, source, usual_source, value};
 use m68_isa::{Regs68, holds};
 use m68_ops::{Op68, condition_of, lower_of, mode_of, size_bits_of};
-use mix_bits::{Fault, Size, trunc, with_low};
+use mix_bits::{Fault, Size, with_low};
 
 /// clr: zeros into an operand.
 #[inline(never)]

@@ -1,4 +1,3 @@
-ghost use Rattle.m68_ops.specs.Ops.{Reads};
 ghost use Rattle.m68_ops.specs.Laws.{OpLaws, IsKept};
 
 use super::read::op_of;

@@ -3,7 +3,6 @@ ghost use Rattle.m68_isa.specs.First.{first_of, size_of};
 ghost use Rattle.m68_isa.specs.Classes.{in_class, is_source};
 ghost use Rattle.m68_isa.specs.Immediates.{bit_class, is_immediate};
 ghost use Rattle.m68_isa.specs.Moves.{move_mode};
-ghost use Rattle.m68_isa.specs.declared.classes.Class.{Class};
 ghost use Rattle.m68_isa.specs.declared.classes.Class.TheVariants.{Any, Data, Alterable, DataAlterable, MemoryAlterable, Control, ControlAlterable};
 
 use super::fields::{bit8_of, mode_of, move_mode_of, size_bits_of, upper_of};

@@ -1,5 +1,5 @@
 // A device that adds up its words.
-ghost use Rattle.std.specs.Prelude.{◌≡◌, ℕ, [], List, Option, Some, Ok, IfOk};
+ghost use Rattle.std.specs.Prelude.{◌≡◌, [], Some, Ok, IfOk};
 ghost use Rattle.mix_io.specs.Counts.{HasCause};
 ghost use Rattle.mix_io.specs.Told.{Hears};
 ghost use Rattle.mix_io.specs.Devices.{Count, total_with, after_count};

@@ -1,5 +1,5 @@
 // A sink in memory, with room for a given number of bytes.
-ghost use Rattle.std.specs.Prelude.{◌≡◌, ◌≤◌, ◌+◌, ◌++◌, ℕ, [], List, Option, Some, IfOk, length, is_ok, vec_capacity, vec_len};
+ghost use Rattle.std.specs.Prelude.{◌≡◌, ◌≤◌, ◌+◌, ◌++◌, [], Some, IfOk, length, is_ok, vec_capacity, vec_len};
 ghost use Rattle.mix_io.specs.Calls.{calls_from_one};
 ghost use Rattle.mix_io.specs.Counts.{HasCause};
 ghost use Rattle.mix_io.specs.Told.{Puts};

@@ -1,5 +1,5 @@
 // A device that answers from a script.
-ghost use Rattle.std.specs.Prelude.{◌≡◌, ℕ, [], List, Option, Some, IfOk, ok_or};
+ghost use Rattle.std.specs.Prelude.{◌≡◌, [], Option, Some, IfOk, ok_or};
 ghost use Rattle.std.specs.Vec.Iter.{into_iter_items};
 ghost use Rattle.mix_io.specs.Counts.{HasCause};
 ghost use Rattle.mix_io.specs.Told.{Hears};

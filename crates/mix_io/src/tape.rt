@@ -1,5 +1,5 @@
 // A device that keeps its words.
-ghost use Rattle.std.specs.Prelude.{◌≡◌, ◌≤◌, ℕ, [], List, Option, Some, IfOk, ok_or, length, vec_capacity};
+ghost use Rattle.std.specs.Prelude.{◌≡◌, ◌≤◌, [], Some, IfOk, ok_or, length, vec_capacity};
 ghost use Rattle.mix_io.specs.Counts.{HasCause};
 ghost use Rattle.mix_io.specs.Told.{Hears};
 ghost use Rattle.mix_io.specs.Devices.{Words, tape_answer, after_tape};

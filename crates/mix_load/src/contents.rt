@@ -1,5 +1,5 @@
 //! The bytes of a section before it is relocated.
-ghost use Rattle.std.specs.Prelude.{◌≡◌, ◌≤◌, ◌++◌, length, drop, replicate, option_map, IfOk, OnOk};
+ghost use Rattle.std.specs.Prelude.{◌≡◌, length, option_map, IfOk, OnOk};
 ghost use Rattle.std.specs.Result.{result_err};
 ghost use Rattle.pef_head.specs.Parts.{IsLoadable, parts};
 ghost use Rattle.mix_load.specs.Outcome.{Finds};

@@ -4,7 +4,7 @@ ghost use Rattle.std.specs.Result.{result_err};
 ghost use Rattle.mix_load.specs.ForkImage.{HasRoom, fork_end, fork_memory, fork_refusal, with_codes, with_fork, with_resources};
 ghost use Rattle.mix_load.specs.Loaded.{IsImage};
 ghost use Rattle.mix_load.specs.Outcome.{Gives};
-ghost use Rattle.mix_load.specs.Segments.{code_at, header_of, id_count};
+ghost use Rattle.mix_load.specs.Segments.{code_at, header_of};
 
 use crate::error::{LoadError, fork_error};
 use crate::header::{a5_of, read_header, segments_start, table_start};

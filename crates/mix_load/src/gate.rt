@@ -1,7 +1,6 @@
 //! The gate page.
 ghost use Rattle.std.specs.Prelude.{◌≡◌, ◌≤◌, length};
 ghost use Rattle.switch_frame.specs.Program.{gate_longs, vectors};
-ghost use Rattle.big_memory.specs.Map.{host_functions};
 ghost use Rattle.mix_load.specs.Pieces.{with_pieces};
 
 use crate::image::put_long;

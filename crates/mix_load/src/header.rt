@@ -1,5 +1,5 @@
-ghost use Rattle.std.specs.Prelude.{IsTrue, ◌≡◌, ◌+◌, ◌*◌, ◌/◌, ◌^◌, ◌≤◌, ◌<◌, true, length};
-ghost use Rattle.mix_load.specs.Segments.{HasTable, a5_of, entry_count, has_table, header_of, segments_start, table_start};
+ghost use Rattle.std.specs.Prelude.{IsTrue, ◌≡◌, ◌+◌, ◌^◌, ◌≤◌, ◌<◌, length};
+ghost use Rattle.mix_load.specs.Segments.{HasTable, a5_of, has_table, header_of, segments_start, table_start};
 
 use crate::image::{PROGRAM_START, round_up};
 use file_fields::long_at;

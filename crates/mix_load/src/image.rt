@@ -1,6 +1,5 @@
 ghost use Rattle.std.specs.Prelude.{◌≡◌, ◌+◌, ◌^◌, ◌≤◌, length};
 ghost use Rattle.std.specs.Result.{result_err};
-ghost use Rattle.big_memory.specs.Lists.{put};
 ghost use Rattle.byteorder.specs.Endian.{big_bytes};
 ghost use Rattle.big_memory.specs.Memory.{with_bytes};
 ghost use Rattle.mix_load.specs.ForkImage.{too_large};

@@ -1,5 +1,5 @@
 //! The imports of a container: transition vectors of the host's functions.
-ghost use Rattle.std.specs.Prelude.{◌≡◌, ℕ, ◌+◌, ◌*◌, ◌^◌, ◌<◌, ◌≤◌, length, option_map, slice_index, IfOk, IfSome};
+ghost use Rattle.std.specs.Prelude.{◌≡◌, ℕ, ◌^◌, ◌<◌, ◌≤◌, length, option_map, slice_index, IfOk, IfSome};
 ghost use Rattle.pef_head.specs.Parts.{import_count, import_of, library_of, names};
 ghost use Rattle.pef_head.specs.Search.{least};
 ghost use Rattle.mix_load.specs.ContainerImage.{imports_refusal};

@@ -1,5 +1,5 @@
 //! The segments of a fork: its CODEs above 0.
-ghost use Rattle.std.specs.Prelude.{◌≡◌, ◌+◌, ◌*◌, ◌^◌, ◌≤◌, ◌<◌, [], false, length, option_map, IfSome, IfOk};
+ghost use Rattle.std.specs.Prelude.{◌≡◌, ◌+◌, ◌^◌, ◌≤◌, ◌<◌, [], false, length, option_map, IfSome, IfOk};
 ghost use Rattle.std.specs.Result.{result_err};
 ghost use Rattle.std.specs.Option.{option_map_or};
 ghost use Rattle.pef_head.specs.Search.{◌or◌, any_below, least, refused};

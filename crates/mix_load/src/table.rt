@@ -1,5 +1,5 @@
 //! The jump table, which stands in CODE 0 and is loaded into the world above A5.
-ghost use Rattle.std.specs.Prelude.{◌≡◌, ◌+◌, ◌*◌, ◌^◌, ◌≤◌, ◌<◌, length, slice_index, IfSome, OnOk};
+ghost use Rattle.std.specs.Prelude.{◌≡◌, ◌+◌, ◌*◌, ◌^◌, ◌≤◌, ◌<◌, length, IfSome, OnOk};
 ghost use Rattle.std.specs.Result.{result_err};
 ghost use Rattle.pef_head.specs.Search.{least};
 ghost use Rattle.mix_load.specs.ForkImage.{table_refusal};

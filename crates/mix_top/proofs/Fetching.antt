@@ -78,7 +78,7 @@ stay-then : (a b c : List ℕ → ℕ) → CountsStay a b → CountsStay b c →
 stay-then a b c first second = λ n. second n ∙ first n
 
 pub cause-after : (contents : Contents) (name : List ℕ) (a b c : List ℕ → ℕ) (error : FetchError) → CountsStay a b → IsCause contents name b c error → IsCause contents name a c error
-cause-after contents name a b c NoMemory first second = stay-then a b c first second
+cause-after contents name a b c NoMemory first second = (second.0, stay-then a b c first second.1)
 cause-after contents name a b c Failed first second =
     record {
       rose = subst (λ n. Rose n (c name)) (first name) second.rose;

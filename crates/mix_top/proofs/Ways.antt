@@ -167,7 +167,7 @@ way-of_cause : (words : List (List ℕ)) (contents : Contents) (a b : List ℕ �
     → Loads words command job → IsNext words contents job key → IsCause contents (name_of words job key) a b error
     → new.outside ≡ old.outside → Closes old.trace new.trace [] (unfetched_line key error) (unfetched_status error) result → Way words contents a b old new result
 way-of_cause words contents a b old new command job key NoRoom result loads next cause same closes =
-    no_memory_for_file command job loads cause (record { outside = same; trace = closes })
+    no_memory_for_file command job key loads next cause.0 cause.1 (record { outside = same; trace = closes })
 way-of_cause words contents a b old new command job key Failed result loads next cause same closes =
     no_file command job key loads next cause (record { outside = same; trace = closes })
 way-of_cause words contents a b old new command job key (TooLong limit) result loads next cause same closes =

@@ -36,7 +36,7 @@ use Rattle.job_words.specs.declared.job.Key.{Key}
 use Rattle.mix_top.specs.Lines.{memory_line, words_line, fetch_line, load_line, long_file as long_refusal, load_refusal}
 use Rattle.mix_top.specs.World.{World, Closes, Early, Accounted, OnlyPuts, PutsText}
 use Rattle.mix_top.specs.SampleLine.{sample_line, exit_text, fault_text}
-use Rattle.mix_top.specs.Files.{Contents, IsLong, AreFetched, AreFiles, job_of, ram_size}
+use Rattle.mix_top.specs.Files.{Contents, IsLong, IsNotLong, AreFetched, AreFiles, job_of, ram_size}
 
 -- the end of a run while a set was active, as its line tells it
 abbrev pub end_of : Isa → How → End
@@ -167,8 +167,8 @@ pub data Way (words : List (List ℕ)) (contents : Contents) (faults_old faults_
   long_file : (command : Command) (job : Job) (key : Key) → Loads words command job → IsNext words contents job key → IsLong contents (name_of words job key)
       → CountsStay faults_old faults_new → Early old new (load_line (long_refusal key)) 3 result
       → Way words contents faults_old faults_new old new result
-  -- there was no memory for a file
-  no_memory_for_file : (command : Command) (job : Job) → Loads words command job
+  -- there was no memory for the file of a key, which is not above the limit
+  no_memory_for_file : (command : Command) (job : Job) (key : Key) → Loads words command job → IsNext words contents job key → IsNotLong contents (name_of words job key)
       → CountsStay faults_old faults_new → Early old new memory_line 9 result
       → Way words contents faults_old faults_new old new result
   -- the files were fetched

@@ -1,5 +1,5 @@
 -- The files of a job, as a shelf tells them.
-use Rattle.std.specs.Prelude.{◌≡◌, ℕ, ◌*◌, ◌<◌, ◌≤◌, List, [], ◌∷◌, length, Option, Some, None, IsSomeAnd}
+use Rattle.std.specs.Prelude.{◌≡◌, ℕ, ◌*◌, ◌<◌, ◌≤◌, List, [], ◌∷◌, length, Option, Some, None, IsSomeAnd, IfSome}
 use Rattle.std.specs.Option.{option_map}
 use Rattle.job_words.specs.Words.{name_at, name_of}
 use Rattle.job_words.specs.declared.job.Command.{Command}
@@ -31,6 +31,11 @@ IsFile (Some held) name file = (held name ≡ Some file) × (length file ≤ fil
 abbrev pub IsLong : Contents → List ℕ → Type 0
 IsLong None name = Unit {0}
 IsLong (Some held) name = IsSomeAnd (held name) (λ file. file_limit < length file)
+
+-- it is not, where the shelf tells
+abbrev pub IsNotLong : Contents → List ℕ → Type 0
+IsNotLong None name = Unit {0}
+IsNotLong (Some held) name = IfSome (held name) (λ file. length file ≤ file_limit)
 
 -- files of these keys were fetched
 abbrev pub AreFetched : List (List ℕ) → Contents → Job → List Key → Type 0

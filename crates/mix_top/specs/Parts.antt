@@ -20,13 +20,13 @@ use Rattle.mix_load.specs.declared.error.LoadError.{LoadError}
 use Rattle.mix_load.specs.declared.error.LoadError.TheVariants.{NoMemory}
 use Rattle.mix_top.specs.Lines.{memory_line, fetch_line, load_line, long_file, load_refusal}
 use Rattle.mix_top.specs.World.{World, Closes, trace_told, world}
-use Rattle.mix_top.specs.Files.{Contents, IsLong}
+use Rattle.mix_top.specs.Files.{Contents, IsLong, IsNotLong}
 use Rattle.mix_top.specs.Ends.{IsNext, end_of, status_of}
 use Rattle.mix_top.specs.declared.files.Missing.{Missing}
 
 -- why the file of a key was not fetched
 abbrev pub IsCause : Contents → List ℕ → (List ℕ → ℕ) → (List ℕ → ℕ) → FetchError → Type 0
-IsCause contents name old new NoRoom = CountsStay old new
+IsCause contents name old new NoRoom = IsNotLong contents name × CountsStay old new
 IsCause contents name old new Failed = CountRose old new name
 IsCause contents name old new (TooLong limit) = IsLong contents name × CountsStay old new
 

@@ -1,5 +1,5 @@
 // The lines of the trace that a call ends with before it runs a program.
-ghost use Rattle.std.specs.Prelude.{◌≡◌, ◌+◌, ◌≤◌, ◌++◌, length, pos};
+ghost use Rattle.std.specs.Prelude.{◌≡◌, ◌+◌, ◌≤◌, ◌++◌, length};
 ghost use Rattle.job_words.specs.Settings.{key_text as key_text_of};
 ghost use Rattle.mix_top.specs.Lines.{file_number as file_number_of, fetch_line, fork_refusal, head_refusal, key_number as key_number_of, load_line, load_refusal, long_file, numbered as numbered_line, refusal, reloc_refusal, words_line};
 

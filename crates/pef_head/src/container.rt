@@ -1,9 +1,9 @@
 //! A container's header and its section headers.
-ghost use Rattle.std.specs.Prelude.{◌≡◌, ℕ, ◌+◌, ◌^◌, ◌≤◌, ◌<◌, length, OnOk, IfSome};
+ghost use Rattle.std.specs.Prelude.{◌≡◌, ◌+◌, ◌^◌, ◌≤◌, ◌<◌, length, OnOk, IfSome};
 ghost use Rattle.std.specs.Result.{result_err};
 ghost use Rattle.pef_head.specs.Search.{least};
-ghost use Rattle.pef_head.specs.Container.{HasHeaders, HasSections, exponent_of, instantiated_count, is_bad_section, is_loader, is_malformed, kind_of, leaves_file, loader_section, offset_of, packed_of, section_count, section_header, total_of, unpacked_of};
-ghost use Rattle.pef_head.specs.Refusals.{has_architecture, has_magic, header_refusal, sections_refusal};
+ghost use Rattle.pef_head.specs.Container.{HasHeaders, HasSections, instantiated_count, is_bad_section, is_loader, is_malformed, leaves_file, loader_section, section_count, section_header};
+ghost use Rattle.pef_head.specs.Refusals.{header_refusal, sections_refusal};
 
 use crate::error::PefError;
 use file_fields::{long_at, word_at};

@@ -1,8 +1,7 @@
-ghost use Rattle.std.specs.Prelude.{◌≡◌, ℕ, ◌^◌, ◌≤◌, ◌<◌, true, length};
+ghost use Rattle.std.specs.Prelude.{◌≡◌, ℕ, ◌<◌, true};
 ghost use Rattle.pef_head.specs.Owners.{owners};
 ghost use Rattle.pef_head.specs.Parts.{cut, import_at, is_weak, names, owner_of};
 ghost use Rattle.pef_head.specs.Places.{HasTables, has_end, holds, library_name, symbol_name};
-ghost use Rattle.pef_head.specs.Search.{least};
 
 use crate::loader::Loader;
 use crate::names::{name_at, name_within};

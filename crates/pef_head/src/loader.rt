@@ -1,7 +1,7 @@
 //! The loader section's header.
-ghost use Rattle.std.specs.Prelude.{◌≡◌, ℕ, ◌+◌, ◌^◌, ◌≤◌, ◌<◌, length, OnOk, IfOk, Some};
+ghost use Rattle.std.specs.Prelude.{◌≡◌, ◌+◌, ◌^◌, ◌≤◌, ◌<◌, length, OnOk, IfOk};
 ghost use Rattle.std.specs.Result.{result_err};
-ghost use Rattle.pef_head.specs.Container.{HasHeaders, offset_of, packed_of, section_count, section_header};
+ghost use Rattle.pef_head.specs.Container.{offset_of, packed_of, section_header};
 ghost use Rattle.pef_head.specs.Loader.{loader_in};
 ghost use Rattle.pef_head.specs.Places.{HasTables, library, relocation, symbol};
 ghost use Rattle.pef_head.specs.Refusals.{tables_refusal};

@@ -1,5 +1,5 @@
 //! Names in the loader section, each with a zero byte behind it.
-ghost use Rattle.std.specs.Prelude.{◌≡◌, ℕ, ◌+◌, ◌^◌, ◌≤◌, ◌<◌, Bool, true, length, take, nat_lt, slice_index, slice_range, IfSome};
+ghost use Rattle.std.specs.Prelude.{◌≡◌, ◌≤◌, ◌<◌, true, length, take, IfSome};
 ghost use Rattle.pef_head.specs.Places.{HasTables, has_end, is_zero, library_name, symbol_name};
 ghost use Rattle.pef_head.specs.Names.{IsNamesEnd, name_at};
 ghost use Rattle.pef_head.specs.Refusals.{names_refusal, is_nameless_library, is_nameless_symbol};

@@ -2,14 +2,14 @@
 //!
 //! The libraries may stand in any order and there may be millions of symbols, so a walk over the libraries
 //! marks the symbols of one block at a time.
-ghost use Rattle.std.specs.Prelude.{◌≡◌, ℕ, ◌+◌, ◌-◌, ◌^◌, ◌≤◌, ◌<◌, List, length, IfSome};
-ghost use Rattle.pef_head.specs.Places.{HasTables, holds, symbols_end, symbols_start};
-ghost use Rattle.pef_head.specs.Owners.{AllOwned, IsFirstLost, Marked, is_lost, owners};
+ghost use Rattle.std.specs.Prelude.{◌≡◌, ◌+◌, ◌-◌, ◌≤◌, ◌<◌, IfSome};
+ghost use Rattle.pef_head.specs.Places.{HasTables, symbols_end, symbols_start};
+ghost use Rattle.pef_head.specs.Owners.{IsFirstLost, Marked, is_lost, owners};
 ghost use Rattle.pef_head.specs.Search.{least};
 
 use crate::loader::Loader;
 use crate::marks::Marks;
-use crate::places::{holds, symbols_end, symbols_start};
+use crate::places::{symbols_end, symbols_start};
 
 /// How many symbols are marked at a time.
 const BLOCK: u32 = 65536;

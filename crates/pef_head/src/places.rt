@@ -1,5 +1,5 @@
 //! The tables of libraries and symbols.
-ghost use Rattle.std.specs.Prelude.{◌≡◌, ℕ, ◌+◌, ◌*◌, ◌^◌, ◌≤◌, ◌<◌, length, IfSome};
+ghost use Rattle.std.specs.Prelude.{◌≡◌, ◌+◌, ◌*◌, ◌^◌, ◌<◌, IfSome};
 ghost use Rattle.pef_head.specs.Places.{HasTables, holds, library, library_name, relocation, symbol, symbol_name, symbols_end, symbols_start};
 ghost use Rattle.pef_head.specs.Refusals.{leaves_symbols};
 ghost use Rattle.pef_head.specs.Search.{least};

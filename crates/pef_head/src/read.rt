@@ -1,5 +1,5 @@
 //! The tests that a container must pass, in order.
-ghost use Rattle.std.specs.Prelude.{◌≡◌, ℕ, ◌+◌, ◌^◌, ◌≤◌, ◌<◌, length, Some, OnOk, IfOk};
+ghost use Rattle.std.specs.Prelude.{◌≡◌, ◌+◌, ◌^◌, ◌≤◌, ◌<◌, length, Some, OnOk, IfOk};
 ghost use Rattle.std.specs.Result.{result_err};
 ghost use Rattle.pef_head.specs.Container.{HasHeaders, HasSections, offset_of, packed_of, section_header};
 ghost use Rattle.pef_head.specs.Loader.{loader_in, loader_of};

@@ -1,7 +1,7 @@
 // Running relocation instructions.
-ghost use Rattle.std.specs.Prelude.{◌≡◌, ◌+◌, ◌*◌, ◌^◌, ◌≤◌, [], ◌∷◌, length, OnOk};
+ghost use Rattle.std.specs.Prelude.{◌≡◌, ◌+◌, ◌*◌, ◌^◌, ◌≤◌, length, OnOk};
 ghost use Rattle.big_memory.specs.Memory.{Memory};
-ghost use Rattle.pef_reloc.specs.Additions.{Operation, does, executed, operations, runs, turn_of};
+ghost use Rattle.pef_reloc.specs.Additions.{does, executed, operations, runs, turn_of};
 ghost use Rattle.pef_reloc.specs.Additions.{Add, SetC, SetD};
 ghost use Rattle.pef_reloc.specs.Held.{Fits, budget, outcome_of, outside_of, sources_of, state_of};
 ghost use Rattle.pef_reloc.specs.Lists.{times};

@@ -2,7 +2,6 @@
 ghost use Rattle.std.specs.Prelude.{◌≡◌, ◌+◌, ◌*◌, ◌%◌, ◌^◌, ◌<◌, ◌≤◌, ◌==◌, true, length, slice_index, if◌then◌else◌, Some, None, OnOk};
 ghost use Rattle.std.specs.Option.{option_copied};
 ghost use Rattle.std.specs.Result.{result_err};
-ghost use Rattle.big_memory.specs.Lists.{part};
 ghost use Rattle.big_memory.specs.Memory.{in_memory, with_bytes};
 ghost use Rattle.pef_reloc.specs.Held.{Fits, budget, outcome_of, outside_of, section_of, sources_of, state_of};
 ghost use Rattle.pef_reloc.specs.Program.{can_repeat, relocated, relocated_in, repeated, run_at, run_in_span, run_span, run_times, run_words, span_at, start};

@@ -1,6 +1,6 @@
 // Relocation words, and what stands at a place among them.
 ghost use Rattle.std.specs.Prelude.{◌≡◌, ◌+◌, ◌^◌, ◌≤◌, length};
-ghost use Rattle.pef_reloc.specs.Program.{fits_in, is_repeat, is_span, reading_at, width_at, word_at};
+ghost use Rattle.pef_reloc.specs.Program.{fits_in, is_span, reading_at, width_at, word_at};
 
 use crate::error::RelocError;
 use crate::instruction::{First, Reading};

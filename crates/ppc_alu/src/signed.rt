@@ -1,5 +1,5 @@
 // Words as signed numbers.
-ghost use Rattle.std.specs.Prelude.{◌≡◌, ◌≤ℤ◌, ◌<ℤ◌, pos, neg_ℤ, FitsSigned};
+ghost use Rattle.std.specs.Prelude.{◌≡◌, ◌≤ℤ◌, pos, neg_ℤ, FitsSigned};
 ghost use Rattle.std.specs.Int.{w64};
 ghost use Rattle.ppc_alu.specs.Words.{is_negative as is_negative_lem, leaves_word, signed};
 

@@ -1,5 +1,5 @@
 // The fixed-point exception register.
-ghost use Rattle.std.specs.Prelude.{◌≡◌, ◌^◌, ◌<◌};
+ghost use Rattle.std.specs.Prelude.{◌≡◌, ◌<◌};
 ghost use Rattle.ppc_alu.specs.Xer.{ca_of, kept_in_xer, so_of, string_length_of, top_of, with_ca, with_overflow, without_top};
 
 /// SO, the summary of overflows.

@@ -1,4 +1,3 @@
-ghost use Rattle.std.specs.Prelude.{◌≡◌};
 ghost use Rattle.big_memory.specs.Steps.{Does};
 ghost use Rattle.ppc_isa.specs.Rows.{decoded};
 ghost use Rattle.ppc_effects.specs.Effects.{runs_decoded};

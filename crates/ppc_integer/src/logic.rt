@@ -1,5 +1,5 @@
 // Logic of words.
-ghost use Rattle.std.specs.Prelude.{◌≡◌, ◌/◌, ◌%◌, ◌==◌, ◌^◌, ◌<◌};
+ghost use Rattle.std.specs.Prelude.{◌≡◌, ◌^◌, ◌<◌};
 ghost use Rattle.mix_bits.specs.declared.fault.Fault.{Fault};
 ghost use Rattle.big_memory.specs.Memory.{Memory};
 ghost use Rattle.big_memory.specs.Steps.{Does};

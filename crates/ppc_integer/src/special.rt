@@ -1,5 +1,4 @@
 // Moves from and to the special purpose registers, and synchronization.
-ghost use Rattle.std.specs.Prelude.{◌≡◌, ◌/◌, ◌%◌, ◌==◌};
 ghost use Rattle.mix_bits.specs.declared.fault.Fault.{Fault};
 ghost use Rattle.big_memory.specs.Memory.{Memory};
 ghost use Rattle.big_memory.specs.Steps.{Does};

@@ -1,5 +1,4 @@
 // Traps.
-ghost use Rattle.std.specs.Prelude.{◌≡◌};
 ghost use Rattle.big_memory.specs.Memory.{Memory};
 ghost use Rattle.big_memory.specs.Steps.{Does};
 ghost use Rattle.ppc_isa.specs.Fields.{fields_of};

@@ -1,12 +1,10 @@
 // Strings.
-ghost use Rattle.std.specs.Prelude.{◌≡◌, ◌+◌, ◌-◌, ◌*◌, ◌/◌, ◌%◌, ◌^◌, ◌<◌, ◌≤◌, Ok, if◌then◌else◌};
+ghost use Rattle.std.specs.Prelude.{◌≡◌, ◌+◌, ◌-◌, ◌*◌, ◌/◌, ◌%◌, ◌^◌, ◌<◌, Ok};
 ghost use Rattle.big_memory.specs.Steps.{Does};
 ghost use Rattle.ppc_isa.specs.Fields.{fields_of};
 ghost use Rattle.ppc_effects.specs.Effects.{runs};
-ghost use Rattle.mix_bits.specs.Digits.{digit_of, digit_replaced};
 ghost use Rattle.big_memory.specs.Stores.{OnlyFree};
-ghost use Rattle.ppc_isa.specs.Valid.{registers_from};
-ghost use Rattle.ppc_effects.specs.Strings.{fills as fills_lem, in_order, length_of as length_of_lem, load_byte, load_string as load_string_of, store_byte, store_string as store_string_of, string_byte as string_byte_of, string_place, string_register, with_string_byte};
+ghost use Rattle.ppc_effects.specs.Strings.{fills as fills_lem, in_order, length_of as length_of_lem, load_byte, load_string as load_string_of, store_byte, store_string as store_string_of, string_byte as string_byte_of, with_string_byte};
 ghost use Rattle.ppc_isa.specs.declared.instruction.InstrPpc.TheVariants.{LoadStringImmediate, LoadStringIndexed, StoreStringImmediate, StoreStringIndexed};
 ghost use Rattle.ppc_storage.specs.Tested.{BytesOpen, BytesTested, BytesThere, OpenTested};
 

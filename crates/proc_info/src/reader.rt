@@ -1,7 +1,7 @@
 ghost use Rattle.std.specs.Prelude.{◌≡◌, ◌≢◌, ◌+◌, ◌/◌, ◌%◌, ◌≤◌, length, replicate, IfOk, OnErr, Ok, nat_le, ◌||◌, ◌&&◌, ◌==◌};
 ghost use Rattle.std.specs.List.{list_any};
 ghost use Rattle.mix_bits.specs.Digits.{digit_of};
-ghost use Rattle.proc_info.specs.Codes.{conv_at, shape_of, size_at, is_place};
+ghost use Rattle.proc_info.specs.Codes.{size_at, is_place};
 ghost use Rattle.proc_info.specs.Filling.{Fills};
 ghost use Rattle.proc_info.specs.Nothing.{nothing};
 ghost use Rattle.proc_info.specs.Rules.{KeepsRules};

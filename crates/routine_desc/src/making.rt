@@ -1,7 +1,7 @@
 // The descriptors that the host makes.
 ghost use Rattle.std.specs.Prelude.{◌≡◌, ◌≤◌, ◌<◌, ◌+◌, ◌++◌, ◌^◌, length, IfOk, IfSome};
 ghost use Rattle.big_memory.specs.Memory.{IsDoneUnlessRefused, with_bytes};
-ghost use Rattle.routine_desc.specs.Build.{IsPut, ReadsBack, header_bytes, image as image_lem, record_bytes};
+ghost use Rattle.routine_desc.specs.Build.{IsPut, ReadsBack, image as image_lem, record_bytes};
 
 use arrayvec::ArrayVec;
 use big_memory::{Access, Ram};

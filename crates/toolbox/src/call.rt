@@ -1,4 +1,4 @@
-ghost use Rattle.std.specs.Prelude.{◌≡◌, ◌<◌};
+ghost use Rattle.std.specs.Prelude.{◌<◌};
 ghost use Rattle.big_memory.specs.Stores.{OnlyFree};
 ghost use Rattle.dev_rack.specs.Accounts.{Accounts};
 ghost use Rattle.toolbox.specs.Calls.{Blames, HeapLies, Hosts, KeepsBounds, outside, place};

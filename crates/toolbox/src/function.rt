@@ -1,5 +1,5 @@
 ghost use Rattle.std.specs.Prelude.{◌≡◌};
-ghost use Rattle.toolbox.specs.Functions.{function_at, number_of, sets_codes as sets_codes_by_trap};
+ghost use Rattle.toolbox.specs.Functions.{function_at, sets_codes as sets_codes_by_trap};
 
 /// A function of the host table.
 #[derive(Clone, Copy)]

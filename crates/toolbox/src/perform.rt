@@ -1,7 +1,5 @@
 // What each function does beside the registers.
-ghost use Rattle.std.specs.Prelude.{◌≡◌, ℕ, List, Option};
 ghost use Rattle.big_memory.specs.Memory.{Memory};
-ghost use Rattle.dev_rack.specs.Rack.{State};
 ghost use Rattle.host_heap.specs.Space.{Space};
 ghost use Rattle.mix_io.specs.Streams.{Output};
 ghost use Rattle.toolbox.specs.Calls.{HeapLies, Input, Outside, outside, place, with_rack};

@@ -1,7 +1,7 @@
 // Operands from registers, and results into them.
 ghost use Rattle.std.specs.Prelude.{◌≡◌, ◌∷◌, []};
 ghost use Rattle.toolbox.specs.Host.{pc_of as pc_in};
-ghost use Rattle.toolbox.specs.Registers.{answered, at_link, behind_trap, codes_of_word, operands_from, operands_of as operands_in, result_registers, value_in, operand_registers, with_codes, with_registers, with_results, with_stack};
+ghost use Rattle.toolbox.specs.Registers.{answered, at_link, codes_of_word, operands_of as operands_in, result_registers, with_registers, with_results, with_stack};
 
 use crate::function::Function;
 use crate::values::{Operands, Results};

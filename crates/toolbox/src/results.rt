@@ -1,6 +1,6 @@
 // The results that functions give, with the error numbers of the toolbox as 32 bits.
 ghost use Rattle.std.specs.Prelude.{◌≡◌, if◌then◌else◌};
-ghost use Rattle.toolbox.specs.Effects.{device_failed, error, no_block, no_room, no_slot, results, results_of};
+ghost use Rattle.toolbox.specs.Effects.{error, no_block, no_room, no_slot, results, results_of};
 
 use crate::values::Results;
 use dev_rack::Answer;

@@ -1,5 +1,5 @@
 // Bytes to the output and from the input.
-ghost use Rattle.std.specs.Prelude.{◌≡◌, ℕ, List, Option};
+ghost use Rattle.std.specs.Prelude.{◌≡◌};
 ghost use Rattle.big_memory.specs.Memory.{Memory};
 ghost use Rattle.dev_rack.specs.Rack.{State};
 ghost use Rattle.host_heap.specs.Space.{Space};
