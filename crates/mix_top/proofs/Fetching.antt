@@ -1,5 +1,5 @@
 -- The files of a job, one after the other.
-use Rattle.std.proofs.Common.{◌≡◌, ℕ, ◌<◌, ◌≤◌, List, [], ◌∷◌, ◌++◌, length, Option, Some, None, IsSomeAnd, Ok, Err, sym, ap, subst, ◌∙◌, refl, append_assoc}
+use Rattle.std.proofs.Common.{◌≡◌, ℕ, ◌<◌, ◌≤◌, List, [], ◌∷◌, ◌++◌, length, Option, Some, None, IsSomeAnd, IfSome, Ok, Err, sym, ap, subst, ◌∙◌, refl, append_assoc}
 use Rattle.std.specs.Prelude.{Vec}
 use Rattle.std.specs.Option.{option_map, option_map_or}
 use Rattle.mix_io.specs.Counts.{CountsStay, FetchCause, Rose}
@@ -11,7 +11,7 @@ use Rattle.job_words.specs.Words.{name_at, name_of}
 use Rattle.job_words.specs.declared.job.Job.{Job}
 use Rattle.job_words.specs.declared.job.Key.{Key}
 use Rattle.job_words.specs.declared.job.Key.TheVariants.{Flat, Rsrc, Pef}
-use Rattle.mix_top.specs.Files.{Contents, AreFetched, IsFile, IsLong, IsNamed, file_limit}
+use Rattle.mix_top.specs.Files.{Contents, AreFetched, IsFile, IsLong, IsNotLong, IsNamed, file_limit}
 use Rattle.mix_top.specs.Ends.{IsNext}
 use Rattle.mix_top.specs.Parts.{IsCause, Misses, MissesFirst}
 use Rattle.mix_top.specs.declared.files.Missing.{Missing}
@@ -34,10 +34,18 @@ is-long : (A : Type 0) (contents : Contents) (name : List ℕ) (n : ℕ) → Fet
 is-long A None name n fetches = tt
 is-long A (Some held) name n fetches = long-told A (held name) file_limit n fetches
 
+not-long-told : (A : Type 0) (o : Option (List ℕ)) (limit : ℕ) → FetchesFile {A = A} o limit (Err NoMemory) → IfSome o (λ file. length file ≤ limit)
+not-long-told A (Some bytes) limit fetches = fetches
+not-long-told A None limit fetches = tt
+
+is-not-long : (A : Type 0) (contents : Contents) (name : List ℕ) → Fetches {A = A} contents name file_limit (Err NoMemory) → IsNotLong contents name
+is-not-long A None name fetches = tt
+is-not-long A (Some held) name fetches = not-long-told A (held name) file_limit fetches
+
 -- why it was not fetched
 pub cause-of_fetch : (A : Type 0) (contents : Contents) (name : List ℕ) (old new : List ℕ → ℕ) (error : FetchError)
     → Fetches {A = A} contents name file_limit (Err error) → FetchCause {V = Vec ℕ A} old new name (Err error) → IsCause contents name old new error
-cause-of_fetch A contents name old new NoMemory fetches cause = cause
+cause-of_fetch A contents name old new NoMemory fetches cause = (is-not-long A contents name fetches, cause)
 cause-of_fetch A contents name old new Failed fetches cause = cause
 cause-of_fetch A contents name old new (TooLong n) fetches cause = (is-long A contents name n fetches, cause)
 
