@@ -29,7 +29,7 @@ popped sig = removed sig true
 abbrev pub result_in : Signature → Regs68 → Memory → Result ℕ Access
 result_in sig r m = value_at r m (result_place (route_of sig.conv) sig.place) sig.result
 
--- a caller's registers with what its call passed removed
+-- a caller's registers with the bytes removed that a return removes
 abbrev pub after_call : Signature → Regs68 → Regs68
 after_call sig r = record r { a = slice_set r.a 7 (above_sp r (popped sig)) }
 

@@ -43,7 +43,7 @@ pub fn below68(sig: &Sig, selector: bool) -> u32
 }
 
 /// Gives a 68K callee its stack, which ends at `lo`, and answers its registers. The stack holds the return
-/// address and the arguments that stand on it, each cut to its size, and else zeros; no other byte of
+/// address, and a selector and the arguments that stand on it, each cut to its size, and else zeros; no other byte of
 /// memory changes.
 pub fn deliver68(
     sig: &Sig,

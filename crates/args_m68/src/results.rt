@@ -45,9 +45,10 @@ pub fn result68(sig: &Sig, regs: &Regs68, ram: &Ram) -> Result<u32, Access>
     )
 }
 
-/// Gives a caller its result behind the call: what the call passed is removed from the stack, and the low
-/// bytes of the result stand in their place; a condition bit is 1 where these are not 0. A Pascal result
-/// is stored at the new A7, and may be refused as a store, with nothing changed.
+/// Gives a caller its result behind the call: the return address, and in the Pascal conventions the parameters
+/// and a selector on the stack, are removed, and the low bytes of the result stand in their place; a condition
+/// bit is 1 where these are not 0. A Pascal result is stored at the new A7, and may be refused as a store, with
+/// nothing changed.
 pub fn put_result68(sig: &Sig, value: u32, regs: &mut Regs68, ram: &mut Ram) -> Result<(), Access>
     ensures exact { Leaves result (record { regs = regs.old; memory = ram.old }) (record { regs = regs.new; memory = ram.new })
         (with_result (signature sig.now) value regs.old ram.old) }

@@ -1,4 +1,5 @@
 ghost use Rattle.std.specs.Prelude.{◌≡◌, ◌+◌, ◌-◌, ◌/◌, ◌%◌, ◌≤◌, ◌<◌, ◌^◌, true, false, length, replicate, None, IsTrue, IfOk, MatchOption, MatchResult};
+ghost use Rattle.std.specs.Bool.{OnTrue};
 ghost use Rattle.mix_bits.specs.Sizes.{bytes_of, modulus};
 ghost use Rattle.mix_bits.specs.declared.size.Size.TheVariants.{One, Two, Four};
 ghost use Rattle.big_memory.specs.Lists.{part};
@@ -317,7 +318,8 @@ impl Ram {
     #[inline(always)]
     pub fn has(&self, a: u32, n: u32) -> bool
         requires { 0 < n }
-        ensures { result ≡ in_memory self.now a n }
+        ensures is { result ≡ in_memory self.now a n }
+        ensures within { OnTrue result (a + n ≤ length self.now.bytes) }
     {
         u64::from(a) + u64::from(n) <= self.bytes.len() as u64
     }

@@ -1,3 +1,4 @@
+ghost use Rattle.std.specs.Prelude.{◌≡◌};
 ghost use Rattle.big_memory.specs.Faults.{fault_at, fault_of};
 ghost use Rattle.big_memory.specs.Memory.{Memory};
 ghost use Rattle.big_memory.specs.Steps.{Does};
@@ -46,7 +47,8 @@ pub fn refuse<R>(fault: &mut Fault, pc: u32, access: Access) -> Did
 #[cold]
 #[inline(never)]
 pub fn leave<R>(fault: &mut Fault, number: u32) -> Did
-    ensures { (r : R) (m : Memory) → Does (Leaves number) result fault.new r r m m }
+    ensures does { (r : R) (m : Memory) → Does (Leaves number) result fault.new r r m m }
+    ensures cell { fault.new ≡ record fault.old { detail = number } }
 {
     fault.detail = number;
     Did::Leave

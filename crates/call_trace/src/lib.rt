@@ -1,6 +1,6 @@
 //! The lines of the trace: the calls from one instruction set into another, their returns, the asks of
-//! devices, and the end of a run. Each is put as one piece, and a sink that fails keeps at most a part of
-//! it. The text of the lines is this project's own.
+//! devices, and the end of a run. Each is put as one piece, and a sink that fails keeps a front of it. The
+//! text of the lines is this project's own.
 #![tactic(auto)]
 
 mod end;

@@ -2,7 +2,7 @@
 use super::answers::{Answer, Asked};
 
 /// Slots, numbered from 0, that hold a device or none, and a journal of the asks that reached one, in
-/// their order. No call takes memory.
+/// their order. No call is passed an allocator.
 pub trait Devices {
     ghost use Rattle.std.specs.Prelude.{◌≡◌};
     ghost use Rattle.dev_rack.specs.Rack.{State, Asks, Ejects};

@@ -5,7 +5,8 @@ ghost use Rattle.dev_rack.specs.Rack.{State, Asks, Ejects};
 ghost use Rattle.dev_rack.specs.declared.answers.Answer.{Answer};
 
 /// Through any number of asks and ejects the journal accounts for the devices: it grows by one entry for
-/// each ask that a device got, and a device that stays told exactly the entries of its slot.
+/// each ask that a device got, and a device that stays told exactly the entries of its slot, as far as it tells
+/// a conversation.
 pub fn journal_laws()
     ensures begins { (s : State) → Accounts s s }
     ensures asks { (old new : State) (slot word : ℕ) (answer : Answer) → Asks old slot word answer new → Accounts old new }

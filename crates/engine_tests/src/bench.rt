@@ -6,7 +6,7 @@ ghost use Rattle.mixed_machine.specs.Machine.{IsWhole};
 use crate::text::image;
 use dev_rack::{Asked, Devices, Rack};
 use mix_bits::Isa;
-use mix_engine::{Machine, Stop, run};
+use mix_engine::{Machine, Stop, Turn, run, run_m68, run_ppc};
 use mix_io::{Counter, Device, MemSink, MemSource, Source, Tape};
 use mix_load::{FileBytes, Files, load};
 use std::alloc::Global;
@@ -85,6 +85,38 @@ pub fn run_on(m: &mut Machine, around: &mut Outside, steps: u32) -> Stop
         &mut around.rack,
         steps,
     )
+}
+
+/// Runs the code of the active set by its own interpreter, until its caller goes on or the machine stops.
+pub fn run_set(m: &mut Machine, around: &mut Outside, steps: &mut u32) -> Turn
+    requires { IsWhole m.old.body (isa_of m.old.active) }
+    ensures { IsWhole m.new.body (isa_of m.new.active) }
+{
+    let turn = match m.active {
+        Active::M68(regs) => run_m68(
+            &mut m.body,
+            regs,
+            &mut around.input,
+            &mut around.out,
+            &mut around.trace,
+            &mut around.rack,
+            steps,
+        ),
+        Active::Ppc(regs) => run_ppc(
+            &mut m.body,
+            regs,
+            &mut around.input,
+            &mut around.out,
+            &mut around.trace,
+            &mut around.rack,
+            steps,
+        ),
+    };
+    m.active = match turn {
+        Turn::Back(active) => active,
+        Turn::Stop(active, _) => active,
+    };
+    turn
 }
 
 /// The innermost caller that waits.

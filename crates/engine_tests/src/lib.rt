@@ -16,3 +16,5 @@ mod images;
 mod programs;
 #[cfg(test)]
 mod text;
+#[cfg(test)]
+mod turns;

@@ -48,12 +48,12 @@ PutsUsual p all false r q m n = (is_ok all ≡ false) × (q ≡ r) × (n ≡ m)
 
 -- an operand e that is found and read, from word `first` on; or it is left, and nothing is changed
 abbrev pub TakesUsual : Regs68 → Memory → ℕ → Size → Operand → Bool → Option ℕ → ℕ → Regs68 → Type 0
-TakesUsual r m first s e tried (Some v) next q = (e.good ≡ true) × (sourced r m s e.ea ≡ Ok (q, v)) × (next ≡ e.next) × KeepsOthers r q
+TakesUsual r m first s e tried (Some v) next q = (tried ≡ true) × (e.good ≡ true) × (sourced r m s e.ea ≡ Ok (q, v)) × (next ≡ e.next) × KeepsOthers r q
 TakesUsual r m first s e tried None next q = IsLeft tried (sourced r m s e.ea) × (next ≡ first) × (q ≡ r)
 
 -- an operand e that is found, and a value that is written there; or it is left, and nothing is changed
 abbrev pub WritesUsual : Regs68 → Memory → ℕ → Size → Operand → ℕ → Bool → Bool → ℕ → Regs68 → Memory → Type 0
-WritesUsual r m first s e v tried true next q n = (e.good ≡ true) × (put_into r m s e.ea v ≡ Ok (q, n)) × (next ≡ e.next) × KeepsControl r q × OnlyFree m n
+WritesUsual r m first s e v tried true next q n = (tried ≡ true) × (e.good ≡ true) × (put_into r m s e.ea v ≡ Ok (q, n)) × (next ≡ e.next) × KeepsControl r q × OnlyFree m n
 WritesUsual r m first s e v tried false next q n = IsLeft tried (put_into r m s e.ea v) × (next ≡ first) × (q ≡ r) × (n ≡ m)
 
 -- a step that is done; or it is left to others, and nothing is changed

@@ -1,8 +1,9 @@
 //! Operands of 68000 instructions: the addressing modes, and reading and writing what they name.
 //!
-//! [`place`], [`read_at`] and [`write_at`] work on a decoded operand. The other calls read an operand from
-//! the words of an instruction, each word as it is used; a fault is left in a cell, and has changed neither
-//! registers nor memory.
+//! [`place`], [`read_at`] and [`write_at`] work on a decoded operand. The others find, read and write the
+//! operands of an instruction's words, each word as it is used, or one address. What is refused has changed
+//! neither registers nor memory; its fault is left in a cell, but for the calls of usual operands, which tell
+//! none.
 #![tactic(auto)]
 
 mod accesses;
@@ -21,6 +22,4 @@ pub use stack::{pop, push, push_onto};
 pub use usual::{
     Usual, find_usual, is_below_stack, put_usual, usual_or_immediate, usual_source, usual_write,
 };
-pub use words::{
-    extended_word, extension_words, go_on, immediate_at, immediate_words, is_second_good, word_at,
-};
+pub use words::{extended_word, go_on, immediate_at, immediate_words, is_second_good, word_at};

@@ -1,6 +1,6 @@
 // Operands in registers, immediate ones, and in memory by the usual modes: (An), (An)+, -(An) and (d16,An).
 // What is refused, or stands elsewhere, changes nothing here and is left to the calls for operands of any mode.
-ghost use Rattle.std.specs.Prelude.{◌≡◌, ◌+◌, ◌<◌, ◌≤◌, ◌==◌, nat_le, ◌&&◌, ◌||◌, IsTrue, IfSome, IfNone, MatchOption, None, Ok, OnSome, is_ok, false, slice_index};
+ghost use Rattle.std.specs.Prelude.{◌≡◌, ◌+◌, ◌<◌, ◌≤◌, ◌==◌, nat_le, ◌&&◌, ◌||◌, IsTrue, IfSome, IfNone, MatchOption, None, Ok, OnSome, is_ok, true, false, slice_index};
 ghost use Rattle.big_memory.specs.Memory.{floor_of, refusal};
 ghost use Rattle.m68_isa.specs.Operands.{operand_at};
 ghost use Rattle.m68_ea.specs.Accesses.{read_in, written_in};
@@ -15,7 +15,7 @@ use super::places::{backward, step};
 use super::words::{extended_word, immediate_at, immediate_words};
 use big_memory::{GATE_PAGE_END, Ram, memory_laws};
 use m68_isa::Regs68;
-use mix_bits::{Size, onward, trunc, with_low};
+use mix_bits::{Size, onward, trunc};
 
 /// An operand in memory of a usual mode.
 #[derive(Clone, Copy)]
@@ -42,6 +42,7 @@ fn place_usual(
     requires first { next < 5 }
     ensures is { IfSome result (λ found. IsUsual regs.now size (operand_at (words_at ram.now regs.now.pc) next size mode lower) lower found) }
     ensures near { IfSome result (λ found. found.next ≤ next + 1) }
+    ensures only { OnSome result (is_usual mode ≡ true) }
     ensures left { IfNone result (is_usual mode ≡ false) }
 {
     let before = regs.a[lower];
@@ -118,6 +119,7 @@ pub fn find_usual(
     requires first { next < 4 }
     ensures is { IfSome result (λ found. FindsUsual regs.now ram.now size (operand_at (words_at ram.now regs.now.pc) next size mode lower) lower found.0 found.1) }
     ensures near { IfSome result (λ found. found.0.next ≤ next + 1) }
+    ensures only { OnSome result (is_usual mode ≡ true) }
     ensures left { IfNone result (IsLeft (is_usual mode) (sourced regs.now ram.now size (operand_at (words_at ram.now regs.now.pc) next size mode lower).ea)) }
 {
     let found = place_usual(regs, ram, next, size, mode, lower)?;
@@ -171,7 +173,8 @@ pub fn usual_source(
     }
 }
 
-/// The same, also of an immediate operand.
+/// The value of an operand in memory of a usual mode, with its increment or decrement applied, or of an
+/// immediate one. An operand of another mode, or one that can't be read, has no value here.
 #[inline(always)]
 pub fn usual_or_immediate(
     regs: &mut Regs68,
@@ -183,7 +186,7 @@ pub fn usual_or_immediate(
 ) -> Option<u32>
     requires number { lower < 8 }
     requires first { next.old < 4 }
-    ensures is { TakesUsual regs.old ram.now next.old size (operand_at (words_at ram.now regs.old.pc) next.old size mode lower) (nat_le mode 5 || (mode == 7 && lower == 4)) result next.new regs.new }
+    ensures is { TakesUsual regs.old ram.now next.old size (operand_at (words_at ram.now regs.old.pc) next.old size mode lower) (is_usual mode || (mode == 7 && lower == 4)) result next.new regs.new }
     ensures near { next.new ≤ next.old + 2 }
     ensures back { OnSome result (with_address regs.new lower (slice_index regs.old.a lower) ≡ regs.old) }
 {
@@ -192,11 +195,11 @@ pub fn usual_or_immediate(
         *next += immediate_words(size);
         Some(trunc(value, size))
     } else {
-        usual_source(regs, ram, next, size, mode, lower)
+        source_in_memory(regs, ram, next, size, mode, lower)
     }
 }
 
-/// The same of an operand in memory alone.
+/// The value of an operand in memory of a usual mode, in the same way.
 #[inline(always)]
 fn source_in_memory(
     regs: &mut Regs68,
@@ -236,34 +239,10 @@ fn source_in_memory(
     }
 }
 
-/// Writes a value into a data register or into memory of a usual mode, and tells whether it did; an increment
-/// or decrement is applied. An operand of another mode, or one that can't be stored into, is not written.
+/// Writes a value into memory of a usual mode, and tells whether it did; an increment or decrement is
+/// applied. An operand of another mode, or one that can't be stored into, is not written.
 #[inline(always)]
 pub fn usual_write(
-    regs: &mut Regs68,
-    ram: &mut Ram,
-    next: &mut u32,
-    size: Size,
-    mode: u32,
-    lower: usize,
-    value: u32,
-) -> bool
-    requires number { lower < 8 }
-    requires first { next.old < 4 }
-    ensures is { WritesUsual regs.old ram.old next.old size (operand_at (words_at ram.old regs.old.pc) next.old size mode lower) value (mode == 0 || is_usual mode) result next.new regs.new ram.new }
-    ensures near { next.new ≤ next.old + 1 }
-{
-    if mode == 0 {
-        regs.d[lower] = with_low(regs.d[lower], value, size);
-        true
-    } else {
-        write_in_memory(regs, ram, next, size, mode, lower, value)
-    }
-}
-
-/// The same of an operand in memory alone.
-#[inline(always)]
-fn write_in_memory(
     regs: &mut Regs68,
     ram: &mut Ram,
     next: &mut u32,

@@ -172,7 +172,7 @@ fn is_special_good(ram: &Ram, pc: u32, at: u32, lower: usize) -> bool
 
 /// How many extension words an operand has.
 #[inline(always)]
-pub fn extension_words(size: Size, mode: u32, lower: usize) -> u32
+fn extension_words(size: Size, mode: u32, lower: usize) -> u32
     ensures count { (ws : List ℕ) (at : ℕ) → (operand_at ws at size mode lower).next ≡ at + result }
     ensures most { result < 3 }
 {

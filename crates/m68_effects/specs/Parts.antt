@@ -1,7 +1,7 @@
 -- Parts that many instructions share. An effect is the registers and the memory behind an instruction, or
 -- its fault; its accesses follow one another, and the first one that is refused is the fault. The
 -- registers' `pc` is the address of the instruction until the program goes on.
-use Rattle.std.specs.Prelude.{ℕ, ◌*◌, Bool, if◌then◌else◌, slice_index, Result, Ok, Err}
+use Rattle.std.specs.Prelude.{ℕ, Bool, if◌then◌else◌, slice_index, Result, Ok, Err}
 use Rattle.mix_bits.specs.declared.size.Size.{Size}
 use Rattle.mix_bits.specs.declared.size.Size.TheVariants.{Four}
 use Rattle.mix_bits.specs.declared.fault.Fault.{Fault}
@@ -29,11 +29,6 @@ Effect = Result (Regs68 × Memory) Fault
 abbrev pub after : Effect → After Regs68
 after (Ok (r, m)) = Goes r m
 after (Err fault) = Stops fault
-
--- an effect with operands, of which the last one tells how many words the instruction has; where one of
--- their index words is none of the 68000, it is illegal
-abbrev pub with_operands : Regs68 → ℕ → Bool → Operand → (ℕ → Effect) → After Regs68
-with_operands r first good last row = after (unless_illegal r.pc first good (row (onward r.pc (2 * last.next))))
 
 -- the program goes on at an address
 abbrev pub goes_on : ℕ → Regs68 → Memory → Effect

@@ -1,6 +1,7 @@
 //! The 68000 as a program sees it: its registers, and its instructions as words.
 //!
-//! `decode68` gives exactly what the table in `specs/Rows` makes of the words, and no first word is in two rows.
+//! `decode68` gives exactly what the table of `specs/Decode` makes of the words, and no first word is in two rows
+//! of its section.
 #![tactic(auto)]
 
 mod arithmetic;

@@ -23,7 +23,7 @@ use m68_isa::Regs68;
 use m68_ops::{Op68, lower_of, mode_of, move_mode_of, upper_of};
 use mix_bits::{Fault, FaultKind, Size, sext, trunc, with_low};
 
-/// The size of a move, for which each function of a move is compiled.
+/// The size of a move, for which the functions that choose the way of a move are compiled.
 trait Width {
     ghost SIZE: { ASize };
 
@@ -224,8 +224,8 @@ fn register_value(regs: &Regs68, ram: &Ram, size: Size, mode: u32, lower: usize)
     }
 }
 
-/// Tries a move of this size whose operands are registers or memory of usual modes, and tells whether it is
-/// done.
+/// Tries a move of this size whose operands are memory of usual modes, or whose source is immediate, and tells
+/// whether it is done.
 #[inline(always)]
 fn move_usual(regs: &mut Regs68, ram: &mut Ram, word: u32, size: Size) -> bool
     ensures { Tries (moves size regs.old ram.old word) result regs.old regs.new ram.old ram.new }

@@ -1,6 +1,6 @@
 -- What each operation makes of a first word's parts and of the words
 -- (M68000 Family Programmer's Reference Manual, section 8).
-use Rattle.std.specs.Prelude.{ℕ, ◌≡◌, ◌≢◌, ◌<◌, ◌+◌, ◌*◌, ◌%◌, ◌==◌, ◌&&◌, ◌||◌, nat_lt, true, false, List, ◌∷◌, length, slice_index}
+use Rattle.std.specs.Prelude.{ℕ, ◌≡◌, ◌<◌, ◌≤◌, ◌+◌, ◌*◌, ◌%◌, ◌==◌, ◌&&◌, ◌||◌, nat_lt, true, false, List, ◌∷◌, length, slice_index}
 use Rattle.mix_bits.specs.Sizes.{sign_extended}
 use Rattle.mix_bits.specs.declared.size.Size.TheVariants.{One, Two, Four}
 use Rattle.m68_isa.specs.declared.instructions.ImmediateOp.TheVariants as ImmediateBy
@@ -133,6 +133,6 @@ Fits Trap w = (first_of w).mode < 2
 Fits Jsr w = in_class Control (first_of w).mode (first_of w).lower ≡ true
 Fits Jmp w = in_class Control (first_of w).mode (first_of w).lower ≡ true
 Fits Lea w = in_class Control (first_of w).mode (first_of w).lower ≡ true
-Fits BccByte w = condition_of (first_of w) ≢ 1
-Fits BccWord w = condition_of (first_of w) ≢ 1
+Fits BccByte w = 2 ≤ condition_of (first_of w)
+Fits BccWord w = 2 ≤ condition_of (first_of w)
 Fits op w = Unit {0}

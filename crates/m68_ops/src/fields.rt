@@ -86,19 +86,6 @@ pub fn size_of(word: u32) -> Size
     }
 }
 
-/// The size of bit 8 in an operation on an address register: word or long.
-#[inline(always)]
-pub fn address_size_of(word: u32) -> Size
-    ensures is { result ≡ long_or_word (first_of word).bit8 }
-    ensures some { result ≢ Size.Zero }
-{
-    if bit8_of(word) == 0 {
-        Size::Two
-    } else {
-        Size::Four
-    }
-}
-
 /// The size of bit 6 in ext, movem and movep: word or long.
 #[inline(always)]
 pub fn transfer_size_of(word: u32) -> Size

@@ -15,8 +15,8 @@ mod places;
 mod read;
 
 pub use fields::{
-    address_size_of, bit_op_of, bit8_of, byte_of, condition_of, exchange_of, is_in_memory, is_left,
-    is_to_memory, line_of, logic_op_of, lower_of, memory_shift_of, mode_of, move_mode_of, quick_of,
+    bit_op_of, bit8_of, byte_of, condition_of, exchange_of, is_in_memory, is_left, is_to_memory,
+    line_of, logic_op_of, lower_of, memory_shift_of, mode_of, move_mode_of, quick_of,
     register_shift_of, shift_count_of, size_bits_of, size_of, transfer_size_of, trap_of, upper_of,
 };
 pub use laws::{op_laws, reading_law};

@@ -1,5 +1,6 @@
-/// What a first word asks for, without the fields of the word: one operation for each row of the
-/// manual's table, some of them split by direction, by condition or, for `move`, by size
+/// What a first word asks for, without the fields of the word: an operation for each row of the manual's
+/// table, or for rows that differ in a field alone; some are split by direction, condition, sign, length of the
+/// displacement or, for `move` and `movea`, by size
 /// (M68000 Family Programmer's Reference Manual, section 8).
 #[derive(Clone, Copy)]
 pub enum Op68 {

@@ -3,15 +3,6 @@ ghost use Rattle.m68_text.specs.Operands.{hex};
 
 use mix_bits::Line;
 
-/// Appends a text to a line with room for it.
-pub fn add(line: &mut Line, text: &str)
-    requires { length line.old + length text.now ≤ 160 }
-    ensures text { line.new ≡ line.old ++ text.now }
-    ensures grows { length line.new ≡ length line.old + length text.now }
-{
-    let _fits = line.text(text);
-}
-
 /// Appends the lowest 2, 4 or 8 hexadecimal digits of a number, with the sign of the base.
 #[tactic(auto, using(crate::proofs::Digits::hexadecimal_length))]
 pub fn add_hex(line: &mut Line, number: u32, digits: u32)
@@ -20,7 +11,7 @@ pub fn add_hex(line: &mut Line, number: u32, digits: u32)
     ensures text { line.new ≡ line.old ++ hex digits number }
     ensures grows { length line.new ≡ length line.old + 1 + digits }
 {
-    add(line, "$");
+    line.add("$");
     let _fits = line.hex(number, digits);
 }
 

@@ -1,7 +1,7 @@
 ghost use Rattle.std.specs.Prelude.{◌≡◌, ◌+◌, ◌≤◌, ◌⊎◌, ◌++◌, codes, length};
 ghost use Rattle.m68_text.specs.Operands.{address_register, data_register, hex, index_text, indirect, listed, operand_text, operands_text};
 
-use super::append::{add, add_hex, add_number};
+use super::append::{add_hex, add_number};
 use m68_isa::Index;
 use mix_bits::Line;
 
@@ -60,7 +60,7 @@ fn add_data_register(line: &mut Line, n: u8)
     ensures text { line.new ≡ line.old ++ data_register n }
     ensures grows { length line.new ≤ length line.old + 4 }
 {
-    add(line, "d");
+    line.add("d");
     add_number(line, n);
 }
 
@@ -69,7 +69,7 @@ fn add_address_register(line: &mut Line, n: u8)
     ensures text { line.new ≡ line.old ++ address_register n }
     ensures grows { length line.new ≤ length line.old + 4 }
 {
-    add(line, "a");
+    line.add("a");
     add_number(line, n);
 }
 
@@ -79,9 +79,9 @@ fn add_indirect(line: &mut Line, n: u8)
     ensures text { line.new ≡ line.old ++ indirect n }
     ensures grows { length line.new ≤ length line.old + 6 }
 {
-    add(line, "(");
+    line.add("(");
     add_address_register(line, n);
-    add(line, ")");
+    line.add(")");
 }
 
 /// Appends an index register, with how much of it counts.
@@ -95,7 +95,7 @@ fn add_index(line: &mut Line, index: Index)
     } else {
         add_data_register(line, index.reg);
     }
-    add(line, if index.long { ".l" } else { ".w" });
+    line.add(if index.long { ".l" } else { ".w" });
 }
 
 /// Appends an absolute address of 4 or 8 digits, with its size.
@@ -107,7 +107,7 @@ fn add_absolute(line: &mut Line, address: u32, digits: u32, suffix: &str)
     ensures grows { length line.new ≤ length line.old + 11 }
 {
     add_hex(line, address, digits);
-    add(line, suffix);
+    line.add(suffix);
 }
 
 /// Appends an immediate of 2, 4 or 8 digits.
@@ -117,7 +117,7 @@ fn add_immediate(line: &mut Line, value: u32, digits: u32)
     ensures text { line.new ≡ line.old ++ (codes "#" ++ hex digits value) }
     ensures grows { length line.new ≤ length line.old + 10 }
 {
-    add(line, "#");
+    line.add("#");
     add_hex(line, value, digits);
 }
 
@@ -128,11 +128,11 @@ fn add_indexed(line: &mut Line, n: u8, index: Index)
     ensures grows { length line.new ≤ length line.old + 16 }
 {
     add_hex(line, index.disp, 2);
-    add(line, "(");
+    line.add("(");
     add_address_register(line, n);
-    add(line, ",");
+    line.add(",");
     add_index(line, index);
-    add(line, ")");
+    line.add(")");
 }
 
 fn add_operand(line: &mut Line, operand: Operand)
@@ -146,10 +146,10 @@ fn add_operand(line: &mut Line, operand: Operand)
         Operand::Indirect(n) => add_indirect(line, n),
         Operand::PostIncrement(n) => {
             add_indirect(line, n);
-            add(line, "+");
+            line.add("+");
         }
         Operand::PreDecrement(n) => {
-            add(line, "-");
+            line.add("-");
             add_indirect(line, n);
         }
         Operand::Displaced(n, disp) => {
@@ -161,23 +161,23 @@ fn add_operand(line: &mut Line, operand: Operand)
         Operand::LongAddress(address) => add_absolute(line, address, 8, ".l"),
         Operand::PcDisplaced(disp) => {
             add_hex(line, disp, 4);
-            add(line, "(pc)");
+            line.add("(pc)");
         }
         Operand::PcIndexed(index) => {
             add_hex(line, index.disp, 2);
-            add(line, "(pc,");
+            line.add("(pc,");
             add_index(line, index);
-            add(line, ")");
+            line.add(")");
         }
         Operand::Byte(value) => add_immediate(line, value, 2),
         Operand::Word(value) => add_immediate(line, value, 4),
         Operand::Long(value) => add_immediate(line, value, 8),
         Operand::Number(n) => {
-            add(line, "#");
+            line.add("#");
             add_number(line, n);
         }
-        Operand::ConditionCodes => add(line, "ccr"),
-        Operand::StatusRegister => add(line, "sr"),
+        Operand::ConditionCodes => line.add("ccr"),
+        Operand::StatusRegister => line.add("sr"),
         Operand::Target(address) => add_hex(line, address, 8),
     }
 }
@@ -191,13 +191,13 @@ pub fn add_operands(line: &mut Line, operands: Operands)
     match operands {
         Operands::None => {}
         Operands::One(operand) => {
-            add(line, " ");
+            line.add(" ");
             add_operand(line, operand);
         }
         Operands::Two(first, second) => {
-            add(line, " ");
+            line.add(" ");
             add_operand(line, first);
-            add(line, ",");
+            line.add(",");
             add_operand(line, second);
         }
     }

@@ -3,7 +3,7 @@ ghost use Rattle.m68_isa.specs.Decode.{decoded};
 ghost use Rattle.m68_isa.specs.declared.instructions.Decoded68.TheVariants.{Short};
 ghost use Rattle.m68_text.specs.Text.{text_of};
 
-use super::append::{add, add_hex};
+use super::append::add_hex;
 use super::names::name_of;
 use super::operand::add_operands;
 use super::operands::{operands_of, word_at};
@@ -22,13 +22,13 @@ pub fn text68(d: &Decoded68, words: &[u16], at: u32, line: &mut Line)
     match *d {
         Decoded68::Op(i, used) => {
             let name = name_of(i, used);
-            add(line, name.stem);
-            add(line, name.condition);
-            add(line, name.suffix);
+            line.add(name.stem);
+            line.add(name.condition);
+            line.add(name.suffix);
             add_operands(line, operands_of(i, words, at));
         }
         _ => {
-            add(line, "dc.w ");
+            line.add("dc.w ");
             add_hex(line, word_at(words, 0), 4);
         }
     }

@@ -8,7 +8,8 @@ impl Line {
     /// Appends a text.
     pub fn add(&mut self, t: &str)
         requires { length self.old + length t.now ≤ most_bytes }
-        ensures { self.new ≡ self.old ++ t.now }
+        ensures text { self.new ≡ self.old ++ t.now }
+        ensures grows { length self.new ≡ length self.old + length t.now }
     {
         let _fits = self.text(t);
     }

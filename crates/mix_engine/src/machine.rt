@@ -29,7 +29,7 @@ use switch_frame::{Active, Program};
 ///
 /// It is whole, as `start` and `run` leave it, if its frames are a chain in RAM that ends at the main
 /// program, the set of its registers is that of the innermost callee, or the main program's without one,
-/// the gate page stands as it was loaded, `start_sp` is that of the main program's set, and the heap lies
+/// the gate page is one with the program's A5, `start_sp` is that of the main program's set, and the heap lies
 /// between the program and the stack.
 #[derive(Drop)]
 pub struct Machine {
@@ -42,7 +42,7 @@ pub struct Machine {
 impl Machine {
     /// The machine at the start of a program, without a suspended caller and with an empty heap.
     ///
-    /// The heap takes the room for its list of blocks here, and the machine takes no memory afterwards.
+    /// The heap takes the room for its list of blocks here; what runs the machine is passed no allocator.
     pub fn start(alloc: Global, program: Program) -> Result<Machine, NoMemory>
         requires { IsProgram program }
         ensures whole { IfOk result (λ m. IsWhole m.body (isa_of m.active)) }

@@ -84,7 +84,7 @@ const HALF_PPC: [u8; 68] = [
 ];
 
 /// The sample image as a flat file: its main part calls a routine of depth `depth` `n` times, 68K and PowerPC
-/// code call each other, and the exit code is `n` times `depth`.
+/// code call each other. With `n` from 1 and `depth` from 1 to 256 the exit code is `n` times `depth`.
 pub fn sample(alloc: Global, n: u32, depth: u32) -> Result<Files, NoMemory>
     ensures { IfOk result (λ files. files ≡ sample_files n depth) }
 {

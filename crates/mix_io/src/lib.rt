@@ -1,5 +1,5 @@
 //! What the machine meets of the world outside it: files, input, output and devices, by four traits,
-//! each with objects in memory for tests and for closed runs, and with adapters over std.
+//! each with objects in memory for tests and for closed runs, and, but for devices, with adapters over std.
 #![tactic(auto)]
 
 mod conversation;

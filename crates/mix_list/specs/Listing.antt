@@ -62,7 +62,7 @@ listing (suc count) set m at = listing_with (instruction set m at) at (listing c
 abbrev pub sink : Option (List ℕ) → ℕ → Output
 sink held faults = record { held = held; faults = faults }
 
--- the put of a line failed: the lines before it were put, and of it some front
+-- a put failed: the sink holds a beginning of the text
 pub record StopsWithin (old new : Output) (text : List ℕ) : Type 0 where
   pub before : List ℕ
   pub line : List ℕ

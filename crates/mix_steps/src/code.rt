@@ -30,8 +30,9 @@ pub enum Code {
     Gate,
 }
 
-/// Instructions from pc on: what the last of them did, or why the host is to go on there. It is the first
-/// that is not done, or the last that `left` allows; each before it lowers `left`.
+/// Instructions from pc on: what the last of them did, or why the host is to go on there; each before it
+/// lowers `left`. How many there are is left open: the code goes on to the first that is not done, or to the last
+/// that `left` allows.
 #[inline(always)]
 pub fn run_code(body: &mut Body, active: &mut Active, fault: &mut Fault, left: &mut u32) -> Code
     requires whole { IsWhole body.old (isa_of active.old) }

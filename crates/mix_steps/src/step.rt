@@ -16,10 +16,10 @@ use mix_io::{Sink, Source};
 use mixed_machine::{Body, Did};
 use switch_frame::Active;
 
-/// Steps of the active set, with all rules in their order, and what the last of them did. It is the first that
-/// is more than an instruction done by the same code, or the last that `left` allows; each before it lowers
-/// `left`. The registers are those of the set that is active afterwards. A fault stands in the cell; where
-/// there is none, the cell means nothing.
+/// Steps of the active set, with all rules in their order, and what the last of them did; each before it lowers
+/// `left`. How many there are is left open: the code goes on to the first that is more than an instruction of
+/// the same set, or to the last that `left` allows. The registers are those of the set that is active
+/// afterwards. A fault stands in the cell; where there is none, the cell means nothing.
 #[inline(always)]
 pub fn advance<'i, 'o, 't, 'd, I: Source, O: Sink, T: Sink, D: Devices>(
     body: &mut Body,

@@ -97,7 +97,7 @@ pub data ProgramWay (program : Program) (steps : ℕ) (old new : World) (result 
   -- it ran
   ran : Ran program steps old new result → ProgramWay program steps old new result
 
--- a listing was put, or the output failed at a line of it
+-- a listing was put, or the output failed and holds a beginning of it
 pub record Listed (text : List ℕ) (old new : World) (result : ℕ) : Type 0 where
   pub only : OnlyPuts old new
   pub out : PutsText old.outside.out new.outside.out text 0 result

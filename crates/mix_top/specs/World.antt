@@ -27,7 +27,7 @@ pub record Early (old new : World) (line : List ℕ) (status result : ℕ) : Typ
   pub outside : new.outside ≡ old.outside
   pub trace : Closes old.trace new.trace [] line status result
 
--- the output took a text, and the status is this one; or it failed at a line of it, and the status is 6
+-- the output took a text, and the status is this one; or it failed and holds a beginning of it, and the status is 6
 abbrev pub PutsText : Output → Output → List ℕ → ℕ → ℕ → Type 0
 PutsText old new text status result = (Grows old new text × (result ≡ status)) ⊎ (StopsWithin old new text × (result ≡ 6))
 

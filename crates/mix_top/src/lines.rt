@@ -23,9 +23,9 @@ pub fn fetch_text(key: Key) -> Line
     ensures { result ≡ fetch_line key }
 {
     let mut line = Line::new();
-    add(&mut line, "fetch ");
-    add(&mut line, key_text(key));
-    add(&mut line, "\n");
+    line.add("fetch ");
+    line.add(key_text(key));
+    line.add("\n");
     line
 }
 
@@ -116,20 +116,12 @@ fn numbered(head: &str, name: &str, number: i128) -> Line
     ensures { result ≡ numbered_line (head.now ++ name.now) number }
 {
     let mut line = Line::new();
-    add(&mut line, head);
-    add(&mut line, name);
-    add(&mut line, " ");
-    add(&mut line, Buffer::new().format(number));
-    add(&mut line, "\n");
+    line.add(head);
+    line.add(name);
+    line.add(" ");
+    line.add(Buffer::new().format(number));
+    line.add("\n");
     line
-}
-
-/// Appends a text to a line with room for it.
-fn add(line: &mut Line, text: &str)
-    requires { length line.old + length text.now ≤ 160 }
-    ensures { line.new ≡ line.old ++ text.now }
-{
-    let _fits = line.text(text);
 }
 
 /// The name of a file's key.

@@ -21,8 +21,8 @@ pub record Given : Type 0 where
   pub file : Active
   pub memory : Memory
 
--- a caller behind its call, with the result in its place, or the refusal of a store there; what the call of 68K code
--- passed is removed from its stack
+-- a caller behind its call, with the result in its place, or the refusal of a store there; from the stack of 68K code
+-- the bytes are removed that a return removes
 abbrev pub put_result : Memory → Signature → ℕ → Active → Result Given Access
 put_result m sig v (M68 r) = with_result_68k sig v r m >>= λ given. Ok (record { file = M68 given.regs; memory = given.memory })
 put_result m sig v (Ppc r) = Ok (record { file = Ppc (with_result_ppc sig v r); memory = m })

@@ -1,5 +1,5 @@
 // What a caller passes to a call.
-ghost use Rattle.std.specs.Prelude.{◌≡◌, IfOk, OnErr};
+ghost use Rattle.std.specs.Prelude.{◌≡◌, ◌-◌, IfOk, OnErr, drop, replicate};
 ghost use Rattle.proc_info.specs.Views.{signature};
 ghost use Rattle.args_m68.specs.Gather.{answered as values_answered};
 ghost use Rattle.switch_frame.specs.Records.{isa_of};
@@ -37,6 +37,7 @@ pub struct Passed {
 pub fn pass(ram: &Ram, active: &mut Active, call: &Call) -> Result<Passed, Access>
     ensures exact { answered active.new result ≡ passed ram.now active.old (crossing call.now) }
     ensures count { IfOk result (λ p. p.args.count ≡ call.now.sig.count) }
+    ensures rest { IfOk result (λ p. drop p.args.count p.args.value ≡ replicate (13 - p.args.count) 0) }
     ensures caller { isa_of active.new ≡ isa_of active.old }
     ensures refused { OnErr result (active.new ≡ active.old) }
 {
@@ -89,6 +90,7 @@ fn entry_at(ram: &Ram, callee: Isa, target: u32) -> Result<Entry, Access>
 fn gather(ram: &Ram, active: &Active, sig: &Sig) -> Result<Words, Access>
     ensures values { values_answered result ≡ gathered ram.now active.now (signature sig.now) }
     ensures count { IfOk result (λ words. words.count ≡ sig.now.count) }
+    ensures rest { IfOk result (λ words. drop words.count words.value ≡ replicate (13 - words.count) 0) }
 {
     match active {
         Active::M68(regs) => gather68(sig, regs, ram),

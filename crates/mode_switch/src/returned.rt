@@ -9,8 +9,9 @@ use big_memory::{Access, Ram, memory_laws};
 use proc_info::Sig;
 use switch_frame::Active;
 
-/// Gives a caller the result of its callee, which has returned, and answers it, cut to its size. What a
-/// call of 68K code passed is removed from its stack. A Pascal result may be refused where it stands or
+/// Gives a caller the result of its callee, which has returned, and answers it, cut to its size. From the
+/// stack of 68K code the return address is removed, and in the Pascal conventions what was passed there. A
+/// Pascal result may be refused where it stands or
 /// where it goes; nothing is changed then.
 pub fn give_back(
     ram: &mut Ram,

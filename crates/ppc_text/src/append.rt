@@ -3,15 +3,6 @@ ghost use Rattle.mix_bits.specs.Text.{hexadecimal};
 
 use mix_bits::Line;
 
-/// Appends a text to a line with room for it.
-pub fn add(line: &mut Line, text: &str)
-    requires { length line.old + length text.now ≤ 160 }
-    ensures text { line.new ≡ line.old ++ text.now }
-    ensures grows { length line.new ≡ length line.old + length text.now }
-{
-    let _fits = line.text(text);
-}
-
 /// Appends eight hexadecimal digits.
 pub fn add_long(line: &mut Line, number: u32)
     requires { length line.old + 8 ≤ 160 }

@@ -1,7 +1,7 @@
 ghost use Rattle.std.specs.Prelude.{◌≡◌, ◌+◌, ◌*◌, ◌≤◌, ◌++◌, length};
 ghost use Rattle.ppc_text.specs.Operands.{joined, operand_text, operands_text, register_text, signed_text};
 
-use super::append::{add, add_long, add_number};
+use super::append::{add_long, add_number};
 use mix_bits::Line;
 
 /// An operand as it is written.
@@ -24,7 +24,7 @@ fn add_register(line: &mut Line, n: u8)
     ensures text { line.new ≡ line.old ++ register_text n }
     ensures grows { length line.new ≤ length line.old + 6 }
 {
-    add(line, "r");
+    line.add("r");
     add_number(line, u16::from(n));
 }
 
@@ -38,7 +38,7 @@ fn add_signed(line: &mut Line, bits: u16)
     if bits < 0x8000 {
         add_number(line, bits);
     } else {
-        add(line, "-");
+        line.add("-");
         add_number(line, u16::MAX - bits + 1);
     }
 }
@@ -54,12 +54,12 @@ fn add_operand(line: &mut Line, operand: Operand)
         Operand::Signed(bits) => add_signed(line, bits),
         Operand::Displaced(offset, base) => {
             add_signed(line, offset);
-            add(line, "(");
+            line.add("(");
             add_register(line, base);
-            add(line, ")");
+            line.add(")");
         }
         Operand::Target(address) => {
-            add(line, "$");
+            line.add("$");
             add_long(line, address);
         }
     }
@@ -76,7 +76,7 @@ fn add_joined(line: &mut Line, operands: &[Operand])
         [last] => add_operand(line, *last),
         [first, rest @ ..] => {
             add_operand(line, *first);
-            add(line, ",");
+            line.add(",");
             add_joined(line, rest);
         }
     }
@@ -89,7 +89,7 @@ pub fn add_list(line: &mut Line, operands: &[Operand])
     ensures grows { length line.new ≤ length line.old + 15 * length operands.now + 1 }
 {
     if !operands.is_empty() {
-        add(line, " ");
+        line.add(" ");
         add_joined(line, operands);
     }
 }

@@ -1,7 +1,7 @@
 ghost use Rattle.std.specs.Prelude.{◌≡◌, ◌≤◌, [], length};
 ghost use Rattle.ppc_text.specs.Text.{word_text};
 
-use super::append::{add, add_long};
+use super::append::add_long;
 use super::names::name_of;
 use super::operands::add_operands;
 use mix_bits::Line;
@@ -17,12 +17,12 @@ pub fn text_ppc(word: u32, at: u32, line: &mut Line)
     match decode_ppc(word) {
         Some(i) => {
             let name = name_of(i);
-            add(line, name.stem);
-            add(line, name.ending);
+            line.add(name.stem);
+            line.add(name.ending);
             add_operands(line, i, at);
         }
         None => {
-            add(line, ".long $");
+            line.add(".long $");
             add_long(line, word);
         }
     }

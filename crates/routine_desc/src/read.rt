@@ -1,9 +1,7 @@
 // Reading a descriptor.
 ghost use Rattle.std.specs.Prelude.{◌≡◌, ◌≤◌, ◌+◌, length, IfNone, IfOk};
-ghost use Rattle.std.specs.Bool.{OnTrue};
 ghost use Rattle.std.specs.List.{list_all};
 ghost use Rattle.mix_bits.specs.Sizes.{bytes_of};
-ghost use Rattle.big_memory.specs.Memory.{in_memory};
 ghost use Rattle.routine_desc.specs.Layout.{are_good_flags, bad_header, bad_record, isa_of, number_at, record_at, target_of};
 ghost use Rattle.proc_info.specs.Codes.{conv_at};
 ghost use Rattle.routine_desc.specs.Read.{Counts, FillsBody, FillsRecords, Reads, ReadsBody, all_alike as all_alike_lem, is_alike as is_alike_lem, is_dispatched_in, read_record as read_record_lem};
@@ -40,7 +38,7 @@ pub fn count_records(ram: &Ram, a: u32) -> Result<u32, BadDesc>
 }
 
 /// Fills the list with all records of a descriptor whose header is good, or answers the first rule that
-/// they break.
+/// they break; then the list may hold anything.
 pub fn read_all(ram: &Ram, a: u32, recs: &mut [Rec]) -> Result<(), BadDesc>
     requires header { a + 12 ≤ length ram.now.bytes }
     requires few { length recs.old ≤ 64 }
@@ -68,14 +66,8 @@ fn read_body(ram: &Ram, a: u32) -> Result<Desc, BadDesc>
     let _len = ram.len();
     let count = number(ram, a + 10, Size::Two) + 1;
     let mut recs = [Rec::NONE; 64];
-    match read_records(ram, a, &mut recs[..count as usize]) {
-        Ok(()) => {
-            if all_alike(&recs[..count as usize]) {
-                Ok(Desc { at: a, count, recs })
-            } else {
-                Err(BadDesc::Mixed)
-            }
-        }
+    match read_all(ram, a, &mut recs[..count as usize]) {
+        Ok(()) => Ok(Desc { at: a, count, recs }),
         Err(bad) => Err(bad),
     }
 }
@@ -87,7 +79,7 @@ fn broken_header(ram: &Ram, a: u32) -> Option<BadDesc>
     ensures few { IfNone result (number_at ram.now (a + 10) 2 ≤ 63) }
 {
     let _len = ram.len();
-    if !has(ram, a, 12) {
+    if !ram.has(a, 12) {
         Some(BadDesc::Access)
     } else if number(ram, a, Size::Two) != 0xAAFE {
         Some(BadDesc::Magic)
@@ -108,7 +100,7 @@ fn broken_record(ram: &Ram, p: u32) -> Option<BadDesc>
     ensures within { IfNone result (p + 20 ≤ length ram.now.bytes) }
 {
     let _len = ram.len();
-    if !has(ram, p, 20) {
+    if !ram.has(p, 20) {
         Some(BadDesc::Access)
     } else if number(ram, p + 4, Size::One) != 0 || number(ram, p + 12, Size::Four) != 0 {
         Some(BadDesc::Reserved)
@@ -230,15 +222,6 @@ fn is_dispatched(code: u32) -> bool
     ensures { result ≡ is_dispatched_in (conv_at code) }
 {
     matches!(code, 8 | 9 | 12 | 14)
-}
-
-/// Whether `n` bytes at `a` lie in RAM.
-fn has(ram: &Ram, a: u32, n: u32) -> bool
-    requires { 1 ≤ n }
-    ensures value { result ≡ in_memory ram.now a n }
-    ensures within { OnTrue result (a + n ≤ length ram.now.bytes) }
-{
-    u64::from(a) + u64::from(n) <= u64::from(ram.len())
 }
 
 /// The number in the bytes at `a`.

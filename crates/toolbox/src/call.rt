@@ -17,7 +17,7 @@ use mix_io::{Sink, Source};
 use switch_frame::Active;
 
 /// Calls the function with this number for code of the active set: CallUniversalProc is for PowerPC code,
-/// and UnloadSeg for 68K code. It takes no memory.
+/// and UnloadSeg for 68K code. It is passed no allocator.
 pub fn host_call<I: Source, O: Sink, D: Devices>(
     index: u32,
     active: &mut Active,

@@ -6,7 +6,7 @@ use Rattle.ppc_storage.proofs.Whole.{words_in}
 use Rattle.ppc_storage.proofs.multiple.test_words.Goals as goal
 
 pub returns-then-has : goal.returns-then-has
-returns-then-has c = words_in c.args.ram.now c.args.at c.args.count c.meets_invariant.ensures (sym c.has.ensures ∙ c.if-has.true)
+returns-then-has c = words_in c.args.ram.now c.args.at c.args.count c.meets_invariant.ensures (sym c.has.ensures.is ∙ c.if-has.true)
 
 pub loop-k-preserved : goal.loop-k-preserved
 loop-k-preserved c =
