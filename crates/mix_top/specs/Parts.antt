@@ -19,7 +19,8 @@ use Rattle.job_words.specs.declared.job.Key.{Key}
 use Rattle.mix_load.specs.declared.error.LoadError.{LoadError}
 use Rattle.mix_load.specs.declared.error.LoadError.TheVariants.{NoMemory}
 use Rattle.mix_top.specs.Lines.{memory_line, fetch_line, load_line, long_file, load_refusal}
-use Rattle.mix_top.specs.World.{World, Closes, trace_told, world}
+use Rattle.mix_steps.specs.Does.{output}
+use Rattle.mix_top.specs.World.{World, Closes, world}
 use Rattle.mix_top.specs.Files.{Contents, IsLong, IsNotLong}
 use Rattle.mix_top.specs.Ends.{IsNext, end_of, status_of}
 use Rattle.mix_top.specs.declared.files.Missing.{Missing}
@@ -66,7 +67,7 @@ abbrev pub world_lent : {I O T D : Type 0} → (I → Option (List ℕ)) → (I 
     → Outside I O T D → World
 world_lent left read_faults held put_faults traced trace_faults state lent =
     world (outside (left lent.input.now) (read_faults lent.input.now) (state lent.rack.now) (held lent.out.now) (put_faults lent.out.now))
-    (trace_told (traced lent.trace.now) (trace_faults lent.trace.now))
+    (output (traced lent.trace.now) (trace_faults lent.trace.now))
 
 -- how a run that stopped while a set was active ends the call: with its line and status, or, where the outside
 -- stopped it, with none

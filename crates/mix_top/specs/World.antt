@@ -1,5 +1,5 @@
 -- The outside of a call: what it tells before and after, and the last line that a call puts.
-use Rattle.std.specs.Prelude.{◌≡◌, ℕ, ◌==◌, ◌⊎◌, List, [], ◌++◌, Option, MatchBool}
+use Rattle.std.specs.Prelude.{◌≡◌, ℕ, ◌==◌, ◌⊎◌, List, [], ◌++◌, MatchBool}
 use Rattle.mix_io.specs.Counts.{Rose}
 use Rattle.mix_io.specs.Streams.{Output, Grows, Breaks}
 use Rattle.dev_rack.specs.Accounts.{Accounts}
@@ -10,9 +10,6 @@ use Rattle.mix_list.specs.Listing.{StopsWithin}
 pub record World : Type 0 where
   pub outside : Outside
   pub trace : Output
-
-abbrev pub trace_told : Option (List ℕ) → ℕ → Output
-trace_told held faults = record { held = held; faults = faults }
 
 abbrev pub world : Outside → Output → World
 world outside trace = record { outside = outside; trace = trace }

@@ -3,7 +3,8 @@ ghost use Rattle.std.specs.Prelude.{◌≡◌, []};
 ghost use Rattle.switch_frame.specs.Records.{isa_of};
 ghost use Rattle.call_trace.specs.Lines.{end_line};
 ghost use Rattle.mix_top.specs.Lines.{memory_line};
-ghost use Rattle.mix_top.specs.World.{Closes, trace_told};
+ghost use Rattle.mix_steps.specs.Does.{output};
+ghost use Rattle.mix_top.specs.World.{Closes};
 ghost use Rattle.mix_top.specs.Parts.{Finishes, unfetched_line, unfetched_status, unloaded_line, unloaded_status};
 
 use super::files::Missing;
@@ -17,7 +18,7 @@ use switch_frame::Active;
 
 /// Puts the last line on the trace, and answers the status, or 7 where the trace failed.
 pub fn close<T: Sink>(trace: &mut T, line: &[u8], status: u8) -> u8
-    ensures { Closes (trace_told (T.held trace.old) (T.faults trace.old)) (trace_told (T.held trace.new) (T.faults trace.new)) [] line.now status result }
+    ensures { Closes (output (T.held trace.old) (T.faults trace.old)) (output (T.held trace.new) (T.faults trace.new)) [] line.now status result }
 {
     match trace.put(line) {
         Ok(()) => status,
@@ -27,14 +28,14 @@ pub fn close<T: Sink>(trace: &mut T, line: &[u8], status: u8) -> u8
 
 /// The line and the status where there was no memory.
 pub fn close_without_memory<T: Sink>(trace: &mut T) -> u8
-    ensures { Closes (trace_told (T.held trace.old) (T.faults trace.old)) (trace_told (T.held trace.new) (T.faults trace.new)) [] memory_line 9 result }
+    ensures { Closes (output (T.held trace.old) (T.faults trace.old)) (output (T.held trace.new) (T.faults trace.new)) [] memory_line 9 result }
 {
     close(trace, b"memory\n", 9)
 }
 
 /// The line and the status where a file was not fetched.
 pub fn close_unfetched<T: Sink>(missing: Missing, trace: &mut T) -> u8
-    ensures { Closes (trace_told (T.held trace.old) (T.faults trace.old)) (trace_told (T.held trace.new) (T.faults trace.new)) [] (unfetched_line missing.key missing.error) (unfetched_status missing.error) result }
+    ensures { Closes (output (T.held trace.old) (T.faults trace.old)) (output (T.held trace.new) (T.faults trace.new)) [] (unfetched_line missing.key missing.error) (unfetched_status missing.error) result }
 {
     match missing.error {
         FetchError::NoMemory => close_without_memory(trace),
@@ -45,7 +46,7 @@ pub fn close_unfetched<T: Sink>(missing: Missing, trace: &mut T) -> u8
 
 /// The line and the status where a program was not loaded.
 pub fn close_unloaded<T: Sink>(error: LoadError, trace: &mut T) -> u8
-    ensures { Closes (trace_told (T.held trace.old) (T.faults trace.old)) (trace_told (T.held trace.new) (T.faults trace.new)) [] (unloaded_line error) (unloaded_status error) result }
+    ensures { Closes (output (T.held trace.old) (T.faults trace.old)) (output (T.held trace.new) (T.faults trace.new)) [] (unloaded_line error) (unloaded_status error) result }
 {
     match error {
         LoadError::NoMemory => close_without_memory(trace),
@@ -55,7 +56,7 @@ pub fn close_unloaded<T: Sink>(error: LoadError, trace: &mut T) -> u8
 
 /// The end line and the status of a run that stopped with these registers.
 pub fn finish<T: Sink>(stop: Stop, active: &Active, trace: &mut T) -> u8
-    ensures { Finishes stop (isa_of active.now) (trace_told (T.held trace.old) (T.faults trace.old)) (trace_told (T.held trace.new) (T.faults trace.new)) result }
+    ensures { Finishes stop (isa_of active.now) (output (T.held trace.old) (T.faults trace.old)) (output (T.held trace.new) (T.faults trace.new)) result }
 {
     match stop {
         Stop::Exit(0) => close_end(trace, End::Exit(0), 0),
@@ -70,7 +71,7 @@ pub fn finish<T: Sink>(stop: Stop, active: &Active, trace: &mut T) -> u8
 
 /// Puts an end line, and answers the status, or 7 where the trace failed.
 fn close_end<T: Sink>(trace: &mut T, end: End, status: u8) -> u8
-    ensures { Closes (trace_told (T.held trace.old) (T.faults trace.old)) (trace_told (T.held trace.new) (T.faults trace.new)) [] (end_line end) status result }
+    ensures { Closes (output (T.held trace.old) (T.faults trace.old)) (output (T.held trace.new) (T.faults trace.new)) [] (end_line end) status result }
 {
     match put_end(trace, &end) {
         Ok(()) => status,

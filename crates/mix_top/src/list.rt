@@ -4,7 +4,8 @@ ghost use Rattle.job_words.specs.declared.job.Command.TheVariants.{List as Lists
 ghost use Rattle.mix_list.specs.Listing.{listing};
 ghost use Rattle.mix_load.specs.Load.{AreLoadable};
 ghost use Rattle.mix_steps.specs.Beside.{AreSame};
-ghost use Rattle.mix_top.specs.World.{Accounted, PutsText, trace_told};
+ghost use Rattle.mix_steps.specs.Does.{output};
+ghost use Rattle.mix_top.specs.World.{Accounted, PutsText};
 ghost use Rattle.mix_top.specs.Ends.{FileWay};
 ghost use Rattle.mix_top.specs.Parts.{world_lent};
 
@@ -54,7 +55,7 @@ pub fn list_files<'i, 'o, 't, 'd, I: Source, O: Sink, T: Sink, D: Devices>(
 
 /// Lists memory, and answers the status.
 fn put_listing<O: Sink>(ram: &Ram, set: Isa, span: Span, out: &mut O) -> u8
-    ensures { PutsText (trace_told (O.held out.old) (O.faults out.old)) (trace_told (O.held out.new) (O.faults out.new)) (listing span.count set ram.now span.at) 0 result }
+    ensures { PutsText (output (O.held out.old) (O.faults out.old)) (output (O.held out.new) (O.faults out.new)) (listing span.count set ram.now span.at) 0 result }
 {
     match list(ram, set, span.at, span.count, out) {
         Ok(()) => 0,

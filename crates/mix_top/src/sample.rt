@@ -1,7 +1,8 @@
 // The sample, from its run to its line.
 ghost use Rattle.std.specs.Prelude.{◌≡◌, ◌+◌, ◌≤◌, ◌++◌, length};
 ghost use Rattle.mix_steps.specs.Beside.{AreSame};
-ghost use Rattle.mix_top.specs.World.{Accounted, PutsText, trace_told};
+ghost use Rattle.mix_steps.specs.Does.{output};
+ghost use Rattle.mix_top.specs.World.{Accounted, PutsText};
 ghost use Rattle.mix_top.specs.SampleLine.{counted, exit_text, fault_text, sample_head, sample_line};
 ghost use Rattle.mix_top.specs.Ends.{PutsSample, SampleWay};
 ghost use Rattle.mix_top.specs.Parts.{world_lent};
@@ -40,7 +41,7 @@ pub fn write_sample<'i, 'o, 't, 'd, I: Source, O: Sink, T: Sink, D: Devices>(
 
 /// Writes what a sample did, and answers the status.
 fn put_sample<O: Sink>(calls: u32, depth: u32, sampled: Sampled, out: &mut O) -> u8
-    ensures { PutsSample calls depth sampled sampled.end (trace_told (O.held out.old) (O.faults out.old)) (trace_told (O.held out.new) (O.faults out.new)) result }
+    ensures { PutsSample calls depth sampled sampled.end (output (O.held out.old) (O.faults out.old)) (output (O.held out.new) (O.faults out.new)) result }
 {
     match sampled.end {
         Ending::Exit(code) => { put_line(&exit_line(calls, depth, sampled, code), 0, out) }
@@ -51,7 +52,7 @@ fn put_sample<O: Sink>(calls: u32, depth: u32, sampled: Sampled, out: &mut O) ->
 
 /// Puts a line on the output, and answers the status, or 6 where the output failed.
 fn put_line<O: Sink>(line: &Line, status: u8, out: &mut O) -> u8
-    ensures { PutsText (trace_told (O.held out.old) (O.faults out.old)) (trace_told (O.held out.new) (O.faults out.new)) line.now status result }
+    ensures { PutsText (output (O.held out.old) (O.faults out.old)) (output (O.held out.new) (O.faults out.new)) line.now status result }
 {
     match out.put(line.bytes()) {
         Ok(()) => status,

@@ -5,7 +5,8 @@ ghost use Rattle.job_words.specs.Jobs.{FitsMain, FitsMainOf, HasRam, HasRamOf, N
 ghost use Rattle.job_words.specs.Words.{command_of};
 ghost use Rattle.job_words.specs.declared.job.Command.TheVariants.{List as Lists, Run};
 ghost use Rattle.mix_steps.specs.Beside.{AreSame};
-ghost use Rattle.mix_top.specs.World.{trace_told, world};
+ghost use Rattle.mix_steps.specs.Does.{output};
+ghost use Rattle.mix_top.specs.World.{world};
 ghost use Rattle.mix_top.specs.Ends.{Ends};
 ghost use Rattle.mix_top.specs.Parts.{world_lent};
 
@@ -36,8 +37,8 @@ pub fn mixed_main<F: Shelf, I: Source, O: Sink, T: Sink, D: Devices>(
 ) -> u8
     ensures contents { F.contents shelf.new ≡ F.contents shelf.old }
     ensures ends { Ends (map string_bytes words.now) (F.contents shelf.old) (F.faults shelf.old) (F.faults shelf.new)
-        (world (outside_of (I.left input.old) (I.faults input.old) (D.state rack.old) (O.held out.old) (O.faults out.old)) (trace_told (T.held trace.old) (T.faults trace.old)))
-        (world (outside_of (I.left input.new) (I.faults input.new) (D.state rack.new) (O.held out.new) (O.faults out.new)) (trace_told (T.held trace.new) (T.faults trace.new)))
+        (world (outside_of (I.left input.old) (I.faults input.old) (D.state rack.old) (O.held out.old) (O.faults out.old)) (output (T.held trace.old) (T.faults trace.old)))
+        (world (outside_of (I.left input.new) (I.faults input.new) (D.state rack.new) (O.held out.new) (O.faults out.new)) (output (T.held trace.new) (T.faults trace.new)))
         result }
 {
     match read_words(words) {

@@ -2,7 +2,8 @@
 use Rattle.std.proofs.Common.{refl}
 use Rattle.switch_frame.specs.Records.{isa_of}
 use Rattle.toolbox.specs.Calls.{outside}
-use Rattle.mix_top.specs.World.{trace_told, world}
+use Rattle.mix_steps.specs.Does.{output}
+use Rattle.mix_top.specs.World.{world}
 use Rattle.mix_top.specs.Ends.ProgramWay.{no_machine, ran}
 use Rattle.mix_top.proofs.Counting.{accounted-stop}
 use Rattle.mix_top.proofs.Ways.{accounted-memory, ran-of_run}
@@ -10,7 +11,7 @@ use Rattle.mix_top.proofs.run.run_program.Goals as goal
 
 pub returns-in-Ok-clause-accounted : goal.returns-in-Ok-clause-accounted
 returns-in-Ok-clause-accounted g c =
-    accounted-stop _ (world (outside (g.I.Source.left c.run-stop.new.input) (g.I.Source.faults c.run-stop.new.input) (g.D.Devices.state c.run-stop.new.rack) (g.O.Sink.held c.run-stop.new.out) (g.O.Sink.faults c.run-stop.new.out)) (trace_told (g.T.Sink.held c.run-stop.new.trace) (g.T.Sink.faults c.run-stop.new.trace)))
+    accounted-stop _ (world (outside (g.I.Source.left c.run-stop.new.input) (g.I.Source.faults c.run-stop.new.input) (g.D.Devices.state c.run-stop.new.rack) (g.O.Sink.held c.run-stop.new.out) (g.O.Sink.faults c.run-stop.new.out)) (output (g.T.Sink.held c.run-stop.new.trace) (g.T.Sink.faults c.run-stop.new.trace)))
     _ (isa_of c.run-stop.new.m.active) c.run-stop.result _ c.run-stop.ensures.blames c.run-stop.ensures.devices refl c.finish.ensures
 
 pub returns-in-Ok-clause-way : goal.returns-in-Ok-clause-way
