@@ -1,4 +1,4 @@
-use super::steps::{CODE, check, prepare, registers, step};
+use super::steps::{CODE, Row, check, prepare, registers, step};
 use big_memory::Ram;
 use ppc_core::OutPpc;
 use std::test::Fail;

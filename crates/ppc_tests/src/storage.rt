@@ -1,4 +1,4 @@
-use super::steps::{CODE, DATA, check, prepare, registers, step};
+use super::steps::{CODE, DATA, Row, check, prepare, registers, step};
 use big_memory::Ram;
 use mix_bits::Size;
 use ppc_core::OutPpc;
