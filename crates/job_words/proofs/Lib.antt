@@ -1,3 +1,7 @@
 pub mod NumberLemmas
 pub mod AddressLemmas
+pub mod Keys
+pub mod Held
+pub mod Asked
+pub mod Moves
 pub mod FileLemmas

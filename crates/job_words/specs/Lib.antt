@@ -3,3 +3,5 @@ pub mod Settings
 pub mod Drafts
 pub mod Jobs
 pub mod Words
+pub mod Asks
+pub mod Laws

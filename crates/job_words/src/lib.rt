@@ -1,13 +1,16 @@
 //! The words of a command line: which command they give, and which word is the first bad one.
 //!
-//! `read_words` answers exactly the one or the other, for `run`, `list` and `sample`.
+//! `read_words` answers exactly the one or the other, for `run`, `list` and `sample`;
+//! `word_laws` says by what each word sets when that is a command, and which one.
 #![tactic(auto)]
 
 mod draft;
 mod job;
+mod laws;
 mod number;
 mod read;
 mod setting;
 
 pub use job::{BadWord, Command, Job, Key};
+pub use laws::word_laws;
 pub use read::{file_name, read_words};

@@ -1,0 +1,69 @@
+-- When words are a command, and which one: by what they set, wherever they stand.
+use Rattle.std.specs.Prelude.{ℕ, ◌≡◌, ◌≢◌, ◌+◌, ◌<◌, ◌≤◌, ◌||◌, ◌⊎◌, ◌↔◌, List as ListOf, [], length, take, slice_index_or, if◌then◌else◌, Some, is_some, IfNone, IsSome}
+use Rattle.mix_bits.specs.declared.isa.Isa.{Isa}
+use Rattle.mix_bits.specs.declared.isa.Isa.TheVariants.{M68, Ppc}
+use Rattle.job_words.specs.Settings.{verb_of, setting_of, key_in}
+use Rattle.job_words.specs.Drafts.{main_file}
+use Rattle.job_words.specs.Jobs.{place_of}
+use Rattle.job_words.specs.declared.job.Command.{Command}
+use Rattle.job_words.specs.declared.job.Command.TheVariants.{Run, List, Sample}
+use Rattle.job_words.specs.declared.job.Job.{Job}
+use Rattle.job_words.specs.declared.job.Key.{Key}
+use Rattle.job_words.specs.declared.job.Key.TheVariants.{Flat}
+use Rattle.job_words.specs.declared.setting.Setting.{Setting}
+use Rattle.job_words.specs.declared.setting.Setting.TheVariants.{File, Main, Ram, Steps, At, Count, Calls, Depth}
+use Rattle.job_words.specs.declared.setting.Verb.{Verb}
+use Rattle.job_words.specs.declared.setting.Verb.TheVariants.{ToRun, ToList, ToSample}
+
+abbrev pub word_at : ListOf (ListOf ℕ) → ℕ → ListOf ℕ
+word_at words place = slice_index_or words place []
+
+-- the word at a place behind the command's name sets this
+pub record Sets (verb : Verb) (words : ListOf (ListOf ℕ)) (place : ℕ) (setting : Setting) : Type 0 where
+  pub behind : 0 < place
+  pub inside : place < length words
+  pub reads : setting_of verb (word_at words place) ≡ Some setting
+
+-- some word does
+abbrev pub IsSet : Verb → ListOf (ListOf ℕ) → Setting → Type 0
+IsSet verb words setting = (place : ℕ) × Sets verb words place setting
+
+-- the first word names the command, each other word sets something, no two have one key, and beside a flat file stands no other
+pub record AreRead (verb : Verb) (words : ListOf (ListOf ℕ)) : Type 0 where
+  pub named : verb_of (word_at words 0) ≡ Some verb
+  pub each : (place : ℕ) → 0 < place → place < length words → IsSome (setting_of verb (word_at words place))
+  pub once : (i j : ℕ) → 0 < i → i < j → j < length words → key_in (word_at words i) ≢ key_in (word_at words j)
+  pub alone : IsSet verb words (File Flat) → (key : Key) → IsSet verb words (File key) → key ≡ Flat
+
+-- a word sets the value, or none does and it is the default
+abbrev pub IsSetOr : {A : Type 0} → Verb → ListOf (ListOf ℕ) → (A → Setting) → A → A → Type 0
+IsSetOr {A} verb words setting default value = IsSet verb words (setting value) ⊎ (((x : A) → ¬ IsSet verb words (setting x)) × (value ≡ default))
+
+-- the main set where no word names one
+abbrev pub usual_main : Job → Isa
+usual_main job = if is_some job.flat || is_some job.rsrc then M68 else Ppc
+
+-- the words ask for a job: its files stand where their words do, and the main program's is among them
+pub record AsksJob (verb : Verb) (words : ListOf (ListOf ℕ)) (job : Job) : Type 0 where
+  pub files : (key : Key) (place : ℕ) → (place_of job key ≡ Some place) ↔ Sets verb words place (File key)
+  pub main : IsSetOr verb words Main (usual_main job) job.main
+  pub kib : IsSetOr verb words Ram 1024 job.kib
+  pub steps : IsSetOr verb words Steps 1000000 job.steps
+  pub program : IfNone job.flat (IsSome (main_file job.main job.rsrc job.pef))
+
+-- the words ask for a command
+abbrev pub Asks : ListOf (ListOf ℕ) → Command → Type 0
+Asks words (Run job) = AreRead ToRun words × AsksJob ToRun words job
+Asks words (List job address count) = AreRead ToList words × AsksJob ToList words job × IsSet ToList words (At address) × IsSet ToList words (Count count)
+Asks words (Sample calls depth) = AreRead ToSample words × IsSet ToSample words (Calls calls) × IsSet ToSample words (Depth depth)
+
+-- words that a command line can begin with, as far as they go
+abbrev pub CanBegin : ListOf (ListOf ℕ) → Type 0
+CanBegin words = (words ≡ []) ⊎ ((verb : Verb) × AreRead verb words)
+
+-- a line can begin with the words before a place, and not with that one more; at the end, they ask for no command
+pub record IsFirstBad (words : ListOf (ListOf ℕ)) (place : ℕ) : Type 0 where
+  pub inside : place ≤ length words
+  pub before : CanBegin (take place words)
+  pub bad : place < length words → ¬ CanBegin (take (place + 1) words)
+  pub missing : place ≡ length words → (command : Command) → ¬ Asks words command

@@ -1,0 +1,35 @@
+-- The command of words and the place of the first bad one, in both directions; and that the order of settings says nothing.
+use Rattle.std.specs.Prelude.{ℕ, ◌≡◌, ◌<◌, ◌↔◌, List as ListOf, ◌∷◌, length, Ok, Err}
+use Rattle.std.specs.List.Sorted.{IsPermutation}
+use Rattle.std.specs.Option.{option_map}
+use Rattle.job_words.specs.Asks.{word_at, Asks, IsFirstBad}
+use Rattle.job_words.specs.Words.{bad_at, command_of}
+use Rattle.job_words.specs.declared.job.Command.{Command}
+use Rattle.job_words.specs.declared.job.Command.TheVariants.{Run, List, Sample}
+use Rattle.job_words.specs.declared.job.Job.{Job}
+
+-- a command is read exactly where the words ask for it
+abbrev pub CommandIsAsked : Type 0
+CommandIsAsked = (words : ListOf (ListOf ℕ)) (command : Command) → (command_of words ≡ Ok command) ↔ Asks words command
+
+-- and a place is refused exactly where the word there is the first bad one
+abbrev pub RefusalIsFirst : Type 0
+RefusalIsFirst = (words : ListOf (ListOf ℕ)) (place : ℕ) → (command_of words ≡ Err (bad_at place)) ↔ IsFirstBad words place
+
+-- a job, and a command, with its files at other places
+abbrev pub moved_job : (ℕ → ℕ) → Job → Job
+moved_job to job = record job { flat = option_map to job.flat; rsrc = option_map to job.rsrc; pef = option_map to job.pef }
+
+abbrev pub moved : (ℕ → ℕ) → Command → Command
+moved to (Run job) = Run (moved_job to job)
+moved to (List job address count) = List (moved_job to job) address count
+moved to (Sample calls depth) = Sample calls depth
+
+-- each word of one line stands in the other where `to` says
+abbrev pub Stands : (ℕ → ℕ) → ListOf (ListOf ℕ) → ListOf (ListOf ℕ) → Type 0
+Stands to words others = (place : ℕ) → place < length words → word_at others (to place) ≡ word_at words place
+
+-- settings in another order are the same command, but that its files stand where their words went
+abbrev pub OrderIsFree : Type 0
+OrderIsFree = (name : ListOf ℕ) (words others : ListOf (ListOf ℕ)) (command : Command) → IsPermutation words others → command_of (name ∷ words) ≡ Ok command
+    → (to : ℕ → ℕ) × Stands to (name ∷ words) (name ∷ others) × (command_of (name ∷ others) ≡ Ok (moved to command))
