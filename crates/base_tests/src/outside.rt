@@ -146,6 +146,28 @@ impl Write for Breaking {
     }
 }
 
+/// Gives a byte at every second read, and none between, as a terminal may.
+#[derive(Drop)]
+struct Stuttering {
+    gives: bool,
+}
+
+impl Read for Stuttering {
+    fn read(&mut self, buf: &mut [u8]) -> io::Result<usize> {
+        self.gives = !self.gives;
+        Ok(if self.gives { buf.len().min(1) } else { 0 })
+    }
+}
+
+#[test]
+fn no_byte_comes_after_the_end(rt: HostRuntime) -> Result<(), Fail> {
+    let mut source = StdSource::new(Stuttering { gives: false });
+    for taken in [Ok(Some(0)), Ok(None), Ok(None), Ok(None)] {
+        assert_eq!(rt; source.take(), taken);
+    }
+    Ok(())
+}
+
 #[test]
 fn a_stream_that_breaks(rt: HostRuntime) -> Result<(), Fail> {
     let mut source = StdSource::new(Breaking { left: 1 });

@@ -17,6 +17,7 @@ pub trait Devices {
     fn eject(&mut self, slot: u32) -> bool
         ensures { Ejects (state self.old) slot result (state self.new) };
 
+    /// The asks that reached a device, in their order, each with its answer.
     fn journal(&self) -> &[Asked]
         ensures { result.now ≡ (state self.now).journal };
 }

@@ -8,6 +8,9 @@ pub record Output : Type 0 where
   pub held : Option (List ℕ)
   pub faults : ℕ
 
+abbrev pub output : Option (List ℕ) → ℕ → Output
+output held faults = record { held = held; faults = faults }
+
 -- the sink took these bytes, and no put failed
 pub record Grows (old new : Output) (bytes : List ℕ) : Type 0 where
   pub taken : Appends old.held new.held bytes

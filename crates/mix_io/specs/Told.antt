@@ -4,11 +4,17 @@ use Rattle.std.specs.Io.KnownBytes.{Appends, Consumes, IsAtEnd, Keeps}
 use Rattle.mix_io.specs.declared.errors.FetchError.{FetchError}
 use Rattle.mix_io.specs.declared.errors.FetchError.TheVariants.{NoMemory, Failed, TooLong}
 
--- the first byte that was left; the end only where none was left; a failure takes none
+-- the first byte that was left; the end only where none was left, and it tells that from then on; a failure takes none
 abbrev pub Takes : {E : Type 0} → Option (List ℕ) → Option (List ℕ) → Result (Option ℕ) E → Type 0
 Takes old new (Ok (Some byte)) = Consumes old new (byte ∷ [])
-Takes old new (Ok None) = IsAtEnd old × Keeps old new
+Takes old new (Ok None) = IsAtEnd old × (new ≡ Some [])
 Takes old new (Err e) = Keeps old new
+
+-- what a read of one byte takes from a reader that may tell its bytes
+abbrev pub Reads : {E : Type 0} → Option (List ℕ) → Option (List ℕ) → Result (Option ℕ) E → Type 0
+Reads old new (Ok (Some byte)) = Consumes old new (byte ∷ [])
+Reads old new (Ok None) = IsAtEnd old × Keeps old new
+Reads old new (Err e) = Keeps old new
 
 -- the whole piece is appended, or, at a failure, some front of it
 abbrev pub Puts : {V E : Type 0} → Option (List ℕ) → Option (List ℕ) → List ℕ → Result V E → Type 0

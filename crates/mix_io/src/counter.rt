@@ -25,6 +25,7 @@ impl Model for Counter {
 }
 
 impl Counter {
+    /// A counter at 0. It takes memory for the conversation that it tells.
     pub fn new(alloc: Global) -> Result<Counter, NoMemory>
         ensures made { IfOk result (λ s. s ≡ record { total = 0; told = Some []; faults = 0 }) }
         ensures told { IfOk result (λ s. ⟦<Counter as Device>⟧.told s ≡ Some []) }

@@ -23,6 +23,7 @@ pub struct FileShelf<'a, R: Files> {
 }
 
 impl<'a, R: Files> FileShelf<'a, R> {
+    /// A shelf of the files that the system has, with no fault yet.
     pub fn new(rt: &'a R) -> FileShelf<'a, R>
         ensures { (name : List ℕ) → ⟦<FileShelf<'a, R> as Shelf>⟧.faults result name ≡ 0 }
     {

@@ -33,6 +33,7 @@ impl Model for ScriptDevice {
 }
 
 impl ScriptDevice {
+    /// A device with these answers. It takes memory for the conversation that it tells.
     pub fn new(alloc: Global, answers: Vec<Option<u32>>) -> Result<ScriptDevice, NoMemory>
         ensures made { IfOk result (λ s. s ≡ record { answers = answers.items; told = Some []; faults = 0 }) }
         ensures told { IfOk result (λ s. ⟦<ScriptDevice as Device>⟧.told s ≡ Some []) }

@@ -17,6 +17,7 @@ pub struct StdSink<W: Write + Drop> {
 }
 
 impl<W: Write + Drop> StdSink<W> {
+    /// A sink that writes to a writer, with no fault yet.
     pub fn new(to: W) -> StdSink<W>
         ensures to { result.to ≡ to }
         ensures faults { ⟦<StdSink<W> as Sink>⟧.faults result ≡ 0 }

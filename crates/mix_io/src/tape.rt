@@ -31,6 +31,7 @@ impl Model for Tape {
 }
 
 impl Tape {
+    /// An empty tape. It takes memory for its words, and for the conversation that it tells.
     pub fn new(alloc: Global) -> Result<Tape, NoMemory>
         ensures made { IfOk result (λ s. s ≡ record { words = []; told = Some []; faults = 0 }) }
         ensures told { IfOk result (λ s. ⟦<Tape as Device>⟧.told s ≡ Some []) }

@@ -54,6 +54,7 @@ pub trait Device: Drop {
 
     ghost faults: { Self → ℕ };
 
+    /// The answer to a word, or a failure.
     fn ask(&mut self, word: u32) -> Result<u32, Failed>
         ensures heard { Hears (told self.old) (told self.new) word result }
         ensures cause { HasCause (faults self.old) (faults self.new) result };

@@ -13,18 +13,15 @@ no-answers : (r : Rack) → answers_since r r ≡ []
 no-answers r = ap (map (λ e. e.answer)) (drop-length r.journal)
 
 pub told-none : (x : Option (List ℕ)) → ToldAll [] x x
-told-none None = tt
-told-none (Some xs) = refl
+told-none x after is = (after, is, refl)
 
 pub told-kept : (x y : Option (List ℕ)) → Keeps x y → ToldAll [] x y
-told-kept None y kept = tt
-told-kept (Some xs) None kept = absurd kept
-told-kept (Some xs) (Some ys) kept = sym kept
+told-kept None y kept after is = (after, tt, refl)
+told-kept (Some xs) None kept after is = absurd kept
+told-kept (Some xs) (Some ys) kept after is = (after, is ∙ kept, refl)
 
 told-one : (t : Taken) (x y : Option (List ℕ)) → Told t x y → ToldAll (t ∷ []) x y
-told-one t None y told = tt
-told-one t (Some xs) None told = absurd told
-told-one t (Some xs) (Some ys) told = (ys, told, refl)
+told-one t x y told after is = let one = told after is in (one.0, one.1, (after, one.2, refl))
 
 -- nothing is taken, and no device is asked
 pub over-quiet : (P : State → State → Type 0) (a b : At) → a.outside.rack ≡ b.outside.rack → ToldAll [] a.outside.input.left b.outside.input.left

@@ -82,8 +82,8 @@ abbrev pub answers_given : World → World → List (Option ℕ)
 answers_given old new = answers_since old.outside.rack new.outside.rack
 
 -- A program ran. For every input that fits what was taken from it, and whatever answers would come after those that
--- the devices gave, it ran as the definition says: no answer that was given is left over, and none is missing. An
--- input that tells its bytes fits.
+-- the devices gave, it ran as the definition says: no answer that was given is left over, and none is missing. Some
+-- input fits; where the input tells its bytes, these are the ones.
 pub record Ran (program : Program) (steps : ℕ) (old new : World) (result : ℕ) : Type 0 where
   pub taken : List Taken
   pub told : ToldAll taken old.outside.input.left new.outside.input.left

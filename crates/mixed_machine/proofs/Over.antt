@@ -20,14 +20,13 @@ took-both [] ys before mid after first then = subst (λ b. TookAll ys b after) (
 took-both (x ∷ xs) ys before mid after first then = (first.0, first.1, took-both xs ys first.0 mid after first.2 then)
 
 told-both : (xs ys : List Taken) (a b c : Option (List ℕ)) → ToldAll xs a b → ToldAll ys b c → ToldAll (xs ++ ys) a c
-told-both xs ys None b c first then = tt
-told-both xs ys (Some x) None c first then = absurd first
-told-both xs ys (Some x) (Some y) None first then = absurd then
-told-both xs ys (Some x) (Some y) (Some z) first then = took-both xs ys x y z first then
+told-both xs ys a b c first then after is =
+    let second = then after is in
+    let whole = first second.0 second.1 in
+    (whole.0, whole.1, took-both xs ys whole.0 second.0 after whole.2 second.2)
 
 told-none : (a : Option (List ℕ)) → ToldAll [] a a
-told-none None = tt
-told-none (Some x) = refl
+told-none a after is = (after, is, refl)
 
 -- the answers of a journal's new entries
 since-is : (a b : Rack) (entries : List Asked) → b.journal ≡ a.journal ++ entries → answers_since a b ≡ map (λ e. e.answer) entries

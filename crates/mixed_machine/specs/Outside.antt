@@ -1,8 +1,8 @@
 -- A machine in memory beside the outside: what the outside tells, and how a claim on states is one on machines.
-use Rattle.std.specs.Prelude.{◌≡◌, ℕ, List, [], ◌∷◌, ◌++◌, map, Option, Some, None, is_some}
+use Rattle.std.specs.Prelude.{◌≡◌, ℕ, List, [], ◌∷◌, ◌++◌, map, Option, is_some}
 use Rattle.mix_io.specs.Streams.{Output}
 use Rattle.switch_frame.specs.declared.active.Active.{Active}
-use Rattle.toolbox.specs.Calls.{Outside, Taken, Took, answers_since}
+use Rattle.toolbox.specs.Calls.{IsLeft, Outside, Taken, Took, answers_since}
 use Rattle.toolbox.specs.Effects.{Around}
 use Rattle.mixed_machine.specs.declared.body.Body.{Body}
 use Rattle.mixed_machine.specs.State.{State}
@@ -35,15 +35,15 @@ abbrev pub TookAll : List Taken → List ℕ → List ℕ → Type 0
 TookAll [] before after = before ≡ after
 TookAll (taken ∷ more) before after = (mid : List ℕ) × Took taken before mid × TookAll more mid after
 
--- the same of an input that may tell them
+-- what was taken fits what the input tells before and after: whatever is left after, as far as it tells, some bytes
+-- fit that were left before, as it told them
 abbrev pub ToldAll : List Taken → Option (List ℕ) → Option (List ℕ) → Type 0
-ToldAll taken None after = Unit {0}
-ToldAll taken (Some before) None = ⊥
-ToldAll taken (Some before) (Some after) = TookAll taken before after
+ToldAll taken old new = (after : List ℕ) → IsLeft new after → (before : List ℕ) × IsLeft old before × TookAll taken before after
 
 -- A claim on the states that a machine stands for before and after: for every input that fits what was taken from it,
--- and whatever the devices answer later. The answers before are those of the journal's new entries, and then those to
--- come: so none that was given is left over, and none is missing. An input that tells its bytes fits.
+-- and whatever the devices answer later. At least one input fits, and it is the told one where bytes are told. The
+-- answers before are those of the journal's new entries, and then those to come: so none that was given is left over,
+-- and none is missing.
 pub record Over (P : State → State → Type 0) (a b : At) : Type 0 where
   pub taken : List Taken
   pub told : ToldAll taken a.outside.input.left b.outside.input.left

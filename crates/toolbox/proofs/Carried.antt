@@ -18,7 +18,7 @@ use Rattle.toolbox.specs.declared.function.Function.TheVariants.{BlockMove, GetB
 use Rattle.toolbox.specs.declared.outcome.Outcome.TheVariants.{Given, ReadFault, OutFault}
 use Rattle.toolbox.specs.Effects.{Around, Effects, effect, quiet, moved_unless, results, says, takes, error}
 use Rattle.toolbox.specs.Effects.Effect.{Gives}
-use Rattle.toolbox.specs.Calls.{Input, KeepsBounds, Outside, place, with_input, answers_since, resources_at, Told}
+use Rattle.toolbox.specs.Calls.{Input, KeepsBounds, Outside, place, with_input, answers_since, resources_at, IsLeft, Told}
 use Rattle.toolbox.specs.Calls.Taken.{Nothing, Byte, TheEnd}
 use Rattle.toolbox.specs.Performs.{AreLaws, Performs, Quietly, ReadsInput, resources}
 
@@ -27,8 +27,7 @@ pub since-none : (s : State) → answers_since s s ≡ []
 since-none s = ap (λ entries. map (λ e. e.answer) entries) (drop-length s.journal)
 
 pub told-nothing : (left : Option (List ℕ)) → Told Nothing left left
-told-nothing None = tt
-told-nothing (Some bytes) = refl
+told-nothing left after is = (after, is, refl)
 
 pub grows-none : (out : Output) → Grows out out []
 grows-none out = record { taken = Appends-nil out.held; calm = refl }
@@ -106,9 +105,9 @@ not_said f o m h input rack out next piece is some broke = record {
 
 -- the input gave a byte
 told-byte : (byte : ℕ) (left next : Option (List ℕ)) → Consumes left next (byte ∷ []) → Told (Byte byte) left next
-told-byte byte None next h = tt
-told-byte byte (Some bytes) None h = h
-told-byte byte (Some bytes) (Some others) h = h
+told-byte byte None next h after is = (byte ∷ after, tt, refl)
+told-byte byte (Some bytes) None h after is = absurd h
+told-byte byte (Some bytes) (Some others) h after is = (byte ∷ after, ap (λ xs. byte ∷ xs) is ∙ sym h, refl)
 
 pub took : AreLaws → (o : Operands) (x : Results) (m : Memory) (h : Space) (rack : State) (out : Output) (left next : Option (List ℕ)) (faults after : ℕ) (byte : ℕ) →
     x ≡ results byte 0 → Consumes left next (byte ∷ []) → after ≡ faults →
@@ -127,22 +126,24 @@ took laws o x m h rack out left next faults after byte is consumes calm = record
 }
 
 -- the input gave the news of its end
-told-end : (left next : Option (List ℕ)) → IsAtEnd left → Keeps left next → Told TheEnd left next
-told-end None next ended kept = tt
-told-end (Some bytes) None ended kept = kept
-told-end (Some bytes) (Some others) ended kept = (ended, kept ∙ ended)
+left-at-end : (next : Option (List ℕ)) → next ≡ Some [] → (after : List ℕ) → IsLeft next after → after ≡ []
+left-at-end next none after is = subst (λ o. IsLeft o after) none is
+
+told-end : (left next : Option (List ℕ)) → IsAtEnd left → next ≡ Some [] → Told TheEnd left next
+told-end None next ended none after is = ([], tt, (refl, left-at-end next none after is))
+told-end (Some bytes) next ended none after is = ([], sym ended, (refl, left-at-end next none after is))
 
 pub took_end : AreLaws → (o : Operands) (x : Results) (m : Memory) (h : Space) (rack : State) (out : Output) (left next : Option (List ℕ)) (faults after : ℕ) →
-    x ≡ results (error 1) 0 → IsAtEnd left → Keeps left next → after ≡ faults →
+    x ≡ results (error 1) 0 → IsAtEnd left → next ≡ Some [] → after ≡ faults →
     Performs GetByte o (Given x) (place m h (with_input left faults rack out)) (place m h (with_input next after rack out))
-took_end laws o x m h rack out left next faults after is ended kept calm = record {
+took_end laws o x m h rack out left next faults after is ended none calm = record {
   effects = record quiet { reads = true };
   taken = TheEnd;
   does = λ before rest answers both.
       ap (λ bytes. effect GetByte o (resources_at (place m h (with_input left faults rack out)) bytes (answers_since rack rack ++ answers))) both.0
       ∙ rw (both.1, since-none rack, is) refl;
   ask = refl;
-  told = told-end left next ended kept;
+  told = told-end left next ended none;
   calm = calm;
   put = grows-none out;
   devices = laws.begins rack;

@@ -85,15 +85,19 @@ Took Nothing before after = before ≡ after
 Took (Byte byte) before after = before ≡ byte ∷ after
 Took TheEnd before after = (before ≡ []) × (after ≡ [])
 
--- the same of an input that may tell them
-abbrev pub Told : Taken → Option (List ℕ) → Option (List ℕ) → Type 0
-Told taken None after = ⊤
-Told taken (Some before) None = ⊥
-Told taken (Some before) (Some after) = Took taken before after
+-- the bytes that are left, as far as an input tells them: where it tells nothing, they may be any
+abbrev pub IsLeft : Option (List ℕ) → List ℕ → Type 0
+IsLeft None bytes = ⊤
+IsLeft (Some told) bytes = bytes ≡ told
 
--- A call goes on: for every input that fits what was taken, and whatever the devices answer later, the table takes
--- the old resources to the new ones; the output took what is said, no count of input or output rose, and the devices
--- were asked what the journal says.
+-- what was taken fits what the input tells before and after: whatever is left after, as far as it tells, some bytes
+-- fit that were left before, as it told them
+abbrev pub Told : Taken → Option (List ℕ) → Option (List ℕ) → Type 0
+Told taken old new = (after : List ℕ) → IsLeft new after → (before : List ℕ) × IsLeft old before × Took taken before after
+
+-- A call goes on: for every input that fits what was taken (at least one does), and whatever the devices answer later,
+-- the table takes the old resources to the new ones; the output took what is said, no count of input or output rose,
+-- and the devices were asked what the journal says.
 pub record GoesOn {X : Type 0} (x : Resources → X) (gives : Resources → Effects → X) (asked : Option Ask) (old new : Place) : Type 0 where
   pub effects : Effects
   pub taken : Taken
