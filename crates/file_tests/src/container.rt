@@ -1,5 +1,6 @@
 use pef_head::{Import, Pef, PefError, Section};
 use std::process::Abort;
+use std::test::Fail;
 
 /// A program that writes `H`: code, data that is relocated, and an import. The loader section stands at
 /// 156, its library at 212, its symbol at 236, its relocation header at 240 and its strings at 256.
@@ -294,6 +295,23 @@ fn reads_two_relocation_headers(rt: HostRuntime) -> Result<(), PefError> {
     assert_eq!(rt; pef.relocs(1), &file[252..256]);
     file[253] = 1;
     assert_eq!(rt; Pef::read(&file).err(), Some(PefError::Loader(252)));
+    Ok(())
+}
+
+#[test]
+fn tables_of_libraries_and_relocations(rt: HostRuntime) -> Result<(), Fail> {
+    let alloc = rt.alloc();
+    let file = LIBRARIES;
+    let pef = Pef::read(&file)?;
+    assert_eq!(rt; pef.owners(alloc)?.as_slice(), [1, 0].as_slice());
+    assert!(rt; pef.reloc_headers(alloc)?.is_empty());
+    let file = PROGRAM;
+    let pef = Pef::read(&file)?;
+    assert_eq!(rt; pef.owners(alloc)?.as_slice(), [0].as_slice());
+    assert_eq!(rt;
+        pef.reloc_headers(alloc)?.as_slice(),
+        [None, Some(0)].as_slice()
+    );
     Ok(())
 }
 

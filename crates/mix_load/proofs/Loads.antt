@@ -6,7 +6,7 @@ use Rattle.mix_load.specs.declared.error.File.TheVariants.{Flat, Rsrc, Pef}
 use Rattle.mix_load.specs.declared.error.LoadError.{LoadError}
 use Rattle.mix_load.specs.declared.files.Files.{Files}
 use Rattle.mix_load.specs.declared.image.Image.{Image}
-use Rattle.mix_load.specs.Outcome.{◌>>=◌}
+use Rattle.mix_bits.specs.Results.{◌>>=◌}
 use Rattle.mix_load.specs.ContainerImage.{with_container}
 use Rattle.mix_load.specs.ForkImage.{with_fork}
 use Rattle.mix_load.specs.Load.{load_of, no_image, with_file, with_flat}

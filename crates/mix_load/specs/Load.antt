@@ -1,5 +1,6 @@
 -- Loading files: the program as it starts, or the first rule that is broken.
 use Rattle.std.specs.Prelude.{◌≡◌, ℕ, ◌+◌, ◌==◌, ◌^◌, ◌≤◌, if◌then◌else◌, List, [], ◌∷◌, length, Option, Some, None, Result, Ok, Err, IsSome}
+use Rattle.mix_bits.specs.Results.{◌>>=◌}
 use Rattle.mix_bits.specs.declared.isa.Isa.{Isa}
 use Rattle.mix_bits.specs.declared.isa.Isa.TheVariants.{M68, Ppc}
 use Rattle.big_memory.specs.Memory.{floor_of, zeroed}
@@ -13,7 +14,7 @@ use Rattle.mix_load.specs.declared.error.LoadError.TheVariants.{Empty}
 use Rattle.mix_load.specs.declared.files.Files.{Files}
 use Rattle.mix_load.specs.declared.image.Image.{Image}
 use Rattle.mix_load.specs.Pieces.{with_pieces}
-use Rattle.mix_load.specs.Outcome.{◌>>=◌, unless}
+use Rattle.mix_load.specs.Outcome.{unless}
 use Rattle.mix_load.specs.ForkImage.{too_large, with_fork}
 use Rattle.mix_load.specs.ContainerImage.{with_container}
 use Rattle.mix_load.specs.Start.{program_of}

@@ -3,12 +3,6 @@ use Rattle.std.specs.Prelude.{◌≡◌, ◌≢◌, Option, Some, None, Result, 
 use Rattle.mix_load.specs.declared.error.LoadError.{LoadError}
 use Rattle.mix_load.specs.declared.error.LoadError.TheVariants.{NoMemory}
 
-infixl 30 ◌>>=◌
--- what follows, unless there was a refusal
-abbrev pub ◌>>=◌ : {A B : Type 0} → Result A LoadError → (A → Result B LoadError) → Result B LoadError
-Ok x >>= next = next x
-Err e >>= next = Err e
-
 -- a value, unless there is a refusal
 abbrev pub unless : {A : Type 0} → Option LoadError → A → Result A LoadError
 unless None x = Ok x

@@ -17,12 +17,14 @@ impl Model for FileBytes {
 impl FileBytes {
     ghost use Rattle.std.specs.Prelude.{◌≡◌};
 
+    /// A file of these bytes.
     pub fn of(bytes: Vec<u8>) -> FileBytes
         ensures { result ≡ bytes.items }
     {
         FileBytes { bytes }
     }
 
+    /// Its bytes.
     pub fn bytes(&self) -> &[u8]
         ensures { result.now ≡ self.now }
     {

@@ -1,4 +1,4 @@
-ghost use Rattle.std.specs.Prelude.{◌≡◌, ◌*◌, ◌%◌, ◌≤◌, IfErr, IfOk};
+ghost use Rattle.std.specs.Prelude.{◌≡◌, ◌==◌, ◌*◌, ◌%◌, ◌≤◌, IfErr, IfOk, MatchResult, length, false, true};
 ghost use Rattle.switch_frame.specs.Program.{IsProgram};
 ghost use Rattle.mix_load.specs.ContainerImage.{with_container};
 ghost use Rattle.mix_load.specs.ForkImage.{with_fork};
@@ -8,7 +8,7 @@ ghost use Rattle.mix_load.specs.Outcome.{Gives};
 
 use crate::container::add_container;
 use crate::error::{File, LoadError};
-use crate::files::Files;
+use crate::files::{FileBytes, Files};
 use crate::flat::add_flat;
 use crate::fork::add_fork;
 use crate::image::{Image, PROGRAM_START};
@@ -37,6 +37,20 @@ fn no_image(alloc: Global, len: u32) -> Result<Image, LoadError>
     })
 }
 
+/// The bytes of a file, which has at least one.
+fn bytes_of(bytes: &FileBytes, file: File) -> Result<&[u8], LoadError>
+    ensures { MatchResult result
+        (λ found. (found.now ≡ bytes.now) × ((length bytes.now == 0) ≡ false))
+        (λ e. (e ≡ LoadError.Empty file) × ((length bytes.now == 0) ≡ true)) }
+{
+    let found = bytes.bytes();
+    if found.is_empty() {
+        Err(LoadError::Empty(file))
+    } else {
+        Ok(found)
+    }
+}
+
 /// Adds the flat file, if there is one.
 fn with_flat_file(files: &Files, main: Isa, image: Image) -> Result<Image, LoadError>
     requires small { IsSmall files.now.flat }
@@ -47,11 +61,7 @@ fn with_flat_file(files: &Files, main: Isa, image: Image) -> Result<Image, LoadE
     let Some(file) = &files.flat else {
         return Ok(image);
     };
-    let bytes = file.bytes();
-    if bytes.is_empty() {
-        return Err(LoadError::Empty(File::Flat));
-    }
-    add_flat(bytes, main, image)
+    add_flat(bytes_of(file, File::Flat)?, main, image)
 }
 
 /// Adds the fork's file, if there is one.
@@ -64,11 +74,7 @@ fn with_fork_file(alloc: Global, files: &Files, image: Image) -> Result<Image, L
     let Some(file) = &files.rsrc else {
         return Ok(image);
     };
-    let bytes = file.bytes();
-    if bytes.is_empty() {
-        return Err(LoadError::Empty(File::Rsrc));
-    }
-    add_fork(alloc, bytes, image)
+    add_fork(alloc, bytes_of(file, File::Rsrc)?, image)
 }
 
 /// Adds the container's file, if there is one.
@@ -86,11 +92,7 @@ fn with_container_file(
     let Some(file) = &files.pef else {
         return Ok(image);
     };
-    let bytes = file.bytes();
-    if bytes.is_empty() {
-        return Err(LoadError::Empty(File::Pef));
-    }
-    add_container(alloc, bytes, main, image)
+    add_container(alloc, bytes_of(file, File::Pef)?, main, image)
 }
 
 /// Loads the files of a program into `kib` KiB of RAM.
