@@ -19,7 +19,7 @@ use Rattle.job_words.specs.declared.job.Key.{Key}
 use Rattle.mix_load.specs.declared.error.LoadError.{LoadError}
 use Rattle.mix_load.specs.declared.error.LoadError.TheVariants.{NoMemory}
 use Rattle.mix_top.specs.Lines.{memory_line, fetch_line, load_line, long_file, load_refusal}
-use Rattle.mix_steps.specs.Does.{output}
+use Rattle.mix_io.specs.Streams.{output}
 use Rattle.mix_top.specs.World.{World, Closes, world}
 use Rattle.mix_top.specs.Files.{Contents, IsLong, IsNotLong}
 use Rattle.mix_top.specs.Ends.{IsNext, end_of, status_of}

@@ -1,28 +1,31 @@
 // The last line of a call, and the status.
-ghost use Rattle.std.specs.Prelude.{◌≡◌, []};
+ghost use Rattle.std.specs.Prelude.{[]};
 ghost use Rattle.switch_frame.specs.Records.{isa_of};
 ghost use Rattle.call_trace.specs.Lines.{end_line};
 ghost use Rattle.mix_top.specs.Lines.{memory_line};
-ghost use Rattle.mix_steps.specs.Does.{output};
+ghost use Rattle.mix_io.specs.Streams.{output};
 ghost use Rattle.mix_top.specs.World.{Closes};
 ghost use Rattle.mix_top.specs.Parts.{Finishes, unfetched_line, unfetched_status, unloaded_line, unloaded_status};
 
 use super::files::Missing;
 use super::lines::{fetch_text, load_text, long_text};
+use super::status::{
+    FAULTED, INPUT_FAILED, LIMIT_REACHED, NO_MEMORY, NOT_FETCHED, NOT_LOADED, OTHER_CODE,
+    OUTPUT_FAILED, SUCCESS, TRACE_FAILED,
+};
 use call_trace::{End, put_end};
-use mix_bits::Isa;
 use mix_io::{FetchError, Sink};
 use mix_load::LoadError;
 use mixed_machine::Stop;
 use switch_frame::Active;
 
-/// Puts the last line on the trace, and answers the status, or 7 where the trace failed.
+/// Puts the last line on the trace, and answers the status, or that the trace failed.
 pub fn close<T: Sink>(trace: &mut T, line: &[u8], status: u8) -> u8
     ensures { Closes (output (T.held trace.old) (T.faults trace.old)) (output (T.held trace.new) (T.faults trace.new)) [] line.now status result }
 {
     match trace.put(line) {
         Ok(()) => status,
-        Err(_) => 7,
+        Err(_) => TRACE_FAILED,
     }
 }
 
@@ -30,7 +33,7 @@ pub fn close<T: Sink>(trace: &mut T, line: &[u8], status: u8) -> u8
 pub fn close_without_memory<T: Sink>(trace: &mut T) -> u8
     ensures { Closes (output (T.held trace.old) (T.faults trace.old)) (output (T.held trace.new) (T.faults trace.new)) [] memory_line 9 result }
 {
-    close(trace, b"memory\n", 9)
+    close(trace, b"memory\n", NO_MEMORY)
 }
 
 /// The line and the status where a file was not fetched.
@@ -39,8 +42,8 @@ pub fn close_unfetched<T: Sink>(missing: Missing, trace: &mut T) -> u8
 {
     match missing.error {
         FetchError::NoMemory => close_without_memory(trace),
-        FetchError::Failed => close(trace, fetch_text(missing.key).bytes(), 4),
-        FetchError::TooLong(_) => close(trace, long_text(missing.key).bytes(), 3),
+        FetchError::Failed => close(trace, fetch_text(missing.key).bytes(), NOT_FETCHED),
+        FetchError::TooLong(_) => close(trace, long_text(missing.key).bytes(), NOT_LOADED),
     }
 }
 
@@ -50,7 +53,7 @@ pub fn close_unloaded<T: Sink>(error: LoadError, trace: &mut T) -> u8
 {
     match error {
         LoadError::NoMemory => close_without_memory(trace),
-        _ => close(trace, load_text(error).bytes(), 3),
+        _ => close(trace, load_text(error).bytes(), NOT_LOADED),
     }
 }
 
@@ -59,32 +62,22 @@ pub fn finish<T: Sink>(stop: Stop, active: &Active, trace: &mut T) -> u8
     ensures { Finishes stop (isa_of active.now) (output (T.held trace.old) (T.faults trace.old)) (output (T.held trace.new) (T.faults trace.new)) result }
 {
     match stop {
-        Stop::Exit(0) => close_end(trace, End::Exit(0), 0),
-        Stop::Exit(code) => close_end(trace, End::Exit(code), 1),
-        Stop::Fault(fault) => close_end(trace, End::Fault(set_of(active), fault), 10),
-        Stop::Limit => close_end(trace, End::Limit, 11),
-        Stop::ReadFault => 5,
-        Stop::OutFault => 6,
-        Stop::TraceFault => 7,
+        Stop::Exit(0) => close_end(trace, End::Exit(0), SUCCESS),
+        Stop::Exit(code) => close_end(trace, End::Exit(code), OTHER_CODE),
+        Stop::Fault(fault) => close_end(trace, End::Fault(active.isa(), fault), FAULTED),
+        Stop::Limit => close_end(trace, End::Limit, LIMIT_REACHED),
+        Stop::ReadFault => INPUT_FAILED,
+        Stop::OutFault => OUTPUT_FAILED,
+        Stop::TraceFault => TRACE_FAILED,
     }
 }
 
-/// Puts an end line, and answers the status, or 7 where the trace failed.
+/// Puts an end line, and answers the status, or that the trace failed.
 fn close_end<T: Sink>(trace: &mut T, end: End, status: u8) -> u8
     ensures { Closes (output (T.held trace.old) (T.faults trace.old)) (output (T.held trace.new) (T.faults trace.new)) [] (end_line end) status result }
 {
     match put_end(trace, &end) {
         Ok(()) => status,
-        Err(_) => 7,
-    }
-}
-
-/// The instruction set of a register file.
-fn set_of(active: &Active) -> Isa
-    ensures { result ≡ isa_of active.now }
-{
-    match active {
-        Active::M68(_) => Isa::M68,
-        Active::Ppc(_) => Isa::Ppc,
+        Err(_) => TRACE_FAILED,
     }
 }

@@ -9,6 +9,8 @@ mod lines;
 mod list;
 mod run;
 mod sample;
+/// What the status of a call tells.
+pub mod status;
 mod top;
 
 pub use top::mixed_main;

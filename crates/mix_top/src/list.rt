@@ -4,12 +4,13 @@ ghost use Rattle.job_words.specs.declared.job.Command.TheVariants.{List as Lists
 ghost use Rattle.mix_list.specs.Listing.{listing};
 ghost use Rattle.mix_load.specs.Load.{AreLoadable};
 ghost use Rattle.mix_steps.specs.Beside.{AreSame};
-ghost use Rattle.mix_steps.specs.Does.{output};
+ghost use Rattle.mix_io.specs.Streams.{output};
 ghost use Rattle.mix_top.specs.World.{Accounted, PutsText};
 ghost use Rattle.mix_top.specs.Ends.{FileWay};
 ghost use Rattle.mix_top.specs.Parts.{world_lent};
 
 use super::close::close_unloaded;
+use super::status::{OUTPUT_FAILED, SUCCESS};
 use big_memory::Ram;
 use dev_rack::Devices;
 use job_words::Job;
@@ -58,7 +59,7 @@ fn put_listing<O: Sink>(ram: &Ram, set: Isa, span: Span, out: &mut O) -> u8
     ensures { PutsText (output (O.held out.old) (O.faults out.old)) (output (O.held out.new) (O.faults out.new)) (listing span.count set ram.now span.at) 0 result }
 {
     match list(ram, set, span.at, span.count, out) {
-        Ok(()) => 0,
-        Err(_) => 6,
+        Ok(()) => SUCCESS,
+        Err(_) => OUTPUT_FAILED,
     }
 }

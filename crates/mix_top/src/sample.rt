@@ -1,13 +1,14 @@
 // The sample, from its run to its line.
 ghost use Rattle.std.specs.Prelude.{◌≡◌, ◌+◌, ◌≤◌, ◌++◌, length};
 ghost use Rattle.mix_steps.specs.Beside.{AreSame};
-ghost use Rattle.mix_steps.specs.Does.{output};
+ghost use Rattle.mix_io.specs.Streams.{output};
 ghost use Rattle.mix_top.specs.World.{Accounted, PutsText};
 ghost use Rattle.mix_top.specs.SampleLine.{counted, exit_text, fault_text, sample_head, sample_line};
 ghost use Rattle.mix_top.specs.Ends.{PutsSample, SampleWay};
 ghost use Rattle.mix_top.specs.Parts.{world_lent};
 
 use super::close::close_without_memory;
+use super::status::{FAULTED, LIMIT_REACHED, OUTPUT_FAILED, SUCCESS};
 use call_trace::fault_name;
 use dev_rack::Devices;
 use mix_bits::{Fault, Line};
@@ -44,19 +45,19 @@ fn put_sample<O: Sink>(calls: u32, depth: u32, sampled: Sampled, out: &mut O) ->
     ensures { PutsSample calls depth sampled sampled.end (output (O.held out.old) (O.faults out.old)) (output (O.held out.new) (O.faults out.new)) result }
 {
     match sampled.end {
-        Ending::Exit(code) => { put_line(&exit_line(calls, depth, sampled, code), 0, out) }
-        Ending::Fault(fault) => { put_line(&fault_line(calls, depth, sampled, fault), 10, out) }
-        Ending::Limit => 11,
+        Ending::Exit(code) => put_line(&exit_line(calls, depth, sampled, code), SUCCESS, out),
+        Ending::Fault(fault) => put_line(&fault_line(calls, depth, sampled, fault), FAULTED, out),
+        Ending::Limit => LIMIT_REACHED,
     }
 }
 
-/// Puts a line on the output, and answers the status, or 6 where the output failed.
+/// Puts a line on the output, and answers the status, or that the output failed.
 fn put_line<O: Sink>(line: &Line, status: u8, out: &mut O) -> u8
     ensures { PutsText (output (O.held out.old) (O.faults out.old)) (output (O.held out.new) (O.faults out.new)) line.now status result }
 {
     match out.put(line.bytes()) {
         Ok(()) => status,
-        Err(_) => 6,
+        Err(_) => OUTPUT_FAILED,
     }
 }
 

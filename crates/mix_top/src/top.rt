@@ -5,7 +5,7 @@ ghost use Rattle.job_words.specs.Jobs.{FitsMain, FitsMainOf, HasRam, HasRamOf, N
 ghost use Rattle.job_words.specs.Words.{command_of};
 ghost use Rattle.job_words.specs.declared.job.Command.TheVariants.{List as Lists, Run};
 ghost use Rattle.mix_steps.specs.Beside.{AreSame};
-ghost use Rattle.mix_steps.specs.Does.{output};
+ghost use Rattle.mix_io.specs.Streams.{output};
 ghost use Rattle.mix_top.specs.World.{world};
 ghost use Rattle.mix_top.specs.Ends.{Ends};
 ghost use Rattle.mix_top.specs.Parts.{world_lent};
@@ -16,6 +16,7 @@ use super::lines::words_text;
 use super::list::{Span, list_files};
 use super::run::run_files;
 use super::sample::write_sample;
+use super::status::BAD_WORDS;
 use dev_rack::Devices;
 use job_words::{Command, Job, read_words};
 use mix_io::{Shelf, Sink, Source};
@@ -51,7 +52,7 @@ pub fn mixed_main<F: Shelf, I: Source, O: Sink, T: Sink, D: Devices>(
             };
             do_command(alloc, words, command, shelf, &mut outside)
         }
-        Err(bad) => close(trace, words_text(bad.place).bytes(), 2),
+        Err(bad) => close(trace, words_text(bad.place).bytes(), BAD_WORDS),
     }
 }
 

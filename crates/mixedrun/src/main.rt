@@ -5,6 +5,7 @@
 use dev_rack::Rack;
 use mix_io::{Counter, Device, FileShelf, Sink, StdSink, StdSource, Tape};
 use mix_top::mixed_main;
+use mix_top::status::{BAD_WORDS, NO_MEMORY, OUTPUT_FAILED, SUCCESS, TRACE_FAILED};
 use std::env;
 use std::io::{self, BufReader, ErrorKind};
 use std::process::ExitCode;
@@ -61,12 +62,6 @@ The folder docs/ says what the machine is and what the lines of the trace mean.
 /// What `--version` prints.
 const VERSION: &str = "mixedrun 0.1.0\n";
 
-/// The status where the output failed.
-const OUTPUT_FAILED: u8 = 6;
-
-/// The status where there was no memory.
-const NO_MEMORY: u8 = 9;
-
 fn main(rt: HostRuntime) -> ExitCode {
     ExitCode::from(match words(&rt) {
         Ok(words) => match words.as_slice() {
@@ -107,15 +102,15 @@ fn refuse(rt: &HostRuntime, kind: ErrorKind) -> u8 {
         return NO_MEMORY;
     }
     match StdSink::new(rt.stderr()).put(b"words 0\n") {
-        Ok(()) => 2,
-        Err(_) => 7,
+        Ok(()) => BAD_WORDS,
+        Err(_) => TRACE_FAILED,
     }
 }
 
 /// Prints a text, and answers the status.
 fn print(rt: &HostRuntime, text: &str) -> u8 {
     match StdSink::new(rt.stdout()).put(text.as_bytes()) {
-        Ok(()) => 0,
+        Ok(()) => SUCCESS,
         Err(_) => OUTPUT_FAILED,
     }
 }

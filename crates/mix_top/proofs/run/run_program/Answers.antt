@@ -2,7 +2,7 @@
 use Rattle.std.proofs.Common.{refl}
 use Rattle.switch_frame.specs.Records.{isa_of}
 use Rattle.toolbox.specs.Calls.{outside}
-use Rattle.mix_steps.specs.Does.{output}
+use Rattle.mix_io.specs.Streams.{output}
 use Rattle.mix_top.specs.World.{world}
 use Rattle.mix_top.specs.Ends.ProgramWay.{no_machine, ran}
 use Rattle.mix_top.proofs.Counting.{accounted-stop}
