@@ -87,7 +87,7 @@ pub fn run_on(m: &mut Machine, around: &mut Outside, steps: u32) -> Stop
     )
 }
 
-/// Runs the code of the active set by its own interpreter, until its caller goes on or the machine stops.
+/// Runs the code of the active set by the way in of its set, until its caller goes on or the machine stops.
 pub fn run_set(m: &mut Machine, around: &mut Outside, steps: &mut u32) -> Turn
     requires { IsWhole m.old.body (isa_of m.old.active) }
     ensures { IsWhole m.new.body (isa_of m.new.active) }

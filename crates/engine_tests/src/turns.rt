@@ -1,4 +1,4 @@
-// The interpreters of both sets, each entered by itself.
+// The ways into a run of each set, entered by themselves.
 use crate::bench::{CALM, Outside, run_on, run_set, start};
 use mix_bits::Isa;
 use mix_engine::{Stop, Turn};

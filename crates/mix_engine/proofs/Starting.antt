@@ -1,13 +1,11 @@
 -- A machine at the start of a program is whole, and stands for the program's start.
-use Rattle.std.proofs.Common.{◌≡◌, ℕ, List, [], arith, sym, ap, subst, ◌∙◌}
-use Rattle.big_memory.specs.Memory.{floor_of}
+use Rattle.std.proofs.Common.{◌≡◌, ℕ, List, [], sym, ap, subst, ◌∙◌}
 use Rattle.switch_frame.specs.declared.program.Program.{Program}
 use Rattle.switch_frame.specs.Chain.{Chain, cleared}
-use Rattle.switch_frame.specs.Program.{HasGatePage, IsProgram}
+use Rattle.switch_frame.specs.Program.{HasGatePage, HasHeap, IsProgram}
 use Rattle.switch_frame.specs.Records.{Record, isa_of}
 use Rattle.switch_frame.proofs.Linked.{begins_empty, reads_back}
 use Rattle.host_heap.specs.Space.{Space}
-use Rattle.toolbox.specs.Calls.{HeapLies}
 use Rattle.toolbox.specs.Effects.{Around}
 use Rattle.mixed_machine.specs.declared.body.Body.{Body}
 use Rattle.mixed_machine.specs.Machine.{IsOutermost, IsWhole, active_set, callers_of, flat, memory_of}
@@ -35,9 +33,6 @@ started p heap program is =
     let chain : Chain p.ram 0 [] = begins_empty p.ram program.ram program.unguarded in
     let callers : callers_of b ≡ [] = reads_back p.ram 0 [] chain.links in
     let memory : memory_of b ≡ p.ram.bytes = ap (λ rs. cleared p.ram.bytes rs) callers in
-    let lies : HeapLies (empty_heap p) p.ram =
-    let ends : p.heap_hi ≡ floor_of p.ram = program.heap.whole in
-    record { above = program.heap.behind; below = omega (arith, ends) } in
     record {
       whole = record {
         chain = subst (Chain p.ram 0) (sym callers) chain;
@@ -45,7 +40,7 @@ started p heap program is =
         outermost = subst (IsOutermost p.main) (sym callers) tt;
         page = subst (HasGatePage p.a5) (sym memory) program.page;
         start = program.start;
-        heap = subst (λ h. HeapLies h p.ram) (sym is) lies;
+        heap = subst (λ h. HasHeap h.low h.high p.ram) (sym is) program.heap;
       };
       state = λ around.
           ap (λ m. state_at p heap around m (callers_of b)) memory

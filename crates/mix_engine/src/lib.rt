@@ -1,4 +1,5 @@
-//! Runs the mixed machine: two interpreters that call each other at crossings, over one lent memory.
+//! Runs the mixed machine: one loop for both instruction sets, which at a crossing calls itself for the
+//! callee, over one lent memory.
 //!
 //! Suspended callers stand in the machine's memory alone, so a run can be cut after any step and continued.
 //!

@@ -10,7 +10,7 @@ ghost use Rattle.mixed_machine.specs.Machine.{IsWhole, flat};
 ghost use Rattle.mixed_machine.specs.Outside.{at};
 ghost use Rattle.mixed_machine.specs.Runs.{Runs};
 ghost use Rattle.mix_steps.specs.Beside.{AreSame, machine_beside};
-ghost use Rattle.mix_steps.specs.Does.{output};
+ghost use Rattle.mix_io.specs.Streams.{output};
 ghost use Rattle.mix_engine.specs.Start.{start_of};
 ghost use Rattle.mix_engine.specs.Turns.{counts, counts_in};
 

@@ -1,4 +1,4 @@
-// Two interpreters that call each other at crossings.
+// A loop of steps that calls itself for each callee, and the ways into it for each instruction set.
 ghost use Rattle.std.specs.Prelude.{◌≤◌, length};
 ghost use Rattle.mix_bits.specs.declared.isa.Isa.TheVariants.{M68 as set_m68, Ppc as set_ppc};
 ghost use Rattle.switch_frame.specs.declared.active.Active.TheVariants.{M68, Ppc};
@@ -7,7 +7,7 @@ ghost use Rattle.dev_rack.specs.Accounts.{Accounts};
 ghost use Rattle.toolbox.specs.Calls.{outside as outside_of};
 ghost use Rattle.mixed_machine.specs.Machine.{IsWhole, callers_of};
 ghost use Rattle.mixed_machine.specs.Outside.{at};
-ghost use Rattle.mix_steps.specs.Does.{output};
+ghost use Rattle.mix_io.specs.Streams.{output};
 ghost use Rattle.mix_steps.specs.Beside.{AreSame, machine_beside};
 ghost use Rattle.mix_engine.specs.Turns.{BlamesTurn, TurnsAt, Waits, counts, counts_in, file_of, turn_of};
 

@@ -58,10 +58,6 @@ unfoldable pub listing : ℕ → Isa → Memory → ℕ → List ℕ
 listing zero set m at = []
 listing (suc count) set m at = listing_with (instruction set m at) at (listing count set m)
 
--- a sink as far as it tells
-abbrev pub sink : Option (List ℕ) → ℕ → Output
-sink held faults = record { held = held; faults = faults }
-
 -- a put failed: the sink holds a beginning of the text
 pub record StopsWithin (old new : Output) (text : List ℕ) : Type 0 where
   pub before : List ℕ

@@ -1,6 +1,6 @@
 ghost use Rattle.std.specs.Prelude.{◌≡◌, ◌+◌, ◌≤◌, ◌++◌, [], OnErr, OnOk, length};
-ghost use Rattle.mix_io.specs.Streams.{Breaks, Grows};
-ghost use Rattle.mix_list.specs.Listing.{StopsWithin, line_at, listing, sink};
+ghost use Rattle.mix_io.specs.Streams.{Breaks, Grows, output};
+ghost use Rattle.mix_list.specs.Listing.{StopsWithin, line_at, listing};
 
 use super::instruction::write_instruction;
 use arrayvec::ArrayVec;
@@ -14,8 +14,8 @@ const LINE_BYTES: usize = 95;
 /// Lists the instructions of a set in memory, from an address on: at most `count`, up to the first one that does not
 /// lie whole in memory. Each line is one put.
 pub fn list<O: Sink>(ram: &Ram, set: Isa, at: u32, count: u32, out: &mut O) -> Result<(), Failed>
-    ensures whole { OnOk result (Grows (sink (O.held out.old) (O.faults out.old)) (sink (O.held out.new) (O.faults out.new)) (listing count set ram.now at)) }
-    ensures part { OnErr result (StopsWithin (sink (O.held out.old) (O.faults out.old)) (sink (O.held out.new) (O.faults out.new)) (listing count set ram.now at)) }
+    ensures whole { OnOk result (Grows (output (O.held out.old) (O.faults out.old)) (output (O.held out.new) (O.faults out.new)) (listing count set ram.now at)) }
+    ensures part { OnErr result (StopsWithin (output (O.held out.old) (O.faults out.old)) (output (O.held out.new) (O.faults out.new)) (listing count set ram.now at)) }
 {
     let mut next = at;
     'lines: for _k in 0..count {
@@ -34,8 +34,8 @@ pub fn list<O: Sink>(ram: &Ram, set: Isa, at: u32, count: u32, out: &mut O) -> R
 /// Puts a line.
 fn put_line<O: Sink>(at: u32, text: &Line, out: &mut O) -> Result<(), Failed>
     requires { length text.now ≤ 84 }
-    ensures whole { OnOk result (Grows (sink (O.held out.old) (O.faults out.old)) (sink (O.held out.new) (O.faults out.new)) (line_at at text.now)) }
-    ensures part { OnErr result (Breaks (sink (O.held out.old) (O.faults out.old)) (sink (O.held out.new) (O.faults out.new)) [] (line_at at text.now)) }
+    ensures whole { OnOk result (Grows (output (O.held out.old) (O.faults out.old)) (output (O.held out.new) (O.faults out.new)) (line_at at text.now)) }
+    ensures part { OnErr result (Breaks (output (O.held out.old) (O.faults out.old)) (output (O.held out.new) (O.faults out.new)) [] (line_at at text.now)) }
 {
     out.put(&line_of(at, text))
 }

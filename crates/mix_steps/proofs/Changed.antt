@@ -7,8 +7,8 @@ use Rattle.big_memory.specs.Stores.{OnlyFree}
 use Rattle.host_heap.specs.Space.{Space}
 use Rattle.switch_frame.specs.Chain.{Chain, cleared}
 use Rattle.switch_frame.specs.Seen.{seen_by}
-use Rattle.switch_frame.specs.Program.{HasGatePage, page_bytes, start_sp_of}
-use Rattle.toolbox.specs.Calls.{HeapLies, KeepsBounds}
+use Rattle.switch_frame.specs.Program.{HasGatePage, HasHeap, page_bytes, start_sp_of}
+use Rattle.toolbox.specs.Calls.{KeepsBounds}
 use Rattle.mixed_machine.specs.declared.body.Body.{Body}
 use Rattle.mixed_machine.specs.Machine.{IsOutermost, IsWhole, active_set, callers_of, flat, memory_of, seen_of}
 use Rattle.mix_steps.specs.Laws.{AreLaws}
@@ -53,15 +53,13 @@ page-same laws b n set whole free =
       page = same ∙ (whole.page.page ∙ ap (page_bytes whole.page.entry whole.page.vector b.a5) longs);
     }
 
-heap-same : (b : Body) (n : Memory) (h : Space) → HeapLies b.heap b.ram → OnlyFree b.ram n → KeepsBounds b.heap h → HeapLies h n
-heap-same b n h lies free bounds =
-    let above : 0x10000 ≤ b.heap.low = lies.above in
-    let below : b.heap.high ≤ floor_of b.ram = lies.below in
+heap-same : (b : Body) (n : Memory) (h : Space) → HasHeap b.heap.low b.heap.high b.ram → OnlyFree b.ram n → KeepsBounds b.heap h → HasHeap h.low h.high n
+heap-same b n h has free bounds =
     let low : h.low ≡ b.heap.low = bounds.low in
     let high : h.high ≡ b.heap.high = bounds.high in
-    let long : length n.bytes ≡ length b.ram.bytes = free.long in
-    let floors : floor_of n ≡ floor_of b.ram = ap (λ l. l - l / 4) long in
-    record { above = omega (arith, above, low); below = omega (arith, below, high, floors) }
+    let same : HasHeap b.heap.low b.heap.high n =
+    record { aligned = has.aligned; behind = has.behind; ordered = has.ordered; whole = has.whole ∙ ap (λ l. l - l / 4) (sym free.long) } in
+    subst (λ x. HasHeap h.low x n) (sym high) (subst (λ x. HasHeap x b.heap.high n) (sym low) same)
 
 pub changed : AreLaws → (b : Body) (n : Memory) (h : Space) (set : Isa) → IsWhole b set → OnlyFree b.ram n → KeepsBounds b.heap h → IsChanged b (altered b n h) set
 changed laws b n h set whole free bounds =

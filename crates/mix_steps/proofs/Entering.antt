@@ -14,7 +14,7 @@ use Rattle.mode_switch.specs.Wanted.{Crossing, passed_selector}
 use Rattle.mixed_machine.specs.declared.body.Body.{Body}
 use Rattle.mixed_machine.specs.Enter.{enters, enters_in, enters_with}
 use Rattle.mixed_machine.specs.Machine.{IsWhole, callers_of, flat}
-use Rattle.mixed_machine.specs.State.{sp_of}
+use Rattle.switch_frame.specs.Files.{sp_of}
 use Rattle.mix_steps.specs.Laws.{AreLaws}
 use Rattle.mix_steps.proofs.Changed.{seen-is}
 use Rattle.mix_steps.proofs.Framing.{callers-are}

@@ -13,8 +13,8 @@ use Rattle.switch_frame.specs.Sets.{caller_isa, callee_isa, frame_size}
 use Rattle.switch_frame.specs.Chain.{Chain, Links, cleared, records, zeros}
 use Rattle.switch_frame.specs.Calls.{IsCalled, IsPlace}
 use Rattle.switch_frame.specs.Laws.{IsStored}
-use Rattle.switch_frame.specs.Program.{HasGatePage, page_bytes, start_sp_of}
-use Rattle.toolbox.specs.Calls.{HeapLies, KeepsBounds}
+use Rattle.switch_frame.specs.Program.{HasGatePage, HasHeap, page_bytes, start_sp_of}
+use Rattle.toolbox.specs.Calls.{KeepsBounds}
 use Rattle.toolbox.specs.Effects.{Around}
 use Rattle.mode_switch.specs.Callee.{below, fresh, return_sp, stack_of}
 use Rattle.mode_switch.specs.Passed.{Passage}
@@ -54,11 +54,9 @@ page-kept more a5 at ys memory within above has =
       page = more.put_beside 0x1000 0x1000 at ys memory within (inl above) ∙ (has.page ∙ ap (page_bytes has.entry has.vector a5) (sym (more.put_length at ys memory within)));
     }
 
-heap-moves : (heap : Space) (m n : Memory) → length n.bytes ≡ length m.bytes → HeapLies heap m → HeapLies heap n
-heap-moves heap m n long lies =
-    let floors : floor_of n ≡ floor_of m = ap (λ l. l - l / 4) long in
-    let low : heap.high ≤ floor_of m = lies.below in
-    record { above = lies.above; below = omega (arith, low, floors) }
+heap-moves : (heap : Space) (m n : Memory) → length n.bytes ≡ length m.bytes → HasHeap heap.low heap.high m → HasHeap heap.low heap.high n
+heap-moves heap m n long has =
+    record { aligned = has.aligned; behind = has.behind; ordered = has.ordered; whole = has.whole ∙ ap (λ l. l - l / 4) (sym long) }
 
 pub same-bounds : (heap : Space) → KeepsBounds heap heap
 same-bounds heap = record { low = refl; high = refl }

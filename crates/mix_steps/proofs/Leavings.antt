@@ -20,7 +20,8 @@ use Rattle.toolbox.specs.Host.Hosted.{Goes as HostGoes, Crosses, Leaves, Stops}
 use Rattle.mixed_machine.specs.declared.body.Body.{Body}
 use Rattle.mixed_machine.specs.declared.did.Did.{Did}
 use Rattle.mixed_machine.specs.declared.did.Did.TheVariants.{Fault}
-use Rattle.mixed_machine.specs.State.{State, pc_of, seen}
+use Rattle.switch_frame.specs.Files.{pc_of}
+use Rattle.mixed_machine.specs.State.{State, seen}
 use Rattle.mixed_machine.specs.Next.{Next}
 use Rattle.mixed_machine.specs.Next.Next.{Faults}
 use Rattle.mixed_machine.specs.Enter.{crosses}

@@ -5,7 +5,7 @@ use Rattle.dev_rack.specs.Rack.{State}
 use Rattle.toolbox.specs.Calls.{outside}
 use Rattle.mixed_machine.specs.declared.body.Body.{Body}
 use Rattle.mixed_machine.specs.Outside.{At, at}
-use Rattle.mix_steps.specs.Does.{output}
+use Rattle.mix_io.specs.Streams.{output}
 use Rattle.mix_steps.specs.declared.outside.Outside.{Outside}
 
 -- a machine, and what the outside tells

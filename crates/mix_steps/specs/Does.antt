@@ -1,5 +1,5 @@
 -- Steps that touch neither the input nor the devices nor the output.
-use Rattle.std.specs.Prelude.{ℕ, List, Option}
+use Rattle.std.specs.Prelude.{ℕ}
 use Rattle.mix_bits.specs.declared.fault.Fault.{Fault as AFault}
 use Rattle.mix_io.specs.Streams.{Output}
 use Rattle.switch_frame.specs.declared.active.Active.{Active}
@@ -13,10 +13,6 @@ use Rattle.mixed_machine.specs.Next.{Next}
 use Rattle.mixed_machine.specs.Machine.{IsWhole, callers_of, flat}
 use Rattle.mixed_machine.specs.Acts.{Done, Kept}
 use Rattle.mixed_machine.specs.Runs.{Sinks}
-
--- a sink as far as it tells
-abbrev pub output : Option (List ℕ) → ℕ → Output
-output held faults = record { held = held; faults = faults }
 
 abbrev pub beside : Output → Output → Sinks
 beside out trace = record { out = out; trace = trace }

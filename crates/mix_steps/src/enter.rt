@@ -12,10 +12,10 @@ ghost use Rattle.mode_switch.specs.declared.passed.Passed.{Passed as APassed};
 ghost use Rattle.mode_switch.specs.Wanted.{IsMeant, Means, or_zero, passed_selector as passed_selector_of};
 ghost use Rattle.mixed_machine.specs.Enter.{crosses as crosses_of, enters, enters_with, suspended};
 ghost use Rattle.mixed_machine.specs.Machine.{IsWhole, callers_of};
-ghost use Rattle.mix_steps.specs.Does.{Does, output};
+ghost use Rattle.mix_io.specs.Streams.{output};
+ghost use Rattle.mix_steps.specs.Does.{Does};
 ghost use Rattle.mix_steps.specs.Frames.{IsEntered};
 
-use crate::active::{jump, sp};
 use crate::call_laws::call_laws;
 use crate::frames::{prepare, suspend};
 use crate::laws::body_laws;
@@ -45,7 +45,7 @@ pub fn cross<T: Sink>(
     match wanted {
         Wanted::Calls(call) => enter(body, active, call, trace, fault),
         Wanted::Jumps(target) => {
-            jump(active, *target);
+            active.go_to(*target);
             Did::Next
         }
         Wanted::Refuses(reason) => {
@@ -71,7 +71,7 @@ fn enter<T: Sink>(
     body_laws();
     call_laws();
     let below = below(call.kind.callee(), &call.sig, passes_selector(call));
-    match room(&body.ram, body.top, sp(active), call.kind, below) {
+    match room(&body.ram, body.top, active.sp(), call.kind, below) {
         Ok(range) => match pass(&body.ram, active, call) {
             Ok(passed) => enter_with(body, active, call, range, below, &passed, trace),
             Err(access) => refuse(active, access, fault),

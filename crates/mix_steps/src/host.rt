@@ -10,13 +10,13 @@ ghost use Rattle.toolbox.specs.Host.Hosted.{Crosses};
 ghost use Rattle.mixed_machine.specs.Acts.{Acts};
 ghost use Rattle.mixed_machine.specs.Host.{host_of, traps_to};
 ghost use Rattle.mixed_machine.specs.Machine.{IsWhole};
-ghost use Rattle.mixed_machine.specs.State.{pc_of};
+ghost use Rattle.switch_frame.specs.Files.{pc_of};
 ghost use Rattle.mix_steps.specs.Beside.{AreSame, machine_beside};
 ghost use Rattle.mix_steps.specs.Called.{IsCalled, hosted_in};
 ghost use Rattle.mix_steps.specs.Cores.{IsNumber, leaves_code};
-ghost use Rattle.mix_steps.specs.Does.{Does, output};
+ghost use Rattle.mix_io.specs.Streams.{output};
+ghost use Rattle.mix_steps.specs.Does.{Does};
 
-use crate::active::pc;
 use crate::enter::cross;
 use crate::laws::body_laws;
 use crate::outside::Outside;
@@ -26,11 +26,9 @@ use mix_bits::{Fault, FaultKind};
 use mix_io::{Sink, Source};
 use mixed_machine::{Body, Did};
 use mode_switch::{wants_68k, wants_ppc};
+use routine_desc::MIXED_MODE_MAGIC;
 use switch_frame::Active;
 use toolbox::{HostOut, host_call, trap_index, trap_laws};
-
-/// The word of line A with which a routine descriptor begins.
-const MIXED_MODE_MAGIC: u32 = 0xAAFE;
 
 /// How a call of a host function went.
 #[derive(Clone, Copy)]
@@ -103,7 +101,7 @@ fn no_trap(word: u32, active: &Active, fault: &mut Fault) -> Did
 {
     *fault = Fault {
         kind: FaultKind::NoTrap,
-        pc: pc(active),
+        pc: active.pc(),
         detail: word,
         also: 0,
     };

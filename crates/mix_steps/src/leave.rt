@@ -7,9 +7,9 @@ ghost use Rattle.mode_switch.specs.Returned.{given_back};
 ghost use Rattle.mixed_machine.specs.Leave.{at_gate, is_exit as is_exit_of, is_return as is_return_of, leaves, leaves_with};
 ghost use Rattle.mixed_machine.specs.Machine.{IsWhole, callers_of};
 ghost use Rattle.mixed_machine.specs.State.{seen};
-ghost use Rattle.mix_steps.specs.Does.{Does, output};
+ghost use Rattle.mix_io.specs.Streams.{output};
+ghost use Rattle.mix_steps.specs.Does.{Does};
 
-use crate::active::{isa, pc, sp};
 use crate::call_laws::call_laws;
 use crate::frames::resume;
 use crate::laws::body_laws;
@@ -76,16 +76,16 @@ fn leave_callee<T: Sink>(
 fn is_return(active: &Active, held: &Held) -> bool
     ensures { result ≡ is_return_of active.now (record_of held.now) }
 {
-    let set = isa(active);
-    pc(active) == return_gate(set) && held.kind.callee() == set && sp(active) == held.want_sp
+    let set = active.isa();
+    active.pc() == return_gate(set) && held.kind.callee() == set && active.sp() == held.want_sp
 }
 
 /// Whether the main program is at its exit gate, with the stack pointer that is expected of it.
 fn is_exit(body: &Body, active: &Active) -> bool
     ensures { result ≡ is_exit_of body.now.main body.now.start_sp active.now }
 {
-    let set = isa(active);
-    pc(active) == exit_gate(set) && body.main == set && sp(active) == body.start_sp
+    let set = active.isa();
+    active.pc() == exit_gate(set) && body.main == set && active.sp() == body.start_sp
 }
 
 /// The innermost caller goes on behind its call.

@@ -5,7 +5,6 @@
 //! fault, an exit, or a failure of the outside (`Advances`).
 #![tactic(auto)]
 
-mod active;
 mod call_laws;
 mod code;
 mod cores;

@@ -7,9 +7,8 @@ ghost use Rattle.toolbox.specs.Effects.{Around};
 ghost use Rattle.mixed_machine.specs.Enter.{full_fault};
 ghost use Rattle.mixed_machine.specs.Machine.{IsWhole, flat};
 ghost use Rattle.mixed_machine.specs.Next.Next.{Faults};
-ghost use Rattle.mixed_machine.specs.State.{pc_of, sp_of};
+ghost use Rattle.switch_frame.specs.Files.{pc_of, sp_of};
 
-use crate::active::{pc, sp};
 use crate::laws::body_laws;
 use big_memory::Access;
 use mix_bits::{Fault, FaultKind};
@@ -23,7 +22,7 @@ pub fn refuse(active: &Active, access: Access, fault: &mut Fault) -> Did
     ensures did { result ≡ Did.Fault }
     ensures cell { fault.new ≡ fault_of (pc_of active.now) access }
 {
-    *fault = access.fault(pc(active));
+    *fault = access.fault(active.pc());
     Did::Fault
 }
 
@@ -34,7 +33,7 @@ pub fn unmatched(active: &Active, expected: u32, fault: &mut Fault) -> Did
     ensures did { result ≡ Did.Fault }
     ensures cell { fault.new ≡ record { kind = Unmatched; pc = pc_of active.now; detail = sp_of active.now; also = expected } }
 {
-    stop(active, FaultKind::Unmatched, sp(active), expected, fault)
+    stop(active, FaultKind::Unmatched, active.sp(), expected, fault)
 }
 
 /// No room for a frame.
@@ -50,7 +49,7 @@ pub fn refuse_full(body: &Body, active: &Active, full: Full, fault: &mut Fault) 
     match full {
         Full::Frames => stop(active, FaultKind::FramesFull, MOST_FRAMES, 0, fault),
         Full::Outside(at) => stop(active, FaultKind::StackOutside, at, floor, fault),
-        Full::Crossed(lo) => stop(active, FaultKind::StackCrossed, sp(active), lo, fault),
+        Full::Crossed(lo) => stop(active, FaultKind::StackCrossed, active.sp(), lo, fault),
         Full::Stack(at) => stop(active, FaultKind::StackFull, at, floor, fault),
     }
 }
@@ -62,7 +61,7 @@ fn stop(active: &Active, kind: FaultKind, detail: u32, also: u32, fault: &mut Fa
 {
     *fault = Fault {
         kind,
-        pc: pc(active),
+        pc: active.pc(),
         detail,
         also,
     };

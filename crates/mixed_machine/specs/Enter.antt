@@ -7,10 +7,10 @@ use Rattle.big_memory.specs.declared.refusals.Access.{Access}
 use Rattle.big_memory.specs.Lists.{put}
 use Rattle.big_memory.specs.Memory.{floor_of}
 use Rattle.switch_frame.specs.declared.active.Active.{Active}
-use Rattle.switch_frame.specs.declared.active.Active.TheVariants.{M68, Ppc}
 use Rattle.switch_frame.specs.declared.full.Full.{Full}
 use Rattle.switch_frame.specs.declared.full.Full.TheVariants.{Frames, Outside, Crossed, Stack}
 use Rattle.switch_frame.specs.Sets.{callee_isa}
+use Rattle.switch_frame.specs.Files.{at_pc, sp_of}
 use Rattle.switch_frame.specs.Records.{Record}
 use Rattle.switch_frame.specs.Chain.{most_frames, zeros}
 use Rattle.switch_frame.specs.Calls.{room_of}
@@ -19,7 +19,7 @@ use Rattle.mode_switch.specs.Wanted.Want.{Calls, Jumps, Refuses}
 use Rattle.mode_switch.specs.Passed.{Passage, passed}
 use Rattle.mode_switch.specs.Callee.{below, callee_sp, stack_of, fresh, return_sp}
 use Rattle.call_trace.specs.Lines.{call_line}
-use Rattle.mixed_machine.specs.State.{State, seen, sp_of, with_active}
+use Rattle.mixed_machine.specs.State.{State, seen, with_active}
 use Rattle.mixed_machine.specs.Next.{Next, faults, access_fault, quiet, traced}
 use Rattle.mixed_machine.specs.Next.Next.{Goes, Faults}
 
@@ -74,11 +74,6 @@ enters_in s c (Err full) = full_fault s full
 unfoldable pub enters : State → Crossing → Next
 enters s c =
     enters_in s c (room_of (seen s) s.callers (sp_of s.active) c.kind (below (callee_isa c.kind) c.sig (is_some (passed_selector c))))
-
--- the registers at another pc
-abbrev pub at_pc : ℕ → Active → Active
-at_pc pc (M68 r) = M68 (record r { pc = pc })
-at_pc pc (Ppc r) = Ppc (record r { pc = pc })
 
 -- what a caller wants: a call with a frame, a jump to code of its own set, or what can't be done
 abbrev pub crosses : State → Want → Next

@@ -9,10 +9,11 @@ use Rattle.proc_info.specs.Signature.{Signature, signature_of}
 use Rattle.routine_desc.specs.Choice.{is_isa}
 use Rattle.switch_frame.specs.declared.active.Active.{Active}
 use Rattle.switch_frame.specs.Sets.{callee_isa}
+use Rattle.switch_frame.specs.Files.{pc_of, sp_of}
 use Rattle.switch_frame.specs.Records.{Record, isa_of}
 use Rattle.mode_switch.specs.Returned.{Returned, given_back}
 use Rattle.call_trace.specs.Lines.{ret_line}
-use Rattle.mixed_machine.specs.State.{State, seen, with_seen, pc_of, sp_of}
+use Rattle.mixed_machine.specs.State.{State, seen, with_seen}
 use Rattle.mixed_machine.specs.Next.{Next, faults, access_fault, traced}
 use Rattle.mixed_machine.specs.Next.Next.{Goes, Exits}
 

@@ -6,9 +6,8 @@ use Rattle.switch_frame.specs.declared.active.Active.{Active}
 use Rattle.switch_frame.specs.Sets.{caller_isa, callee_isa}
 use Rattle.switch_frame.specs.Records.{Record}
 use Rattle.switch_frame.specs.Chain.{Chain, records, cleared}
-use Rattle.switch_frame.specs.Program.{HasGatePage, start_sp_of}
+use Rattle.switch_frame.specs.Program.{HasGatePage, HasHeap, start_sp_of}
 use Rattle.switch_frame.specs.Seen.{seen_by}
-use Rattle.toolbox.specs.Calls.{HeapLies}
 use Rattle.toolbox.specs.Effects.{Around}
 use Rattle.mixed_machine.specs.declared.body.Body.{Body}
 use Rattle.mixed_machine.specs.State.{State}
@@ -61,4 +60,4 @@ pub record IsWhole (b : Body) (set : Isa) : Type 0 where
   pub outermost : IsOutermost b.main (callers_of b)
   pub page : HasGatePage b.a5 (memory_of b)
   pub start : b.start_sp ≡ start_sp_of b.main (length b.ram.bytes)
-  pub heap : HeapLies b.heap b.ram
+  pub heap : HasHeap b.heap.low b.heap.high b.ram

@@ -4,7 +4,8 @@ use Rattle.mix_bits.specs.declared.fault.Fault.{Fault}
 use Rattle.mix_bits.specs.declared.fault.FaultKind.{FaultKind}
 use Rattle.big_memory.specs.declared.refusals.Access.{Access}
 use Rattle.big_memory.specs.Faults.{fault_of}
-use Rattle.mixed_machine.specs.State.{State, pc_of}
+use Rattle.switch_frame.specs.Files.{pc_of}
+use Rattle.mixed_machine.specs.State.{State}
 
 -- what is seen of a step from outside: what it puts on the output and on the trace, and whether it reads the input
 pub record Effects : Type 0 where

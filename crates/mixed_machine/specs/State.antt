@@ -1,9 +1,8 @@
 -- The state of the machine between two steps. What it has put out and traced is no part of it.
-use Rattle.std.specs.Prelude.{ℕ, List, slice_index}
+use Rattle.std.specs.Prelude.{ℕ, List}
 use Rattle.mix_bits.specs.declared.isa.Isa.{Isa}
 use Rattle.big_memory.specs.Memory.{Memory}
 use Rattle.switch_frame.specs.declared.active.Active.{Active}
-use Rattle.switch_frame.specs.declared.active.Active.TheVariants.{M68, Ppc}
 use Rattle.switch_frame.specs.Records.{Record}
 use Rattle.switch_frame.specs.Chain.{cleared}
 use Rattle.switch_frame.specs.Seen.{seen_by}
@@ -27,15 +26,6 @@ pub record State : Type 0 where
   pub a5 : ℕ
   -- the stack pointer with which the main program is to reach its exit gate
   pub start_sp : ℕ
-
--- the address of the next instruction, and the stack pointer
-abbrev pub pc_of : Active → ℕ
-pc_of (M68 r) = r.pc
-pc_of (Ppc r) = r.pc
-
-abbrev pub sp_of : Active → ℕ
-sp_of (M68 r) = slice_index r.a 7
-sp_of (Ppc r) = slice_index r.gpr 1
 
 -- memory as loads and stores see it: a frame's image in its range, which is guarded
 abbrev pub seen : State → Memory

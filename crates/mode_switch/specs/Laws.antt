@@ -6,8 +6,7 @@ use Rattle.big_memory.specs.Memory.{Memory}
 use Rattle.proc_info.specs.Signature.{Signature}
 use Rattle.m68_isa.specs.declared.registers.Regs68.{Regs68}
 use Rattle.ppc_isa.specs.declared.registers.RegsPpc.{RegsPpc}
-use Rattle.switch_frame.specs.declared.active.Active.{Active}
-use Rattle.switch_frame.specs.declared.active.Active.TheVariants.{M68, Ppc}
+use Rattle.switch_frame.specs.Files.{sp_of}
 use Rattle.switch_frame.specs.Records.{isa_of}
 use Rattle.mode_switch.specs.declared.passed.Entry.{Entry}
 use Rattle.mode_switch.specs.Wanted.{Means, wants_68k, wants_ppc}
@@ -25,11 +24,7 @@ FillsItsStack =
     (set : Isa) (sig : Signature) (selector : Option ℕ) (values : List ℕ) → length values ≡ length sig.params
     → length (stack_of set sig selector values) ≡ below set sig (is_some selector)
 
--- its registers are of its set, with the stack pointer that it was given: A7, or r1
-abbrev pub sp_of : Active → ℕ
-sp_of (M68 r) = slice_index r.a 7
-sp_of (Ppc r) = slice_index r.gpr 1
-
+-- its registers are of its set, with the stack pointer that it was given
 abbrev pub IsOfItsSet : Type 0
 IsOfItsSet =
     (set : Isa) (sig : Signature) (selector : Option ℕ) (values : List ℕ) (a5 sp : ℕ) (entry : Entry)

@@ -7,7 +7,7 @@ use Rattle.proc_info.specs.Signature.{Signature}
 use Rattle.proc_info.specs.Views.{signature}
 use Rattle.args_m68.specs.Gather.{words_of}
 use Rattle.switch_frame.specs.declared.active.Active.{Active}
-use Rattle.switch_frame.specs.declared.active.Active.TheVariants.{M68, Ppc}
+use Rattle.switch_frame.specs.Files.{at_pc}
 use Rattle.mode_switch.specs.declared.wanted.Call.{Call}
 use Rattle.mode_switch.specs.declared.wanted.Wanted.{Wanted}
 use Rattle.mode_switch.specs.declared.wanted.Wanted.TheVariants.{Calls, Jumps, Refuses}
@@ -44,11 +44,7 @@ abbrev pub answered : Active → Result Passed Access → Result Passage Access
 answered caller (Ok p) = Ok (passage caller p)
 answered caller (Err e) = Err e
 
--- registers with another pc, and the caller at the pc behind its call
-abbrev pub at_pc : ℕ → Active → Active
-at_pc pc (M68 r) = M68 (record r { pc = pc })
-at_pc pc (Ppc r) = Ppc (record r { pc = pc })
-
+-- the caller at the pc behind its call
 abbrev pub going_on : Active → Result ℕ Access → Result Active Access
 going_on active (Ok pc) = Ok (at_pc pc active)
 going_on active (Err e) = Err e

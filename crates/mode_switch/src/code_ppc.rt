@@ -15,11 +15,8 @@ use big_memory::Ram;
 use mix_bits::{Fault, FaultKind, Isa};
 use ppc_isa::RegsPpc;
 use proc_info::{Sig, read};
-use routine_desc::{BadDesc, Rec, choose_among, count_records, read_all};
+use routine_desc::{BadDesc, MIXED_MODE_MAGIC, Rec, choose_among, count_records, read_all};
 use switch_frame::Kind;
-
-/// The word with which a routine descriptor begins.
-const DESCRIPTOR: u32 = 0xAAFE;
 
 /// What PowerPC code wants by CallUniversalProc with a universal pointer and a procInfo. Refusals come in
 /// this order: the word at the pointer outside memory; then for 68K code there the procInfo without a
@@ -37,7 +34,7 @@ fn wants_word(ram: &Ram, regs: &RegsPpc, pointer: u32, info: u32) -> Wanted
 {
     match ram.load_word(pointer) {
         Ok(word) => {
-            if word == DESCRIPTOR {
+            if word == MIXED_MODE_MAGIC {
                 wants_desc(ram, regs, pointer, info)
             } else {
                 settle(wants_raw(regs, pointer, info))

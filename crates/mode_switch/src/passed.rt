@@ -4,7 +4,7 @@ ghost use Rattle.proc_info.specs.Views.{signature};
 ghost use Rattle.args_m68.specs.Gather.{answered as values_answered};
 ghost use Rattle.switch_frame.specs.Records.{isa_of};
 ghost use Rattle.mode_switch.specs.Passed.{behind, entry_at as entry_at_lem, gathered, passed};
-ghost use Rattle.mode_switch.specs.Views.{answered, at_pc, crossing, going_on};
+ghost use Rattle.mode_switch.specs.Views.{answered, crossing, going_on};
 
 use crate::Call;
 use args_m68::{Words, gather68};
@@ -44,7 +44,7 @@ pub fn pass(ram: &Ram, active: &mut Active, call: &Call) -> Result<Passed, Acces
     let back = pc_behind(ram, active)?;
     let entry = entry_at(ram, call.kind.callee(), call.target)?;
     let args = gather(ram, active, &call.sig)?;
-    go_on(active, back);
+    active.go_to(back);
     Ok(Passed { entry, args })
 }
 
@@ -55,17 +55,6 @@ fn pc_behind(ram: &Ram, active: &Active) -> Result<u32, Access>
     match active {
         Active::M68(regs) => ram.load_long(regs.a[7]),
         Active::Ppc(regs) => Ok(aligned(regs.lr)),
-    }
-}
-
-/// Sets the pc.
-fn go_on(active: &mut Active, pc: u32)
-    ensures exact { active.new ≡ at_pc pc active.old }
-    ensures set { isa_of active.new ≡ isa_of active.old }
-{
-    match active {
-        Active::M68(regs) => regs.pc = pc,
-        Active::Ppc(regs) => regs.pc = pc,
     }
 }
 

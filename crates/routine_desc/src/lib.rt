@@ -15,4 +15,4 @@ pub use flags::RoutineFlags;
 pub use laws::desc_laws;
 pub use making::build;
 pub use read::{count_records, read_all, read_desc};
-pub use record::{BadDesc, Desc, Rec};
+pub use record::{BadDesc, Desc, MIXED_MODE_MAGIC, Rec};

@@ -7,11 +7,20 @@ ghost use Rattle.proc_info.specs.Codes.{conv_at};
 ghost use Rattle.routine_desc.specs.Read.{Counts, FillsBody, FillsRecords, Reads, ReadsBody, all_alike as all_alike_lem, is_alike as is_alike_lem, is_dispatched_in, read_record as read_record_lem};
 
 use super::flags::RoutineFlags;
-use super::record::{BadDesc, Desc, Rec};
+use super::record::{BadDesc, Desc, MIXED_MODE_MAGIC, MOST_RECORDS, Rec};
 use big_memory::Ram;
 use bitflags::Flags;
 use mix_bits::{Isa, Size};
 use proc_info::read;
+
+/// The version of a descriptor.
+const VERSION: u32 = 7;
+
+/// How many bytes stand before the first record.
+const HEADER_BYTES: u32 = 12;
+
+/// How many bytes a record has.
+const RECORD_BYTES: u32 = 20;
 
 /// The descriptor at an address, or the first rule that it breaks. Guards do not matter.
 pub fn read_desc(ram: &Ram, a: u32) -> Result<Desc, BadDesc>
@@ -65,7 +74,7 @@ fn read_body(ram: &Ram, a: u32) -> Result<Desc, BadDesc>
 {
     let _len = ram.len();
     let count = number(ram, a + 10, Size::Two) + 1;
-    let mut recs = [Rec::NONE; 64];
+    let mut recs = [Rec::NONE; MOST_RECORDS];
     match read_all(ram, a, &mut recs[..count as usize]) {
         Ok(()) => Ok(Desc { at: a, count, recs }),
         Err(bad) => Err(bad),
@@ -79,15 +88,15 @@ fn broken_header(ram: &Ram, a: u32) -> Option<BadDesc>
     ensures few { IfNone result (number_at ram.now (a + 10) 2 ≤ 63) }
 {
     let _len = ram.len();
-    if !ram.has(a, 12) {
+    if !ram.has(a, HEADER_BYTES) {
         Some(BadDesc::Access)
-    } else if number(ram, a, Size::Two) != 0xAAFE {
+    } else if number(ram, a, Size::Two) != MIXED_MODE_MAGIC {
         Some(BadDesc::Magic)
-    } else if number(ram, a + 2, Size::One) != 7 {
+    } else if number(ram, a + 2, Size::One) != VERSION {
         Some(BadDesc::Version)
     } else if number(ram, a + 4, Size::Four) != 0 || number(ram, a + 8, Size::One) != 0 {
         Some(BadDesc::Reserved)
-    } else if number(ram, a + 10, Size::Two) > 63 {
+    } else if number(ram, a + 10, Size::Two) >= MOST_RECORDS as u32 {
         Some(BadDesc::Count)
     } else {
         None
@@ -100,7 +109,7 @@ fn broken_record(ram: &Ram, p: u32) -> Option<BadDesc>
     ensures within { IfNone result (p + 20 ≤ length ram.now.bytes) }
 {
     let _len = ram.len();
-    if !ram.has(p, 20) {
+    if !ram.has(p, RECORD_BYTES) {
         Some(BadDesc::Access)
     } else if number(ram, p + 4, Size::One) != 0 || number(ram, p + 12, Size::Four) != 0 {
         Some(BadDesc::Reserved)
@@ -176,7 +185,7 @@ fn read_records(ram: &Ram, a: u32, recs: &mut [Rec]) -> Result<(), BadDesc>
 {
     let _len = ram.len();
     for k in 0..recs.len() {
-        match read_record(ram, a, a + 12 + 20 * k as u32) {
+        match read_record(ram, a, a + HEADER_BYTES + RECORD_BYTES * k as u32) {
             Ok(rec) => recs[k] = rec,
             Err(bad) => return Err(bad),
         }

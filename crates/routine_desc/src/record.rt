@@ -5,6 +5,12 @@ ghost use Rattle.routine_desc.specs.Codes.{bad_desc_code};
 use mix_bits::Isa;
 use proc_info::BadInfo;
 
+/// The word with which a descriptor begins, `_MixedModeMagic`. 68K code that reaches it calls the routine.
+pub const MIXED_MODE_MAGIC: u32 = 0xAAFE;
+
+/// How many records a descriptor has at most.
+pub(crate) const MOST_RECORDS: usize = 64;
+
 /// A routine record.
 #[derive(Clone, Copy, Debug, PartialEq, Eq)]
 pub struct Rec {
@@ -34,7 +40,7 @@ impl Rec {
 pub struct Desc {
     pub at: u32,
     pub count: u32,
-    pub recs: [Rec; 64],
+    pub recs: [Rec; MOST_RECORDS],
 }
 
 /// Why a descriptor is refused.

@@ -1,5 +1,6 @@
 pub mod Longs
 pub mod Sets
+pub mod Files
 pub mod Records
 pub mod Chain
 pub mod Calls

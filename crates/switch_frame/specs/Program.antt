@@ -4,7 +4,7 @@ use Rattle.mix_bits.specs.declared.isa.Isa.{Isa}
 use Rattle.mix_bits.specs.declared.isa.Isa.TheVariants.{M68, Ppc}
 use Rattle.big_memory.specs.Lists.{part}
 use Rattle.big_memory.specs.Map.{host_vector_at, host_code_at, host_functions}
-use Rattle.big_memory.specs.Memory.{IsRam, floor_of}
+use Rattle.big_memory.specs.Memory.{IsRam, Memory, floor_of}
 use Rattle.switch_frame.specs.declared.program.Program.{Program}
 use Rattle.switch_frame.specs.Records.{isa_of}
 use Rattle.switch_frame.specs.Pieces.{Piece, long_piece, puts}
@@ -46,12 +46,12 @@ abbrev pub start_sp_of : Isa → ℕ → ℕ
 start_sp_of M68 len = len
 start_sp_of Ppc len = len - 64
 
--- the heap goes from the program's end to the stack's floor
-pub record HasHeap (p : Program) : Type 0 where
-  pub aligned : p.heap_lo % 16 ≡ 0
-  pub behind : program_start ≤ p.heap_lo
-  pub ordered : p.heap_lo ≤ p.heap_hi
-  pub whole : p.heap_hi ≡ floor_of p.ram
+-- a heap's bounds: it goes from a multiple of 16, behind the program's first address, to the stack's floor
+pub record HasHeap (low high : ℕ) (memory : Memory) : Type 0 where
+  pub aligned : low % 16 ≡ 0
+  pub behind : program_start ≤ low
+  pub ordered : low ≤ high
+  pub whole : high ≡ floor_of memory
 
 pub record IsProgram (p : Program) : Type 0 where
   pub ram : IsRam p.ram
@@ -59,4 +59,4 @@ pub record IsProgram (p : Program) : Type 0 where
   pub page : HasGatePage p.a5 p.ram.bytes
   pub set : isa_of p.active ≡ p.main
   pub start : p.start_sp ≡ start_sp_of p.main (length p.ram.bytes)
-  pub heap : HasHeap p
+  pub heap : HasHeap p.heap_lo p.heap_hi p.ram

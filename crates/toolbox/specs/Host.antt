@@ -3,7 +3,7 @@ use Rattle.std.specs.Prelude.{ℕ}
 use Rattle.mix_bits.specs.declared.fault.Fault.{Fault}
 use Rattle.big_memory.specs.Faults.{fault_of}
 use Rattle.switch_frame.specs.declared.active.Active.{Active}
-use Rattle.switch_frame.specs.declared.active.Active.TheVariants.{M68, Ppc}
+use Rattle.switch_frame.specs.Files.{pc_of}
 use Rattle.toolbox.specs.declared.function.Function.{Function}
 use Rattle.toolbox.specs.Functions.{function_at}
 use Rattle.toolbox.specs.Effects.{Resources, Effects, Effect, effect}
@@ -22,10 +22,6 @@ pub data Hosted : Type 0 where
   Crosses : ℕ → ℕ → Hosted
   Leaves : ℕ → Hosted
   Stops : Fault → Hosted
-
-abbrev pub pc_of : Active → ℕ
-pc_of (M68 regs) = regs.pc
-pc_of (Ppc regs) = regs.pc
 
 -- the registers after a function's effect
 abbrev pub settled : Function → Active → Effect → Hosted

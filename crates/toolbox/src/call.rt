@@ -8,7 +8,7 @@ use crate::function::Function;
 use crate::laws::laws;
 use crate::outcome::Outcome;
 use crate::perform::perform;
-use crate::registers::{operands_of, pc_of, settle};
+use crate::registers::{operands_of, settle};
 use crate::results::of_ask;
 use big_memory::Ram;
 use dev_rack::Devices;
@@ -53,7 +53,7 @@ pub fn host_call<I: Source, O: Sink, D: Devices>(
         }
         Outcome::Crossed { pointer, info } => HostOut::Cross { pointer, info },
         Outcome::Left(code) => HostOut::Exit(code),
-        Outcome::Refused(access) => HostOut::Stop(access.fault(pc_of(active))),
+        Outcome::Refused(access) => HostOut::Stop(access.fault(active.pc())),
         Outcome::ReadFault => HostOut::ReadFault,
         Outcome::OutFault => HostOut::OutFault,
     }

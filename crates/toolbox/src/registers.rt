@@ -1,6 +1,5 @@
 // Operands from registers, and results into them.
 ghost use Rattle.std.specs.Prelude.{◌≡◌, ◌∷◌, []};
-ghost use Rattle.toolbox.specs.Host.{pc_of as pc_in};
 ghost use Rattle.toolbox.specs.Registers.{answered, at_link, codes_of_word, operands_of as operands_in, result_registers, with_registers, with_results, with_stack};
 
 use crate::function::Function;
@@ -9,16 +8,6 @@ use m68_isa::{Ccr, Regs68};
 use mix_bits::{aligned, onward};
 use ppc_isa::RegsPpc;
 use switch_frame::Active;
-
-/// The address at which code of the active set is.
-pub fn pc_of(active: &Active) -> u32
-    ensures { result ≡ pc_in active.now }
-{
-    match active {
-        Active::M68(regs) => regs.pc,
-        Active::Ppc(regs) => regs.pc,
-    }
-}
 
 /// The operands of a call.
 pub fn operands_of(function: Function, active: &Active) -> Operands

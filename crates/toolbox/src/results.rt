@@ -5,19 +5,19 @@ ghost use Rattle.toolbox.specs.Effects.{error, no_block, no_room, no_slot, resul
 use crate::values::Results;
 use dev_rack::Answer;
 
-/// The slot holds no device.
+/// -21: the slot holds no device.
 const NO_SLOT: u32 = 0xFFFF_FFEB;
 
-/// The device failed.
+/// -36: the device failed.
 const DEVICE_FAILED: u32 = 0xFFFF_FFDC;
 
-/// The heap or the journal has no room.
+/// -108: the heap or the journal has no room.
 const NO_ROOM: u32 = 0xFFFF_FF94;
 
-/// No block begins at the address.
+/// -111: no block begins at the address.
 const NO_BLOCK: u32 = 0xFFFF_FF91;
 
-/// The input is at its end.
+/// -1: the input is at its end.
 const AT_END: u32 = 0xFFFF_FFFF;
 
 /// One number.

@@ -2,7 +2,7 @@ use Rattle.std.proofs.Common.{ap}
 use Rattle.mode_switch.specs.Views.{crossing, wanted_of}
 use Rattle.mixed_machine.specs.Enter.{crosses, enters}
 use Rattle.mixed_machine.specs.Machine.{flat}
-use Rattle.mix_steps.specs.Does.{output}
+use Rattle.mix_io.specs.Streams.{output}
 use Rattle.mix_steps.proofs.Doing.{does-same}
 use Rattle.mix_steps.proofs.enter.cross.Goals as goal
 

@@ -7,8 +7,9 @@ use Rattle.mode_switch.specs.Wanted.{IsMeant}
 use Rattle.mixed_machine.specs.Enter.{enters, enters_with}
 use Rattle.mixed_machine.specs.Machine.{IsWhole}
 use Rattle.mixed_machine.specs.Next.Next.{Faults}
-use Rattle.mixed_machine.specs.State.{pc_of}
-use Rattle.mix_steps.specs.Does.{Does, output}
+use Rattle.switch_frame.specs.Files.{pc_of}
+use Rattle.mix_io.specs.Streams.{output}
+use Rattle.mix_steps.specs.Does.{Does}
 use Rattle.mix_steps.proofs.Doing.{does-refused, does-same}
 use Rattle.mix_steps.proofs.Entering.{bytes-are, enters-by, passes-by}
 use Rattle.mix_steps.proofs.Framing.{callers-are}

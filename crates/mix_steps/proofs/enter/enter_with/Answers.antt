@@ -3,7 +3,7 @@ use Rattle.switch_frame.specs.Records.{record_of}
 use Rattle.call_trace.specs.Lines.{call_line}
 use Rattle.mode_switch.specs.Views.{crossing, passage}
 use Rattle.mixed_machine.specs.Enter.{entered, enters_with, suspended}
-use Rattle.mix_steps.specs.Does.{output}
+use Rattle.mix_io.specs.Streams.{output}
 use Rattle.mix_steps.proofs.Doing.{call-some, does-call, does-cut, line-cut, line-taken}
 use Rattle.mix_steps.proofs.Framing.{entered-is}
 use Rattle.mix_steps.proofs.enter.enter_with.Goals as goal

@@ -1,7 +1,7 @@
 use Rattle.std.proofs.Common.{◌∙◌, ap, sym}
 use Rattle.switch_frame.specs.Calls.{innermost}
 use Rattle.mixed_machine.specs.Machine.{callers_of}
-use Rattle.mix_steps.specs.Does.{output}
+use Rattle.mix_io.specs.Streams.{output}
 use Rattle.mix_steps.proofs.Framing.{callers-are, links-are}
 use Rattle.mix_steps.proofs.Returning.{first-is}
 use Rattle.mix_steps.proofs.leave.leave.Goals as goal

@@ -3,7 +3,7 @@ use Rattle.switch_frame.specs.Records.{record_of}
 use Rattle.mixed_machine.specs.Leave.{at_gate, leaves}
 use Rattle.mixed_machine.specs.Machine.{callers_of, flat}
 use Rattle.mixed_machine.specs.Next.Next.{Faults}
-use Rattle.mix_steps.specs.Does.{output}
+use Rattle.mix_io.specs.Streams.{output}
 use Rattle.mix_steps.proofs.Doing.{does-refused, does-same}
 use Rattle.mix_steps.proofs.Returning.{gate-returns, gate-waits}
 use Rattle.mix_steps.proofs.leave.leave_callee.Goals as goal

@@ -5,7 +5,7 @@ use Rattle.mode_switch.specs.Returned.{given_back}
 use Rattle.mixed_machine.specs.Leave.{leaves, leaves_by, leaves_with}
 use Rattle.mixed_machine.specs.Machine.{callers_of, flat}
 use Rattle.mixed_machine.specs.State.{seen}
-use Rattle.mix_steps.specs.Does.{output}
+use Rattle.mix_io.specs.Streams.{output}
 use Rattle.mix_steps.proofs.Doing.{does-same}
 use Rattle.mix_steps.proofs.leave.return_to.Goals as goal
 

@@ -4,7 +4,7 @@ use Rattle.big_memory.specs.Memory.{floor_of}
 use Rattle.switch_frame.specs.Records.{isa_of}
 use Rattle.mixed_machine.specs.Enter.{full_fault}
 use Rattle.mixed_machine.specs.Machine.{flat, seen_of}
-use Rattle.mixed_machine.specs.State.{pc_of}
+use Rattle.switch_frame.specs.Files.{pc_of}
 use Rattle.mix_steps.proofs.Doing.{cell-is}
 use Rattle.mix_steps.proofs.Framing.{floor-seen}
 use Rattle.mix_steps.proofs.refuse.refuse_full.Goals as goal

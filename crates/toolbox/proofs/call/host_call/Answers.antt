@@ -36,7 +36,7 @@ pub returns-in-Refused-clause-does : goal.returns-in-Refused-clause-does
 returns-in-Refused-clause-does g c = (
   stays c.args.index c.args.active.now c.at-function.result c.operands_of-operands.result _ _ _ _
       (record { function = c.at-function.ensures; operands = c.operands_of-operands.ensures })
-      (ap Stops (ap (λ pc. fault_of pc c.in-Refused.access) (sym c.pc_of.ensures) ∙ sym c.fault.ensures)) c.in-Refused.ensures,
+      (ap Stops (ap (λ pc. fault_of pc c.in-Refused.access) (sym c.pc.ensures) ∙ sym c.fault.ensures)) c.in-Refused.ensures,
   refl,
 )
 
