@@ -8,9 +8,9 @@ ghost use Rattle.big_memory.specs.Steps.{Does};
 ghost use Rattle.m68_ea.specs.Usual.{Tries};
 ghost use Rattle.m68_ea.specs.Words.{words_at};
 ghost use Rattle.m68_effects.specs.Arithmetic.{cmp, cmpa, cmpi, cmpm, comparison};
+ghost use Rattle.m68_effects.specs.Operations.{runs_with};
 ghost use Rattle.m68_effects.specs.Ops.{by_op};
 ghost use Rattle.m68_effects.specs.Parts.{after};
-ghost use Rattle.m68_arithmetic.specs.Parts.{runs_with};
 
 use big_memory::{Did, Ram};
 use m68_alu::cmp;
@@ -48,31 +48,23 @@ fn compare_registers(regs: &mut Regs68, ram: &Ram, fault: &mut Fault, word: u32)
     requires { (first_of word).mode ≡ 0 }
     ensures { Does (by_op Op68.Cmp regs.old ram.now word) result fault.new regs.old regs.new ram.now ram.now }
 {
-    let (lower, upper) = (lower_of(word), upper_of(word));
     match size_bits_of(word) {
-        0 => with_other(regs, ram, fault, word, Size::One, lower, upper),
-        1 => with_other(regs, ram, fault, word, Size::Two, lower, upper),
-        _ => with_other(regs, ram, fault, word, Size::Four, lower, upper),
+        0 => with_other(regs, ram, fault, word, Size::One),
+        1 => with_other(regs, ram, fault, word, Size::Two),
+        _ => with_other(regs, ram, fault, word, Size::Four),
     }
 }
 
 /// A data register less another one, of this size.
 #[inline(always)]
-fn with_other(
-    regs: &mut Regs68,
-    ram: &Ram,
-    fault: &mut Fault,
-    word: u32,
-    size: Size,
-    lower: usize,
-    upper: usize,
-) -> Did
+fn with_other(regs: &mut Regs68, ram: &Ram, fault: &mut Fault, word: u32, size: Size) -> Did
     requires some { size ≢ Zero }
-    requires from { lower < 8 }
-    requires to { upper < 8 }
-    ensures { let from = operand_at (words_at ram.now regs.old.pc) 1 size 0 lower in
-        Does (runs_with regs.old word from (λ next. cmp regs.old ram.now next size from.ea upper)) result fault.new regs.old regs.new ram.now ram.now }
+    requires register { (first_of word).mode ≡ 0 }
+    ensures { let f = first_of word in
+        let from = operand_at (words_at ram.now regs.old.pc) 1 size f.mode f.lower in
+        Does (runs_with regs.old word from (λ next. cmp regs.old ram.now next size from.ea f.upper)) result fault.new regs.old regs.new ram.now ram.now }
 {
+    let (lower, upper) = (lower_of(word), upper_of(word));
     regs.ccr = compare(size, regs.d[upper], trunc(regs.d[lower], size), regs.ccr);
     go_on(regs, 1)
 }
@@ -112,32 +104,22 @@ fn compare_sized(regs: &mut Regs68, ram: &Ram, word: u32, size: Size) -> bool
 fn compare_operand(regs: &mut Regs68, ram: &Ram, fault: &mut Fault, word: u32) -> Did
     ensures { Does (by_op Op68.Cmp regs.old ram.now word) result fault.new regs.old regs.new ram.now ram.now }
 {
-    let (mode, lower, upper) = (mode_of(word), lower_of(word), upper_of(word));
     match size_bits_of(word) {
-        0 => with_register(regs, ram, fault, word, Size::One, mode, lower, upper),
-        1 => with_register(regs, ram, fault, word, Size::Two, mode, lower, upper),
-        _ => with_register(regs, ram, fault, word, Size::Four, mode, lower, upper),
+        0 => with_register(regs, ram, fault, word, Size::One),
+        1 => with_register(regs, ram, fault, word, Size::Two),
+        _ => with_register(regs, ram, fault, word, Size::Four),
     }
 }
 
 /// A data register less an operand of this size.
 #[inline(always)]
-fn with_register(
-    regs: &mut Regs68,
-    ram: &Ram,
-    fault: &mut Fault,
-    word: u32,
-    size: Size,
-    mode: u32,
-    lower: usize,
-    upper: usize,
-) -> Did
-    requires some { size ≢ Zero }
-    requires from { lower < 8 }
-    requires to { upper < 8 }
-    ensures { let from = operand_at (words_at ram.now regs.old.pc) 1 size mode lower in
-        Does (runs_with regs.old word from (λ next. cmp regs.old ram.now next size from.ea upper)) result fault.new regs.old regs.new ram.now ram.now }
+fn with_register(regs: &mut Regs68, ram: &Ram, fault: &mut Fault, word: u32, size: Size) -> Did
+    requires { size ≢ Zero }
+    ensures { let f = first_of word in
+        let from = operand_at (words_at ram.now regs.old.pc) 1 size f.mode f.lower in
+        Does (runs_with regs.old word from (λ next. cmp regs.old ram.now next size from.ea f.upper)) result fault.new regs.old regs.new ram.now ram.now }
 {
+    let (mode, lower, upper) = (mode_of(word), lower_of(word), upper_of(word));
     let mut next = 1;
     let Some(value) = source(regs, ram, fault, word, &mut next, size, mode, lower) else {
         return Did::Stop;
@@ -151,31 +133,21 @@ fn with_register(
 pub fn do_cmpa(regs: &mut Regs68, ram: &Ram, fault: &mut Fault, word: u32) -> Did
     ensures { Does (by_op Op68.Cmpa regs.old ram.now word) result fault.new regs.old regs.new ram.now ram.now }
 {
-    let (mode, lower, upper) = (mode_of(word), lower_of(word), upper_of(word));
     if bit8_of(word) == 0 {
-        with_address(regs, ram, fault, word, Size::Two, mode, lower, upper)
+        with_address(regs, ram, fault, word, Size::Two)
     } else {
-        with_address(regs, ram, fault, word, Size::Four, mode, lower, upper)
+        with_address(regs, ram, fault, word, Size::Four)
     }
 }
 
 /// An address register less an operand of this size.
 #[inline(always)]
-fn with_address(
-    regs: &mut Regs68,
-    ram: &Ram,
-    fault: &mut Fault,
-    word: u32,
-    size: Size,
-    mode: u32,
-    lower: usize,
-    upper: usize,
-) -> Did
-    requires from { lower < 8 }
-    requires to { upper < 8 }
-    ensures { let from = operand_at (words_at ram.now regs.old.pc) 1 size mode lower in
-        Does (runs_with regs.old word from (λ next. cmpa regs.old ram.now next size from.ea upper)) result fault.new regs.old regs.new ram.now ram.now }
+fn with_address(regs: &mut Regs68, ram: &Ram, fault: &mut Fault, word: u32, size: Size) -> Did
+    ensures { let f = first_of word in
+        let from = operand_at (words_at ram.now regs.old.pc) 1 size f.mode f.lower in
+        Does (runs_with regs.old word from (λ next. cmpa regs.old ram.now next size from.ea f.upper)) result fault.new regs.old regs.new ram.now ram.now }
 {
+    let (mode, lower, upper) = (mode_of(word), lower_of(word), upper_of(word));
     let mut next = 1;
     let Some(value) = source(regs, ram, fault, word, &mut next, size, mode, lower) else {
         return Did::Stop;
@@ -189,31 +161,23 @@ fn with_address(
 pub fn do_cmpi(regs: &mut Regs68, ram: &Ram, fault: &mut Fault, word: u32) -> Did
     ensures { Does (by_op Op68.Cmpi regs.old ram.now word) result fault.new regs.old regs.new ram.now ram.now }
 {
-    let (mode, lower) = (mode_of(word), lower_of(word));
     match size_bits_of(word) {
-        0 => with_immediate(regs, ram, fault, word, Size::One, mode, lower),
-        1 => with_immediate(regs, ram, fault, word, Size::Two, mode, lower),
-        _ => with_immediate(regs, ram, fault, word, Size::Four, mode, lower),
+        0 => with_immediate(regs, ram, fault, word, Size::One),
+        1 => with_immediate(regs, ram, fault, word, Size::Two),
+        _ => with_immediate(regs, ram, fault, word, Size::Four),
     }
 }
 
 /// An operand less immediate data of this size.
 #[inline(always)]
-fn with_immediate(
-    regs: &mut Regs68,
-    ram: &Ram,
-    fault: &mut Fault,
-    word: u32,
-    size: Size,
-    mode: u32,
-    lower: usize,
-) -> Did
-    requires some { size ≢ Zero }
-    requires from { lower < 8 }
-    ensures { let ws = words_at ram.now regs.old.pc in
-        let from = operand_at ws (1 + immediate_words_of size) size mode lower in
+fn with_immediate(regs: &mut Regs68, ram: &Ram, fault: &mut Fault, word: u32, size: Size) -> Did
+    requires { size ≢ Zero }
+    ensures { let f = first_of word in
+        let ws = words_at ram.now regs.old.pc in
+        let from = operand_at ws (1 + immediate_words_of size) size f.mode f.lower in
         Does (runs_with regs.old word from (λ next. cmpi regs.old ram.now next size (immediate_at_of ws 1 size) from.ea)) result fault.new regs.old regs.new ram.now ram.now }
 {
+    let (mode, lower) = (mode_of(word), lower_of(word));
     let data = immediate_at(ram, regs.pc, 1, size);
     let mut next = 1 + immediate_words(size);
     let Some(value) = source(regs, ram, fault, word, &mut next, size, mode, lower) else {
@@ -228,30 +192,21 @@ fn with_immediate(
 pub fn do_cmpm(regs: &mut Regs68, ram: &Ram, fault: &mut Fault, word: u32) -> Did
     ensures { Does (by_op Op68.Cmpm regs.old ram.now word) result fault.new regs.old regs.new ram.now ram.now }
 {
-    let (lower, upper) = (lower_of(word), upper_of(word));
     match size_bits_of(word) {
-        0 => in_memory(regs, ram, fault, word, Size::One, lower, upper),
-        1 => in_memory(regs, ram, fault, word, Size::Two, lower, upper),
-        _ => in_memory(regs, ram, fault, word, Size::Four, lower, upper),
+        0 => in_memory(regs, ram, fault, word, Size::One),
+        1 => in_memory(regs, ram, fault, word, Size::Two),
+        _ => in_memory(regs, ram, fault, word, Size::Four),
     }
 }
 
 /// The same at this size.
 #[inline(always)]
-fn in_memory(
-    regs: &mut Regs68,
-    ram: &Ram,
-    fault: &mut Fault,
-    word: u32,
-    size: Size,
-    from: usize,
-    to: usize,
-) -> Did
-    requires some { size ≢ Zero }
-    requires from { from < 8 }
-    requires to { to < 8 }
-    ensures { Does (after (cmpm regs.old ram.now (onward regs.old.pc 2) size from to)) result fault.new regs.old regs.new ram.now ram.now }
+fn in_memory(regs: &mut Regs68, ram: &Ram, fault: &mut Fault, word: u32, size: Size) -> Did
+    requires { size ≢ Zero }
+    ensures { let f = first_of word in
+        Does (after (cmpm regs.old ram.now (onward regs.old.pc 2) size f.lower f.upper)) result fault.new regs.old regs.new ram.now ram.now }
 {
+    let (from, to) = (lower_of(word), upper_of(word));
     let before = regs.a[from];
     let mut next = 1;
     let Some(subtrahend) = source(regs, ram, fault, word, &mut next, size, 3, from) else {

@@ -3,18 +3,20 @@
 //! leaves a fault in the cell and has changed nothing else.
 #![tactic(auto)]
 
+mod addresses;
 mod changes;
 mod comparisons;
-mod operation;
 mod pairs;
-mod parts;
 mod products;
 mod quick;
-mod registers;
+mod ways;
 
-pub use changes::{do_add_to_memory, do_addi, do_nbcd, do_neg, do_negx, do_sub_to_memory, do_subi};
+pub use addresses::{do_adda, do_suba};
+pub use changes::{
+    do_add_to_memory, do_add_to_register, do_addi, do_nbcd, do_neg, do_negx, do_sub_to_memory,
+    do_sub_to_register, do_subi,
+};
 pub use comparisons::{do_cmp, do_cmpa, do_cmpi, do_cmpm};
 pub use pairs::{do_abcd, do_addx, do_sbcd, do_subx};
 pub use products::{do_chk, do_divs, do_divu, do_muls, do_mulu};
 pub use quick::{do_addq, do_subq};
-pub use registers::{do_add_to_register, do_adda, do_sub_to_register, do_suba};

@@ -4,14 +4,14 @@ ghost use Rattle.mix_bits.specs.Addresses.{onward as onward_of};
 ghost use Rattle.mix_bits.specs.declared.size.Size.TheVariants.{Zero};
 ghost use Rattle.m68_isa.specs.First.{first_of, size_of as size_of_bits};
 ghost use Rattle.big_memory.specs.Steps.{Does};
+ghost use Rattle.m68_isa.specs.declared.ea.Ea.TheVariants.{Pre};
+ghost use Rattle.m68_effects.specs.Operations.{result_of};
 ghost use Rattle.m68_effects.specs.Ops.{by_op};
-ghost use Rattle.m68_effects.specs.Parts.{after, pairwise};
-ghost use Rattle.m68_arithmetic.specs.Parts.{result_of};
+ghost use Rattle.m68_effects.specs.Parts.{after, changed, pairwise};
 
-use super::operation::{Operation, apply};
-use super::parts::change;
 use big_memory::{Did, Ram};
-use m68_ea::{go_on, source};
+use m68_ea::{find, go_on, put, source, value};
+use m68_effects::{Operation, apply};
 use m68_isa::Regs68;
 use m68_ops::{Op68, is_in_memory, lower_of, size_bits_of, upper_of};
 use mix_bits::{Fault, Size, trunc, with_low};
@@ -76,11 +76,10 @@ fn pair(
     ensures { let f = first_of word in
         Does (after (pairwise regs.old ram.old (onward_of regs.old.pc 2) size (f.mode == 1) f.lower f.upper (result_of op size regs.old.ccr))) result fault.new regs.old regs.new ram.old ram.new }
 {
-    let (lower, upper) = (lower_of(word), upper_of(word));
     if is_in_memory(word) {
-        pair_in_memory(regs, ram, fault, word, size, lower, upper, op)
+        pair_in_memory(regs, ram, fault, word, size, op)
     } else {
-        pair_of_registers(regs, ram, fault, size, lower, upper, op)
+        pair_of_registers(regs, ram, fault, word, size, op)
     }
 }
 
@@ -90,16 +89,15 @@ fn pair_of_registers(
     regs: &mut Regs68,
     ram: &Ram,
     fault: &mut Fault,
+    word: u32,
     size: Size,
-    from: usize,
-    to: usize,
     op: Operation,
 ) -> Did
-    requires some { size ≢ Zero }
-    requires from { from < 8 }
-    requires to { to < 8 }
-    ensures { Does (after (pairwise regs.old ram.now (onward_of regs.old.pc 2) size false from to (result_of op size regs.old.ccr))) result fault.new regs.old regs.new ram.now ram.now }
+    requires { size ≢ Zero }
+    ensures { let f = first_of word in
+        Does (after (pairwise regs.old ram.now (onward_of regs.old.pc 2) size false f.lower f.upper (result_of op size regs.old.ccr))) result fault.new regs.old regs.new ram.now ram.now }
 {
+    let (from, to) = (lower_of(word), upper_of(word));
     let out = apply(
         op,
         size,
@@ -120,23 +118,50 @@ fn pair_in_memory(
     fault: &mut Fault,
     word: u32,
     size: Size,
-    from: usize,
-    to: usize,
     op: Operation,
 ) -> Did
-    requires some { size ≢ Zero }
-    requires from { from < 8 }
-    requires to { to < 8 }
-    ensures { Does (after (pairwise regs.old ram.old (onward_of regs.old.pc 2) size true from to (result_of op size regs.old.ccr))) result fault.new regs.old regs.new ram.old ram.new }
+    requires { size ≢ Zero }
+    ensures { let f = first_of word in
+        Does (after (pairwise regs.old ram.old (onward_of regs.old.pc 2) size true f.lower f.upper (result_of op size regs.old.ccr))) result fault.new regs.old regs.new ram.old ram.new }
 {
+    let from = lower_of(word);
     let before = regs.a[from];
     let mut next = 1;
     let Some(by) = source(regs, ram, fault, word, &mut next, size, 4, from) else {
         return Did::Stop;
     };
-    let did = change(regs, ram, fault, word, 1, size, 4, to, op, by);
+    let did = change_below(regs, ram, fault, word, size, op, by);
     if did != Did::Next {
         regs.a[from] = before;
     }
     did
+}
+
+/// An operation with a number on the place below the second address register.
+#[inline(always)]
+fn change_below(
+    regs: &mut Regs68,
+    ram: &mut Ram,
+    fault: &mut Fault,
+    word: u32,
+    size: Size,
+    op: Operation,
+    by: u32,
+) -> Did
+    requires { size ≢ Zero }
+    ensures { Does (after (changed regs.old ram.old (onward_of regs.old.pc 2) size (Pre (first_of word).upper) (λ d. result_of op size regs.old.ccr d by))) result fault.new regs.old regs.new ram.old ram.new }
+{
+    let mut next = 1;
+    let Some(target) = find(regs, ram, fault, word, &mut next, size, 4, upper_of(word)) else {
+        return Did::Stop;
+    };
+    let Some(old) = value(regs, ram, fault, target, size) else {
+        return Did::Stop;
+    };
+    let out = apply(op, size, old, by, regs.ccr);
+    if !put(regs, ram, fault, target, size, out.value) {
+        return Did::Stop;
+    }
+    regs.ccr = out.ccr;
+    go_on(regs, 1)
 }

@@ -8,8 +8,8 @@ ghost use Rattle.m68_isa.specs.Operands.{operand_at};
 ghost use Rattle.big_memory.specs.Steps.{Does};
 ghost use Rattle.m68_ea.specs.Words.{words_at};
 ghost use Rattle.m68_effects.specs.Arithmetic.{div, is_out as is_out_of, mul};
+ghost use Rattle.m68_effects.specs.Operations.{runs_with};
 ghost use Rattle.m68_effects.specs.Ops.{by_op};
-ghost use Rattle.m68_arithmetic.specs.Parts.{runs_with};
 
 use big_memory::{Did, Ram, stop};
 use m68_alu::{Quotient, div, mul};

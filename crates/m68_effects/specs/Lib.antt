@@ -10,3 +10,4 @@ pub mod Control
 pub mod Rows
 pub mod Step
 pub mod Ops
+pub mod Operations

@@ -7,11 +7,9 @@ use Rattle.mix_bits.specs.declared.size.Size.TheVariants.{Four}
 use Rattle.mix_bits.specs.declared.fault.Fault.{Fault}
 use Rattle.mix_bits.specs.declared.fault.FaultKind.TheVariants.{Vector}
 use Rattle.mix_bits.specs.Sizes.{low_replaced}
-use Rattle.mix_bits.specs.Addresses.{onward}
 use Rattle.mix_bits.specs.Results.{◌>>=◌}
 use Rattle.m68_isa.specs.declared.registers.Ccr.{Ccr}
 use Rattle.m68_isa.specs.declared.registers.Regs68.{Regs68}
-use Rattle.m68_isa.specs.declared.operand.Operand.{Operand}
 use Rattle.m68_isa.specs.declared.ea.Ea.{Ea}
 use Rattle.m68_isa.specs.declared.ea.Ea.TheVariants.{Dn, Post, Pre}
 use Rattle.m68_alu.specs.declared.sums.Out.{Out}
@@ -20,7 +18,7 @@ use Rattle.big_memory.specs.Faults.{fault_at}
 use Rattle.big_memory.specs.Steps.{After}
 use Rattle.big_memory.specs.Steps.After.{Goes, Stops}
 use Rattle.m68_ea.specs.Places.{placed, with_data}
-use Rattle.m68_ea.specs.Operands.{value_at, written_at, sourced, put_into, unless_illegal}
+use Rattle.m68_ea.specs.Operands.{value_at, written_at, sourced, put_into}
 
 abbrev pub Effect : Type 0
 Effect = Result (Regs68 × Memory) Fault

@@ -1,3 +1,14 @@
-//! What each instruction of the 68000 does. The definitions stand in `specs/`; the crates above prove their
-//! code against them.
+//! What each instruction of the 68000 does, as definitions, and the parts of it that the bodies of many
+//! instructions share: an operation on two numbers, an operand that it changes, and a data register that
+//! takes its result.
 #![tactic(auto)]
+
+mod changes;
+mod operation;
+mod registers;
+
+pub use changes::{
+    change, change_by_immediate, change_by_register, change_operand, change_register, change_sized,
+};
+pub use operation::{Operation, apply};
+pub use registers::take_source;

@@ -7,9 +7,9 @@ ghost use Rattle.m68_isa.specs.Operands.{operand_at};
 ghost use Rattle.big_memory.specs.Steps.{Does};
 ghost use Rattle.m68_ea.specs.Words.{words_at};
 ghost use Rattle.m68_effects.specs.Bits.{bit_by_number as by_number, bit_changed, bit_done, bit_flags, bit_result as result_of, bit_tested};
+ghost use Rattle.m68_effects.specs.Operations.{runs_with};
 ghost use Rattle.m68_effects.specs.Ops.{by_op};
 ghost use Rattle.m68_effects.specs.Parts.{changed};
-ghost use Rattle.m68_logic.specs.Parts.{with_operand};
 
 use big_memory::{Did, Ram};
 use m68_ea::{find, go_on, put, source, value, word_at};
@@ -48,13 +48,12 @@ fn on_bit(
 ) -> Did
     requires { first < 4 }
     ensures { let to = operand_at (words_at ram.old regs.old.pc) first One (first_of word).mode (first_of word).lower in
-        Does (with_operand regs.old word to (λ next. by_number regs.old ram.old next (bit_op (first_of word).size) number to.ea)) result fault.new regs.old regs.new ram.old ram.new }
+        Does (runs_with regs.old word to (λ next. by_number regs.old ram.old next (bit_op (first_of word).size) number to.ea)) result fault.new regs.old regs.new ram.old ram.new }
 {
-    let mode = mode_of(word);
-    if mode == 0 {
-        on_sized(regs, ram, fault, word, first, Size::Four, 0, number % 32)
+    if mode_of(word) == 0 {
+        on_sized(regs, ram, fault, word, first, Size::Four, number % 32)
     } else {
-        on_sized(regs, ram, fault, word, first, Size::One, mode, number % 8)
+        on_sized(regs, ram, fault, word, first, Size::One, number % 8)
     }
 }
 
@@ -67,19 +66,18 @@ fn on_sized(
     word: u32,
     first: u32,
     size: Size,
-    mode: u32,
     at: u32,
 ) -> Did
     requires first { first < 4 }
     requires at { at < 32 }
-    ensures { let to = operand_at (words_at ram.old regs.old.pc) first size mode (first_of word).lower in
-        Does (with_operand regs.old word to (λ next. bit_done regs.old ram.old next (bit_op (first_of word).size) size at to.ea)) result fault.new regs.old regs.new ram.old ram.new }
+    ensures { let to = operand_at (words_at ram.old regs.old.pc) first size (first_of word).mode (first_of word).lower in
+        Does (runs_with regs.old word to (λ next. bit_done regs.old ram.old next (bit_op (first_of word).size) size at to.ea)) result fault.new regs.old regs.new ram.old ram.new }
 {
     match bit_op_of(word) {
-        BitOp::Btst => test(regs, ram, fault, word, first, size, mode, at),
-        BitOp::Bchg => change(regs, ram, fault, word, BitOp::Bchg, first, size, mode, at),
-        BitOp::Bclr => change(regs, ram, fault, word, BitOp::Bclr, first, size, mode, at),
-        BitOp::Bset => change(regs, ram, fault, word, BitOp::Bset, first, size, mode, at),
+        BitOp::Btst => test(regs, ram, fault, word, first, size, at),
+        BitOp::Bchg => change(regs, ram, fault, word, BitOp::Bchg, first, size, at),
+        BitOp::Bclr => change(regs, ram, fault, word, BitOp::Bclr, first, size, at),
+        BitOp::Bset => change(regs, ram, fault, word, BitOp::Bset, first, size, at),
     }
 }
 
@@ -92,25 +90,16 @@ fn test(
     word: u32,
     first: u32,
     size: Size,
-    mode: u32,
     at: u32,
 ) -> Did
     requires first { first < 4 }
     requires at { at < 32 }
-    ensures { let of = operand_at (words_at ram.now regs.old.pc) first size mode (first_of word).lower in
-        Does (with_operand regs.old word of (λ next. bit_tested regs.old ram.now next size at of.ea)) result fault.new regs.old regs.new ram.now ram.now }
+    ensures { let of = operand_at (words_at ram.now regs.old.pc) first size (first_of word).mode (first_of word).lower in
+        Does (runs_with regs.old word of (λ next. bit_tested regs.old ram.now next size at of.ea)) result fault.new regs.old regs.new ram.now ram.now }
 {
+    let (mode, lower) = (mode_of(word), lower_of(word));
     let mut next = first;
-    let Some(old) = source(
-        regs,
-        ram,
-        fault,
-        word,
-        &mut next,
-        size,
-        mode,
-        lower_of(word),
-    ) else {
+    let Some(old) = source(regs, ram, fault, word, &mut next, size, mode, lower) else {
         return Did::Stop;
     };
     regs.ccr = flag_of(regs.ccr, old, at);
@@ -127,25 +116,16 @@ fn change(
     op: BitOp,
     first: u32,
     size: Size,
-    mode: u32,
     at: u32,
 ) -> Did
     requires first { first < 4 }
     requires at { at < 32 }
-    ensures { let to = operand_at (words_at ram.old regs.old.pc) first size mode (first_of word).lower in
-        Does (with_operand regs.old word to (λ next. changed regs.old ram.old next size to.ea (λ d. result_of op regs.old.ccr d at))) result fault.new regs.old regs.new ram.old ram.new }
+    ensures { let to = operand_at (words_at ram.old regs.old.pc) first size (first_of word).mode (first_of word).lower in
+        Does (runs_with regs.old word to (λ next. changed regs.old ram.old next size to.ea (λ d. result_of op regs.old.ccr d at))) result fault.new regs.old regs.new ram.old ram.new }
 {
+    let (mode, lower) = (mode_of(word), lower_of(word));
     let mut next = first;
-    let Some(to) = find(
-        regs,
-        ram,
-        fault,
-        word,
-        &mut next,
-        size,
-        mode,
-        lower_of(word),
-    ) else {
+    let Some(to) = find(regs, ram, fault, word, &mut next, size, mode, lower) else {
         return Did::Stop;
     };
     let Some(old) = value(regs, ram, fault, to, size) else {

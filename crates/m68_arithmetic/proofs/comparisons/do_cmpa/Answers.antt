@@ -7,4 +7,4 @@ use Rattle.m68_arithmetic.proofs.comparisons.do_cmpa.Goals as goal
 pub returns-else-bit8_of-eq0 : goal.returns-else-bit8_of-eq0
 returns-else-bit8_of-eq0 c =
     let four : long_or_word c.bit8_of.result ≡ Four = grind (arith, nat_tests) in
-    rw (← c.bit8_of.ensures.is, four, ← c.mode_of-mode.ensures.is, ← c.lower_of-lower.ensures.is, ← c.upper_of-upper.ensures.is) c.with_address-else-bit8_of-eq0.ensures
+    rw (← c.bit8_of.ensures.is, four) c.with_address-else-bit8_of-eq0.ensures

@@ -5,12 +5,12 @@ use Rattle.m68_isa.specs.First.{size_of}
 use Rattle.m68_arithmetic.proofs.comparisons.do_cmpi.Goals as goal
 
 pub returns-in-0 : goal.returns-in-0
-returns-in-0 c = rw (← c.size_bits_of.ensures.is, c.in-0.is, ← c.mode_of-mode.ensures.is, ← c.lower_of-lower.ensures.is) c.with_immediate.ensures
+returns-in-0 c = rw (← c.size_bits_of.ensures.is, c.in-0.is) c.with_immediate.ensures
 
 pub returns-in-1 : goal.returns-in-1
-returns-in-1 c = rw (← c.size_bits_of.ensures.is, c.in-1.is, ← c.mode_of-mode.ensures.is, ← c.lower_of-lower.ensures.is) c.with_immediate-in-1.ensures
+returns-in-1 c = rw (← c.size_bits_of.ensures.is, c.in-1.is) c.with_immediate-in-1.ensures
 
 pub returns-in_default : goal.returns-in_default
 returns-in_default c =
     let four : size_of c.size_bits_of.result ≡ Four = grind (arith, nat_tests) in
-    rw (← c.size_bits_of.ensures.is, four, ← c.mode_of-mode.ensures.is, ← c.lower_of-lower.ensures.is) c.with_immediate-in_default.ensures
+    rw (← c.size_bits_of.ensures.is, four) c.with_immediate-in_default.ensures

@@ -6,7 +6,7 @@ use Rattle.m68_arithmetic.proofs.quick.do_addq.Goals as goal
 pub returns-in-0 : goal.returns-in-0
 returns-in-0 c =
     let other : digit_of c.args.word 3 3 ≢ 1 = omega arith in
-    rw addq_else c.register_by_number.ensures
+    rw (addq_else, ← c.quick_of.ensures.is) c.change_register.ensures
 
 pub returns-in_default : goal.returns-in_default
 returns-in_default c =

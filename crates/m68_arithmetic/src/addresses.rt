@@ -1,0 +1,70 @@
+// An operand and an address register into the register.
+ghost use Rattle.std.specs.Prelude.{◌≡◌, ◌<◌};
+ghost use Rattle.m68_isa.specs.First.{first_of, long_or_word};
+ghost use Rattle.m68_isa.specs.Operands.{operand_at};
+ghost use Rattle.big_memory.specs.Steps.{Does};
+ghost use Rattle.m68_ea.specs.Words.{words_at};
+ghost use Rattle.m68_effects.specs.Operations.{runs_with};
+ghost use Rattle.m68_effects.specs.Ops.{by_op};
+ghost use Rattle.m68_arithmetic.specs.Parts.{into_address as into_address_of};
+
+use super::ways::{Way, away};
+use big_memory::{Did, Ram};
+use m68_ea::{go_on, source};
+use m68_isa::Regs68;
+use m68_ops::{Op68, bit8_of, lower_of, mode_of, upper_of};
+use mix_bits::{Fault, Size, sext};
+
+/// adda: an address register goes onward by an operand.
+#[inline(never)]
+pub fn do_adda(regs: &mut Regs68, ram: &Ram, fault: &mut Fault, word: u32) -> Did
+    ensures { Does (by_op Op68.Adda regs.old ram.now word) result fault.new regs.old regs.new ram.now ram.now }
+{
+    adda_or_suba(regs, ram, fault, word, Way::Onward)
+}
+
+/// suba: an address register goes backward by an operand.
+#[inline(never)]
+pub fn do_suba(regs: &mut Regs68, ram: &Ram, fault: &mut Fault, word: u32) -> Did
+    ensures { Does (by_op Op68.Suba regs.old ram.now word) result fault.new regs.old regs.new ram.now ram.now }
+{
+    adda_or_suba(regs, ram, fault, word, Way::Backward)
+}
+
+/// An address register goes one way by an operand of the size in bit 8.
+#[inline(always)]
+fn adda_or_suba(regs: &mut Regs68, ram: &Ram, fault: &mut Fault, word: u32, way: Way) -> Did
+    ensures { let f = first_of word in
+        let size = long_or_word f.bit8 in
+        let from = operand_at (words_at ram.now regs.old.pc) 1 size f.mode f.lower in
+        Does (runs_with regs.old word from (λ next. into_address_of way regs.old ram.now next size from.ea f.upper)) result fault.new regs.old regs.new ram.now ram.now }
+{
+    if bit8_of(word) == 0 {
+        into_address(regs, ram, fault, word, Size::Two, way)
+    } else {
+        into_address(regs, ram, fault, word, Size::Four, way)
+    }
+}
+
+/// An address register goes one way by an operand of this size.
+#[inline(always)]
+fn into_address(
+    regs: &mut Regs68,
+    ram: &Ram,
+    fault: &mut Fault,
+    word: u32,
+    size: Size,
+    way: Way,
+) -> Did
+    ensures { let f = first_of word in
+        let from = operand_at (words_at ram.now regs.old.pc) 1 size f.mode f.lower in
+        Does (runs_with regs.old word from (λ next. into_address_of way regs.old ram.now next size from.ea f.upper)) result fault.new regs.old regs.new ram.now ram.now }
+{
+    let (mode, lower, upper) = (mode_of(word), lower_of(word), upper_of(word));
+    let mut next = 1;
+    let Some(value) = source(regs, ram, fault, word, &mut next, size, mode, lower) else {
+        return Did::Stop;
+    };
+    regs.a[upper] = away(way, regs.a[upper], sext(value, size));
+    go_on(regs, next)
+}

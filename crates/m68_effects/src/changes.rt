@@ -1,0 +1,234 @@
+// Operands that an operation changes.
+ghost use Rattle.std.specs.Prelude.{◌≡◌, ◌≢◌, ◌+◌, ◌<◌, slice_index};
+ghost use Rattle.mix_bits.specs.declared.size.Size.TheVariants.{Zero};
+ghost use Rattle.m68_isa.specs.First.{first_of, size_of};
+ghost use Rattle.m68_isa.specs.Operands.{immediate_at as immediate_at_of, immediate_words as immediate_words_of};
+ghost use Rattle.big_memory.specs.Steps.{Does};
+ghost use Rattle.m68_ea.specs.Usual.{Tries};
+ghost use Rattle.m68_ea.specs.Words.{words_at};
+ghost use Rattle.m68_effects.specs.Operations.{changed_at, changed_by};
+
+use super::operation::{Operation, apply};
+use big_memory::{Did, Ram};
+use m68_ea::{find, find_usual, go_on, immediate_at, immediate_words, put, put_usual, value};
+use m68_isa::Regs68;
+use m68_ops::{lower_of, mode_of, size_bits_of, upper_of};
+use mix_bits::{Fault, Size, trunc, with_low};
+
+/// Changes an operand of this size by an operation with a number. Its extension words begin with word `first`.
+#[inline(always)]
+pub fn change(
+    regs: &mut Regs68,
+    ram: &mut Ram,
+    fault: &mut Fault,
+    word: u32,
+    first: u32,
+    size: Size,
+    op: Operation,
+    by: u32,
+) -> Did
+    requires some { size ≢ Zero }
+    requires first { first < 4 }
+    ensures { Does (changed_at size op first by word regs.old ram.old) result fault.new regs.old regs.new ram.old ram.new }
+{
+    let (mode, lower) = (mode_of(word), lower_of(word));
+    let mut next = first;
+    let Some(target) = find(regs, ram, fault, word, &mut next, size, mode, lower) else {
+        return Did::Stop;
+    };
+    let Some(old) = value(regs, ram, fault, target, size) else {
+        return Did::Stop;
+    };
+    let out = apply(op, size, old, by, regs.ccr);
+    if !put(regs, ram, fault, target, size, out.value) {
+        return Did::Stop;
+    }
+    regs.ccr = out.ccr;
+    go_on(regs, next)
+}
+
+/// Changes an operand of the size in bits 7 and 6 by an operation with a number.
+#[inline(always)]
+pub fn change_sized(
+    regs: &mut Regs68,
+    ram: &mut Ram,
+    fault: &mut Fault,
+    word: u32,
+    op: Operation,
+    by: u32,
+) -> Did
+    ensures { Does (changed_by op 1 by word regs.old ram.old) result fault.new regs.old regs.new ram.old ram.new }
+{
+    match size_bits_of(word) {
+        0 => change(regs, ram, fault, word, 1, Size::One, op, by),
+        1 => change(regs, ram, fault, word, 1, Size::Two, op, by),
+        _ => change(regs, ram, fault, word, 1, Size::Four, op, by),
+    }
+}
+
+/// The same, by one body for all operations.
+#[inline(never)]
+fn change_other(
+    regs: &mut Regs68,
+    ram: &mut Ram,
+    fault: &mut Fault,
+    word: u32,
+    op: Operation,
+    by: u32,
+) -> Did
+    ensures { Does (changed_by op 1 by word regs.old ram.old) result fault.new regs.old regs.new ram.old ram.new }
+{
+    change_sized(regs, ram, fault, word, op, by)
+}
+
+/// The same; memory of a usual mode is tried first.
+#[inline(always)]
+pub fn change_operand(
+    regs: &mut Regs68,
+    ram: &mut Ram,
+    fault: &mut Fault,
+    word: u32,
+    op: Operation,
+    by: u32,
+) -> Did
+    ensures { Does (changed_by op 1 by word regs.old ram.old) result fault.new regs.old regs.new ram.old ram.new }
+{
+    if change_usual(regs, ram, word, op, by) {
+        Did::Next
+    } else {
+        change_other(regs, ram, fault, word, op, by)
+    }
+}
+
+/// The same by the data register of bits 11 to 9.
+#[inline(always)]
+pub fn change_by_register(
+    regs: &mut Regs68,
+    ram: &mut Ram,
+    fault: &mut Fault,
+    word: u32,
+    op: Operation,
+) -> Did
+    ensures { Does (changed_by op 1 (slice_index regs.old.d (first_of word).upper) word regs.old ram.old) result fault.new regs.old regs.new ram.old ram.new }
+{
+    let by = regs.d[upper_of(word)];
+    change_operand(regs, ram, fault, word, op, by)
+}
+
+/// Tries to change an operand in memory of a usual mode, of the size in bits 7 and 6, and tells whether it is
+/// done.
+#[inline(always)]
+fn change_usual(regs: &mut Regs68, ram: &mut Ram, word: u32, op: Operation, by: u32) -> bool
+    ensures { Tries (changed_by op 1 by word regs.old ram.old) result regs.old regs.new ram.old ram.new }
+{
+    match size_bits_of(word) {
+        0 => change_in_memory(regs, ram, word, Size::One, op, by),
+        1 => change_in_memory(regs, ram, word, Size::Two, op, by),
+        _ => change_in_memory(regs, ram, word, Size::Four, op, by),
+    }
+}
+
+/// The same of this size.
+#[inline(always)]
+fn change_in_memory(
+    regs: &mut Regs68,
+    ram: &mut Ram,
+    word: u32,
+    size: Size,
+    op: Operation,
+    by: u32,
+) -> bool
+    requires { size ≢ Zero }
+    ensures { Tries (changed_at size op 1 by word regs.old ram.old) result regs.old regs.new ram.old ram.new }
+{
+    let lower = lower_of(word);
+    let Some((to, old)) = find_usual(regs, ram, 1, size, mode_of(word), lower) else {
+        return false;
+    };
+    let out = apply(op, size, old, by, regs.ccr);
+    if !put_usual(regs, ram, to, lower, size, out.value) {
+        return false;
+    }
+    regs.ccr = out.ccr;
+    go_on(regs, to.next);
+    true
+}
+
+/// Changes the data register of bits 2 to 0, of the size in bits 7 and 6, by an operation with a number.
+#[inline(always)]
+pub fn change_register(
+    regs: &mut Regs68,
+    ram: &Ram,
+    fault: &mut Fault,
+    word: u32,
+    op: Operation,
+    by: u32,
+) -> Did
+    requires { (first_of word).mode ≡ 0 }
+    ensures { Does (changed_by op 1 by word regs.old ram.now) result fault.new regs.old regs.new ram.now ram.now }
+{
+    match size_bits_of(word) {
+        0 => change_low(regs, ram, fault, word, Size::One, op, by),
+        1 => change_low(regs, ram, fault, word, Size::Two, op, by),
+        _ => change_low(regs, ram, fault, word, Size::Four, op, by),
+    }
+}
+
+/// The same of this size.
+#[inline(always)]
+fn change_low(
+    regs: &mut Regs68,
+    ram: &Ram,
+    fault: &mut Fault,
+    word: u32,
+    size: Size,
+    op: Operation,
+    by: u32,
+) -> Did
+    requires some { size ≢ Zero }
+    requires register { (first_of word).mode ≡ 0 }
+    ensures { Does (changed_at size op 1 by word regs.old ram.now) result fault.new regs.old regs.new ram.now ram.now }
+{
+    let lower = lower_of(word);
+    let out = apply(op, size, trunc(regs.d[lower], size), by, regs.ccr);
+    regs.d[lower] = with_low(regs.d[lower], out.value, size);
+    regs.ccr = out.ccr;
+    go_on(regs, 1)
+}
+
+/// Changes an operand of the size in bits 7 and 6 by an operation with immediate data, whose words come first.
+#[inline(always)]
+pub fn change_by_immediate(
+    regs: &mut Regs68,
+    ram: &mut Ram,
+    fault: &mut Fault,
+    word: u32,
+    op: Operation,
+) -> Did
+    ensures { let size = size_of (first_of word).size in
+        Does (changed_at size op (1 + immediate_words_of size) (immediate_at_of (words_at ram.old regs.old.pc) 1 size) word regs.old ram.old) result fault.new regs.old regs.new ram.old ram.new }
+{
+    match size_bits_of(word) {
+        0 => change_by_data(regs, ram, fault, word, Size::One, op),
+        1 => change_by_data(regs, ram, fault, word, Size::Two, op),
+        _ => change_by_data(regs, ram, fault, word, Size::Four, op),
+    }
+}
+
+/// The same of this size.
+#[inline(always)]
+fn change_by_data(
+    regs: &mut Regs68,
+    ram: &mut Ram,
+    fault: &mut Fault,
+    word: u32,
+    size: Size,
+    op: Operation,
+) -> Did
+    requires { size ≢ Zero }
+    ensures { Does (changed_at size op (1 + immediate_words_of size) (immediate_at_of (words_at ram.old regs.old.pc) 1 size) word regs.old ram.old) result fault.new regs.old regs.new ram.old ram.new }
+{
+    let by = immediate_at(ram, regs.pc, 1, size);
+    let first = 1 + immediate_words(size);
+    change(regs, ram, fault, word, first, size, op, by)
+}

@@ -1,0 +1,145 @@
+// Data registers that an operation with an operand changes.
+ghost use Rattle.std.specs.Prelude.{◌≡◌, ◌≢◌};
+ghost use Rattle.mix_bits.specs.declared.size.Size.TheVariants.{Zero};
+ghost use Rattle.m68_isa.specs.First.{first_of};
+ghost use Rattle.big_memory.specs.Steps.{Does};
+ghost use Rattle.m68_ea.specs.Usual.{Tries};
+ghost use Rattle.m68_effects.specs.Operations.{taken_at, taken_by};
+
+use super::operation::{Operation, apply};
+use big_memory::{Did, Ram};
+use m68_ea::{go_on, source, usual_source};
+use m68_isa::Regs68;
+use m68_ops::{lower_of, mode_of, size_bits_of, upper_of};
+use mix_bits::{Fault, Size, trunc, with_low};
+
+/// Changes the data register of bits 11 to 9 by an operation with an operand of the size in bits 7 and 6: a
+/// data register and memory of a usual mode are tried first.
+#[inline(always)]
+pub fn take_source(regs: &mut Regs68, ram: &Ram, fault: &mut Fault, word: u32, op: Operation) -> Did
+    ensures { Does (taken_by op word regs.old ram.now) result fault.new regs.old regs.new ram.now ram.now }
+{
+    if mode_of(word) == 0 {
+        take_register(regs, ram, fault, word, op)
+    } else {
+        take_operand(regs, ram, fault, word, op)
+    }
+}
+
+/// The same with another data register.
+#[inline(always)]
+fn take_register(regs: &mut Regs68, ram: &Ram, fault: &mut Fault, word: u32, op: Operation) -> Did
+    requires { (first_of word).mode ≡ 0 }
+    ensures { Does (taken_by op word regs.old ram.now) result fault.new regs.old regs.new ram.now ram.now }
+{
+    match size_bits_of(word) {
+        0 => take_low(regs, ram, fault, word, Size::One, op),
+        1 => take_low(regs, ram, fault, word, Size::Two, op),
+        _ => take_low(regs, ram, fault, word, Size::Four, op),
+    }
+}
+
+/// The same with another data register, of this size.
+#[inline(always)]
+fn take_low(
+    regs: &mut Regs68,
+    ram: &Ram,
+    fault: &mut Fault,
+    word: u32,
+    size: Size,
+    op: Operation,
+) -> Did
+    requires some { size ≢ Zero }
+    requires register { (first_of word).mode ≡ 0 }
+    ensures { Does (taken_at size op word regs.old ram.now) result fault.new regs.old regs.new ram.now ram.now }
+{
+    let (lower, upper) = (lower_of(word), upper_of(word));
+    let out = apply(
+        op,
+        size,
+        regs.d[upper],
+        trunc(regs.d[lower], size),
+        regs.ccr,
+    );
+    regs.d[upper] = with_low(regs.d[upper], out.value, size);
+    regs.ccr = out.ccr;
+    go_on(regs, 1)
+}
+
+/// The same with an operand that is no data register.
+#[inline(always)]
+fn take_operand(regs: &mut Regs68, ram: &Ram, fault: &mut Fault, word: u32, op: Operation) -> Did
+    ensures { Does (taken_by op word regs.old ram.now) result fault.new regs.old regs.new ram.now ram.now }
+{
+    if take_usual(regs, ram, word, op) {
+        Did::Next
+    } else {
+        take_other(regs, ram, fault, word, op)
+    }
+}
+
+/// Tries to take a register, or memory of a usual mode, and tells whether it is done.
+#[inline(always)]
+fn take_usual(regs: &mut Regs68, ram: &Ram, word: u32, op: Operation) -> bool
+    ensures { Tries (taken_by op word regs.old ram.now) result regs.old regs.new ram.now ram.now }
+{
+    match size_bits_of(word) {
+        0 => take_in_memory(regs, ram, word, Size::One, op),
+        1 => take_in_memory(regs, ram, word, Size::Two, op),
+        _ => take_in_memory(regs, ram, word, Size::Four, op),
+    }
+}
+
+/// The same of this size.
+#[inline(always)]
+fn take_in_memory(regs: &mut Regs68, ram: &Ram, word: u32, size: Size, op: Operation) -> bool
+    requires { size ≢ Zero }
+    ensures { Tries (taken_at size op word regs.old ram.now) result regs.old regs.new ram.now ram.now }
+{
+    let upper = upper_of(word);
+    let mut next = 1;
+    let Some(value) = usual_source(regs, ram, &mut next, size, mode_of(word), lower_of(word)) else {
+        return false;
+    };
+    let out = apply(op, size, regs.d[upper], value, regs.ccr);
+    regs.d[upper] = with_low(regs.d[upper], out.value, size);
+    regs.ccr = out.ccr;
+    go_on(regs, next);
+    true
+}
+
+/// The same with any operand, by one body for all operations.
+#[inline(never)]
+fn take_other(regs: &mut Regs68, ram: &Ram, fault: &mut Fault, word: u32, op: Operation) -> Did
+    ensures { Does (taken_by op word regs.old ram.now) result fault.new regs.old regs.new ram.now ram.now }
+{
+    match size_bits_of(word) {
+        0 => take_sized(regs, ram, fault, word, Size::One, op),
+        1 => take_sized(regs, ram, fault, word, Size::Two, op),
+        _ => take_sized(regs, ram, fault, word, Size::Four, op),
+    }
+}
+
+/// The same of this size.
+#[inline(always)]
+fn take_sized(
+    regs: &mut Regs68,
+    ram: &Ram,
+    fault: &mut Fault,
+    word: u32,
+    size: Size,
+    op: Operation,
+) -> Did
+    requires { size ≢ Zero }
+    ensures { Does (taken_at size op word regs.old ram.now) result fault.new regs.old regs.new ram.now ram.now }
+{
+    let (mode, lower, upper) = (mode_of(word), lower_of(word), upper_of(word));
+    let mut next = 1;
+    let Some(value) = source(regs, ram, fault, word, &mut next, size, mode, lower) else {
+        return Did::Stop;
+    };
+    let out = apply(op, size, regs.d[upper], value, regs.ccr);
+    regs.d[upper] = with_low(regs.d[upper], out.value, size);
+    regs.ccr = out.ccr;
+    go_on(regs, next)
+}
