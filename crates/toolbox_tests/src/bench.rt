@@ -1,25 +1,18 @@
-// A host with 128 KiB of RAM, whose heap lies from $10000 to $18000, and code of both sets that calls it.
-ghost use Rattle.std.specs.Prelude.{◌≤◌, ◌<◌};
+// A host with 128 KiB of RAM, whose heap lies from $10000 to $18000.
+ghost use Rattle.std.specs.Prelude.{◌≤◌, ◌<◌, vec_len};
 ghost use Rattle.big_memory.specs.Memory.{floor_of};
 
+use crate::case::Case;
 use big_memory::Ram;
-use dev_rack::Devices;
+use dev_rack::{Devices, Rack};
 use host_heap::Heap;
-use m68_isa::{Ccr, Regs68};
-use mix_bits::{Fault, FaultKind, Size};
-use mix_io::{MemSink, MemSource};
-use ppc_isa::RegsPpc;
+use mix_bits::Size;
+use mix_io::{Device, MemSink, MemSource};
 use std::alloc::Global;
 use std::process::Abort;
 use std::test::Fail;
 use switch_frame::Active;
 use toolbox::{HostOut, host_call};
-
-/// Where the code runs.
-pub const PC: u32 = 0x1_8000;
-
-/// Where PowerPC code goes on, but for the low two bits.
-pub const LINK: u32 = 0x1_8003;
 
 /// What a host call works on. Tests store only through calls that keep the heap where it has to lie.
 #[derive(Drop)]
@@ -28,37 +21,60 @@ pub struct Bench<D> {
     heap: Heap,
     pub rack: D,
     input: MemSource,
-    pub out: MemSink,
+    out: MemSink,
     ghost above: { 0x10000 ≤ heap.low },
     ghost below: { heap.high ≤ floor_of ram },
 }
 
-/// A host that holds these devices, gives this input and has room for so much output; the takes and
-/// the puts with these numbers fail.
-pub fn set_up<D: Devices + Drop>(
-    alloc: Global,
-    rack: D,
-    input: &[u8],
-    takes: &[u32],
-    room: u32,
-    puts: &[u32],
-) -> Result<Bench<D>, Fail> {
+/// A host without devices, with no input and no room for output.
+pub fn quiet_host(alloc: Global) -> Result<Bench<Rack>, Fail> {
+    host_with(alloc, Vec::new(alloc))
+}
+
+/// A host that holds these devices, with no input and no room for output.
+pub fn host_with(alloc: Global, devices: Vec<Box<dyn Device>>) -> Result<Bench<Rack>, Fail>
+    requires { vec_len devices ≤ 8 }
+{
     Ok(Bench {
         ram: Ram::new(alloc, 0x2_0000)?,
         heap: Heap::new(alloc, 0x1_0000, 0x1_8000)?,
-        rack,
-        input: MemSource::new(input.to_vec(alloc)?, takes.to_vec(alloc)?),
-        out: MemSink::new(alloc, room, puts.to_vec(alloc)?)?,
+        rack: Rack::new(alloc, devices)?,
+        input: MemSource::new(Vec::new(alloc), Vec::new(alloc)),
+        out: MemSink::new(alloc, 0, Vec::new(alloc))?,
     })
 }
 
 impl<D: Devices + Drop> Bench<D> {
+    /// Gives this input; the takes with these numbers fail.
+    pub fn reads(&mut self, alloc: Global, input: &[u8], takes: &[u32]) -> Result<(), Fail> {
+        self.input = MemSource::new(input.to_vec(alloc)?, takes.to_vec(alloc)?);
+        Ok(())
+    }
+
+    /// Has room for so much output; the puts with these numbers fail.
+    pub fn writes(&mut self, alloc: Global, room: u32, puts: &[u32]) -> Result<(), Fail> {
+        self.out = MemSink::new(alloc, room, puts.to_vec(alloc)?)?;
+        Ok(())
+    }
+
+    /// The calls go so, one behind the other, and leave these registers.
+    pub fn run(&mut self, rt: &impl Abort, cases: &[Case]) {
+        for (row, case) in cases.iter().enumerate() {
+            let function = case.function;
+            assert!(rt; function < 16);
+            let mut active = case.before;
+            let out = self.call(function, &mut active);
+            assert_eq!(rt; out, case.out, "row {row}, function {function}");
+            assert_eq!(rt; active, case.after, "row {row}, function {function}");
+        }
+    }
+
     /// Calls a function for code of the active set.
-    pub fn call(&mut self, index: u32, active: &mut Active) -> HostOut
-        requires { index < 16 }
+    fn call(&mut self, function: u32, active: &mut Active) -> HostOut
+        requires { function < 16 }
     {
         host_call(
-            index,
+            function,
             active,
             &mut self.ram,
             &mut self.heap,
@@ -93,106 +109,9 @@ impl<D: Devices + Drop> Bench<D> {
             );
         }
     }
-}
 
-/// 68K registers with these four, and others that no call may touch.
-pub fn regs_68k(a0: u32, a1: u32, d0: u32, d1: u32) -> Regs68 {
-    Regs68 {
-        d: [d0, d1, 0xD2, 0xD3, 0xD4, 0xD5, 0xD6, 0xD7],
-        a: [a0, a1, 0xA2, 0xA3, 0xA4, 0xA5, 0xA6, 0x1_F000],
-        pc: PC,
-        ccr: Ccr {
-            x: true,
-            n: true,
-            z: true,
-            v: true,
-            c: true,
-        },
+    /// These bytes, and no others, came out.
+    pub fn wrote(&self, rt: &impl Abort, bytes: &[u8]) {
+        assert_eq!(rt; self.out.held(), bytes);
     }
-}
-
-/// PowerPC registers with r3 to r5, and others that no call may touch.
-pub fn regs_ppc(r3: u32, r4: u32, r5: u32) -> RegsPpc {
-    let mut gpr = [0x100; 32];
-    gpr[3] = r3;
-    gpr[4] = r4;
-    gpr[5] = r5;
-    RegsPpc {
-        gpr,
-        cr: 0x2000_0000,
-        lr: LINK,
-        ctr: 0x304,
-        xer: 0xE000_0005,
-        pc: PC,
-    }
-}
-
-/// 68K registers behind a trap that gave results in these four, and left the condition codes.
-pub fn behind(a0: u32, a1: u32, d0: u32, d1: u32) -> Active {
-    let mut regs = regs_68k(a0, a1, d0, d1);
-    regs.pc = PC + 2;
-    Active::M68(regs)
-}
-
-/// The same with N and Z set so, and V and C cleared.
-pub fn behind_with(a0: u32, a1: u32, d0: u32, d1: u32, n: bool, z: bool) -> Active {
-    let mut regs = regs_68k(a0, a1, d0, d1);
-    regs.pc = PC + 2;
-    regs.ccr = Ccr {
-        x: true,
-        n,
-        z,
-        v: false,
-        c: false,
-    };
-    Active::M68(regs)
-}
-
-/// PowerPC registers after a call that left r3 to r5 so.
-pub fn linked(r3: u32, r4: u32, r5: u32) -> Active {
-    let mut regs = regs_ppc(r3, r4, r5);
-    regs.pc = 0x1_8000;
-    Active::Ppc(regs)
-}
-
-/// A call of 68K code went so, and left these registers.
-pub fn traps<D: Devices + Drop>(
-    rt: &impl Abort,
-    bench: &mut Bench<D>,
-    index: u32,
-    regs: Regs68,
-    out: HostOut,
-    after: Active,
-)
-    requires { index < 16 }
-{
-    let mut active = Active::M68(regs);
-    assert_eq!(rt; bench.call(index, &mut active), out, "function {index}");
-    assert_eq!(rt; active, after, "function {index}");
-}
-
-/// A call of PowerPC code went so, and left these registers.
-pub fn links<D: Devices + Drop>(
-    rt: &impl Abort,
-    bench: &mut Bench<D>,
-    index: u32,
-    regs: RegsPpc,
-    out: HostOut,
-    after: Active,
-)
-    requires { index < 16 }
-{
-    let mut active = Active::Ppc(regs);
-    assert_eq!(rt; bench.call(index, &mut active), out, "function {index}");
-    assert_eq!(rt; active, after, "function {index}");
-}
-
-/// A refused access.
-pub fn refused(kind: FaultKind, detail: u32) -> HostOut {
-    HostOut::Stop(Fault {
-        kind,
-        pc: PC,
-        detail,
-        also: 0,
-    })
 }

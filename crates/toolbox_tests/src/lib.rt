@@ -6,8 +6,12 @@ mod bench;
 #[cfg(test)]
 mod blocks;
 #[cfg(test)]
+mod case;
+#[cfg(test)]
 mod devices;
 #[cfg(test)]
 mod names;
+#[cfg(test)]
+mod numbers;
 #[cfg(test)]
 mod streams;

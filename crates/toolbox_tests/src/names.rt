@@ -1,24 +1,29 @@
 // The two columns by which the functions are reached.
+use crate::numbers::{
+    ASK_DEVICE, BLOCK_MOVE, CALL_UNIVERSAL_PROC, DISPOSE_PTR, DISPOSE_ROUTINE_DESCRIPTOR,
+    EJECT_DEVICE, EXIT_TO_SHELL, EXIT_WITH, GET_BYTE, NEW_FAT_ROUTINE_DESCRIPTOR, NEW_PTR,
+    NEW_PTR_CLEAR, NEW_ROUTINE_DESCRIPTOR, PUT_BLOCK, PUT_BYTE, UNLOAD_SEG,
+};
 use toolbox::{import_index, trap_index};
 
 #[test]
 fn functions_by_their_traps(rt: HostRuntime) {
     let rows = [
-        (0xAA86, 0),
-        (0xAA87, 1),
-        (0xAA88, 2),
-        (0xA11E, 4),
-        (0xA31E, 5),
-        (0xA01F, 6),
-        (0xA02E, 7),
-        (0xA9F4, 8),
-        (0xAA80, 9),
-        (0xAA81, 10),
-        (0xAA82, 11),
-        (0xAA83, 12),
-        (0xAA84, 13),
-        (0xAA85, 14),
-        (0xA9F1, 15),
+        (0xAA86, NEW_ROUTINE_DESCRIPTOR),
+        (0xAA87, NEW_FAT_ROUTINE_DESCRIPTOR),
+        (0xAA88, DISPOSE_ROUTINE_DESCRIPTOR),
+        (0xA11E, NEW_PTR),
+        (0xA31E, NEW_PTR_CLEAR),
+        (0xA01F, DISPOSE_PTR),
+        (0xA02E, BLOCK_MOVE),
+        (0xA9F4, EXIT_TO_SHELL),
+        (0xAA80, PUT_BYTE),
+        (0xAA81, GET_BYTE),
+        (0xAA82, PUT_BLOCK),
+        (0xAA83, ASK_DEVICE),
+        (0xAA84, EJECT_DEVICE),
+        (0xAA85, EXIT_WITH),
+        (0xA9F1, UNLOAD_SEG),
     ];
     for (word, index) in rows {
         assert_eq!(rt; trap_index(word), Some(index), "{word}");
@@ -34,23 +39,23 @@ fn functions_by_their_traps(rt: HostRuntime) {
 #[test]
 fn functions_by_their_imports(rt: HostRuntime) {
     let interface = [
-        ("NewRoutineDescriptor", 0),
-        ("NewFatRoutineDescriptor", 1),
-        ("DisposeRoutineDescriptor", 2),
-        ("CallUniversalProc", 3),
-        ("NewPtr", 4),
-        ("NewPtrClear", 5),
-        ("DisposePtr", 6),
-        ("BlockMove", 7),
-        ("ExitToShell", 8),
+        ("NewRoutineDescriptor", NEW_ROUTINE_DESCRIPTOR),
+        ("NewFatRoutineDescriptor", NEW_FAT_ROUTINE_DESCRIPTOR),
+        ("DisposeRoutineDescriptor", DISPOSE_ROUTINE_DESCRIPTOR),
+        ("CallUniversalProc", CALL_UNIVERSAL_PROC),
+        ("NewPtr", NEW_PTR),
+        ("NewPtrClear", NEW_PTR_CLEAR),
+        ("DisposePtr", DISPOSE_PTR),
+        ("BlockMove", BLOCK_MOVE),
+        ("ExitToShell", EXIT_TO_SHELL),
     ];
     let host = [
-        ("PutByte", 9),
-        ("GetByte", 10),
-        ("PutBlock", 11),
-        ("AskDevice", 12),
-        ("EjectDevice", 13),
-        ("ExitWith", 14),
+        ("PutByte", PUT_BYTE),
+        ("GetByte", GET_BYTE),
+        ("PutBlock", PUT_BLOCK),
+        ("AskDevice", ASK_DEVICE),
+        ("EjectDevice", EJECT_DEVICE),
+        ("ExitWith", EXIT_WITH),
     ];
     for (name, index) in interface {
         assert_eq!(rt;
