@@ -10,7 +10,7 @@ use toolbox::HostOut;
 const PC: u32 = 0x1_8000;
 
 /// Where PowerPC code goes on, but for the low two bits.
-const LINK: u32 = 0x1_8003;
+const LINK: u32 = 0x1_9003;
 
 /// One call of a function, how it goes, and the registers that it leaves.
 #[derive(Clone, Copy)]
@@ -64,7 +64,7 @@ pub fn m68_stays(function: u32, before: [u32; 4], out: HostOut) -> Case {
 /// PowerPC code goes on at its link, without the low two bits.
 pub fn ppc_call(function: u32, before: [u32; 3], after: [u32; 3]) -> Case {
     let mut regs = ppc_regs(after);
-    regs.pc = 0x1_8000;
+    regs.pc = 0x1_9000;
     Case {
         function,
         before: Active::Ppc(ppc_regs(before)),
