@@ -7,12 +7,13 @@ use Rattle.big_memory.specs.Memory.{floor_of, zeroed}
 use Rattle.switch_frame.specs.declared.program.Program.{Program}
 use Rattle.switch_frame.specs.Program.{program_start}
 use Rattle.mix_load.specs.declared.error.LoadError.{LoadError}
+use Rattle.mix_bits.specs.Results.{◌>>=◌}
 use Rattle.mix_load.specs.declared.files.Files.{Files}
 use Rattle.mix_load.specs.declared.image.Image.{Image}
 use Rattle.mix_load.specs.ForkImage.{too_large, with_fork}
 use Rattle.mix_load.specs.Load.{AreLoadable, flat_image, load_of, no_image, with_file, with_flat}
 use Rattle.mix_load.specs.ContainerImage.{with_container}
-use Rattle.mix_load.specs.Outcome.{◌>>=◌, unless}
+use Rattle.mix_load.specs.Outcome.{unless}
 use Rattle.mix_load.specs.declared.error.File.TheVariants.{Flat, Pef, Rsrc}
 use Rattle.mix_load.specs.declared.error.LoadError.TheVariants.{NoMemory, Empty, Rsrc as NoFork, NoCode, Far, JumpTable, Pef as NoHead, TooLarge, Reloc, Unresolved, NoMain}
 use Rattle.mix_load.specs.Pieces.{rounded_up}
