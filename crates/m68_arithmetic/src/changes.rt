@@ -4,10 +4,11 @@ ghost use Rattle.m68_effects.specs.Ops.{by_op};
 
 use big_memory::{Did, Ram};
 use m68_effects::{
-    Operation, change, change_by_immediate, change_by_register, change_sized, take_source,
+    Operation, change, change_by_immediate, change_by_register, change_sized, take_operand,
+    take_register,
 };
 use m68_isa::Regs68;
-use m68_ops::Op68;
+use m68_ops::{Op68, mode_of};
 use mix_bits::{Fault, Size};
 
 /// add of an operand to a data register.
@@ -15,7 +16,11 @@ use mix_bits::{Fault, Size};
 pub fn do_add_to_register(regs: &mut Regs68, ram: &Ram, fault: &mut Fault, word: u32) -> Did
     ensures { Does (by_op Op68.AddToRegister regs.old ram.now word) result fault.new regs.old regs.new ram.now ram.now }
 {
-    take_source(regs, ram, fault, word, Operation::Add)
+    if mode_of(word) == 0 {
+        take_register(regs, ram, fault, word, Operation::Add)
+    } else {
+        take_operand(regs, ram, fault, word, Operation::Add)
+    }
 }
 
 /// sub of an operand from a data register.
@@ -23,7 +28,11 @@ pub fn do_add_to_register(regs: &mut Regs68, ram: &Ram, fault: &mut Fault, word:
 pub fn do_sub_to_register(regs: &mut Regs68, ram: &Ram, fault: &mut Fault, word: u32) -> Did
     ensures { Does (by_op Op68.SubToRegister regs.old ram.now word) result fault.new regs.old regs.new ram.now ram.now }
 {
-    take_source(regs, ram, fault, word, Operation::Sub)
+    if mode_of(word) == 0 {
+        take_register(regs, ram, fault, word, Operation::Sub)
+    } else {
+        take_operand(regs, ram, fault, word, Operation::Sub)
+    }
 }
 
 /// add of a data register to memory.

@@ -11,4 +11,4 @@ pub use changes::{
     change, change_by_immediate, change_by_register, change_operand, change_register, change_sized,
 };
 pub use operation::{Operation, apply};
-pub use registers::take_source;
+pub use registers::{take_operand, take_register};

@@ -13,22 +13,16 @@ use m68_isa::Regs68;
 use m68_ops::{lower_of, mode_of, size_bits_of, upper_of};
 use mix_bits::{Fault, Size, trunc, with_low};
 
-/// Changes the data register of bits 11 to 9 by an operation with an operand of the size in bits 7 and 6: a
-/// data register and memory of a usual mode are tried first.
+/// Changes the data register of bits 11 to 9 by an operation with another data register, of the size in bits 7
+/// and 6.
 #[inline(always)]
-pub fn take_source(regs: &mut Regs68, ram: &Ram, fault: &mut Fault, word: u32, op: Operation) -> Did
-    ensures { Does (taken_by op word regs.old ram.now) result fault.new regs.old regs.new ram.now ram.now }
-{
-    if mode_of(word) == 0 {
-        take_register(regs, ram, fault, word, op)
-    } else {
-        take_operand(regs, ram, fault, word, op)
-    }
-}
-
-/// The same with another data register.
-#[inline(always)]
-fn take_register(regs: &mut Regs68, ram: &Ram, fault: &mut Fault, word: u32, op: Operation) -> Did
+pub fn take_register(
+    regs: &mut Regs68,
+    ram: &Ram,
+    fault: &mut Fault,
+    word: u32,
+    op: Operation,
+) -> Did
     requires { (first_of word).mode ≡ 0 }
     ensures { Does (taken_by op word regs.old ram.now) result fault.new regs.old regs.new ram.now ram.now }
 {
@@ -39,7 +33,7 @@ fn take_register(regs: &mut Regs68, ram: &Ram, fault: &mut Fault, word: u32, op:
     }
 }
 
-/// The same with another data register, of this size.
+/// The same of this size.
 #[inline(always)]
 fn take_low(
     regs: &mut Regs68,
@@ -66,9 +60,16 @@ fn take_low(
     go_on(regs, 1)
 }
 
-/// The same with an operand that is no data register.
+/// Changes the data register of bits 11 to 9 by an operation with an operand of the size in bits 7 and 6:
+/// an address register and memory of a usual mode are tried first.
 #[inline(always)]
-fn take_operand(regs: &mut Regs68, ram: &Ram, fault: &mut Fault, word: u32, op: Operation) -> Did
+pub fn take_operand(
+    regs: &mut Regs68,
+    ram: &Ram,
+    fault: &mut Fault,
+    word: u32,
+    op: Operation,
+) -> Did
     ensures { Does (taken_by op word regs.old ram.now) result fault.new regs.old regs.new ram.now ram.now }
 {
     if take_usual(regs, ram, word, op) {
@@ -78,7 +79,7 @@ fn take_operand(regs: &mut Regs68, ram: &Ram, fault: &mut Fault, word: u32, op: 
     }
 }
 
-/// Tries to take a register, or memory of a usual mode, and tells whether it is done.
+/// Tries to take an address register, or memory of a usual mode, and tells whether it is done.
 #[inline(always)]
 fn take_usual(regs: &mut Regs68, ram: &Ram, word: u32, op: Operation) -> bool
     ensures { Tries (taken_by op word regs.old ram.now) result regs.old regs.new ram.now ram.now }

@@ -4,7 +4,8 @@ ghost use Rattle.m68_effects.specs.Ops.{by_op};
 
 use big_memory::{Did, Ram};
 use m68_effects::{
-    Operation, change_by_immediate, change_by_register, change_register, change_sized, take_source,
+    Operation, change_by_immediate, change_by_register, change_register, change_sized,
+    take_operand, take_register,
 };
 use m68_isa::Regs68;
 use m68_ops::{Op68, mode_of, upper_of};
@@ -39,7 +40,11 @@ pub fn do_eori(regs: &mut Regs68, ram: &mut Ram, fault: &mut Fault, word: u32) -
 pub fn do_or_to_register(regs: &mut Regs68, ram: &Ram, fault: &mut Fault, word: u32) -> Did
     ensures { Does (by_op Op68.OrToRegister regs.old ram.now word) result fault.new regs.old regs.new ram.now ram.now }
 {
-    take_source(regs, ram, fault, word, Operation::Or)
+    if mode_of(word) == 0 {
+        take_register(regs, ram, fault, word, Operation::Or)
+    } else {
+        take_operand(regs, ram, fault, word, Operation::Or)
+    }
 }
 
 /// and: an operand into a data register.
@@ -47,7 +52,11 @@ pub fn do_or_to_register(regs: &mut Regs68, ram: &Ram, fault: &mut Fault, word: 
 pub fn do_and_to_register(regs: &mut Regs68, ram: &Ram, fault: &mut Fault, word: u32) -> Did
     ensures { Does (by_op Op68.AndToRegister regs.old ram.now word) result fault.new regs.old regs.new ram.now ram.now }
 {
-    take_source(regs, ram, fault, word, Operation::And)
+    if mode_of(word) == 0 {
+        take_register(regs, ram, fault, word, Operation::And)
+    } else {
+        take_operand(regs, ram, fault, word, Operation::And)
+    }
 }
 
 /// or: a data register into memory.
