@@ -4,8 +4,8 @@ use Rattle.std.specs.Str.{bytes_eq}
 use Rattle.std.specs.Option.{option_map}
 use Rattle.std.proofs.lemmas.Slice.Eq.{bytes_eq-Decides}
 use Rattle.mix_bits.specs.declared.isa.Isa.TheVariants.{M68, Ppc}
-use Rattle.job_words.specs.Numbers.{number_of, number_within, address_of}
-use Rattle.job_words.specs.Settings.{Row, key_text, loading, keys, setting_in, key_in, value_in, has_equals, setting_of}
+use Rattle.mix_bits.specs.Numbers.{decimal_number, hexadecimal_number}
+use Rattle.job_words.specs.Settings.{Row, number_within, key_text, loading, keys, setting_in, key_in, value_in, has_equals, setting_of}
 use Rattle.job_words.specs.declared.job.Key.{Key}
 use Rattle.job_words.specs.declared.job.Key.TheVariants.{Flat, Rsrc, Pef}
 use Rattle.job_words.specs.declared.setting.Setting.{Setting}
@@ -63,9 +63,9 @@ loading-own = (
 
 keys-own : (verb : Verb) → ReadOwn (keys verb)
 unfolding ReadsOwn
-keys-own ToRun = (λ text setting is. number-own Steps (number_of text) setting (codes "steps") (λ n. refl) is, loading-own)
+keys-own ToRun = (λ text setting is. number-own Steps (decimal_number text) setting (codes "steps") (λ n. refl) is, loading-own)
 keys-own ToList = (
-  λ text setting is. number-own At (address_of text) setting (codes "at") (λ n. refl) is,
+  λ text setting is. number-own At (hexadecimal_number 8 text) setting (codes "at") (λ n. refl) is,
   (λ text setting is. number-own Count (number_within 1 4096 text) setting (codes "count") (λ n. refl) is, loading-own),
 )
 keys-own ToSample = (

@@ -1,5 +1,3 @@
-pub mod NumberLemmas
-pub mod AddressLemmas
 pub mod Keys
 pub mod Held
 pub mod Asked

@@ -1,4 +1,3 @@
-pub mod Numbers
 pub mod Settings
 pub mod Drafts
 pub mod Jobs

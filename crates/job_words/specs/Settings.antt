@@ -1,10 +1,10 @@
 -- What a word sets: a table of keys for each command.
-use Rattle.std.specs.Prelude.{ℕ, ◌==◌, ◌≤◌, nat_lt, Bool, List, [], ◌∷◌, length, codes, if◌then◌else◌, Option, Some, None}
+use Rattle.std.specs.Prelude.{ℕ, ◌&&◌, ◌==◌, ◌≤◌, nat_le, nat_lt, Bool, List, [], ◌∷◌, length, codes, if◌then◌else◌, Option, Some, None}
 use Rattle.std.specs.List.{before_first, after_first, position_or_len}
-use Rattle.std.specs.Option.{option_map}
+use Rattle.std.specs.Option.{option_and_then, option_map}
 use Rattle.std.specs.Str.{bytes_eq}
 use Rattle.mix_bits.specs.declared.isa.Isa.TheVariants.{M68, Ppc}
-use Rattle.job_words.specs.Numbers.{number_of, number_within, address_of}
+use Rattle.mix_bits.specs.Numbers.{decimal_number, hexadecimal_number}
 use Rattle.job_words.specs.declared.job.Key.{Key}
 use Rattle.job_words.specs.declared.job.Key.TheVariants.{Flat, Rsrc, Pef}
 use Rattle.job_words.specs.declared.setting.Setting.{Setting}
@@ -41,6 +41,13 @@ key_text Flat = codes "flat"
 key_text Rsrc = codes "rsrc"
 key_text Pef = codes "pef"
 
+-- a number from `least` to `most`
+abbrev pub kept_within : ℕ → ℕ → ℕ → Option ℕ
+kept_within least most n = if nat_le least n && nat_le n most then Some n else None
+
+abbrev pub number_within : ℕ → ℕ → List ℕ → Option ℕ
+number_within least most text = option_and_then (kept_within least most) (decimal_number text)
+
 -- the keys of a program to load
 abbrev pub loading : List Row
 loading =
@@ -52,9 +59,9 @@ loading =
 
 -- the keys that each command knows
 abbrev pub keys : Verb → List Row
-keys ToRun = row (codes "steps") (λ text. option_map Steps (number_of text)) ∷ loading
+keys ToRun = row (codes "steps") (λ text. option_map Steps (decimal_number text)) ∷ loading
 keys ToList =
-    row (codes "at") (λ text. option_map At (address_of text)) ∷
+    row (codes "at") (λ text. option_map At (hexadecimal_number 8 text)) ∷
     (row (codes "count") (λ text. option_map Count (number_within 1 4096 text)) ∷ loading)
 keys ToSample =
     row (codes "n") (λ text. option_map Calls (number_within 1 1000 text)) ∷

@@ -7,7 +7,6 @@
 mod draft;
 mod job;
 mod laws;
-mod number;
 mod read;
 mod setting;
 

@@ -1,9 +1,8 @@
 ghost use Rattle.std.specs.Prelude.{◌≡◌, IfSome};
-ghost use Rattle.job_words.specs.Settings.{verb_of, keys, loading, setting_in, setting_of, file_of, main_of, IsInRange};
+ghost use Rattle.job_words.specs.Settings.{verb_of, keys, loading, setting_in, setting_of, file_of, main_of, number_within, IsInRange};
 
 use super::job::Key;
-use super::number::{address, number, within};
-use mix_bits::Isa;
+use mix_bits::{Isa, read_decimal, read_hexadecimal};
 
 /// The command that the first word is.
 #[derive(Clone, Copy)]
@@ -61,7 +60,7 @@ fn run_setting(key: &str, text: &str) -> Option<Setting>
     ensures range { IfSome result IsInRange }
 {
     if key == "steps" {
-        number(text).map(Setting::Steps)
+        read_decimal(text.as_bytes()).map(Setting::Steps)
     } else {
         load_setting(key, text)
     }
@@ -72,7 +71,7 @@ fn list_setting(key: &str, text: &str) -> Option<Setting>
     ensures range { IfSome result IsInRange }
 {
     if key == "at" {
-        address(text).map(Setting::At)
+        read_hexadecimal(text.as_bytes(), 8).map(Setting::At)
     } else if key == "count" {
         within(1, 4096, text).map(Setting::Count)
     } else {
@@ -134,6 +133,18 @@ fn main_set(name: &str) -> Option<Setting>
         Some(Setting::Main(Isa::M68))
     } else if name == "ppc" {
         Some(Setting::Main(Isa::Ppc))
+    } else {
+        None
+    }
+}
+
+/// The number whose decimal digits a text is, from `least` to `most`.
+fn within(least: u32, most: u32, text: &str) -> Option<u32>
+    ensures { result ≡ number_within least most text.now }
+{
+    let n = read_decimal(text.as_bytes())?;
+    if least <= n && n <= most {
+        Some(n)
     } else {
         None
     }

@@ -2,3 +2,5 @@ pub mod Powers
 pub mod Replaced
 pub mod Every
 pub mod Decimals
+pub mod ReadDecimals
+pub mod ReadHexadecimals

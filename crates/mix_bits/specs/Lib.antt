@@ -1,5 +1,8 @@
 pub mod Sizes
 pub mod Addresses
+pub mod Multiples
+pub mod Faults
+pub mod Numbers
 pub mod Digits
 pub mod Laws
 pub mod Text

@@ -19,9 +19,13 @@ modulus s = 256 ^ bytes_of s
 abbrev pub truncated : ℕ → Size → ℕ
 truncated v s = v % modulus s
 
--- the low bytes as a signed number: the upper half of the values are the negative ones
+-- a value below a bound as a signed number: the upper half of the values are the negative ones
+abbrev pub signed_below : ℕ → ℕ → ℤ
+signed_below bound value = if nat_lt (2 * value) bound then pos value else (pos value -ℤ pos bound)
+
+-- the low bytes as a signed number
 abbrev pub signed_of : ℕ → Size → ℤ
-signed_of v s = if nat_lt (2 * truncated v s) (modulus s) then pos (truncated v s) else (pos (truncated v s) -ℤ pos (modulus s))
+signed_of v s = signed_below (modulus s) (truncated v s)
 
 -- that signed number as a pattern of 32 bits
 abbrev pub sign_extended : ℕ → Size → ℕ

@@ -1,3 +1,6 @@
+ghost use Rattle.std.specs.Prelude.{◌≡◌};
+ghost use Rattle.mix_bits.specs.Faults.{fault_at};
+
 /// Why a step of the machine can't be done.
 #[derive(Clone, Copy, Debug, PartialEq, Eq)]
 pub enum FaultKind {
@@ -53,4 +56,19 @@ pub struct Fault {
     pub detail: u32,
     /// A second such number, or 0.
     pub also: u32,
+}
+
+impl Fault {
+    /// A fault of the instruction at `pc` that tells one number.
+    #[inline(always)]
+    pub fn at(pc: u32, kind: FaultKind, detail: u32) -> Fault
+        ensures { result ≡ fault_at pc kind detail }
+    {
+        Fault {
+            kind,
+            pc,
+            detail,
+            also: 0,
+        }
+    }
 }

@@ -1,4 +1,5 @@
 ghost use Rattle.mix_bits.specs.Laws.{HoldsOfEach, ReadsReplaced, OthersStay};
+ghost use Rattle.mix_bits.specs.Numbers.{ReadsDecimals, ReadsHexadecimals};
 
 /// What follows from the definition of a replaced digit. It does nothing: the clauses are its point.
 pub fn digit_laws()
@@ -9,4 +10,10 @@ pub fn digit_laws()
 /// What follows from a test of all numbers of a range. It does nothing, either.
 pub fn range_laws()
     ensures each { HoldsOfEach }
+{}
+
+/// How reading and writing numbers undo each other. It does nothing, either.
+pub fn number_laws()
+    ensures decimals { ReadsDecimals }
+    ensures hexadecimals { ReadsHexadecimals }
 {}

@@ -1,5 +1,5 @@
 -- The count of faults that each object of the outside keeps, and how an answer is tied to it.
-use Rattle.std.specs.Prelude.{◌≡◌, ℕ, ◌-◌, ◌^◌, ◌<◌, ◌≤◌, ◌⊎◌, List, Ok, Err, OnOk, OnErr, Result}
+use Rattle.std.specs.Prelude.{◌≡◌, ℕ, ◌-◌, ◌^◌, ◌<◌, ◌≤◌, ◌⊎◌, Bool, true, false, List, Ok, Err, OnOk, OnErr, Result}
 use Rattle.mix_io.specs.declared.errors.FetchError.{FetchError}
 use Rattle.mix_io.specs.declared.errors.FetchError.TheVariants.{NoMemory, Failed, TooLong}
 
@@ -22,10 +22,17 @@ pub record CountRose (before now : List ℕ → ℕ) (name : List ℕ) : Type 0 
   pub rose : Rose (before name) (now name)
   pub later : (n : List ℕ) → before n ≤ now n
 
--- a fetch failed only where the count of the very name that was asked for rose,
--- and every other answer leaves all counts
+-- a call that goes by a name failed only where the count of that very name rose, and else leaves all counts
+abbrev pub NamedCause : (List ℕ → ℕ) → (List ℕ → ℕ) → List ℕ → Bool → Type 0
+NamedCause before now name true = CountRose before now name
+NamedCause before now name false = CountsStay before now
+
+-- whether a fetch failed, and not for want of memory or for a file that is too long
+abbrev pub has_failed : {V : Type 0} → Result V FetchError → Bool
+has_failed (Ok v) = false
+has_failed (Err NoMemory) = false
+has_failed (Err Failed) = true
+has_failed (Err (TooLong limit)) = false
+
 abbrev pub FetchCause : {V : Type 0} → (List ℕ → ℕ) → (List ℕ → ℕ) → List ℕ → Result V FetchError → Type 0
-FetchCause before now name (Ok v) = CountsStay before now
-FetchCause before now name (Err NoMemory) = CountsStay before now
-FetchCause before now name (Err Failed) = CountRose before now name
-FetchCause before now name (Err (TooLong limit)) = CountsStay before now
+FetchCause before now name result = NamedCause before now name (has_failed result)

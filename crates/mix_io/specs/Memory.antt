@@ -1,10 +1,8 @@
 -- The shelf, the source and the sink in memory: what each holds, what a call answers and what it leaves.
-use Rattle.std.specs.Prelude.{ℕ, ◌-◌, Bool, true, false, not, ◌&&◌, ◌||◌, List, [], ◌∷◌, ◌++◌, length, take, drop, Option, Some, None, Result, Ok, Err, is_none, is_some, nat_le, slice_get, bytes_eq, if◌then◌else◌}
+use Rattle.std.specs.Prelude.{ℕ, ◌-◌, Bool, true, not, ◌&&◌, ◌||◌, List, [], ◌∷◌, ◌++◌, length, take, drop, Option, Some, None, Result, Ok, Err, is_none, is_some, nat_le, slice_get, bytes_eq, if◌then◌else◌}
 use Rattle.std.specs.List.{list_any}
 use Rattle.mix_io.specs.Calls.{CallNumbers, after_call, counted_if, fails_next}
 use Rattle.mix_io.specs.declared.errors.Failed.{Failed}
-use Rattle.mix_io.specs.declared.errors.FetchError.{FetchError}
-use Rattle.mix_io.specs.declared.errors.FetchError.TheVariants.{Failed as FetchFailed, NoMemory, TooLong}
 
 -- ---- a source: the bytes that are left
 
@@ -74,12 +72,6 @@ faults_of s name = if is_some (file_of s name) then s.known_faults else s.other_
 -- a fetch fails at a numbered call, and for a name that the shelf lacks
 abbrev pub lacks : MemoryShelf → List ℕ → Bool
 lacks s name = fails_next s.calls || is_none (file_of s name)
-
-abbrev pub has_failed : {V : Type 0} → Result V FetchError → Bool
-has_failed (Ok v) = false
-has_failed (Err FetchFailed) = true
-has_failed (Err NoMemory) = false
-has_failed (Err (TooLong limit)) = false
 
 abbrev pub after_fetch : MemoryShelf → List ℕ → MemoryShelf
 after_fetch s name = record {

@@ -23,6 +23,14 @@ pub record Breaks (old new : Output) (bytes piece : List ℕ) : Type 0 where
   pub taken : Appends old.held new.held (bytes ++ take kept piece)
   pub rose : Rose old.faults new.faults
 
+-- a put failed: the sink holds a beginning of the text
+pub record StopsWithin (old new : Output) (text : List ℕ) : Type 0 where
+  pub before : List ℕ
+  pub line : List ℕ
+  pub rest : List ℕ
+  pub order : text ≡ before ++ (line ++ rest)
+  pub breaks : Breaks old new before line
+
 -- nothing that was put leaves a sink as it is; and bytes put after others, or before a put that failed, join these
 abbrev pub NothingGrows : Type 0
 NothingGrows = (a : Output) → Grows a a []

@@ -2,7 +2,7 @@
 ghost use Rattle.std.specs.Prelude.{◌≡◌, ◌≤◌, ℕ, List, [], Option, None, Some, IfOk, vec_capacity, if◌then◌else◌};
 ghost use Rattle.mix_io.specs.Devices.{noted};
 
-use super::errors::NoMemory;
+use mix_bits::NoMemory;
 use std::alloc::Global;
 use std::marker::Model;
 

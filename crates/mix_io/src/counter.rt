@@ -5,8 +5,9 @@ ghost use Rattle.mix_io.specs.Told.{Hears};
 ghost use Rattle.mix_io.specs.Devices.{Count, total_with, after_count};
 
 use super::conversation::Conversation;
-use super::errors::{Failed, NoMemory};
+use super::errors::Failed;
 use super::traits::Device;
+use mix_bits::NoMemory;
 use std::alloc::Global;
 use std::marker::Model;
 

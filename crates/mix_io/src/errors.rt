@@ -2,7 +2,6 @@
 ghost use Rattle.std.specs.Prelude.{Some, codes};
 ghost use Rattle.mix_io.specs.Texts.{fetch_error_text};
 
-use std::alloc::{AllocError, AllocFailed};
 use std::error::Error;
 use std::fmt;
 
@@ -19,32 +18,6 @@ impl fmt::Display for Failed {
 }
 
 impl Error for Failed {}
-
-/// There was no memory for what was asked, and nothing was made.
-#[derive(Clone, Copy, Debug, PartialEq, Eq)]
-pub struct NoMemory;
-
-impl fmt::Display for NoMemory {
-    ghost output = { λ _. Some (codes "out of memory") };
-
-    fn fmt<W: fmt::Write>(&self, f: &mut fmt::Formatter<W>) -> fmt::Result {
-        f.write_str("out of memory")
-    }
-}
-
-impl Error for NoMemory {}
-
-impl From<AllocError> for NoMemory {
-    fn from(_: AllocError) -> Self {
-        NoMemory
-    }
-}
-
-impl<T: Drop> From<AllocFailed<T>> for NoMemory {
-    fn from(_: AllocFailed<T>) -> Self {
-        NoMemory
-    }
-}
 
 /// Why a shelf did not give a file.
 #[derive(Clone, Copy, Debug, PartialEq, Eq)]

@@ -2,9 +2,9 @@
 ghost use Rattle.std.specs.Prelude.{◌≡◌, ◌≤◌, ℕ, List, Option, None, Some, IfOk, MatchOption, false, IsTrue, length, map, vec_len, vec_items, string_bytes, bytes_eq};
 ghost use Rattle.std.specs.List.{list_any};
 ghost use Rattle.mix_io.specs.Calls.{calls_from_one};
-ghost use Rattle.mix_io.specs.Counts.{FetchCause};
+ghost use Rattle.mix_io.specs.Counts.{FetchCause, has_failed};
 ghost use Rattle.mix_io.specs.Told.{Fetches, FetchesFile};
-ghost use Rattle.mix_io.specs.Memory.{MemoryShelf, are_distinct, file_named, file_of, faults_of, has_failed, lacks, after_fetch};
+ghost use Rattle.mix_io.specs.Memory.{MemoryShelf, are_distinct, file_named, file_of, faults_of, lacks, after_fetch};
 
 use super::counts::{Calls, count_fault};
 use super::errors::FetchError;

@@ -6,8 +6,9 @@ ghost use Rattle.mix_io.specs.Told.{Puts};
 ghost use Rattle.mix_io.specs.Memory.{MemorySink, takes_piece, after_put};
 
 use super::counts::{Calls, count_fault};
-use super::errors::{Failed, NoMemory};
+use super::errors::Failed;
 use super::traits::Sink;
+use mix_bits::NoMemory;
 use std::alloc::Global;
 use std::marker::Model;
 

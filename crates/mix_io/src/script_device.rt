@@ -7,8 +7,9 @@ ghost use Rattle.mix_io.specs.Devices.{Script, script_answer, after_script};
 
 use super::conversation::Conversation;
 use super::counts::count_fault;
-use super::errors::{Failed, NoMemory};
+use super::errors::Failed;
 use super::traits::Device;
+use mix_bits::NoMemory;
 use std::alloc::Global;
 use std::marker::Model;
 use std::vec::IntoIter;

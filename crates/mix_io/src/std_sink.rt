@@ -3,9 +3,9 @@ ghost use Rattle.std.specs.Prelude.{◌≡◌, None};
 ghost use Rattle.mix_io.specs.Counts.{HasCause};
 ghost use Rattle.mix_io.specs.Told.{Puts};
 
-use super::counts::count_fault;
 use super::errors::Failed;
 use super::traits::Sink;
+use super::write::write_whole;
 use std::io::Write;
 
 /// Writes each piece until it is out, and tells nothing. A write that takes nothing of what is left
@@ -37,23 +37,6 @@ impl<W: Write + Drop> Sink for StdSink<W> {
         ensures passed { Puts (W.contents self.old.to) (W.contents self.new.to) piece.now result }
         ensures cause { HasCause self.old.faults self.new.faults result }
     {
-        let written = write_whole(&mut self.to, piece);
-        if written.is_err() {
-            self.faults = count_fault(self.faults);
-        }
-        written
+        write_whole(&mut self.to, &mut self.faults, piece)
     }
-}
-
-fn write_whole<W: Write>(to: &mut W, piece: &[u8]) -> Result<(), Failed>
-    ensures { Puts (W.contents to.old) (W.contents to.new) piece.now result }
-{
-    let mut done = 0;
-    while done < piece.len() {
-        match to.write(&piece[done..]) {
-            Ok(0) | Err(_) => return Err(Failed),
-            Ok(count) => done += count,
-        }
-    }
-    Ok(())
 }

@@ -6,8 +6,9 @@ ghost use Rattle.mix_io.specs.Devices.{Words, tape_answer, after_tape};
 
 use super::conversation::Conversation;
 use super::counts::count_fault;
-use super::errors::{Failed, NoMemory};
+use super::errors::Failed;
 use super::traits::Device;
+use mix_bits::NoMemory;
 use std::alloc::Global;
 use std::marker::Model;
 

@@ -2,10 +2,10 @@
 use Rattle.std.proofs.Common.{◌≡◌, ℕ, zero, suc, List, [], ◌++◌, Some, None, Option, Result, Ok, Err, OnErr, sym, ap, ◌∙◌, subst, refl, append_assoc, append-nil}
 use Rattle.mix_bits.specs.Addresses.{onward}
 use Rattle.mix_bits.specs.declared.isa.Isa.{Isa}
-use Rattle.mix_io.specs.Streams.{Output, Grows, Breaks}
+use Rattle.mix_io.specs.Streams.{Output, Grows, Breaks, StopsWithin}
 use Rattle.mix_io.proofs.Streams.{grows-none, grows-more, breaks-after}
 use Rattle.big_memory.specs.Memory.{Memory}
-use Rattle.mix_list.specs.Listing.{Listed, StopsWithin, instruction, line_at, listing, listing_with}
+use Rattle.mix_list.specs.Listing.{Listed, instruction, line_at, listing, listing_with}
 
 -- so many lines are left from an address on, and the others were put
 pub record Way (old new : Output) (count : ℕ) (set : Isa) (m : Memory) (at left next : ℕ) : Type 0 where

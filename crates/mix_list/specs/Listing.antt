@@ -1,12 +1,11 @@
 -- The listing of a program: a line for each instruction.
-use Rattle.std.specs.Prelude.{◌≡◌, ℕ, zero, suc, ◌*◌, List, [], ◌++◌, codes, Option, Some, None, Result, Ok, Err}
+use Rattle.std.specs.Prelude.{ℕ, zero, suc, ◌*◌, List, [], ◌++◌, codes, Option, Some, None, Result, Ok, Err}
 use Rattle.std.specs.Option.{option_map}
 use Rattle.mix_bits.specs.Addresses.{onward}
 use Rattle.mix_bits.specs.Text.{hexadecimal}
 use Rattle.mix_bits.specs.declared.isa.Isa.{Isa}
 use Rattle.mix_bits.specs.declared.isa.Isa.TheVariants.{M68, Ppc}
 use Rattle.mix_bits.specs.declared.size.Size.TheVariants.{Four}
-use Rattle.mix_io.specs.Streams.{Output, Breaks}
 use Rattle.big_memory.specs.declared.refusals.Access.{Access}
 use Rattle.big_memory.specs.Memory.{Memory, loaded}
 use Rattle.m68_isa.specs.Decode.{decoded}
@@ -57,11 +56,3 @@ listing_with None at rest = []
 unfoldable pub listing : ℕ → Isa → Memory → ℕ → List ℕ
 listing zero set m at = []
 listing (suc count) set m at = listing_with (instruction set m at) at (listing count set m)
-
--- a put failed: the sink holds a beginning of the text
-pub record StopsWithin (old new : Output) (text : List ℕ) : Type 0 where
-  pub before : List ℕ
-  pub line : List ℕ
-  pub rest : List ℕ
-  pub order : text ≡ before ++ (line ++ rest)
-  pub breaks : Breaks old new before line

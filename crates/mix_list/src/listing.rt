@@ -1,6 +1,6 @@
 ghost use Rattle.std.specs.Prelude.{◌≡◌, ◌+◌, ◌≤◌, ◌++◌, [], OnErr, OnOk, length};
-ghost use Rattle.mix_io.specs.Streams.{Breaks, Grows, output};
-ghost use Rattle.mix_list.specs.Listing.{StopsWithin, line_at, listing};
+ghost use Rattle.mix_io.specs.Streams.{Breaks, Grows, StopsWithin, output};
+ghost use Rattle.mix_list.specs.Listing.{line_at, listing};
 
 use super::instruction::write_instruction;
 use arrayvec::ArrayVec;

@@ -1,10 +1,9 @@
 -- The outside of a call: what it tells before and after, and the last line that a call puts.
 use Rattle.std.specs.Prelude.{◌≡◌, ℕ, ◌==◌, ◌⊎◌, List, [], ◌++◌, MatchBool}
 use Rattle.mix_io.specs.Counts.{Rose}
-use Rattle.mix_io.specs.Streams.{Output, Grows, Breaks}
+use Rattle.mix_io.specs.Streams.{Output, Grows, Breaks, StopsWithin}
 use Rattle.dev_rack.specs.Accounts.{Accounts}
 use Rattle.toolbox.specs.Calls.{Outside}
-use Rattle.mix_list.specs.Listing.{StopsWithin}
 
 -- the outside beside the shelf: the input, the devices and the output; and the trace
 pub record World : Type 0 where

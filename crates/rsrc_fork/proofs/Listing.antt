@@ -13,7 +13,8 @@ use Rattle.rsrc_fork.specs.declared.header.Areas.{Areas}
 use Rattle.rsrc_fork.specs.declared.name.Name.{Name}
 use Rattle.rsrc_fork.specs.declared.references.TypeEntry.{TypeEntry}
 use Rattle.file_fields.specs.Fields.{long_at}
-use Rattle.rsrc_fork.specs.Outcome.{◌>>=◌, each_below}
+use Rattle.mix_bits.specs.Results.{◌>>=◌}
+use Rattle.rsrc_fork.specs.Outcome.{each_below}
 use Rattle.rsrc_fork.specs.Header.{areas_at, areas_of, list_of}
 use Rattle.rsrc_fork.specs.Resources.{Resource, same_name, bytes_of, with_resource}
 use Rattle.rsrc_fork.specs.References.{data_at, id_at, is_compressed, with_reference, with_numbered, with_references, with_type, with_types, type_count, resources_of}

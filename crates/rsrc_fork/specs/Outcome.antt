@@ -1,13 +1,8 @@
 -- Readings that may be refused, and how the answer of a call shows one.
 use Rattle.std.specs.Prelude.{◌≡◌, ◌≢◌, ℕ, zero, suc, Result, Ok, Err}
+use Rattle.mix_bits.specs.Results.{◌>>=◌}
 use Rattle.rsrc_fork.specs.declared.error.RsrcError.{RsrcError}
 use Rattle.rsrc_fork.specs.declared.error.RsrcError.TheVariants.{NoMemory}
-
-infixl 30 ◌>>=◌
--- what follows, unless there was a refusal
-abbrev pub ◌>>=◌ : {A B : Type 0} → Result A RsrcError → (A → Result B RsrcError) → Result B RsrcError
-Ok x >>= next = next x
-Err e >>= next = Err e
 
 -- the steps below a number in turn, each from what the one before made, up to the first refusal
 abbrev pub each_below : {A : Type 0} → (A → ℕ → Result A RsrcError) → A → ℕ → Result A RsrcError

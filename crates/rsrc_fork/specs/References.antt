@@ -16,7 +16,8 @@ use Rattle.rsrc_fork.specs.declared.references.TypeEntry.{TypeEntry}
 use Rattle.byteorder.specs.Endian.{twos_complement}
 use Rattle.file_fields.specs.Fields.{word_at, three_at, long_at}
 use Rattle.rsrc_fork.specs.Header.{areas_of, list_of}
-use Rattle.rsrc_fork.specs.Outcome.{◌>>=◌, each_below}
+use Rattle.mix_bits.specs.Results.{◌>>=◌}
+use Rattle.rsrc_fork.specs.Outcome.{each_below}
 use Rattle.rsrc_fork.specs.Resources.{Resource, named, with_resource}
 
 -- the id in a reference, a signed word

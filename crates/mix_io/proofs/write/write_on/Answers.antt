@@ -1,5 +1,5 @@
 use Rattle.mix_io.proofs.Pieces.{appends_more, within_rest}
-use Rattle.mix_io.proofs.std_sink.write_whole.Goals as goal
+use Rattle.mix_io.proofs.write.write_on.Goals as goal
 
 pub loop-done-preserved : goal.loop-done-preserved
 loop-done-preserved g c =
