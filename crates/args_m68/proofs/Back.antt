@@ -8,6 +8,7 @@ use Rattle.big_memory.specs.Lists.{put}
 use Rattle.mix_bits.specs.declared.isa.Isa.TheVariants.{M68}
 use Rattle.big_memory.specs.Map.{return_gate}
 use Rattle.big_memory.specs.Memory.{Memory}
+use Rattle.big_memory.proofs.Lists.{drop-put, get_or-put_outside, length-put}
 use Rattle.m68_isa.specs.declared.registers.Regs68.{Regs68}
 use Rattle.proc_info.specs.declared.conv.Conv.{Conv}
 use Rattle.proc_info.specs.declared.conv.Conv.TheVariants.{Pascal, C, Register, D0Pascal, D0C, D1Pascal, StackPascal}
@@ -24,7 +25,7 @@ use Rattle.args_m68.specs.Values.{value_at}
 use Rattle.args_m68.specs.Gather.{selector_in, values_at}
 use Rattle.args_m68.specs.Deliver.{callee_base, callee_registers, callee_sp, delivered, fresh, pascal_slot, selector_slot, slots, stack_of, with_arguments, with_selector}
 use Rattle.args_m68.specs.Laws.{BeginsAtItsStack, ComesBack, MayBeHanded, SelectorComesBack, TouchesNothingElse}
-use Rattle.args_m68.proofs.Stacks.{above-back, beside-put, bytes-width, c-back, from-sp, length-put, length-selector, length-slot, length-stack, pascal-back, slot-back}
+use Rattle.args_m68.proofs.Stacks.{above-back, bytes-width, c-back, length-selector, length-slot, length-stack, pascal-back, slot-back}
 use Rattle.args_m68.proofs.Files.{AllHeld, IsFile, arguments-keep_sp, c-leaves, file-kept, low-back, pascal-leaves, registers-back, selector-keeps_sp}
 
 -- parameters in registers are in registers, each in one of its own
@@ -79,7 +80,7 @@ from-base sig selector values lo m handed =
     let stack = stack_of sig selector values in
     let above = drop (sp + length stack) m.bytes in
     let whole : drop sp (put sp stack m.bytes) ≡ (gate ++ chosen) ++ (given ++ (room ++ above)) =
-    from-sp m sp stack (omega (arith, handed.room, handed.inside)) ∙ simp append_assoc in (
+    drop-put sp stack m.bytes (omega (arith, handed.room, handed.inside)) ∙ simp append_assoc in (
       room ++ above,
       sym (drop-drop base sp (put sp stack m.bytes)) ∙ ap (drop base) whole ∙ drop_at (gate ++ chosen) (given ++ (room ++ above)) base (base-length sig selector),
     )
@@ -108,7 +109,7 @@ touches-nothing sig selector values lo m handed =
     record {
       marks = refl;
       long = delivered-length sig selector values lo m handed;
-      bytes = λ a apart. beside-put sp a stack m.bytes (omega (arith, handed.room, handed.inside, length-is))
+      bytes = λ a apart. get_or-put_outside sp a stack m.bytes 0 (omega (arith, handed.room, handed.inside, length-is))
           (elim apart [ inl before ↦ inl before | inr behind ↦ inr (omega (arith, handed.room, behind, length-is)) ]);
     }
 
@@ -121,7 +122,7 @@ stack-selector_back sig v values lo m r handed slot top =
     let stack = stack_of sig (Some v) values in
     let above = drop (sp + length stack) m.bytes in
     let here : drop (sp + 4) (put sp stack m.bytes) ≡ pascal_slot sig.selector v ++ (rest ++ above) =
-    sym (drop-drop 4 sp (put sp stack m.bytes)) ∙ ap (drop 4) (from-sp m sp stack (omega (arith, handed.room, handed.inside)))
+    sym (drop-drop 4 sp (put sp stack m.bytes)) ∙ ap (drop 4) (drop-put sp stack m.bytes (omega (arith, handed.room, handed.inside)))
     ∙ append_assoc chosen rest above ∙ ap (λ list. list ++ (rest ++ above)) slot in
     let long = delivered-length sig (Some v) values lo m handed in
     let width-is : length chosen ≡ width sig.selector = ap length slot ∙ length-slot sig.selector v in

@@ -1,14 +1,13 @@
 -- The bytes of a callee's stack, and what they read back as.
-use Rattle.std.proofs.Common.{◌≡◌, ◌⊎◌, ℕ, ◌+◌, ◌-◌, ◌*◌, ◌<◌, ◌≤◌, true, List, [], ◌∷◌, ◌++◌, length, drop, get_or, replicate, Option, Some, None, Result, Ok, Err, is_some, if◌then◌else◌, arith, refl, sym, ap, ◌∙◌, append_assoc, length-append}
-use Rattle.std.proofs.lemmas.List.{drop-drop, drop_at, places, length-take-le, length-replicate}
-use Rattle.std.proofs.lemmas.Bool.Decides.{nat_tests}
+use Rattle.std.proofs.Common.{◌≡◌, ℕ, ◌+◌, ◌-◌, ◌*◌, ◌<◌, ◌≤◌, List, [], ◌∷◌, ◌++◌, length, drop, get_or, replicate, Option, Some, None, Result, Ok, Err, is_some, if◌then◌else◌, arith, refl, sym, ap, ◌∙◌, append_assoc, length-append}
+use Rattle.std.proofs.lemmas.List.{drop-drop, drop_at, length-replicate}
 use Rattle.byteorder.specs.Endian.{big_bytes, big_number}
 use Rattle.mix_bits.specs.Results.{◌>>=◌}
 use Rattle.mix_bits.specs.Sizes.{bytes_of, truncated}
 use Rattle.mix_bits.specs.declared.size.Size.{Size}
 use Rattle.mix_bits.specs.declared.size.Size.TheVariants.{Zero, One, Two, Four}
-use Rattle.big_memory.specs.Lists.{put}
-use Rattle.big_memory.specs.Memory.{Memory, in_memory, loaded}
+use Rattle.big_memory.specs.Memory.{Memory, loaded}
+use Rattle.big_memory.proofs.Numbers.{loads_number}
 use Rattle.m68_isa.specs.declared.registers.Regs68.{Regs68}
 use Rattle.proc_info.specs.declared.conv.Conv.{Conv}
 use Rattle.proc_info.specs.declared.conv.Conv.TheVariants.{Pascal, C, Register, D0Pascal, D0C, D1Pascal, StackPascal}
@@ -66,9 +65,7 @@ bytes-few Four = omega arith
 
 -- a number in the bytes at an address
 pub loads : (m : Memory) (a : ℕ) (s : Size) (bytes : List ℕ) → a + bytes_of s ≤ length m.bytes → drop a m.bytes ≡ bytes → loaded m a s ≡ Ok (big_number (bytes_of s) bytes)
-loads m a s bytes within here =
-    let inside : in_memory m a (bytes_of s) ≡ true = grind (arith, nat_tests) in
-    rw inside (ap (λ list. Ok (big_number (bytes_of s) list)) here)
+loads m a s bytes within here = loads_number m a s within ∙ ap (λ list. Ok (big_number (bytes_of s) list)) here
 
 -- a value reads back from its slot
 pub slot-back : (s : Size) (v : ℕ) (rest : List ℕ) → big_number (bytes_of s) (pascal_slot s v ++ rest) ≡ truncated v s
@@ -142,15 +139,3 @@ c-back (p ∷ ps) (v ∷ vs) r m sp base rest same top within most here =
     in-front _ _ _ _
     (above-back r m sp (base + (4 - bytes_of p.size)) p.size _ _ top (omega (arith, within, bytes-few p.size)) most first (long-back p.size v _))
     (c-back ps vs r m sp (base + 4) rest (omega (arith, same)) top (omega (arith, within)) most others)
-
--- the memory from a callee's A7 on
-pub from-sp : (m : Memory) (sp : ℕ) (bytes : List ℕ) → sp ≤ length m.bytes → drop sp (put sp bytes m.bytes) ≡ bytes ++ drop (sp + length bytes) m.bytes
-from-sp m sp bytes within = drop_at _ _ sp (length-take-le sp m.bytes within)
-
--- and its length
-pub length-put : (at : ℕ) (ys xs : List ℕ) → at + length ys ≤ length xs → length (put at ys xs) ≡ length xs
-length-put at ys xs within = grind (arith, places)
-
--- bytes beside a piece
-pub beside-put : (at k : ℕ) (ys xs : List ℕ) → at + length ys ≤ length xs → (k < at) ⊎ (at + length ys ≤ k) → get_or (put at ys xs) k 0 ≡ get_or xs k 0
-beside-put at k ys xs within apart = grind (arith, places)

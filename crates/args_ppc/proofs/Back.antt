@@ -9,6 +9,7 @@ use Rattle.mix_bits.specs.Sizes.{truncated}
 use Rattle.mix_bits.specs.declared.size.Size.{Size}
 use Rattle.mix_bits.specs.declared.size.Size.TheVariants.{Zero, One, Two, Four}
 use Rattle.big_memory.specs.Memory.{Memory, loaded, with_bytes}
+use Rattle.big_memory.proofs.Lists.{drop-put, get_or-put_outside, length-put}
 use Rattle.ppc_isa.specs.declared.registers.RegsPpc.{RegsPpc}
 use Rattle.proc_info.specs.declared.param.Param.{Param}
 use Rattle.proc_info.specs.Cut.{cut}
@@ -16,7 +17,7 @@ use Rattle.proc_info.specs.Signature.{Signature}
 use Rattle.args_ppc.specs.Words.{value_at, values_at, word_at}
 use Rattle.args_ppc.specs.Deliver.{callee_sp, callee_words, delivered, first_param, frame_bytes, frame_of, registers_with}
 use Rattle.args_ppc.specs.Laws.{ComesBack, SelectorComesBack, TouchesNothingElse}
-use Rattle.args_ppc.proofs.Frames.{beside-put, frame-from, from-sp, length-frame, length-put, length-stack, length-words, loads, long-back, top-back, word-back_registers}
+use Rattle.args_ppc.proofs.Frames.{frame-from, length-frame, length-stack, length-words, loads, long-back, top-back, word-back_registers}
 
 -- cut values are words, and are as they are where they are cut again
 truncated-fits : (v : ℕ) (s : Size) → truncated v s < 2 ^ 32
@@ -44,7 +45,7 @@ word-back ws sp code toc i m few fits within most = elim (cases_lt i 8) [
       ap (λ a. onward a (24 + 4 * i)) (top-back ws sp code toc) ∙ omega (arith, room, within, most) in
       let found = frame-from ws i above high few in
       let here : drop (sp + (24 + 4 * i)) n.bytes ≡ big_bytes 4 (get_or ws i 0) ++ found.0 =
-      sym (drop-drop (24 + 4 * i) sp n.bytes) ∙ ap (drop (24 + 4 * i)) (from-sp m sp (frame_of ws) (omega (arith, within))) ∙ found.1 in
+      sym (drop-drop (24 + 4 * i) sp n.bytes) ∙ ap (drop (24 + 4 * i)) (drop-put sp (frame_of ws) m.bytes (omega (arith, within))) ∙ found.1 in
       let whole : get_or ws i 0 % 2 ^ 32 ≡ get_or ws i 0 = omega (arith, fits) in
       ap (λ a. loaded n a Four) at ∙ loads n (sp + (24 + 4 * i)) Four _ (omega (arith, long, room, within)) here ∙ ap Ok (long-back (get_or ws i 0) found.0 ∙ whole))
 ]
@@ -99,6 +100,6 @@ touches-nothing sig selector values lo m handed =
     record {
       marks = refl;
       long = length-put sp frame m.bytes (omega (arith, handed.room, handed.inside, length-is));
-      bytes = λ a apart. beside-put sp a frame m.bytes (omega (arith, handed.room, handed.inside, length-is))
+      bytes = λ a apart. get_or-put_outside sp a frame m.bytes 0 (omega (arith, handed.room, handed.inside, length-is))
           (elim apart [ inl before ↦ inl before | inr behind ↦ inr (omega (arith, handed.room, behind, length-is)) ]);
     }

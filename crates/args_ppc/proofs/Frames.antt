@@ -1,28 +1,24 @@
 -- The bytes of a callee's stack frame and its registers, and what they read back as.
-use Rattle.std.proofs.Common.{◌≡◌, ◌⊎◌, ℕ, zero, suc, ◌+◌, ◌-◌, ◌*◌, ◌%◌, ◌^◌, ◌<◌, ◌≤◌, true, List, [], ◌∷◌, ◌++◌, length, take, drop, get_or, set, replicate, Option, Some, None, Ok, is_some, arith, refl, sym, ap, ◌∙◌, append_assoc, length-append, drop-cons}
-use Rattle.std.proofs.lemmas.List.{drop-drop, drop_all, drop_at, drop-replicate, take-replicate, places, length-take-le, length-replicate, get_or-drop, get_or-set_same, get_or-set_other}
-use Rattle.std.proofs.lemmas.Bool.Decides.{nat_tests}
-use Rattle.std.specs.List.{flat_map}
+use Rattle.std.proofs.Common.{◌≡◌, ℕ, zero, suc, ◌+◌, ◌-◌, ◌*◌, ◌%◌, ◌^◌, ◌<◌, ◌≤◌, List, [], ◌∷◌, ◌++◌, length, take, drop, get_or, set, replicate, Option, Some, None, Ok, is_some, arith, refl, sym, ap, ◌∙◌, append_assoc, length-append, drop-cons}
+use Rattle.std.proofs.lemmas.List.{drop-drop, drop_all, drop_at, drop-replicate, take-replicate, places, length-replicate, get_or-drop, get_or-set_same, get_or-set_other}
 use Rattle.byteorder.specs.Endian.{big_bytes, big_number}
 use Rattle.mix_bits.specs.Sizes.{bytes_of}
 use Rattle.mix_bits.specs.declared.size.Size.{Size}
 use Rattle.big_memory.specs.Lists.{put}
-use Rattle.big_memory.specs.Memory.{Memory, in_memory, loaded, with_bytes}
-use Rattle.big_memory.proofs.Lists.{put-nil, put-put_inside}
+use Rattle.big_memory.specs.Memory.{Memory, loaded, with_bytes}
+use Rattle.big_memory.specs.Numbers.{bytes_of_longs}
+use Rattle.big_memory.proofs.Lists.{length-put, put-nil, put-put_inside}
+use Rattle.big_memory.proofs.Numbers.{length_of_bytes, loads_number}
 use Rattle.proc_info.specs.declared.param.Param.{Param}
 use Rattle.proc_info.specs.Cut.{cut}
 use Rattle.proc_info.specs.Signature.{Signature}
-use Rattle.args_ppc.specs.Deliver.{callee_words, first_param, frame_bytes, frame_of, longs, registers_with, zeros}
+use Rattle.args_ppc.specs.Deliver.{callee_words, first_param, frame_bytes, frame_of, registers_with, zeros}
 use Rattle.args_ppc.specs.Laws.{FillsItsStack}
 
 -- how many bytes so many zeros are
 pub length-zeros : (n : ℕ) → length (zeros n) ≡ n
 unfolding zeros
 length-zeros n = length-replicate n 0
-
-pub length-longs : (ws : List ℕ) → length (longs ws) ≡ 4 * length ws
-length-longs [] = refl
-length-longs (w ∷ ws) = omega (arith, length-append (big_bytes 4 w) (longs ws), length-longs ws)
 
 pub length-cut : (ps : List Param) (vs : List ℕ) → length vs ≡ length ps → length (cut ps vs) ≡ length ps
 length-cut [] vs same = refl
@@ -38,8 +34,8 @@ length-drop_eight ws = grind (arith, places)
 
 pub length-frame : (ws : List ℕ) → length (frame_of ws) ≡ frame_bytes (length ws)
 length-frame ws =
-    let held = zeros 56 ++ longs (drop 8 ws) in
-    let held-is : length held ≡ 56 + 4 * (length ws - 8) = omega (arith, length-append (zeros 56) (longs (drop 8 ws)), length-zeros 56, length-longs (drop 8 ws), length-drop_eight ws) in
+    let held = zeros 56 ++ bytes_of_longs (drop 8 ws) in
+    let held-is : length held ≡ 56 + 4 * (length ws - 8) = omega (arith, length-append (zeros 56) (bytes_of_longs (drop 8 ws)), length-zeros 56, length_of_bytes (drop 8 ws), length-drop_eight ws) in
     omega (arith, length-append held (zeros (frame_bytes (length ws) - length held)), length-zeros (frame_bytes (length ws) - length held), held-is, room-behind (length ws))
 
 pub length-words : (sig : Signature) (selector : Option ℕ) (values : List ℕ) → length values ≡ length sig.params → length (callee_words sig selector values) ≡ first_param (is_some selector) + length sig.params
@@ -50,16 +46,12 @@ pub length-stack : FillsItsStack
 length-stack sig selector values same = length-frame (callee_words sig selector values) ∙ ap frame_bytes (length-words sig selector values same)
 
 -- the zeros of a frame with the words behind the eighth put into them
-pub longs-flat : (ws : List ℕ) → flat_map (big_bytes 4) ws ≡ longs ws
-longs-flat [] = refl
-longs-flat (w ∷ ws) = ap (λ rest. big_bytes 4 w ++ rest) (longs-flat ws)
-
-zeros-put : (ws : List ℕ) → put 56 (longs (drop 8 ws)) (replicate (frame_bytes (length ws)) 0) ≡ frame_of ws
+zeros-put : (ws : List ℕ) → put 56 (bytes_of_longs (drop 8 ws)) (replicate (frame_bytes (length ws)) 0) ≡ frame_of ws
 unfolding zeros
 zeros-put ws =
     let n = frame_bytes (length ws) in
-    let held = longs (drop 8 ws) in
-    let size : length held ≡ 4 * (length ws - 8) = length-longs (drop 8 ws) ∙ ap (λ k. 4 * k) (length-drop_eight ws) in
+    let held = bytes_of_longs (drop 8 ws) in
+    let size : length held ≡ 4 * (length ws - 8) = length_of_bytes (drop 8 ws) ∙ ap (λ k. 4 * k) (length-drop_eight ws) in
     let front : take 56 (replicate n 0) ≡ replicate 56 0 = take-replicate 56 n 0 (omega (arith, room-behind (length ws))) in
     let both : length (zeros 56 ++ held) ≡ 56 + length held = length-append (zeros 56) held ∙ ap (λ k. k + length held) (length-zeros 56) in
     let back : drop (56 + length held) (replicate n 0) ≡ replicate (n - length (zeros 56 ++ held)) 0 = drop-replicate (56 + length held) n 0 ∙ ap (λ k. replicate (n - k) 0) (sym both) in
@@ -67,67 +59,58 @@ zeros-put ws =
     ∙ sym (append_assoc (replicate 56 0) held (replicate (n - length (zeros 56 ++ held)) 0))
 
 pub frame-put : (ws : List ℕ) (sp : ℕ) (m : Memory) → sp + frame_bytes (length ws) ≤ length m.bytes
-    → with_bytes (sp + 56) (longs (drop 8 ws)) (with_bytes sp (replicate (frame_bytes (length ws)) 0) m) ≡ with_bytes sp (frame_of ws) m
+    → with_bytes (sp + 56) (bytes_of_longs (drop 8 ws)) (with_bytes sp (replicate (frame_bytes (length ws)) 0) m) ≡ with_bytes sp (frame_of ws) m
 frame-put ws sp m within =
     let n = frame_bytes (length ws) in
-    let held = longs (drop 8 ws) in
-    let size : length held ≡ 4 * (length ws - 8) = length-longs (drop 8 ws) ∙ ap (λ k. 4 * k) (length-drop_eight ws) in
+    let held = bytes_of_longs (drop 8 ws) in
+    let size : length held ≡ 4 * (length ws - 8) = length_of_bytes (drop 8 ws) ∙ ap (λ k. 4 * k) (length-drop_eight ws) in
     let blank : List ℕ = replicate n 0 in
     let all : length blank ≡ n = length-replicate n 0 in
     let bytes = put-put_inside sp 56 held blank m.bytes (omega (arith, size, all, room-behind (length ws))) (omega (arith, all)) ∙ ap (λ ys. put sp ys m.bytes) (zeros-put ws) in
     ap (λ bytes. record m { bytes = bytes }) bytes
 
 pub frame-short : (ws : List ℕ) (sp : ℕ) (m : Memory) → length ws ≤ 8 → with_bytes sp (replicate (frame_bytes (length ws)) 0) m ≡ with_bytes sp (frame_of ws) m
+unfolding bytes_of_longs
 frame-short ws sp m few =
     let n = frame_bytes (length ws) in
-    let none : longs (drop 8 ws) ≡ [] = ap longs (drop_all 8 ws few) in
+    let none : bytes_of_longs (drop 8 ws) ≡ [] = ap bytes_of_longs (drop_all 8 ws few) in
     let same : replicate n 0 ≡ frame_of ws = sym (put-nil 56 (replicate n 0)) ∙ ap (λ ys. put 56 ys (replicate n 0)) (sym none) ∙ zeros-put ws in
     ap (λ ys. with_bytes sp ys m) same
 
 -- words in bytes, from the k-th on
-pub drop-longs : (k : ℕ) (ws rest : List ℕ) → k ≤ length ws → drop (4 * k) (longs ws ++ rest) ≡ longs (drop k ws) ++ rest
+pub drop-longs : (k : ℕ) (ws rest : List ℕ) → k ≤ length ws → drop (4 * k) (bytes_of_longs ws ++ rest) ≡ bytes_of_longs (drop k ws) ++ rest
+unfolding bytes_of_longs
 drop-longs zero ws rest few = refl
 drop-longs (suc k) [] rest few = absurd (omega (arith, few))
 drop-longs (suc k) (w ∷ ws) rest few =
     let on : 4 * suc k ≡ 4 + 4 * k = omega arith in
-    ap (λ n. drop n (longs (w ∷ ws) ++ rest)) on ∙ sym (drop-drop (4 * k) 4 (longs (w ∷ ws) ++ rest)) ∙ drop-longs k ws rest (omega (arith, few))
+    ap (λ n. drop n (bytes_of_longs (w ∷ ws) ++ rest)) on ∙ sym (drop-drop (4 * k) 4 (bytes_of_longs (w ∷ ws) ++ rest)) ∙ drop-longs k ws rest (omega (arith, few))
 
 -- a long reads back from its bytes
 pub long-back : (w : ℕ) (rest : List ℕ) → big_number 4 (big_bytes 4 w ++ rest) ≡ w % 2 ^ 32
 long-back w rest = omega arith
 
--- the memory from a callee's r1 on, and its length; bytes beside a piece
-pub from-sp : (m : Memory) (sp : ℕ) (bytes : List ℕ) → sp ≤ length m.bytes → drop sp (put sp bytes m.bytes) ≡ bytes ++ drop (sp + length bytes) m.bytes
-from-sp m sp bytes within = drop_at _ _ sp (length-take-le sp m.bytes within)
-
-pub length-put : (at : ℕ) (ys xs : List ℕ) → at + length ys ≤ length xs → length (put at ys xs) ≡ length xs
-length-put at ys xs within = grind (arith, places)
-
-pub beside-put : (at k : ℕ) (ys xs : List ℕ) → at + length ys ≤ length xs → (k < at) ⊎ (at + length ys ≤ k) → get_or (put at ys xs) k 0 ≡ get_or xs k 0
-beside-put at k ys xs within apart = grind (arith, places)
-
 -- a number in the bytes at an address
 pub loads : (m : Memory) (a : ℕ) (s : Size) (bytes : List ℕ) → a + bytes_of s ≤ length m.bytes → drop a m.bytes ≡ bytes → loaded m a s ≡ Ok (big_number (bytes_of s) bytes)
-loads m a s bytes within here =
-    let inside : in_memory m a (bytes_of s) ≡ true = grind (arith, nat_tests) in
-    rw inside (ap (λ list. Ok (big_number (bytes_of s) list)) here)
+loads m a s bytes within here = loads_number m a s within ∙ ap (λ list. Ok (big_number (bytes_of s) list)) here
 
 -- a frame from the place of a word on
 pub frame-from : (ws : List ℕ) (i : ℕ) (above : List ℕ) → 8 ≤ i → i < length ws → (rest : List ℕ) × (drop (24 + 4 * i) (frame_of ws ++ above) ≡ big_bytes 4 (get_or ws i 0) ++ rest)
+unfolding bytes_of_longs
 frame-from ws i above behind few =
     let k = i - 8 in
     let tail = drop 8 ws in
-    let pad = zeros (frame_bytes (length ws) - length (zeros 56 ++ longs tail)) in
+    let pad = zeros (frame_bytes (length ws) - length (zeros 56 ++ bytes_of_longs tail)) in
     let at : 24 + 4 * i ≡ 56 + 4 * k = omega (arith, behind) in
     let few-left : k < length tail = omega (arith, behind, few, length-drop_eight ws) in
-    let joined : frame_of ws ++ above ≡ zeros 56 ++ (longs tail ++ (pad ++ above)) = simp append_assoc in
+    let joined : frame_of ws ++ above ≡ zeros 56 ++ (bytes_of_longs tail ++ (pad ++ above)) = simp append_assoc in
     let here : get_or tail k 0 ≡ get_or ws i 0 = get_or-drop 8 ws k 0 ∙ ap (λ n. get_or ws n 0) (omega (arith, behind)) in
-    let read : drop (24 + 4 * i) (frame_of ws ++ above) ≡ longs (drop k tail) ++ (pad ++ above) =
-    ap (λ n. drop n (frame_of ws ++ above)) at ∙ ap (drop (56 + 4 * k)) joined ∙ sym (drop-drop (4 * k) 56 (zeros 56 ++ (longs tail ++ (pad ++ above))))
-    ∙ ap (drop (4 * k)) (drop_at (zeros 56) (longs tail ++ (pad ++ above)) 56 (length-zeros 56)) ∙ drop-longs k tail (pad ++ above) (omega (arith, few-left)) in (
-      longs (drop (suc k) tail) ++ (pad ++ above),
-      read ∙ ap (λ list. longs list ++ (pad ++ above)) (drop-cons tail k 0 few-left) ∙ append_assoc (big_bytes 4 (get_or tail k 0)) (longs (drop (suc k) tail)) (pad ++ above)
-          ∙ ap (λ w. big_bytes 4 w ++ (longs (drop (suc k) tail) ++ (pad ++ above))) here,
+    let read : drop (24 + 4 * i) (frame_of ws ++ above) ≡ bytes_of_longs (drop k tail) ++ (pad ++ above) =
+    ap (λ n. drop n (frame_of ws ++ above)) at ∙ ap (drop (56 + 4 * k)) joined ∙ sym (drop-drop (4 * k) 56 (zeros 56 ++ (bytes_of_longs tail ++ (pad ++ above))))
+    ∙ ap (drop (4 * k)) (drop_at (zeros 56) (bytes_of_longs tail ++ (pad ++ above)) 56 (length-zeros 56)) ∙ drop-longs k tail (pad ++ above) (omega (arith, few-left)) in (
+      bytes_of_longs (drop (suc k) tail) ++ (pad ++ above),
+      read ∙ ap (λ list. bytes_of_longs list ++ (pad ++ above)) (drop-cons tail k 0 few-left) ∙ append_assoc (big_bytes 4 (get_or tail k 0)) (bytes_of_longs (drop (suc k) tail)) (pad ++ above)
+          ∙ ap (λ w. big_bytes 4 w ++ (bytes_of_longs (drop (suc k) tail) ++ (pad ++ above))) here,
     )
 
 -- an element of a piece at place 3

@@ -1,12 +1,13 @@
 -- What a PowerPC callee is given (Inside Macintosh: PowerPC System Software, chapter 1, for words and the stack frame; a
 -- callee's fresh registers and the selector as its first word are this project's own).
-use Rattle.std.specs.Prelude.{ℕ, ◌+◌, ◌-◌, ◌*◌, ◌/◌, max, Bool, is_some, if◌then◌else◌, List, [], ◌∷◌, ◌++◌, length, take, drop, replicate, slice_set, Option, Some, None}
-use Rattle.byteorder.specs.Endian.{big_bytes}
+use Rattle.std.specs.Prelude.{ℕ, ◌+◌, ◌-◌, ◌*◌, max, Bool, is_some, if◌then◌else◌, List, [], ◌∷◌, ◌++◌, length, take, drop, replicate, slice_set, Option, Some, None}
+use Rattle.mix_bits.specs.Multiples.{rounded_up}
 use Rattle.mix_bits.specs.Sizes.{truncated}
 use Rattle.mix_bits.specs.declared.isa.Isa.TheVariants.{Ppc}
 use Rattle.big_memory.specs.Lists.{put}
 use Rattle.big_memory.specs.Map.{return_gate}
 use Rattle.big_memory.specs.Memory.{Memory, with_bytes}
+use Rattle.big_memory.specs.Numbers.{bytes_of_longs}
 use Rattle.ppc_isa.specs.declared.registers.RegsPpc.{RegsPpc}
 use Rattle.ppc_isa.specs.Registers.{cleared_registers}
 use Rattle.proc_info.specs.Cut.{cut}
@@ -15,7 +16,7 @@ use Rattle.proc_info.specs.Signature.{Signature}
 -- the bytes of a callee's stack frame: a linkage area of 24 bytes and a place for each word, at least for eight, rounded
 -- up to 16
 abbrev pub frame_bytes : ℕ → ℕ
-frame_bytes words = (24 + 4 * max 8 words + 15) / 16 * 16
+frame_bytes words = rounded_up 16 (24 + 4 * max 8 words)
 
 -- how many words a callee is passed before its parameters: its selector or none
 abbrev pub first_param : Bool → ℕ
@@ -33,11 +34,6 @@ passed_selector sig (Some v) = truncated v sig.selector ∷ []
 abbrev pub callee_words : Signature → Option ℕ → List ℕ → List ℕ
 callee_words sig selector values = passed_selector sig selector ++ cut sig.params values
 
--- words as bytes
-abbrev pub longs : List ℕ → List ℕ
-longs [] = []
-longs (w ∷ ws) = big_bytes 4 w ++ longs ws
-
 -- so many zeros
 unfoldable pub zeros : ℕ → List ℕ
 zeros n = replicate n 0
@@ -48,7 +44,7 @@ padded n xs = xs ++ zeros (n - length xs)
 
 -- a stack frame from its r1 on: zeros, but for the words behind the eighth, which begin at 24 + 4 * 8
 abbrev pub frame_of : List ℕ → List ℕ
-frame_of words = padded (frame_bytes (length words)) (zeros 56 ++ longs (drop 8 words))
+frame_of words = padded (frame_bytes (length words)) (zeros 56 ++ bytes_of_longs (drop 8 words))
 
 -- a callee's registers: its stack pointer, its TOC, the first eight words from r3 on, LR at the return gate, and else 0
 abbrev pub registers_with : List ℕ → ℕ → ℕ → ℕ → RegsPpc

@@ -7,12 +7,11 @@ ghost use Rattle.proc_info.specs.Codes.{is_dispatched};
 ghost use Rattle.proc_info.specs.Cut.{cut};
 ghost use Rattle.proc_info.specs.Views.{signature};
 ghost use Rattle.args_ppc.specs.Words.{words_of};
-ghost use Rattle.args_ppc.specs.Deliver.{below, callee_registers, callee_sp, callee_words as callee_words_lem, delivered, frame_bytes as frame_bytes_lem, frame_of, longs, registers_with};
+ghost use Rattle.args_ppc.specs.Deliver.{below, callee_registers, callee_sp, callee_words as callee_words_lem, delivered, frame_bytes as frame_bytes_lem, frame_of, registers_with};
 
 use super::words::PpcWords;
 use arrayvec::ArrayVec;
 use big_memory::{Ram, return_gate};
-use byteorder::{BigEndian, ByteOrder};
 use mix_bits::{Isa, trunc};
 use ppc_isa::RegsPpc;
 use proc_info::{Param, Sig};
@@ -142,23 +141,11 @@ fn write_frame(words: &[u32], sp: u32, ram: &mut Ram)
     requires inside { sp + frame_bytes_lem (length words.now) ≤ length ram.old.bytes }
     ensures { ram.new ≡ with_bytes sp (frame_of words.now) ram.old }
 {
-    let _len = ram.len();
+    ram.meets_invariant();
     ram.fix(sp, &ZEROS[..frame_bytes(words.len()) as usize]);
     if words.len() > 8 {
-        write_longs(&words[8..], sp + FIXED_BYTES, ram);
+        ram.fix_longs(sp + FIXED_BYTES, &words[8..]);
     }
-}
-
-/// Writes words, at most six, one after another.
-fn write_longs(words: &[u32], at: u32, ram: &mut Ram)
-    requires few { length words.now ≤ 6 }
-    requires inside { at + 4 * length words.now ≤ length ram.old.bytes }
-    ensures { ram.new ≡ with_bytes at (longs words.now) ram.old }
-{
-    let mut all = [0; 24];
-    let bytes = &mut all[..4 * words.len()];
-    BigEndian::write_u32_into(words, bytes);
-    ram.fix(at, bytes);
 }
 
 /// Puts the words of a callee, and what else it begins with, into its registers.

@@ -4,3 +4,4 @@ pub mod Guarded
 pub mod Rams
 pub mod Free
 pub mod Longs
+pub mod Numbers

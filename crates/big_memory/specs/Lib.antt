@@ -1,4 +1,5 @@
 pub mod Lists
+pub mod Numbers
 pub mod PutLaws
 pub mod Marks
 pub mod Map
@@ -7,3 +8,4 @@ pub mod Faults
 pub mod Stores
 pub mod Steps
 pub mod Laws
+pub mod NumberLaws

@@ -1,12 +1,13 @@
 -- Memory as a list of bytes with a mark for each unit of 16 bytes, and what a call on it answers.
-use Rattle.std.specs.Prelude.{◌≡◌, ℕ, ◌+◌, ◌-◌, ◌*◌, ◌/◌, ◌%◌, ◌<◌, ◌≤◌, ◌==◌, nat_lt, nat_le, Bool, false, ◌&&◌, ◌||◌, if◌then◌else◌, List, length, drop, replicate, slice_range, slice_index_or, Option, Some, None, Result, Ok, Err, MatchOption}
+use Rattle.std.specs.Prelude.{◌≡◌, ℕ, ◌+◌, ◌-◌, ◌*◌, ◌/◌, ◌%◌, ◌<◌, ◌≤◌, ◌==◌, nat_lt, nat_le, Bool, false, ◌&&◌, ◌||◌, if◌then◌else◌, List, length, replicate, slice_range, slice_index_or, Option, Some, None, Result, Ok, Err, MatchOption}
 use Rattle.std.specs.List.{list_any}
-use Rattle.byteorder.specs.Endian.{big_number, big_bytes}
+use Rattle.byteorder.specs.Endian.{big_bytes}
 use Rattle.mix_bits.specs.declared.size.Size.{Size}
 use Rattle.mix_bits.specs.Sizes.{bytes_of}
 use Rattle.big_memory.specs.declared.refusals.Access.{Access}
 use Rattle.big_memory.specs.declared.refusals.Access.TheVariants.{Outside, Gate, Frame}
 use Rattle.big_memory.specs.Lists.{part, put}
+use Rattle.big_memory.specs.Numbers.{number_at}
 use Rattle.big_memory.specs.Map.{gate_page, gate_page_end}
 
 -- the bytes from address 0 on, and for each unit of 16 bytes whether it is guarded
@@ -64,7 +65,7 @@ copy_refusal m from to n = if in_memory m from n then refusal m to n else Some (
 
 -- what a load gives: the bytes as digits to the base 256, the first one the most significant
 abbrev pub loaded : Memory → ℕ → Size → Result ℕ Access
-loaded m a s = if in_memory m a (bytes_of s) then Ok (big_number (bytes_of s) (drop a m.bytes)) else Err (Outside a)
+loaded m a s = if in_memory m a (bytes_of s) then Ok (number_at a (bytes_of s) m.bytes) else Err (Outside a)
 
 -- the memory after a store, after a fill with zeros, and after a copy
 abbrev pub stored : Memory → ℕ → Size → ℕ → Memory

@@ -1,5 +1,5 @@
 -- Laws of a list of bytes with a piece replaced.
-use Rattle.std.specs.Prelude.{◌≡◌, ◌⊎◌, ℕ, ◌+◌, ◌≤◌, nat_le, nat_lt, ◌&&◌, if◌then◌else◌, List, [], ◌++◌, length, drop, replicate, get_or}
+use Rattle.std.specs.Prelude.{◌≡◌, ◌⊎◌, ℕ, ◌+◌, ◌-◌, ◌<◌, ◌≤◌, nat_le, nat_lt, ◌&&◌, if◌then◌else◌, List, [], ◌++◌, length, drop, replicate, get_or}
 use Rattle.big_memory.specs.Lists.{part, put}
 
 -- a replaced piece keeps the length, and no piece changes nothing
@@ -19,6 +19,13 @@ PutReadsInside = (at k n : ℕ) (ys xs : List ℕ) → k + n ≤ length ys → a
 -- what lies beside it stays
 abbrev pub PutReadsBeside : Type 0
 PutReadsBeside = (at n to : ℕ) (ys xs : List ℕ) → to + length ys ≤ length xs → (at + n ≤ to) ⊎ (to + length ys ≤ at) → part at n (put to ys xs) ≡ part at n xs
+
+-- the same of single elements
+abbrev pub PutHoldsInside : Type 0
+PutHoldsInside = (at k : ℕ) (ys xs : List ℕ) (d : ℕ) → at + length ys ≤ length xs → at ≤ k → k < at + length ys → get_or (put at ys xs) k d ≡ get_or ys (k - at) d
+
+abbrev pub PutKeepsBeside : Type 0
+PutKeepsBeside = (at k : ℕ) (ys xs : List ℕ) (d : ℕ) → at + length ys ≤ length xs → (k < at) ⊎ (at + length ys ≤ k) → get_or (put at ys xs) k d ≡ get_or xs k d
 
 -- the piece that is there already changes nothing
 abbrev pub PutSame : Type 0

@@ -1,8 +1,9 @@
 // Numbers and pieces in a list of bytes.
-ghost use Rattle.std.specs.Prelude.{◌≡◌, ◌+◌, ◌<◌, ◌≤◌, length, drop, replicate};
-ghost use Rattle.byteorder.specs.Endian.{big_number, big_bytes};
+ghost use Rattle.std.specs.Prelude.{◌≡◌, ◌+◌, ◌*◌, ◌<◌, ◌≤◌, length, replicate};
+ghost use Rattle.byteorder.specs.Endian.{big_bytes};
 ghost use Rattle.mix_bits.specs.Sizes.{bytes_of, modulus};
 ghost use Rattle.big_memory.specs.Lists.{part, put};
+ghost use Rattle.big_memory.specs.Numbers.{AreBytes, bytes_of_longs, longs_at, number_at};
 
 use byteorder::{BigEndian, ByteOrder};
 use mix_bits::Size;
@@ -11,7 +12,7 @@ use mix_bits::Size;
 #[inline(always)]
 pub fn read_number(bytes: &[u8], at: usize, s: Size) -> u32
     requires { at + bytes_of s ≤ length bytes.now }
-    ensures is { result ≡ big_number (bytes_of s) (drop at bytes.now) }
+    ensures is { result ≡ number_at at (bytes_of s) bytes.now }
     ensures fits { result < modulus s }
 {
     match s {
@@ -60,3 +61,28 @@ pub fn copy(bytes: &mut [u8], from: usize, to: usize, n: usize)
 {
     bytes.copy_within(from..from + n, to);
 }
+
+/// Reads as many longs from `at` on as there is place for.
+#[inline(always)]
+pub fn read_longs(bytes: &[u8], at: usize, to: &mut [u32])
+    requires { at + 4 * length to.old ≤ length bytes.now }
+    ensures { to.new ≡ longs_at (length to.old) at bytes.now }
+{
+    BigEndian::read_u32_into(&bytes[at..at + 4 * to.len()], to);
+}
+
+/// Writes longs one after another from `at` on.
+#[inline(always)]
+#[tactic(auto, unfolding(crate::specs::Numbers::bytes_of_longs))]
+pub fn write_longs(bytes: &mut [u8], at: usize, longs: &[u32])
+    requires { at + 4 * length longs.now ≤ length bytes.old }
+    ensures { bytes.new ≡ put at (bytes_of_longs longs.now) bytes.old }
+{
+    BigEndian::write_u32_into(longs, &mut bytes[at..at + 4 * longs.len()]);
+}
+
+/// What every slice of bytes meets. It does nothing: the clause is its point.
+#[inline(always)]
+pub fn are_bytes(bytes: &[u8])
+    ensures { AreBytes bytes.now }
+{}

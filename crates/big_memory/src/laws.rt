@@ -1,5 +1,6 @@
 ghost use Rattle.big_memory.specs.Laws.{BytesKeepRam, CopiesAreFree, DoneIsFree, FreeJoins, FreeKeepsPage, FreeKeepsRam, FreeKeepsRefusals, FreeTests, InMemoryWithin, KeepsRefusals, LoadsBack, LoadsPart, MarksKeepRam, MarksOfRange, NothingIsFree, OpenBelowFloor, OpenPasses, PassesOpen, PassesWithin, StoresAreFree, TestsFree};
-ghost use Rattle.big_memory.specs.PutLaws.{PutApart, PutFrom, PutInside, PutJoins, PutKeepsLength, PutNothing, PutOver, PutReadsBack, PutReadsBeside, PutReadsInside, PutRun, PutSame};
+ghost use Rattle.big_memory.specs.NumberLaws.{BytesJoin, LengthOfBytes, LengthOfLongs, LoadsLong, LoadsNumber, LongInPart, LongOfLongs, LongOfPart, LongReadsBack, LongsAgain, LongsFit, LongsOfPart, NumberInPart, WritesJoin};
+ghost use Rattle.big_memory.specs.PutLaws.{PutApart, PutFrom, PutHoldsInside, PutInside, PutJoins, PutKeepsBeside, PutKeepsLength, PutNothing, PutOver, PutReadsBack, PutReadsBeside, PutReadsInside, PutRun, PutSame};
 
 /// What follows from the definitions of memory. It does nothing: the clauses are its point.
 pub fn memory_laws()
@@ -34,6 +35,8 @@ pub fn put_laws()
     ensures reads_back { PutReadsBack }
     ensures reads_inside { PutReadsInside }
     ensures reads_beside { PutReadsBeside }
+    ensures holds { PutHoldsInside }
+    ensures beside { PutKeepsBeside }
     ensures same { PutSame }
     ensures over { PutOver }
     ensures inside { PutInside }
@@ -41,4 +44,22 @@ pub fn put_laws()
     ensures joins { PutJoins }
     ensures from { PutFrom }
     ensures run { PutRun }
+{}
+
+/// What follows from the definitions of numbers in bytes. It does nothing, either.
+pub fn number_laws()
+    ensures number { NumberInPart }
+    ensures long { LongInPart }
+    ensures loads { LoadsNumber }
+    ensures loads_long { LoadsLong }
+    ensures reads_back { LongReadsBack }
+    ensures each { LongOfLongs }
+    ensures count { LengthOfLongs }
+    ensures length { LengthOfBytes }
+    ensures joins { BytesJoin }
+    ensures one { LongOfPart }
+    ensures several { LongsOfPart }
+    ensures writes { WritesJoin }
+    ensures fit { LongsFit }
+    ensures again { LongsAgain }
 {}

@@ -10,11 +10,12 @@ mod ram;
 mod refusals;
 mod steps;
 
-pub use laws::{memory_laws, put_laws};
+pub use laws::{memory_laws, number_laws, put_laws};
 pub use map::{
     GATE_PAGE, GATE_PAGE_END, HOST_FUNCTIONS, exit_gate, host_address, host_code, host_vector,
     in_gate_page, is_gate, return_gate,
 };
+pub use mix_bits::NoMemory;
 pub use ram::Ram;
-pub use refusals::{Access, NoMemory};
+pub use refusals::Access;
 pub use steps::{Did, leave, refuse, stop};

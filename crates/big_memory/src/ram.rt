@@ -1,15 +1,17 @@
-ghost use Rattle.std.specs.Prelude.{◌≡◌, ◌+◌, ◌-◌, ◌/◌, ◌%◌, ◌≤◌, ◌<◌, ◌^◌, true, false, length, replicate, None, IsTrue, IfOk, MatchOption, MatchResult};
+ghost use Rattle.std.specs.Prelude.{◌≡◌, ◌+◌, ◌-◌, ◌*◌, ◌/◌, ◌%◌, ◌≤◌, ◌<◌, ◌^◌, true, false, length, replicate, None, IsTrue, IfOk, MatchOption, MatchResult};
 ghost use Rattle.std.specs.Bool.{OnTrue};
+ghost use Rattle.byteorder.specs.Endian.{big_bytes};
 ghost use Rattle.mix_bits.specs.Sizes.{bytes_of, modulus};
 ghost use Rattle.mix_bits.specs.declared.size.Size.TheVariants.{One, Two, Four};
 ghost use Rattle.big_memory.specs.Lists.{part};
 ghost use Rattle.big_memory.specs.Memory.{IsRam, IsDoneUnless, IsDoneUnlessRefused, copied, copy_refusal, filled, floor_of, in_memory, loaded, meets_gate, meets_guard, refusal, stored, with_bytes, with_marks, zeroed};
+ghost use Rattle.big_memory.specs.Numbers.{AreBytes, AreLongs, bytes_of_longs, long_at, longs_at};
 ghost use Rattle.big_memory.specs.Stores.{Stores, longs_refusal, stored_long, stored_longs, stored_value, with_longs};
 
 use super::map::{GATE_PAGE, GATE_PAGE_END};
-use super::refusals::{Access, NoMemory};
+use super::refusals::Access;
 use super::{bytes, marks};
-use mix_bits::{Size, onward};
+use mix_bits::{NoMemory, Size, onward};
 use std::alloc::Global;
 use std::marker::Model;
 
@@ -60,6 +62,25 @@ impl Ram {
         self.bytes.len() as u32
     }
 
+    /// All bytes, from address 0 on.
+    #[inline(always)]
+    pub fn bytes(&self) -> &[u8]
+        ensures is { result.now ≡ self.now.bytes }
+        ensures whole { IsRam self.now }
+        ensures bytes { AreBytes self.now.bytes }
+    {
+        bytes::are_bytes(&self.bytes);
+        &self.bytes
+    }
+
+    /// What every memory meets. It does nothing: the clause is its point.
+    #[inline(always)]
+    pub fn meets_invariant(&self)
+        ensures { IsRam self.now }
+    {
+        let _ = &self.bytes;
+    }
+
     /// The lowest address of the stack.
     pub fn floor(&self) -> u32
         ensures { result ≡ floor_of self.now }
@@ -107,6 +128,25 @@ impl Ram {
         ensures { result ≡ loaded self.now a Four }
     {
         self.load(a, Size::Four)
+    }
+
+    /// The long at `a`, which lies in memory.
+    #[inline(always)]
+    #[tactic(auto, unfolding(crate::specs::Numbers::long_at))]
+    pub fn read_long(&self, a: u32) -> u32
+        requires { a + 4 ≤ length self.now.bytes }
+        ensures { result ≡ long_at a self.now.bytes }
+    {
+        bytes::read_number(&self.bytes, a as usize, Size::Four)
+    }
+
+    /// Reads as many longs from `a` on as there is place for, all of which lie in memory.
+    #[inline(always)]
+    pub fn read_longs(&self, a: u32, to: &mut [u32])
+        requires { a + 4 * length to.old ≤ length self.now.bytes }
+        ensures { to.new ≡ longs_at (length to.old) a self.now.bytes }
+    {
+        bytes::read_longs(&self.bytes, a as usize, to);
     }
 
     /// Stores the low bytes of `v` at `a`.
@@ -256,6 +296,27 @@ impl Ram {
         bytes::write_piece(&mut self.bytes, a as usize, bytes);
     }
 
+    /// Writes a long past the gate page and the guard.
+    #[inline(always)]
+    pub fn fix_long(&mut self, a: u32, long: u32)
+        requires { a + 4 ≤ length self.old.bytes }
+        ensures bytes { self.new ≡ with_bytes a (big_bytes 4 long) self.old }
+        ensures len { length self.new.bytes ≡ length self.old.bytes }
+    {
+        bytes::write_number(&mut self.bytes, a as usize, Size::Four, long);
+    }
+
+    /// Writes longs one after another from `a` on, past the gate page and the guard.
+    #[inline(always)]
+    pub fn fix_longs(&mut self, a: u32, longs: &[u32])
+        requires { a + 4 * length longs.now ≤ length self.old.bytes }
+        ensures bytes { self.new ≡ with_bytes a (bytes_of_longs longs.now) self.old }
+        ensures ram { IsRam self.new }
+        ensures longs { AreLongs (length longs.now) longs.now }
+    {
+        bytes::write_longs(&mut self.bytes, a as usize, longs);
+    }
+
     /// Guards the units of [`lo`, `hi`).
     pub fn guard(&mut self, lo: u32, hi: u32)
         requires first { lo % 16 ≡ 0 }
@@ -280,14 +341,6 @@ impl Ram {
     {
         let (from, to) = (lo as usize / UNIT, hi as usize / UNIT);
         marks::mark(&mut self.guard, from, to, false);
-    }
-
-    /// What every memory meets. It does nothing: the clause is its point.
-    #[inline(always)]
-    fn meets_invariant(&self)
-        ensures { IsRam self.now }
-    {
-        let _ = &self.bytes;
     }
 
     /// What a store of `count` longs one after another from `a` on would answer.

@@ -3,7 +3,6 @@ ghost use Rattle.std.specs.Prelude.{◌≡◌};
 ghost use Rattle.big_memory.specs.Faults.{fault_of};
 
 use mix_bits::{Fault, FaultKind};
-use std::alloc::AllocError;
 
 /// An access that memory refuses, each with its first byte's address.
 #[derive(Clone, Copy, Debug, PartialEq, Eq)]
@@ -26,21 +25,6 @@ impl Access {
             Access::Gate(a) => (FaultKind::GateStore, a),
             Access::Frame(a) => (FaultKind::FrameStore, a),
         };
-        Fault {
-            kind,
-            pc,
-            detail,
-            also: 0,
-        }
-    }
-}
-
-/// There was no memory for what was asked, and nothing was made.
-#[derive(Clone, Copy, Debug, PartialEq, Eq)]
-pub struct NoMemory;
-
-impl From<AllocError> for NoMemory {
-    fn from(_: AllocError) -> NoMemory {
-        NoMemory
+        Fault::at(pc, kind, detail)
     }
 }

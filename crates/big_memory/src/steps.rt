@@ -1,5 +1,6 @@
 ghost use Rattle.std.specs.Prelude.{◌≡◌};
-ghost use Rattle.big_memory.specs.Faults.{fault_at, fault_of};
+ghost use Rattle.mix_bits.specs.Faults.{fault_at};
+ghost use Rattle.big_memory.specs.Faults.{fault_of};
 ghost use Rattle.big_memory.specs.Memory.{Memory};
 ghost use Rattle.big_memory.specs.Steps.{Does};
 ghost use Rattle.big_memory.specs.Steps.After.{Leaves, Stops};
@@ -24,12 +25,7 @@ pub enum Did {
 pub fn stop<R>(fault: &mut Fault, kind: FaultKind, pc: u32, detail: u32) -> Did
     ensures { (r : R) (m : Memory) → Does (Stops (fault_at pc kind detail)) result fault.new r r m m }
 {
-    *fault = Fault {
-        kind,
-        pc,
-        detail,
-        also: 0,
-    };
+    *fault = Fault::at(pc, kind, detail);
     Did::Stop
 }
 

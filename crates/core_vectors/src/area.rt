@@ -44,9 +44,9 @@ impl Area {
 
     /// Puts the bytes into memory.
     pub fn write(&self, ram: &mut Ram) {
-        let _len = ram.len();
+        ram.meets_invariant();
         ram.fix(DATA, &self.data);
-        let _len = ram.len();
+        ram.meets_invariant();
         ram.fix(STACK, &self.stack);
     }
 

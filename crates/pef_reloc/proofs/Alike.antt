@@ -1,9 +1,10 @@
 -- What relocation words add depends on no byte of the section.
-use Rattle.std.proofs.Common.{◌≡◌, ◌∙◌, refl, ap, subst, ℕ, zero, suc, ◌+◌, ◌-◌, ◌%◌, ◌^◌, ◌≤◌, inl, inr, nat_lt, nat_le, if◌then◌else◌, Bool, true, false, List, [], ◌∷◌, ◌++◌, length, drop, slice_index, Option, Some, None, Result, Ok, Err, arith}
+use Rattle.std.proofs.Common.{◌≡◌, ◌∙◌, refl, ap, subst, ℕ, zero, suc, ◌+◌, ◌-◌, ◌%◌, ◌^◌, ◌≤◌, inl, inr, nat_lt, nat_le, if◌then◌else◌, Bool, true, false, List, [], ◌∷◌, ◌++◌, length, slice_index, Option, Some, None, Result, Ok, Err, arith}
 use Rattle.std.specs.Prelude.{All}
 use Rattle.std.proofs.lemmas.Bool.Decides.{nat_tests}
 use Rattle.std.proofs.lemmas.List.Elements.{All-nil, All-cons, All-head, All-tail, All-append}
-use Rattle.byteorder.specs.Endian.{big_bytes, big_number}
+use Rattle.byteorder.specs.Endian.{big_bytes}
+use Rattle.big_memory.specs.Numbers.{long_at}
 use Rattle.big_memory.proofs.Lists.{length-put}
 use Rattle.pef_reloc.specs.declared.cursor.Cursor.{Cursor}
 use Rattle.pef_reloc.specs.declared.error.RelocError.{RelocError}
@@ -13,7 +14,8 @@ use Rattle.pef_reloc.specs.declared.section.Source.TheVariants.{FromC, FromD, Fr
 use Rattle.pef_reloc.specs.declared.instruction.Instruction.{Instruction}
 use Rattle.pef_reloc.specs.declared.instruction.Reading.{Reading}
 use Rattle.pef_reloc.specs.declared.instruction.Reading.TheVariants.{Whole, Again}
-use Rattle.pef_reloc.specs.Additions.{Operation, Add, Skip, Place, Import, SetC, SetD, Sources, State, Refused, refused, ◌>>=◌, added, allowed, base_of, begun, counted, does, executed, finished, given, moved, operations, passed, runs, value_of, with_long}
+use Rattle.mix_bits.specs.Results.{◌>>=◌}
+use Rattle.pef_reloc.specs.Additions.{Operation, Add, Skip, Place, Import, SetC, SetD, Sources, State, Refused, refused, added, allowed, base_of, begun, counted, does, executed, finished, given, moved, operations, passed, runs, value_of, with_long}
 use Rattle.pef_reloc.specs.Program.{can_repeat, each_by, end_of, read_and_run, reading_at, repeated, run_at, run_in_span, run_span, run_times, run_words, span_at, start, width_at}
 use Rattle.pef_reloc.specs.Laws.{Addition, HasPlan, IsAddend, IsAddition, IsItem, with_additions}
 
@@ -58,7 +60,7 @@ module _ (sources : Sources) (total : ℕ) where
   AllAlike f = (cursor : Cursor) → IsReady sources cursor → Alike sources total f cursor
 
   long_length : (position value : ℕ) (section : List ℕ) → position + 4 ≤ length section → length (with_long position value section) ≡ length section
-  long_length position value section within = length-put position (big_bytes 4 ((big_number 4 (drop position section) + value) % 2 ^ 32)) section within
+  long_length position value section within = length-put position (big_bytes 4 ((long_at position section + value) % 2 ^ 32)) section within
 
   additions_length : (additions : List Addition) (section : List ℕ) → All (IsAddition sources total) additions → length section ≡ total → length (with_additions additions section) ≡ total
   additions_length [] section sound long = long

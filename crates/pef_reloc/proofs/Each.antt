@@ -4,7 +4,7 @@ use Rattle.std.proofs.lemmas.Bool.Decides.{nat_tests}
 use Rattle.pef_reloc.specs.declared.instruction.First.{First}
 use Rattle.pef_reloc.specs.declared.instruction.First.TheVariants.{One, Two, Repeat, NoRow}
 use Rattle.pef_reloc.specs.Rows.{first_of}
-use Rattle.pef_reloc.specs.Additions.{◌>>=◌}
+use Rattle.mix_bits.specs.Results.{◌>>=◌}
 use Rattle.pef_reloc.specs.Program.{width, width_at, word_at, each, each_by}
 
 pub some_width : (f : First) → 1 ≤ width f

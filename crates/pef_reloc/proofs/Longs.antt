@@ -7,7 +7,8 @@ use Rattle.pef_reloc.specs.declared.section.Source.{Source}
 use Rattle.pef_reloc.specs.declared.instruction.Instruction.{Instruction}
 use Rattle.pef_reloc.specs.declared.instruction.Reading.{Reading}
 use Rattle.pef_reloc.specs.declared.instruction.Reading.TheVariants.{Whole, Again}
-use Rattle.pef_reloc.specs.Additions.{Operation, Add, Skip, Place, Import, SetC, SetD, Sources, State, Refused, refused, ◌>>=◌, added, allowed, base_of, counted, does, executed, finished, given, operations, runs, value_of, with_long}
+use Rattle.mix_bits.specs.Results.{◌>>=◌}
+use Rattle.pef_reloc.specs.Additions.{Operation, Add, Skip, Place, Import, SetC, SetD, Sources, State, Refused, refused, added, allowed, base_of, counted, does, executed, finished, given, operations, runs, value_of, with_long}
 use Rattle.pef_reloc.specs.Program.{can_repeat, each_by, end_of, read_and_run, reading_at, repeated, run_at, run_in_span, run_span, run_times, run_words, span_at, start, width_at}
 use Rattle.pef_reloc.specs.Laws.{Adds, AddsLongs}
 use Rattle.pef_reloc.specs.Laws.Adds.{Same, Long}

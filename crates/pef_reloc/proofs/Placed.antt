@@ -1,7 +1,6 @@
 -- A section in memory.
-use Rattle.std.proofs.Common.{◌≡◌, ℕ, ◌+◌, ◌<◌, ◌≤◌, List, ◌++◌, length, get_or, take, drop, arith, ap, sym, ◌∙◌}
+use Rattle.std.proofs.Common.{◌≡◌, ℕ, ◌+◌, ◌≤◌, List, ◌++◌, length, take, drop, arith, ap, sym, ◌∙◌}
 use Rattle.std.proofs.lemmas.List.{same_lists, places}
-use Rattle.byteorder.specs.Endian.{big_number}
 use Rattle.big_memory.specs.Lists.{part, put}
 use Rattle.big_memory.proofs.Lists.{put-part}
 
@@ -14,19 +13,6 @@ take_put_inside base at ys xs within = same_lists _ _ (grind (arith, places)) (�
 
 pub drop_put_inside : (end at : ℕ) (ys xs : List ℕ) → at + length ys ≤ end → end ≤ length xs → drop end (put at ys xs) ≡ drop end xs
 drop_put_inside end at ys xs within inside = same_lists _ _ (grind (arith, places)) (λ k d w. grind (arith, places))
-
--- a section's elements are memory's
-index_part : (base total at i : ℕ) (xs : List ℕ) → at + i < total → base + total ≤ length xs → get_or (drop at (part base total xs)) i 0 ≡ get_or (drop (base + at) xs) i 0
-index_part base total at i xs within inside = grind (arith, places)
-
--- and so are its longs
-pub long_part : (base total at : ℕ) (xs : List ℕ) → at + 4 ≤ total → base + total ≤ length xs → big_number 4 (drop at (part base total xs)) ≡ big_number 4 (drop (base + at) xs)
-long_part base total at xs within inside =
-    let e0 = index_part base total at 0 xs (omega arith) inside in
-    let e1 = index_part base total at 1 xs (omega arith) inside in
-    let e2 = index_part base total at 2 xs (omega arith) inside in
-    let e3 = index_part base total at 3 xs (omega arith) inside in
-    rw (e0, e1, e2, e3)
 
 -- memory with its own section, where the rest is that of another
 pub put_section : (base total : ℕ) (new old : List ℕ) → base + total ≤ length new → length new ≡ length old → take base new ≡ take base old → drop (base + total) new ≡ drop (base + total) old

@@ -1,6 +1,7 @@
 -- A span again and again.
 use Rattle.std.proofs.Common.{◌≡◌, ℕ, suc, ◌+◌, ◌-◌, ◌<◌, List, Ok, Err, arith, ap, sym, ◌∙◌}
-use Rattle.pef_reloc.specs.Additions.{Sources, State, Refused, ◌>>=◌}
+use Rattle.mix_bits.specs.Results.{◌>>=◌}
+use Rattle.pef_reloc.specs.Additions.{Sources, State, Refused}
 use Rattle.pef_reloc.specs.Program.{run_span, run_times}
 
 run_first : (sources : Sources) (span : List ℕ) (n k : ℕ) (s : State) → k < n → run_times sources span (n - k) s ≡ (run_span sources span s >>= run_times sources span (n - (k + 1)))

@@ -1,6 +1,7 @@
 -- Operations one after the other.
 use Rattle.std.proofs.Common.{◌≡◌, ℕ, ◌+◌, ◌-◌, ◌<◌, List, [], ◌∷◌, ◌++◌, Result, Ok, Err, refl, ap, sym, ◌∙◌}
-use Rattle.pef_reloc.specs.Additions.{Operation, Sources, State, Refused, ◌>>=◌, does, runs}
+use Rattle.mix_bits.specs.Results.{◌>>=◌}
+use Rattle.pef_reloc.specs.Additions.{Operation, Sources, State, Refused, does, runs}
 use Rattle.pef_reloc.specs.Lists.{times}
 use Rattle.pef_reloc.proofs.Written.{times_next}
 

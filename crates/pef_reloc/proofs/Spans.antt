@@ -3,7 +3,7 @@ use Rattle.std.proofs.Common.{◌≡◌, refl, ℕ, zero, suc, ◌+◌, ◌-◌,
 use Rattle.std.proofs.lemmas.Bool.Decides.{nat_tests}
 use Rattle.std.specs.Result.{is_ok}
 use Rattle.pef_reloc.specs.Rows.{first_of}
-use Rattle.pef_reloc.specs.Additions.{◌>>=◌}
+use Rattle.mix_bits.specs.Results.{◌>>=◌}
 use Rattle.pef_reloc.specs.Program.{each_by, fill_span, fits_in, is_repeat, width_at, word_at}
 use Rattle.pef_reloc.specs.Laws.{Fills, IsFilledSpan}
 use Rattle.pef_reloc.specs.Laws.Fills.{Filled, Next}

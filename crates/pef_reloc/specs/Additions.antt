@@ -3,9 +3,11 @@
 --
 -- The order of refusals is this project's own: an addition is refused first where its long leaves the
 -- section, then where what it adds is missing, and last where its instruction is one too many.
-use Rattle.std.specs.Prelude.{ℕ, ◌+◌, ◌-◌, ◌*◌, ◌%◌, ◌^◌, ◌==◌, nat_lt, if◌then◌else◌, List, [], ◌∷◌, length, drop, slice_index, Option, Some, None, Result, Ok, Err}
-use Rattle.byteorder.specs.Endian.{big_number, big_bytes}
+use Rattle.std.specs.Prelude.{ℕ, ◌+◌, ◌-◌, ◌*◌, ◌%◌, ◌^◌, ◌==◌, nat_lt, if◌then◌else◌, List, [], ◌∷◌, length, slice_index, Option, Some, None, Result, Ok, Err}
+use Rattle.byteorder.specs.Endian.{big_bytes}
+use Rattle.mix_bits.specs.Results.{◌>>=◌}
 use Rattle.big_memory.specs.Lists.{put}
+use Rattle.big_memory.specs.Numbers.{long_at}
 use Rattle.pef_reloc.specs.declared.error.RelocError.{RelocError}
 use Rattle.pef_reloc.specs.declared.error.RelocError.TheVariants.{OutsideSection, ImportIndex, SectionIndex, Work}
 use Rattle.pef_reloc.specs.declared.cursor.Cursor.{Cursor}
@@ -34,12 +36,6 @@ pub record Refused : Type 0 where
 
 abbrev pub refused : RelocError → State → Result State Refused
 refused error s = Err (record { section = s.section; error = error })
-
-infixl 30 ◌>>=◌
--- what follows, unless there was a refusal
-abbrev pub ◌>>=◌ : {S E : Type 0} → Result S E → (S → Result S E) → Result S E
-Ok s >>= next = next s
-Err r >>= next = Err r
 
 -- one of the things that an instruction does
 pub data Operation : Type 0 where
@@ -85,7 +81,7 @@ passed (FromSection n) cursor = moved 4 cursor
 -- the section with a value added to the long at a position
 abbrev pub with_long : ℕ → ℕ → List ℕ → List ℕ
 with_long position value section =
-    put position (big_bytes 4 ((big_number 4 (drop position section) + value) % 2 ^ 32)) section
+    put position (big_bytes 4 ((long_at position section + value) % 2 ^ 32)) section
 
 abbrev pub added : Source → State → ℕ → State
 added source s value = record {

@@ -2,11 +2,11 @@
 -- Structure"). A place counts in bytes from the first of them.
 --
 -- Repeats, the limit of work and the order of refusals are this project's own.
-use Rattle.std.specs.Prelude.{ℕ, zero, suc, ◌+◌, ◌-◌, ◌*◌, nat_lt, nat_le, Bool, true, false, if◌then◌else◌, List, length, drop, slice_index, Option, Some, None, Result, Ok, Err}
+use Rattle.std.specs.Prelude.{ℕ, zero, suc, ◌+◌, ◌-◌, ◌*◌, nat_lt, nat_le, Bool, true, false, if◌then◌else◌, List, length, slice_index, Option, Some, None, Result, Ok, Err}
 use Rattle.std.specs.Result.{is_ok}
-use Rattle.byteorder.specs.Endian.{big_number}
 use Rattle.big_memory.specs.Lists.{part}
 use Rattle.big_memory.specs.Memory.{Memory}
+use Rattle.big_memory.specs.Numbers.{number_at}
 use Rattle.pef_reloc.specs.declared.error.RelocError.{RelocError}
 use Rattle.pef_reloc.specs.declared.error.RelocError.TheVariants.{Short, Unsupported, RepeatFront}
 use Rattle.pef_reloc.specs.declared.instruction.First.{First}
@@ -15,10 +15,11 @@ use Rattle.pef_reloc.specs.declared.instruction.Reading.{Reading}
 use Rattle.pef_reloc.specs.declared.instruction.Reading.TheVariants.{Whole, Again}
 use Rattle.pef_reloc.specs.declared.cursor.Cursor.{Cursor}
 use Rattle.pef_reloc.specs.Rows.{first_of, whole_of}
-use Rattle.pef_reloc.specs.Additions.{Sources, State, Refused, refused, ◌>>=◌, counted, finished, executed}
+use Rattle.mix_bits.specs.Results.{◌>>=◌}
+use Rattle.pef_reloc.specs.Additions.{Sources, State, Refused, refused, counted, finished, executed}
 
 abbrev pub word_at : List ℕ → ℕ → ℕ
-word_at words place = big_number 2 (drop place words)
+word_at words place = number_at place 2 words
 
 -- how many bytes it has; what is no instruction has those of its word
 abbrev pub width : First → ℕ

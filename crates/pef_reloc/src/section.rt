@@ -1,14 +1,11 @@
 // The section that is relocated, in memory.
-ghost use Rattle.std.specs.Prelude.{◌≡◌, ◌+◌, ◌^◌, ◌<◌, ◌≤◌, length, drop, IfOk};
-ghost use Rattle.byteorder.specs.Endian.{big_bytes, big_number};
-ghost use Rattle.big_memory.specs.Memory.{with_bytes};
+ghost use Rattle.std.specs.Prelude.{◌≡◌, ◌+◌, ◌^◌, ◌<◌, ◌≤◌, length, IfOk};
 ghost use Rattle.pef_reloc.specs.Additions.{base_of, import_at, value_of, with_long};
 ghost use Rattle.pef_reloc.specs.Held.{Fits, HasNext, outside_of, section_of, sources_of};
 
 use crate::cursor::Cursor;
 use crate::error::RelocError;
 use big_memory::Ram;
-use mix_bits::Size;
 
 /// What is added to a long.
 #[derive(Clone, Copy)]
@@ -69,22 +66,6 @@ fn import_at(target: Target, index: u32) -> Result<u32, RelocError>
     }
 }
 
-/// The long at `a`.
-fn read_long(ram: &Ram, a: u32) -> u32
-    requires { a + 4 ≤ length ram.now.bytes }
-    ensures { result ≡ big_number 4 (drop a ram.now.bytes) }
-{
-    ram.load(a, Size::Four).unwrap()
-}
-
-/// Writes a long at `a`, past the gate page and the guard.
-fn write_long(ram: &mut Ram, a: u32, long: u32)
-    requires { a + 4 ≤ length ram.old.bytes }
-    ensures { ram.new ≡ with_bytes a (big_bytes 4 long) ram.old }
-{
-    ram.fix(a, &long.to_be_bytes());
-}
-
 /// Adds to a long of the section.
 pub fn add_long(ram: &mut Ram, target: Target, position: u32, value: u32)
     requires fits { Fits target ram.old }
@@ -93,8 +74,8 @@ pub fn add_long(ram: &mut Ram, target: Target, position: u32, value: u32)
     ensures outside { outside_of target.entry ram.new ≡ outside_of target.entry ram.old }
     ensures len { length ram.new.bytes ≡ length ram.old.bytes }
 {
-    let _len = ram.len();
+    ram.meets_invariant();
     let at = target.base + position;
-    let long = read_long(ram, at);
-    write_long(ram, at, long.wrapping_add(value));
+    let long = ram.read_long(at);
+    ram.fix_long(at, long.wrapping_add(value));
 }

@@ -1,7 +1,8 @@
 use Rattle.std.proofs.Common.{◌≡◌, ◌+◌, ◌-◌, ◌≤◌, ℕ, List, replicate, take, drop, length, ap, ◌∙◌, arith}
 use Rattle.std.proofs.lemmas.List.{take_all, take-replicate}
 use Rattle.big_memory.specs.Memory.{Memory, with_bytes}
-use Rattle.args_ppc.specs.Deliver.{frame_bytes, longs}
+use Rattle.big_memory.specs.Numbers.{bytes_of_longs}
+use Rattle.args_ppc.specs.Deliver.{frame_bytes}
 use Rattle.args_ppc.proofs.Frames.{frame-put, frame-short, length-drop_eight}
 use Rattle.args_ppc.proofs.deliver.write_frame.Goals as goal
 
@@ -17,8 +18,8 @@ pub returns-then-words-gt8 : goal.returns-then-words-gt8
 returns-then-words-gt8 c =
     let sp = c.args.sp in
     let words = c.args.words.now in
-    c.write_longs.ensures ∙ ap (λ ws. with_bytes (sp + 56) (longs ws) c.fix.new.self) (behind words)
-    ∙ ap (with_bytes (sp + 56) (longs (drop 8 words))) (c.fix.ensures ∙ blank sp c.frame_bytes.result words c.args.ram.now c.frame_bytes.ensures.value c.frame_bytes.ensures.small)
+    c.fix_longs.ensures.bytes ∙ ap (λ ws. with_bytes (sp + 56) (bytes_of_longs ws) c.fix.new.self) (behind words)
+    ∙ ap (with_bytes (sp + 56) (bytes_of_longs (drop 8 words))) (c.fix.ensures ∙ blank sp c.frame_bytes.result words c.args.ram.now c.frame_bytes.ensures.value c.frame_bytes.ensures.small)
     ∙ frame-put words sp c.args.ram.now c.requires.inside
 
 pub returns-else-words-gt8 : goal.returns-else-words-gt8
