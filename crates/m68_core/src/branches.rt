@@ -1,15 +1,15 @@
 // Branches, whose displacements count from the address behind the first word.
 ghost use Rattle.std.specs.Prelude.{◌≡◌, ◌<◌};
-ghost use Rattle.mix_bits.specs.Addresses.{onward as onward_of};
 ghost use Rattle.big_memory.specs.Steps.{Does};
 ghost use Rattle.m68_effects.specs.Control.{called, counted as counted_of};
 ghost use Rattle.m68_effects.specs.Parts.{after};
 ghost use Rattle.m68_effects.specs.Ops.{by_op};
+ghost use Rattle.m68_isa.specs.Targets.{branch_target as target_of};
 ghost use Rattle.m68_ops.specs.Ops.{Fits};
 
 use big_memory::{Did, Ram};
 use m68_ea::{extended_word, go_on, push};
-use m68_isa::{Regs68, holds};
+use m68_isa::{Regs68, branch_target, holds};
 use m68_ops::{Op68, byte_of, condition_of, lower_of};
 use mix_bits::{Fault, Size, onward, with_low};
 
@@ -34,7 +34,7 @@ pub fn do_bra_word(regs: &mut Regs68, ram: &Ram, fault: &mut Fault, word: u32) -
 pub fn do_bsr_byte(regs: &mut Regs68, ram: &mut Ram, fault: &mut Fault, word: u32) -> Did
     ensures { Does (by_op Op68.BsrByte regs.old ram.old word) result fault.new regs.old regs.new ram.old ram.new }
 {
-    let target = target_of(regs.pc, byte_of(word));
+    let target = branch_target(regs.pc, byte_of(word));
     call(regs, ram, fault, onward(regs.pc, 2), target)
 }
 
@@ -43,7 +43,7 @@ pub fn do_bsr_byte(regs: &mut Regs68, ram: &mut Ram, fault: &mut Fault, word: u3
 pub fn do_bsr_word(regs: &mut Regs68, ram: &mut Ram, fault: &mut Fault, word: u32) -> Did
     ensures { Does (by_op Op68.BsrWord regs.old ram.old word) result fault.new regs.old regs.new ram.old ram.new }
 {
-    let target = target_of(regs.pc, extended_word(ram, regs.pc, 1));
+    let target = branch_target(regs.pc, extended_word(ram, regs.pc, 1));
     call(regs, ram, fault, onward(regs.pc, 4), target)
 }
 
@@ -101,21 +101,13 @@ fn counted(regs: &Regs68, register: usize) -> u32
     ((u64::from(regs.d[register]) + 0xFFFF) % 0x1_0000) as u32
 }
 
-/// The address that a displacement gives.
-#[inline(always)]
-fn target_of(pc: u32, displacement: u32) -> u32
-    ensures { result ≡ onward_of (onward_of pc 2) displacement }
-{
-    onward(onward(pc, 2), displacement)
-}
-
 /// Lets the program go on at the address that a displacement gives.
 #[inline(always)]
 fn branch(regs: &mut Regs68, displacement: u32) -> Did
     ensures next { result ≡ Did.Next }
-    ensures registers { regs.new ≡ record regs.old { pc = onward_of (onward_of regs.old.pc 2) displacement } }
+    ensures registers { regs.new ≡ record regs.old { pc = target_of regs.old.pc displacement } }
 {
-    regs.pc = target_of(regs.pc, displacement);
+    regs.pc = branch_target(regs.pc, displacement);
     Did::Next
 }
 

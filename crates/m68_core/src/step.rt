@@ -30,12 +30,7 @@ pub enum Out68 {
 pub fn step68(regs: &mut Regs68, ram: &mut Ram) -> Out68
     ensures { Steps (stepped regs.old ram.old) result regs.old regs.new ram.old ram.new }
 {
-    let mut fault = Fault {
-        kind: FaultKind::Illegal,
-        pc: 0,
-        detail: 0,
-        also: 0,
-    };
+    let mut fault = Fault::at(0, FaultKind::Illegal, 0);
     match run(regs, ram, &mut fault) {
         Did::Next => Out68::Next,
         Did::Leave => Out68::Line(fault.detail as u16),

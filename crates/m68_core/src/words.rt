@@ -13,7 +13,7 @@ pub fn has_five(ram: &Ram, pc: u32) -> bool
     ensures five { IsTrue result → 5 ≤ length (words_at ram.now pc) }
     ensures fewer { result ≡ false → length (words_at ram.now pc) < 5 }
 {
-    let _len = ram.len();
+    ram.meets_invariant();
     ram.has(pc, 10)
 }
 

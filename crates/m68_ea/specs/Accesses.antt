@@ -15,7 +15,8 @@ use Rattle.m68_ea.specs.declared.places.Bad.{Bad}
 use Rattle.m68_ea.specs.declared.places.Bad.TheVariants.{Odd, Access as Refused}
 use Rattle.m68_ea.specs.Places.{with_data, with_address}
 use Rattle.big_memory.specs.Stores.{stored_value}
-use Rattle.big_memory.specs.Faults.{fault_at, fault_of}
+use Rattle.mix_bits.specs.Faults.{fault_at}
+use Rattle.big_memory.specs.Faults.{fault_of}
 
 abbrev pub is_odd : ℕ → Size → Bool
 is_odd a s = nat_lt 1 (bytes_of s) && (a % 2 == 1)

@@ -8,7 +8,7 @@ use Rattle.m68_isa.specs.declared.registers.Regs68.{Regs68}
 use Rattle.m68_isa.specs.Operands.{index_of, is_index}
 use Rattle.m68_isa.specs.declared.operand.Operand.{Operand}
 use Rattle.big_memory.specs.Memory.{Memory}
-use Rattle.big_memory.specs.Faults.{fault_at}
+use Rattle.mix_bits.specs.Faults.{fault_at}
 use Rattle.big_memory.specs.Stores.{OnlyFree}
 use Rattle.m68_ea.specs.declared.operands.Target.{Target}
 use Rattle.m68_ea.specs.declared.places.Bad.{Bad}

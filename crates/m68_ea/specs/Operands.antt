@@ -8,7 +8,7 @@ use Rattle.mix_bits.specs.Results.{◌>>=◌}
 use Rattle.m68_isa.specs.declared.registers.Regs68.{Regs68}
 use Rattle.m68_isa.specs.declared.ea.Ea.{Ea}
 use Rattle.big_memory.specs.Memory.{Memory}
-use Rattle.big_memory.specs.Faults.{fault_at}
+use Rattle.mix_bits.specs.Faults.{fault_at}
 use Rattle.m68_ea.specs.declared.places.Place68.{Place68}
 use Rattle.m68_ea.specs.Places.{placed}
 use Rattle.m68_ea.specs.Accesses.{read_in, written_in, read_at, write_at, or_fault}

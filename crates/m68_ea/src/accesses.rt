@@ -126,12 +126,7 @@ pub fn store(ram: &mut Ram, fault: &mut Fault, pc: u32, a: u32, size: Size, valu
 fn refuse_odd(fault: &mut Fault, pc: u32, a: u32)
     ensures { fault.new ≡ fault_of_bad pc (Bad.Odd a) }
 {
-    *fault = Fault {
-        kind: FaultKind::Odd,
-        pc,
-        detail: a,
-        also: 0,
-    };
+    *fault = Fault::at(pc, FaultKind::Odd, a);
 }
 
 /// The fault of an access that memory refuses.

@@ -1,5 +1,5 @@
 ghost use Rattle.std.specs.Prelude.{◌≡◌, ◌+◌, ◌<◌, ◌≤◌, ◌⊎◌, OnSome, slice_index, true};
-ghost use Rattle.big_memory.specs.Faults.{fault_at};
+ghost use Rattle.mix_bits.specs.Faults.{fault_at};
 ghost use Rattle.m68_isa.specs.Classes.{in_class};
 ghost use Rattle.m68_isa.specs.Operands.{operand_at, special_at};
 ghost use Rattle.m68_isa.specs.declared.classes.Class.TheVariants.{Control};
@@ -308,10 +308,5 @@ fn index_address(
 fn refuse_word(fault: &mut Fault, pc: u32, word: u32)
     ensures { fault.new ≡ fault_at pc Illegal word }
 {
-    *fault = Fault {
-        kind: FaultKind::Illegal,
-        pc,
-        detail: word,
-        also: 0,
-    };
+    *fault = Fault::at(pc, FaultKind::Illegal, word);
 }

@@ -101,7 +101,7 @@ pub fn is_below_stack(ram: &Ram, a: u32, n: u32) -> bool
     ensures passes { IsTrue result → refusal ram.now a n ≡ None }
 {
     memory_laws();
-    let _len = ram.len();
+    ram.meets_invariant();
     a >= GATE_PAGE_END && u64::from(a) + u64::from(n) <= u64::from(ram.floor())
 }
 

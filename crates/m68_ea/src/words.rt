@@ -20,7 +20,7 @@ pub fn word_at(ram: &Ram, pc: u32, at: u32) -> u32
     ensures below { result < 2 ^ 16 }
 {
     memory_laws();
-    let _len = ram.len();
+    ram.meets_invariant();
     match ram.span(pc, 2 * at + 2) {
         Ok(words) => last_word(words),
         Err(_) => 0,

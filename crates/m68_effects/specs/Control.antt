@@ -5,17 +5,13 @@ use Rattle.mix_bits.specs.declared.size.Size.TheVariants.{One, Two, Four}
 use Rattle.mix_bits.specs.Results.{◌>>=◌}
 use Rattle.m68_isa.specs.Registers.{ccr_of}
 use Rattle.m68_isa.specs.Conditions.{holds}
+use Rattle.m68_isa.specs.Targets.{branch_target}
 use Rattle.m68_isa.specs.declared.registers.Regs68.{Regs68}
 use Rattle.m68_isa.specs.declared.ea.Ea.{Ea}
 use Rattle.big_memory.specs.Memory.{Memory}
 use Rattle.m68_ea.specs.Places.{address_of}
 use Rattle.m68_ea.specs.Operands.{put_into}
-use Rattle.mix_bits.specs.Addresses.{onward}
 use Rattle.m68_effects.specs.Parts.{Effect, goes_on, vector, with_ccr, with_low_data, pushed, popped}
-
--- displacements count from the address behind the first word
-abbrev pub branch_target : Regs68 → ℕ → ℕ
-branch_target r disp = onward (onward r.pc 2) disp
 
 -- the address of the next instruction is pushed, and the program goes on elsewhere
 abbrev pub called : Regs68 → Memory → ℕ → ℕ → Effect
@@ -26,8 +22,8 @@ called r m next target =
 -- Bcc: where the condition holds; 0 is BRA, always, and 1 is BSR, which calls
 abbrev pub bcc : Regs68 → Memory → ℕ → ℕ → ℕ → Effect
 bcc r m next condition disp =
-    if condition == 1 then called r m next (branch_target r disp)
-    else (if holds condition r.ccr then goes_on (branch_target r disp) r m else goes_on next r m)
+    if condition == 1 then called r m next (branch_target r.pc disp)
+    else (if holds condition r.ccr then goes_on (branch_target r.pc disp) r m else goes_on next r m)
 
 -- DBcc: unless the condition holds, Dn - 1 → Dn, as words, and a branch unless Dn is -1
 abbrev pub counted : Regs68 → ℕ → ℕ
@@ -37,7 +33,7 @@ abbrev pub dbcc : Regs68 → Memory → ℕ → ℕ → ℕ → ℕ → Effect
 dbcc r m next condition n disp =
     if holds condition r.ccr then goes_on next r m
     else (if counted r n == 0xFFFF then goes_on next (with_low_data r n Two (counted r n)) m
-    else goes_on (branch_target r disp) (with_low_data r n Two (counted r n)) m)
+    else goes_on (branch_target r.pc disp) (with_low_data r n Two (counted r n)) m)
 
 -- Scc: a byte of ones where the condition holds, else of zeros
 abbrev pub scc : Regs68 → Memory → ℕ → ℕ → Ea → Effect

@@ -14,7 +14,7 @@ use Rattle.m68_isa.specs.declared.ea.Ea.{Ea}
 use Rattle.m68_isa.specs.declared.ea.Ea.TheVariants.{Dn, Post, Pre}
 use Rattle.m68_alu.specs.declared.sums.Out.{Out}
 use Rattle.big_memory.specs.Memory.{Memory}
-use Rattle.big_memory.specs.Faults.{fault_at}
+use Rattle.mix_bits.specs.Faults.{fault_at}
 use Rattle.big_memory.specs.Steps.{After}
 use Rattle.big_memory.specs.Steps.After.{Goes, Stops}
 use Rattle.m68_ea.specs.Places.{placed, with_data}

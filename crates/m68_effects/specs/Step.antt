@@ -8,7 +8,7 @@ use Rattle.m68_isa.specs.declared.instructions.Decoded68.{Decoded68}
 use Rattle.m68_isa.specs.declared.instructions.Decoded68.TheVariants.{Op, LineA, LineF, Privileged, Illegal, Short}
 use Rattle.m68_isa.specs.Decode.{decoded}
 use Rattle.big_memory.specs.Memory.{Memory}
-use Rattle.big_memory.specs.Faults.{fault_at}
+use Rattle.mix_bits.specs.Faults.{fault_at}
 use Rattle.m68_ea.specs.Words.{words_at}
 use Rattle.mix_bits.specs.Addresses.{onward}
 use Rattle.big_memory.specs.Steps.{After}

@@ -4,3 +4,4 @@ mod Counts
 mod Modes
 pub mod Bits
 mod Opposites
+pub mod Longs

@@ -8,6 +8,7 @@ use Rattle.m68_isa.specs.First.{first_of}
 use Rattle.m68_isa.specs.Rows.{Row, row}
 use Rattle.m68_isa.specs.Decode.{rows_of, decoded}
 use Rattle.m68_isa.specs.Modes.{has_modes}
+use Rattle.m68_isa.specs.Widths.{has_size}
 
 -- how many rows have a first word
 abbrev pub matches : List Row → First → ℕ
@@ -39,3 +40,5 @@ pub record TableLaws : Type 0 where
   pub privileged : how_many 16 0 (λ w. is_privileged (decoded (w ∷ []))) ≡ 75
   -- each operand of an instruction is in the class of modes that its row allows
   pub modes : (w : ℕ) (ws : List ℕ) (i : Instr68) (used : ℕ) → w < 2 ^ 16 → decoded (w ∷ ws) ≡ Op i used → has_modes i ≡ true
+  -- and its size is one that its row has
+  pub sizes : (w : ℕ) (ws : List ℕ) (i : Instr68) (used : ℕ) → w < 2 ^ 16 → decoded (w ∷ ws) ≡ Op i used → has_size i ≡ true

@@ -1,4 +1,5 @@
 pub mod Registers
+pub mod Longs
 pub mod Conditions
 pub mod First
 pub mod Classes
@@ -10,9 +11,11 @@ pub mod Rows
 pub mod Immediates
 pub mod Moves
 pub mod Miscellaneous
+pub mod Targets
 pub mod Branches
 pub mod Arithmetic
 pub mod Shifts
 pub mod Decode
 pub mod Modes
+pub mod Widths
 pub mod Laws

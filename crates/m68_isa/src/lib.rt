@@ -18,8 +18,10 @@ mod laws;
 mod miscellaneous;
 mod moves;
 mod operand;
+mod register_longs;
 mod registers;
 mod shifts;
+mod target;
 
 pub use conditions::{condition_law, holds};
 pub use decode::decode68;
@@ -28,4 +30,6 @@ pub use instructions::{
     BitOp, Decoded68, Exchange, ImmediateOp, Instr68, LogicOp, ShiftCount, ShiftOp,
 };
 pub use laws::table_laws;
+pub use register_longs::long_laws;
 pub use registers::{Ccr, Regs68};
+pub use target::branch_target;

@@ -10,7 +10,8 @@ use Rattle.mix_bits.specs.Addresses.{onward}
 use Rattle.mix_bits.specs.Results.{◌>>=◌}
 use Rattle.byteorder.specs.Endian.{big_bytes}
 use Rattle.big_memory.specs.declared.refusals.Access.{Access}
-use Rattle.big_memory.specs.Faults.{fault_at, fault_of}
+use Rattle.mix_bits.specs.Faults.{fault_at}
+use Rattle.big_memory.specs.Faults.{fault_of}
 use Rattle.big_memory.specs.Laws.{FreeJoins, FreeKeepsRam, FreeKeepsRefusals, StoresAreFree}
 use Rattle.big_memory.specs.Memory.{Memory, IsRam, refusal, stored}
 use Rattle.big_memory.specs.Stores.{stored_value}

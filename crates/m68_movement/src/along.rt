@@ -100,14 +100,9 @@ fn can_store(ram: &Ram, fault: &mut Fault, pc: u32, a: u32, size: Size) -> bool
     ensures { CanStore pc ram.now a size result fault.new }
 {
     memory_laws();
-    let _len = ram.len();
+    ram.meets_invariant();
     if is_odd(a, size) {
-        *fault = Fault {
-            kind: FaultKind::Odd,
-            pc,
-            detail: a,
-            also: 0,
-        };
+        *fault = Fault::at(pc, FaultKind::Odd, a);
         return false;
     }
     match ram.probe(a, size.bytes()) {

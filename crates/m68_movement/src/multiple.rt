@@ -110,7 +110,7 @@ fn put_down(regs: &Regs68, ram: &mut Ram, size: Size, mask: u32, base: u32) -> u
     ensures end { result ≡ backward_of base (span_of size mask) }
 {
     memory_laws();
-    let _len = ram.len();
+    ram.meets_invariant();
     let mut at = base;
     for k in 0..16 {
         if digit(mask, k, 1) == 1 {
@@ -222,7 +222,7 @@ fn take_all(regs: &mut Regs68, ram: &Ram, a: u32, size: Size, mask: u32) -> u32
     ensures pc { regs.new.pc ≡ regs.old.pc }
 {
     memory_laws();
-    let _len = ram.len();
+    ram.meets_invariant();
     let mut at = a;
     let mut count = 0;
     for k in 0..16 {

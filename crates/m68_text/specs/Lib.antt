@@ -1,3 +1,5 @@
 pub mod Names
+pub mod Listed
 pub mod Operands
 pub mod Text
+pub mod Laws

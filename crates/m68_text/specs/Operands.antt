@@ -1,6 +1,6 @@
 -- The kinds of operands, each with its text, and the operands of each instruction, the source
 -- first (M68000 Family Programmer's Reference Manual, sections 2 and 4).
-use Rattle.std.specs.Prelude.{ℕ, ◌+◌, ◌%◌, ◌^◌, List, [], ◌∷◌, ◌++◌, codes, decimal, map, slice_index, Bool, if◌then◌else◌}
+use Rattle.std.specs.Prelude.{ℕ, List, [], ◌∷◌, ◌++◌, codes, decimal, map, slice_index, Bool, if◌then◌else◌}
 use Rattle.std.specs.List.{join_with_byte}
 use Rattle.mix_bits.specs.Text.{hexadecimal}
 use Rattle.mix_bits.specs.declared.size.Size.{Size}
@@ -15,6 +15,7 @@ use Rattle.m68_isa.specs.declared.instructions.Exchange.TheVariants.{Data as Exc
 use Rattle.m68_isa.specs.declared.instructions.Instr68.{Instr68}
 use Rattle.m68_isa.specs.declared.instructions.Instr68.TheVariants.{Immediate, ImmediateToCcr, BitByRegister, BitByNumber, Movep, Move, Movea, Negx, Clr, Neg, Not, MoveFromSr, MoveToCcr, Nbcd, Swap, Pea, Ext, MovemToMemory, MovemFromMemory, Tst, Tas, Trap, Link, Unlk, Nop, Rts, Trapv, Rtr, Jsr, Jmp, Chk, Lea, Addq, Subq, Scc, Dbcc, Bcc, Moveq, Or, Div, Sbcd, Sub, Suba, Subx, Cmp, Cmpa, Eor, Cmpm, And, Mul, Abcd, Exg, Add, Adda, Addx, Shift, ShiftMemory}
 use Rattle.m68_isa.specs.Operands.{long_at}
+use Rattle.m68_isa.specs.Targets.{branch_target}
 use Rattle.m68_text.specs.declared.operand.Operand.{Operand}
 use Rattle.m68_text.specs.declared.operand.Operands.{Operands}
 use Rattle.m68_text.specs.declared.operand.Operands.TheVariants.{None as NoOperand, One as OneOperand, Two as TwoOperands}
@@ -72,25 +73,25 @@ abbrev pub operands_text : List Operand → List ℕ
 operands_text [] = []
 operands_text (o ∷ os) = codes " " ++ joined (o ∷ os)
 
--- the extension words of an immediate, which stand behind the first word, whole
-abbrev pub immediate : Size → List ℕ → Operand
-immediate Four ws = Long (long_at ws 1)
-immediate _ ws = Word (slice_index ws 1)
+-- the extension words of an immediate, which begin with this one, whole
+abbrev pub immediate : Size → List ℕ → ℕ → Operand
+immediate Four ws word = Long (long_at ws word)
+immediate _ ws word = Word (slice_index ws word)
 
--- an effective address, or an immediate of this size in the place of one
-abbrev pub place : Size → List ℕ → Ea → Operand
-place s ws (Dn n) = Data n
-place s ws (An n) = Address n
-place s ws (Ind n) = Indirect n
-place s ws (Post n) = PostIncrement n
-place s ws (Pre n) = PreDecrement n
-place s ws (Disp n d) = Displaced n d
-place s ws (EaIndexed n i) = Indexed n i
-place s ws (AbsWord a) = ShortAddress a
-place s ws (AbsLong a) = LongAddress a
-place s ws (PcDisp from d) = PcDisplaced d
-place s ws (EaPcIndexed from i) = PcIndexed i
-place s ws (Imm v) = immediate s ws
+-- an effective address, or in the place of one the immediate of this size that begins with this word
+abbrev pub place : Size → List ℕ → ℕ → Ea → Operand
+place s ws word (Dn n) = Data n
+place s ws word (An n) = Address n
+place s ws word (Ind n) = Indirect n
+place s ws word (Post n) = PostIncrement n
+place s ws word (Pre n) = PreDecrement n
+place s ws word (Disp n d) = Displaced n d
+place s ws word (EaIndexed n i) = Indexed n i
+place s ws word (AbsWord a) = ShortAddress a
+place s ws word (AbsLong a) = LongAddress a
+place s ws word (PcDisp from d) = PcDisplaced d
+place s ws word (EaPcIndexed from i) = PcIndexed i
+place s ws word (Imm v) = immediate s ws word
 
 -- a register and an operand, which is the destination where the instruction says so
 abbrev pub directed : Bool → ℕ → Operand → List Operand
@@ -109,33 +110,29 @@ abbrev pub counted : ShiftCount → Operand
 counted (CountNumber n) = Number n
 counted (CountRegister n) = Data n
 
--- where a branch goes: its displacement counts from behind the first word
-abbrev pub target : ℕ → ℕ → Operand
-target at disp = Target ((at + 2 + disp) % 2 ^ 32)
-
--- the operands of an instruction with these words at an address
+-- the operands of an instruction with these words at an address; an immediate begins with word 1
 abbrev pub operands : Instr68 → List ℕ → ℕ → List Operand
-operands (Immediate op size value to) ws at = immediate size ws ∷ place size ws to ∷ []
-operands (ImmediateToCcr op value) ws at = immediate One ws ∷ ConditionCodes ∷ []
-operands (BitByRegister op register to) ws at = Data register ∷ place One ws to ∷ []
-operands (BitByNumber op bit to) ws at = immediate One ws ∷ place One ws to ∷ []
+operands (Immediate op size value to) ws at = immediate size ws 1 ∷ place size ws 1 to ∷ []
+operands (ImmediateToCcr op value) ws at = immediate One ws 1 ∷ ConditionCodes ∷ []
+operands (BitByRegister op register to) ws at = Data register ∷ place One ws 1 to ∷ []
+operands (BitByNumber op bit to) ws at = immediate One ws 1 ∷ place One ws 1 to ∷ []
 operands (Movep size to_memory register base disp) ws at = directed to_memory register (Displaced base disp)
-operands (Move size from to) ws at = place size ws from ∷ place size ws to ∷ []
-operands (Movea size from to) ws at = place size ws from ∷ Address to ∷ []
-operands (Negx size to) ws at = place size ws to ∷ []
-operands (Clr size to) ws at = place size ws to ∷ []
-operands (Neg size to) ws at = place size ws to ∷ []
-operands (Not size to) ws at = place size ws to ∷ []
-operands (MoveFromSr to) ws at = StatusRegister ∷ place Two ws to ∷ []
-operands (MoveToCcr from) ws at = place Two ws from ∷ ConditionCodes ∷ []
-operands (Nbcd to) ws at = place One ws to ∷ []
+operands (Move size from to) ws at = place size ws 1 from ∷ place size ws 1 to ∷ []
+operands (Movea size from to) ws at = place size ws 1 from ∷ Address to ∷ []
+operands (Negx size to) ws at = place size ws 1 to ∷ []
+operands (Clr size to) ws at = place size ws 1 to ∷ []
+operands (Neg size to) ws at = place size ws 1 to ∷ []
+operands (Not size to) ws at = place size ws 1 to ∷ []
+operands (MoveFromSr to) ws at = StatusRegister ∷ place Two ws 1 to ∷ []
+operands (MoveToCcr from) ws at = place Two ws 1 from ∷ ConditionCodes ∷ []
+operands (Nbcd to) ws at = place One ws 1 to ∷ []
 operands (Swap register) ws at = Data register ∷ []
-operands (Pea from) ws at = place Four ws from ∷ []
+operands (Pea from) ws at = place Four ws 1 from ∷ []
 operands (Ext size register) ws at = Data register ∷ []
-operands (MovemToMemory size mask to) ws at = Word mask ∷ place size ws to ∷ []
-operands (MovemFromMemory size mask from) ws at = place size ws from ∷ Word mask ∷ []
-operands (Tst size of) ws at = place size ws of ∷ []
-operands (Tas to) ws at = place One ws to ∷ []
+operands (MovemToMemory size mask to) ws at = Word mask ∷ place size ws 1 to ∷ []
+operands (MovemFromMemory size mask from) ws at = place size ws 1 from ∷ Word mask ∷ []
+operands (Tst size of) ws at = place size ws 1 of ∷ []
+operands (Tas to) ws at = place One ws 1 to ∷ []
 operands (Trap number) ws at = Number number ∷ []
 operands (Link register disp) ws at = Address register ∷ Word disp ∷ []
 operands (Unlk register) ws at = Address register ∷ []
@@ -143,32 +140,32 @@ operands Nop ws at = []
 operands Rts ws at = []
 operands Trapv ws at = []
 operands Rtr ws at = []
-operands (Jsr to) ws at = place Four ws to ∷ []
-operands (Jmp to) ws at = place Four ws to ∷ []
-operands (Chk bound register) ws at = place Two ws bound ∷ Data register ∷ []
-operands (Lea from to) ws at = place Four ws from ∷ Address to ∷ []
-operands (Addq size number to) ws at = Number number ∷ place size ws to ∷ []
-operands (Subq size number to) ws at = Number number ∷ place size ws to ∷ []
-operands (Scc condition to) ws at = place One ws to ∷ []
-operands (Dbcc condition register disp) ws at = Data register ∷ target at disp ∷ []
-operands (Bcc condition disp) ws at = target at disp ∷ []
+operands (Jsr to) ws at = place Four ws 1 to ∷ []
+operands (Jmp to) ws at = place Four ws 1 to ∷ []
+operands (Chk bound register) ws at = place Two ws 1 bound ∷ Data register ∷ []
+operands (Lea from to) ws at = place Four ws 1 from ∷ Address to ∷ []
+operands (Addq size number to) ws at = Number number ∷ place size ws 1 to ∷ []
+operands (Subq size number to) ws at = Number number ∷ place size ws 1 to ∷ []
+operands (Scc condition to) ws at = place One ws 1 to ∷ []
+operands (Dbcc condition register disp) ws at = Data register ∷ Target (branch_target at disp) ∷ []
+operands (Bcc condition disp) ws at = Target (branch_target at disp) ∷ []
 operands (Moveq value to) ws at = Byte value ∷ Data to ∷ []
-operands (Or size to_memory register operand) ws at = directed to_memory register (place size ws operand)
-operands (Div signed by register) ws at = place Two ws by ∷ Data register ∷ []
+operands (Or size to_memory register operand) ws at = directed to_memory register (place size ws 1 operand)
+operands (Div signed by register) ws at = place Two ws 1 by ∷ Data register ∷ []
 operands (Sbcd memory from to) ws at = paired memory from to
-operands (Sub size to_memory register operand) ws at = directed to_memory register (place size ws operand)
-operands (Suba size from to) ws at = place size ws from ∷ Address to ∷ []
+operands (Sub size to_memory register operand) ws at = directed to_memory register (place size ws 1 operand)
+operands (Suba size from to) ws at = place size ws 1 from ∷ Address to ∷ []
 operands (Subx size memory from to) ws at = paired memory from to
-operands (Cmp size with register) ws at = place size ws with ∷ Data register ∷ []
-operands (Cmpa size with register) ws at = place size ws with ∷ Address register ∷ []
-operands (Eor size register to) ws at = Data register ∷ place size ws to ∷ []
+operands (Cmp size with register) ws at = place size ws 1 with ∷ Data register ∷ []
+operands (Cmpa size with register) ws at = place size ws 1 with ∷ Address register ∷ []
+operands (Eor size register to) ws at = Data register ∷ place size ws 1 to ∷ []
 operands (Cmpm size from to) ws at = PostIncrement from ∷ PostIncrement to ∷ []
-operands (And size to_memory register operand) ws at = directed to_memory register (place size ws operand)
-operands (Mul signed by register) ws at = place Two ws by ∷ Data register ∷ []
+operands (And size to_memory register operand) ws at = directed to_memory register (place size ws 1 operand)
+operands (Mul signed by register) ws at = place Two ws 1 by ∷ Data register ∷ []
 operands (Abcd memory from to) ws at = paired memory from to
 operands (Exg kind upper lower) ws at = exchanged kind upper lower
-operands (Add size to_memory register operand) ws at = directed to_memory register (place size ws operand)
-operands (Adda size from to) ws at = place size ws from ∷ Address to ∷ []
+operands (Add size to_memory register operand) ws at = directed to_memory register (place size ws 1 operand)
+operands (Adda size from to) ws at = place size ws 1 from ∷ Address to ∷ []
 operands (Addx size memory from to) ws at = paired memory from to
 operands (Shift op left size count register) ws at = counted count ∷ Data register ∷ []
-operands (ShiftMemory op left to) ws at = place Two ws to ∷ []
+operands (ShiftMemory op left to) ws at = place Two ws 1 to ∷ []

@@ -1,12 +1,17 @@
 //! The text of 68000 instructions.
 //!
-//! `text68` writes exactly the text of the definitions, so no append to a line is refused.
+//! `text68` writes exactly the text of the definitions, so no append to a line is refused. An instruction's name
+//! is one of a list (`specs/Listed`), and its operands are a list of at most two.
 #![tactic(auto)]
 
 mod append;
+mod laws;
 mod names;
 mod operand;
 mod operands;
 mod text;
 
+pub use laws::text_laws;
+pub use operand::{Operand, Operands};
+pub use operands::operands68;
 pub use text::text68;

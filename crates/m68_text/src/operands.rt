@@ -1,5 +1,5 @@
 ghost use Rattle.std.specs.Prelude.{◌≡◌, ◌<◌, ◌^◌, slice_index};
-ghost use Rattle.m68_text.specs.Operands.{counted as counted_of, directed as directed_of, exchanged as exchanged_of, immediate as immediate_of, listed, operands, paired as paired_of, place as place_of, target as target_of};
+ghost use Rattle.m68_text.specs.Operands.{counted as counted_of, directed as directed_of, exchanged as exchanged_of, immediate as immediate_of, listed, operands, paired as paired_of, place as place_of};
 
 use super::operand::Operand::{
     self, Address, Byte, ConditionCodes, Data, Displaced, Indexed, Indirect, Long, LongAddress,
@@ -7,7 +7,7 @@ use super::operand::Operand::{
     Target, Word,
 };
 use super::operand::Operands::{self, One, Two};
-use m68_isa::{Ea, Exchange, Instr68, ShiftCount};
+use m68_isa::{Ea, Exchange, Instr68, ShiftCount, branch_target};
 use mix_bits::Size;
 
 /// The word with this number, 0 behind the last one.
@@ -22,19 +22,21 @@ pub fn word_at(words: &[u16], at: usize) -> u32
     }
 }
 
-/// The extension words of an immediate, which stand behind the first word.
-fn immediate(size: Size, words: &[u16]) -> Operand
-    ensures { result ≡ immediate_of size words.now }
+/// The extension words of an immediate, which begin with this one.
+fn immediate(size: Size, words: &[u16], word: usize) -> Operand
+    requires { word < 50 }
+    ensures { result ≡ immediate_of size words.now word }
 {
     match size {
-        Size::Four => Long(word_at(words, 1) * 0x1_0000 + word_at(words, 2)),
-        _ => Word(word_at(words, 1)),
+        Size::Four => Long(word_at(words, word) * 0x1_0000 + word_at(words, word + 1)),
+        _ => Word(word_at(words, word)),
     }
 }
 
-/// An effective address, or an immediate of this size in the place of one.
-fn place(size: Size, words: &[u16], ea: Ea) -> Operand
-    ensures { result ≡ place_of size words.now ea }
+/// An effective address, or in the place of one the immediate of this size that begins with this word.
+fn place(size: Size, words: &[u16], word: usize, ea: Ea) -> Operand
+    requires { word < 50 }
+    ensures { result ≡ place_of size words.now word ea }
 {
     match ea {
         Ea::Dn(n) => Data(n),
@@ -48,7 +50,7 @@ fn place(size: Size, words: &[u16], ea: Ea) -> Operand
         Ea::AbsLong(address) => LongAddress(address),
         Ea::PcDisp(_, disp) => PcDisplaced(disp),
         Ea::PcIndexed(_, index) => PcIndexed(index),
-        Ea::Imm(_) => immediate(size, words),
+        Ea::Imm(_) => immediate(size, words, word),
     }
 }
 
@@ -95,27 +97,23 @@ fn counted(count: ShiftCount) -> Operand
     }
 }
 
-/// Where a branch at an address goes: its displacement counts from behind the first word.
-fn target(at: u32, disp: u32) -> Operand
-    ensures { result ≡ target_of at disp }
-{
-    Target(at.wrapping_add(2).wrapping_add(disp))
-}
-
-/// The operands of an instruction with these words at an address.
-pub fn operands_of(i: Instr68, words: &[u16], at: u32) -> Operands
+/// The operands of an instruction with these words at an address, the source first. An immediate begins with word 1.
+pub fn operands68(i: Instr68, words: &[u16], at: u32) -> Operands
     ensures { listed result ≡ operands i words.now at }
 {
     match i {
-        Instr68::Immediate { size, to, .. } => Two(immediate(size, words), place(size, words, to)),
-        Instr68::ImmediateToCcr { .. } => Two(immediate(Size::One, words), ConditionCodes),
+        Instr68::Immediate { size, to, .. } => Two(
+            immediate(size, words, 1),
+            place(size, words, 1, to),
+        ),
+        Instr68::ImmediateToCcr { .. } => Two(immediate(Size::One, words, 1), ConditionCodes),
         Instr68::BitByRegister { register, to, .. } => Two(
             Data(register),
-            place(Size::One, words, to),
+            place(Size::One, words, 1, to),
         ),
         Instr68::BitByNumber { to, .. } => Two(
-            immediate(Size::One, words),
-            place(Size::One, words, to),
+            immediate(Size::One, words, 1),
+            place(Size::One, words, 1, to),
         ),
         Instr68::Movep {
             to_memory,
@@ -124,22 +122,28 @@ pub fn operands_of(i: Instr68, words: &[u16], at: u32) -> Operands
             disp,
             ..
         } => directed(to_memory, register, Displaced(base, disp)),
-        Instr68::Move { size, from, to } => Two(place(size, words, from), place(size, words, to)),
-        Instr68::Movea { size, from, to } => Two(place(size, words, from), Address(to)),
-        Instr68::Negx { size, to } => One(place(size, words, to)),
-        Instr68::Clr { size, to } => One(place(size, words, to)),
-        Instr68::Neg { size, to } => One(place(size, words, to)),
-        Instr68::Not { size, to } => One(place(size, words, to)),
-        Instr68::MoveFromSr { to } => Two(StatusRegister, place(Size::Two, words, to)),
-        Instr68::MoveToCcr { from } => Two(place(Size::Two, words, from), ConditionCodes),
-        Instr68::Nbcd { to } => One(place(Size::One, words, to)),
+        Instr68::Move { size, from, to } => Two(
+            place(size, words, 1, from),
+            place(size, words, 1, to),
+        ),
+        Instr68::Movea { size, from, to } => Two(place(size, words, 1, from), Address(to)),
+        Instr68::Negx { size, to } => One(place(size, words, 1, to)),
+        Instr68::Clr { size, to } => One(place(size, words, 1, to)),
+        Instr68::Neg { size, to } => One(place(size, words, 1, to)),
+        Instr68::Not { size, to } => One(place(size, words, 1, to)),
+        Instr68::MoveFromSr { to } => Two(StatusRegister, place(Size::Two, words, 1, to)),
+        Instr68::MoveToCcr { from } => Two(place(Size::Two, words, 1, from), ConditionCodes),
+        Instr68::Nbcd { to } => One(place(Size::One, words, 1, to)),
         Instr68::Swap { register } => One(Data(register)),
-        Instr68::Pea { from } => One(place(Size::Four, words, from)),
+        Instr68::Pea { from } => One(place(Size::Four, words, 1, from)),
         Instr68::Ext { register, .. } => One(Data(register)),
-        Instr68::MovemToMemory { size, mask, to } => Two(Word(mask), place(size, words, to)),
-        Instr68::MovemFromMemory { size, mask, from } => Two(place(size, words, from), Word(mask)),
-        Instr68::Tst { size, of } => One(place(size, words, of)),
-        Instr68::Tas { to } => One(place(Size::One, words, to)),
+        Instr68::MovemToMemory { size, mask, to } => Two(Word(mask), place(size, words, 1, to)),
+        Instr68::MovemFromMemory { size, mask, from } => Two(
+            place(size, words, 1, from),
+            Word(mask),
+        ),
+        Instr68::Tst { size, of } => One(place(size, words, 1, of)),
+        Instr68::Tas { to } => One(place(Size::One, words, 1, to)),
         Instr68::Trap { number } => One(Number(number)),
         Instr68::Link { register, disp } => Two(Address(register), Word(disp)),
         Instr68::Unlk { register } => One(Address(register)),
@@ -147,31 +151,34 @@ pub fn operands_of(i: Instr68, words: &[u16], at: u32) -> Operands
         Instr68::Rts => Operands::None,
         Instr68::Trapv => Operands::None,
         Instr68::Rtr => Operands::None,
-        Instr68::Jsr { to } => One(place(Size::Four, words, to)),
-        Instr68::Jmp { to } => One(place(Size::Four, words, to)),
-        Instr68::Chk { bound, register } => Two(place(Size::Two, words, bound), Data(register)),
-        Instr68::Lea { from, to } => Two(place(Size::Four, words, from), Address(to)),
-        Instr68::Addq { size, number, to } => Two(Number(number), place(size, words, to)),
-        Instr68::Subq { size, number, to } => Two(Number(number), place(size, words, to)),
-        Instr68::Scc { to, .. } => One(place(Size::One, words, to)),
-        Instr68::Dbcc { register, disp, .. } => Two(Data(register), target(at, disp)),
-        Instr68::Bcc { disp, .. } => One(target(at, disp)),
+        Instr68::Jsr { to } => One(place(Size::Four, words, 1, to)),
+        Instr68::Jmp { to } => One(place(Size::Four, words, 1, to)),
+        Instr68::Chk { bound, register } => Two(place(Size::Two, words, 1, bound), Data(register)),
+        Instr68::Lea { from, to } => Two(place(Size::Four, words, 1, from), Address(to)),
+        Instr68::Addq { size, number, to } => Two(Number(number), place(size, words, 1, to)),
+        Instr68::Subq { size, number, to } => Two(Number(number), place(size, words, 1, to)),
+        Instr68::Scc { to, .. } => One(place(Size::One, words, 1, to)),
+        Instr68::Dbcc { register, disp, .. } => Two(
+            Data(register),
+            Target(branch_target(at, disp)),
+        ),
+        Instr68::Bcc { disp, .. } => One(Target(branch_target(at, disp))),
         Instr68::Moveq { value, to } => Two(Byte(value), Data(to)),
         Instr68::Or {
             size,
             to_memory,
             register,
             operand,
-        } => directed(to_memory, register, place(size, words, operand)),
-        Instr68::Div { by, register, .. } => Two(place(Size::Two, words, by), Data(register)),
+        } => directed(to_memory, register, place(size, words, 1, operand)),
+        Instr68::Div { by, register, .. } => Two(place(Size::Two, words, 1, by), Data(register)),
         Instr68::Sbcd { memory, from, to } => paired(memory, from, to),
         Instr68::Sub {
             size,
             to_memory,
             register,
             operand,
-        } => directed(to_memory, register, place(size, words, operand)),
-        Instr68::Suba { size, from, to } => Two(place(size, words, from), Address(to)),
+        } => directed(to_memory, register, place(size, words, 1, operand)),
+        Instr68::Suba { size, from, to } => Two(place(size, words, 1, from), Address(to)),
         Instr68::Subx {
             memory,
             from,
@@ -182,21 +189,21 @@ pub fn operands_of(i: Instr68, words: &[u16], at: u32) -> Operands
             size,
             with,
             register,
-        } => Two(place(size, words, with), Data(register)),
+        } => Two(place(size, words, 1, with), Data(register)),
         Instr68::Cmpa {
             size,
             with,
             register,
-        } => Two(place(size, words, with), Address(register)),
-        Instr68::Eor { size, register, to } => Two(Data(register), place(size, words, to)),
+        } => Two(place(size, words, 1, with), Address(register)),
+        Instr68::Eor { size, register, to } => Two(Data(register), place(size, words, 1, to)),
         Instr68::Cmpm { from, to, .. } => Two(PostIncrement(from), PostIncrement(to)),
         Instr68::And {
             size,
             to_memory,
             register,
             operand,
-        } => directed(to_memory, register, place(size, words, operand)),
-        Instr68::Mul { by, register, .. } => Two(place(Size::Two, words, by), Data(register)),
+        } => directed(to_memory, register, place(size, words, 1, operand)),
+        Instr68::Mul { by, register, .. } => Two(place(Size::Two, words, 1, by), Data(register)),
         Instr68::Abcd { memory, from, to } => paired(memory, from, to),
         Instr68::Exg { kind, upper, lower } => exchanged(kind, upper, lower),
         Instr68::Add {
@@ -204,8 +211,8 @@ pub fn operands_of(i: Instr68, words: &[u16], at: u32) -> Operands
             to_memory,
             register,
             operand,
-        } => directed(to_memory, register, place(size, words, operand)),
-        Instr68::Adda { size, from, to } => Two(place(size, words, from), Address(to)),
+        } => directed(to_memory, register, place(size, words, 1, operand)),
+        Instr68::Adda { size, from, to } => Two(place(size, words, 1, from), Address(to)),
         Instr68::Addx {
             memory,
             from,
@@ -217,6 +224,6 @@ pub fn operands_of(i: Instr68, words: &[u16], at: u32) -> Operands
             register,
             ..
         } => Two(counted(count), Data(register)),
-        Instr68::ShiftMemory { to, .. } => One(place(Size::Two, words, to)),
+        Instr68::ShiftMemory { to, .. } => One(place(Size::Two, words, 1, to)),
     }
 }

@@ -6,7 +6,7 @@ ghost use Rattle.m68_text.specs.Text.{text_of};
 use super::append::add_hex;
 use super::names::name_of;
 use super::operand::add_operands;
-use super::operands::{operands_of, word_at};
+use super::operands::{operands68, word_at};
 use m68_isa::Decoded68;
 use mix_bits::Line;
 
@@ -25,7 +25,7 @@ pub fn text68(d: &Decoded68, words: &[u16], at: u32, line: &mut Line)
             line.add(name.stem);
             line.add(name.condition);
             line.add(name.suffix);
-            add_operands(line, operands_of(i, words, at));
+            add_operands(line, operands68(i, words, at));
         }
         _ => {
             line.add("dc.w ");

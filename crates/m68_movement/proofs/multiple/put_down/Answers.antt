@@ -2,7 +2,7 @@ use Rattle.std.proofs.Common.{◌≡◌, ◌≤◌, ◌<◌, ◌+◌, ◌-◌, �
 use Rattle.std.specs.List.{range_with_len}
 use Rattle.mix_bits.specs.declared.fault.FaultKind.TheVariants.{Odd}
 use Rattle.mix_bits.specs.Sizes.{bytes_of}
-use Rattle.big_memory.specs.Faults.{fault_at}
+use Rattle.mix_bits.specs.Faults.{fault_at}
 use Rattle.m68_effects.specs.Multiple.{listed, register_of, stored_down}
 use Rattle.m68_movement.specs.Along.{CanStore}
 use Rattle.m68_movement.proofs.Down.{even_not_odd, last_place, may_below, most_bytes, none_down, one_down, one_less, place_below}
@@ -24,7 +24,7 @@ loop-k-init c = (
 pub put-requires : goal.put-requires
 put-requires c =
     let at : c.bytes-at.result ≡ bytes_of c.args.size = c.bytes-at.ensures in
-    let none = may_below c.args.ram.now c.args.base c.loop-k.at c.loop-k.k (bytes_of c.args.size) c.memory_laws.ensures.within c.len-len.ensures.whole c.requires.open c.requires.from
+    let none = may_below c.args.ram.now c.args.base c.loop-k.at c.loop-k.k (bytes_of c.args.size) c.memory_laws.ensures.within c.meets_invariant.ensures c.requires.open c.requires.from
     c.loop-k.invariant.5 (omega arith) c.loop-k.invariant.4 (most_bytes c.args.size) in
     rw at (c.memory_laws.ensures.refusals c.args.ram.now c.loop-k.ram (c.loop-k.at - bytes_of c.args.size) (bytes_of c.args.size) c.loop-k.invariant.1 ∙ none)
 
@@ -39,10 +39,10 @@ loop-k-preserved c =
           let few : bytes_of c.args.size ≤ 4 = most_bytes c.args.size in
           let within : bytes_of c.args.size ≤ c.loop-k.at = omega (arith, few, c.loop-k.invariant.5, c.requires.from, below) in
           let even : (c.loop-k.at - bytes_of c.args.size) % 2 ≡ 0 = omega (arith, within, c.loop-k.invariant.3, c.requires.size) in
-          let none = may_below c.args.ram.now c.args.base c.loop-k.at c.loop-k.k (bytes_of c.args.size) c.memory_laws.ensures.within c.len-len.ensures.whole c.requires.open c.requires.from
+          let none = may_below c.args.ram.now c.args.base c.loop-k.at c.loop-k.k (bytes_of c.args.size) c.memory_laws.ensures.within c.meets_invariant.ensures c.requires.open c.requires.from
           c.loop-k.invariant.5 below c.loop-k.invariant.4 few in
           let can : CanStore c.args.regs.now.pc c.args.ram.now (c.loop-k.at - bytes_of c.args.size) c.args.size true (fault_at 0 Odd 0) =
-          can_store _ _ _ _ (fault_at 0 Odd 0) c.memory_laws.ensures.refusals c.memory_laws.ensures.ram c.memory_laws.ensures.joins c.memory_laws.ensures.stores c.len-len.ensures.whole
+          can_store _ _ _ _ (fault_at 0 Odd 0) c.memory_laws.ensures.refusals c.memory_laws.ensures.ram c.memory_laws.ensures.joins c.memory_laws.ensures.stores c.meets_invariant.ensures
           (even_not_odd _ c.args.size even) none in
           let fits : c.loop-k.at < 2 ^ 32 = omega (arith, c.loop-k.invariant.4, c.ranges.base.fits) in
           let long : length (filter (has c.args.mask) (range_with_len c.loop-k.k (16 - c.loop-k.k))) ≡ suc (length rest) = ap length left in
