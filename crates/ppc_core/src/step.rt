@@ -26,12 +26,7 @@ pub fn step_ppc(regs: &mut RegsPpc, ram: &mut Ram) -> OutPpc
     requires { is_gate regs.old.pc ≡ false }
     ensures { Steps (stepped regs.old ram.old) result regs.old regs.new ram.old ram.new }
 {
-    let mut fault = Fault {
-        kind: FaultKind::BadInstr,
-        pc: 0,
-        detail: 0,
-        also: 0,
-    };
+    let mut fault = Fault::at(0, FaultKind::BadInstr, 0);
     match run(regs, ram, &mut fault) {
         Did::Next => OutPpc::Next,
         Did::Leave => OutPpc::Host(fault.detail),

@@ -5,10 +5,8 @@ use Rattle.mix_bits.specs.Digits.{digit_of}
 use Rattle.ppc_isa.specs.declared.registers.RegsPpc.{RegsPpc}
 use Rattle.ppc_isa.specs.declared.instruction.BranchRegister.{BranchRegister}
 use Rattle.ppc_isa.specs.declared.instruction.BranchRegister.TheVariants.{Link, Count}
+use Rattle.ppc_isa.specs.Targets.{branch_target}
 use Rattle.ppc_alu.specs.Condition.{bit_of}
-
-abbrev pub target_of : RegsPpc → ℕ → Bool → ℕ
-target_of r displacement aa = if aa then displacement else onward r.pc displacement
 
 -- with LK, the link register takes the address of the next instruction
 abbrev pub linked : Bool → RegsPpc → RegsPpc
@@ -43,10 +41,10 @@ branch_where r bo bi lk target =
     }
 
 abbrev pub branch : RegsPpc → ℕ → Bool → Bool → RegsPpc
-branch r displacement aa lk = record (linked lk r) { pc = target_of r displacement aa }
+branch r displacement aa lk = record (linked lk r) { pc = branch_target aa r.pc displacement }
 
 abbrev pub branch_conditional : RegsPpc → ℕ → ℕ → ℕ → Bool → Bool → RegsPpc
-branch_conditional r bo bi displacement aa lk = branch_where r bo bi lk (target_of r displacement aa)
+branch_conditional r bo bi displacement aa lk = branch_where r bo bi lk (branch_target aa r.pc displacement)
 
 abbrev pub branch_conditional_to_register : RegsPpc → BranchRegister → ℕ → ℕ → Bool → RegsPpc
 branch_conditional_to_register r Link bo bi lk = branch_where r bo bi lk (aligned r.lr)

@@ -4,7 +4,7 @@ use Rattle.mix_bits.specs.declared.size.Size.TheVariants.{Four}
 use Rattle.mix_bits.specs.declared.fault.FaultKind.TheVariants.{BadInstr, Trap, Odd, GateFetch}
 use Rattle.big_memory.specs.Memory.{Memory, loaded}
 use Rattle.big_memory.specs.Map.{host_code, in_gate_page}
-use Rattle.big_memory.specs.Faults.{fault_at}
+use Rattle.mix_bits.specs.Faults.{fault_at}
 use Rattle.big_memory.specs.Steps.{After}
 use Rattle.big_memory.specs.Steps.After.{Goes, Leaves, Stops}
 use Rattle.ppc_isa.specs.declared.registers.RegsPpc.{RegsPpc}

@@ -8,3 +8,4 @@ pub mod Branches
 pub mod Storage
 pub mod Strings
 pub mod Effects
+pub mod Laws

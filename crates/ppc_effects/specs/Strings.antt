@@ -11,7 +11,7 @@ use Rattle.mix_bits.specs.declared.fault.FaultKind.TheVariants.{BadInstr}
 use Rattle.big_memory.specs.declared.refusals.Access.{Access}
 use Rattle.big_memory.specs.Memory.{Memory, loaded}
 use Rattle.big_memory.specs.Stores.{stored_longs, stored_value}
-use Rattle.big_memory.specs.Faults.{fault_at}
+use Rattle.mix_bits.specs.Faults.{fault_at}
 use Rattle.big_memory.specs.Steps.{After, after_store}
 use Rattle.big_memory.specs.Steps.After.{Goes, Stops}
 use Rattle.ppc_isa.specs.declared.registers.RegsPpc.{RegsPpc}

@@ -3,7 +3,9 @@
 #![tactic(auto)]
 
 mod addresses;
+mod laws;
 mod results;
 
 pub use addresses::{base, index_address, offset_address};
+pub use laws::effect_laws;
 pub use results::{advance, put_arith, put_result};

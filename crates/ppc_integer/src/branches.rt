@@ -6,13 +6,13 @@ ghost use Rattle.big_memory.specs.Steps.{Does};
 ghost use Rattle.ppc_isa.specs.Fields.{fields_of};
 ghost use Rattle.ppc_isa.specs.Rows.{displacement_of};
 ghost use Rattle.ppc_isa.specs.declared.instruction.InstrPpc.TheVariants.{Branch, BranchConditional, BranchConditionalToRegister};
-ghost use Rattle.ppc_effects.specs.Branches.{branch_where, condition_allows as condition_allows_of, count_allows as count_allows_of, counted, target_of};
+ghost use Rattle.ppc_effects.specs.Branches.{branch_where, condition_allows as condition_allows_of, count_allows as count_allows_of, counted};
 ghost use Rattle.ppc_effects.specs.Effects.{runs};
 
 use big_memory::Did;
 use mix_bits::{aligned, onward};
 use ppc_alu::cr_bit;
-use ppc_isa::{BranchRegister, RegsPpc};
+use ppc_isa::{BranchRegister, RegsPpc, branch_target};
 use ppc_ops::{a_of, d_of, far_displacement_of, is_absolute, is_last, near_displacement_of};
 
 /// b.
@@ -21,7 +21,7 @@ use ppc_ops::{a_of, d_of, far_displacement_of, is_absolute, is_last, near_displa
 pub fn branch(regs: &mut RegsPpc, word: u32) -> Did
     ensures { (why : Fault) (m : Memory) → let f = fields_of word in Does (runs regs.old m word (Branch (displacement_of 26 (f.d * 2 ^ 21 + f.a * 2 ^ 16 + f.low / 4 * 4)) ((f.low / 2 % 2) == 1) f.last)) result why regs.old regs.new m m }
 {
-    let to = target(regs, far_displacement_of(word), is_absolute(word));
+    let to = branch_target(is_absolute(word), regs.pc, far_displacement_of(word));
     if is_last(word) {
         regs.lr = onward(regs.pc, 4);
     }
@@ -35,7 +35,7 @@ pub fn branch(regs: &mut RegsPpc, word: u32) -> Did
 pub fn branch_conditional(regs: &mut RegsPpc, word: u32) -> Did
     ensures { (why : Fault) (m : Memory) → let f = fields_of word in Does (runs regs.old m word (BranchConditional f.d f.a (displacement_of 16 (f.low / 4 * 4)) ((f.low / 2 % 2) == 1) f.last)) result why regs.old regs.new m m }
 {
-    let to = target(regs, near_displacement_of(word), is_absolute(word));
+    let to = branch_target(is_absolute(word), regs.pc, near_displacement_of(word));
     branch_to(regs, word, to);
     Did::Next
 }
@@ -56,18 +56,6 @@ pub fn branch_conditional_to_register(
     };
     branch_to(regs, word, to);
     Did::Next
-}
-
-/// The target of a branch by a distance, or to an address.
-#[inline(always)]
-fn target(regs: &RegsPpc, displacement: u32, absolute: bool) -> u32
-    ensures { result ≡ target_of regs.now displacement absolute }
-{
-    if absolute {
-        displacement
-    } else {
-        onward(regs.pc, displacement)
-    }
 }
 
 /// Counts down, links and goes to a target, each where BO and LK say so.

@@ -1,5 +1,6 @@
 ghost use Rattle.std.specs.Prelude.{◌≡◌, ◌↔◌, IfSome};
 ghost use Rattle.ppc_isa.specs.Fields.{IsFields, word_with};
+ghost use Rattle.ppc_isa.specs.Laws.{DecodedStands};
 ghost use Rattle.ppc_isa.specs.Valid.{Encodes, InRange, Stands};
 ghost use Rattle.ppc_isa.specs.Rows.{decoded, extended, kept, primary, row_of};
 ghost use Rattle.ppc_isa.specs.declared.instruction.InstrPpc.{InstrPpc};
@@ -27,6 +28,11 @@ pub fn decode_ppc(word: u32) -> Option<InstrPpc>
 {
     keep_valid(decode_fields(fields_of(word)))
 }
+
+/// What holds of the words of instructions. It does nothing: the clause is its point.
+pub fn word_laws()
+    ensures { DecodedStands }
+{}
 
 /// The instruction, if it is none of the manual's invalid forms.
 fn keep_valid(read: Option<InstrPpc>) -> Option<InstrPpc>

@@ -2,7 +2,6 @@
 //! does the step of its word, registers in place, and changes nothing where an access is refused.
 #![tactic(auto)]
 
-mod invariant;
 mod loads;
 mod multiple;
 mod reversed;

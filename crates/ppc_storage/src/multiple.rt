@@ -9,7 +9,6 @@ ghost use Rattle.ppc_effects.specs.Strings.{in_order, load_multiple as load_mult
 ghost use Rattle.ppc_isa.specs.declared.instruction.InstrPpc.TheVariants.{LoadMultiple, StoreMultiple};
 ghost use Rattle.ppc_storage.specs.Tested.{WordsTested, WordsThere};
 
-use super::invariant::meets_invariant;
 use big_memory::{Access, Did, Ram, refuse};
 use mix_bits::{Fault, Size, onward};
 use ppc_effects::{advance, offset_address};
@@ -61,7 +60,7 @@ fn store_words(ram: &mut Ram, at: u32, words: &[u32]) -> Result<(), Access>
     requires { length words.now ≤ 32 }
     ensures { Stores result (stored_longs ram.old at words.now) ram.old ram.new }
 {
-    meets_invariant(ram);
+    ram.meets_invariant();
     match ram.probe(at, 4 * words.len() as u32) {
         Ok(()) => {
             put_words(ram, at, words);
@@ -90,7 +89,7 @@ fn test_words(ram: &Ram, at: u32, count: u32) -> Result<(), Access>
     requires { count ≤ 32 }
     ensures { WordsTested ram.now at count result }
 {
-    meets_invariant(ram);
+    ram.meets_invariant();
     if count > 0 && ram.has(at, 4 * count) {
         return Ok(());
     }

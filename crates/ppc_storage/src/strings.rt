@@ -8,7 +8,6 @@ ghost use Rattle.ppc_effects.specs.Strings.{fills as fills_lem, in_order, length
 ghost use Rattle.ppc_isa.specs.declared.instruction.InstrPpc.TheVariants.{LoadStringImmediate, LoadStringIndexed, StoreStringImmediate, StoreStringIndexed};
 ghost use Rattle.ppc_storage.specs.Tested.{BytesOpen, BytesTested, BytesThere, OpenTested};
 
-use super::invariant::meets_invariant;
 use big_memory::{Access, Did, Ram, refuse, stop};
 use mix_bits::{Fault, FaultKind, digit, onward, with_digit};
 use ppc_alu::xer_string_length;
@@ -119,7 +118,7 @@ fn store_string(
     requires short { length < 128 }
     ensures { Does (store_string_of regs.old ram.old first at length) result fault.new regs.old regs.new ram.old ram.new }
 {
-    meets_invariant(ram);
+    ram.meets_invariant();
     match test_open(ram, at, length) {
         Ok(()) => {
             store_bytes(ram, at, first, length, &regs.gpr);

@@ -6,12 +6,7 @@ use std::test::Fail;
 
 /// A fault of the instruction at `pc`.
 fn stopped(kind: FaultKind, pc: u32, detail: u32) -> OutPpc {
-    OutPpc::Stop(Fault {
-        kind,
-        pc,
-        detail,
-        also: 0,
-    })
+    OutPpc::Stop(Fault::at(pc, kind, detail))
 }
 
 // Nothing changes: neither a register nor memory before the place that is refused.

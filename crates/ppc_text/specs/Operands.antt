@@ -1,24 +1,27 @@
 -- The kinds of operands, each with its text, and the operands of each instruction in the order of
 -- its line (PowerPC 601 RISC Microprocessor User's Manual, chapter 10).
-use Rattle.std.specs.Prelude.{ℕ, ◌+◌, ◌%◌, ◌^◌, List, [], ◌∷◌, ◌++◌, codes, decimal, map, Bool, if◌then◌else◌}
+use Rattle.std.specs.Prelude.{ℕ, List, [], ◌∷◌, ◌++◌, codes, decimal, map, Bool, if◌then◌else◌}
 use Rattle.std.specs.Fmt.{signed_decimal}
 use Rattle.std.specs.List.{join_with_byte}
 use Rattle.mix_bits.specs.Sizes.{signed_of}
 use Rattle.mix_bits.specs.Text.{hexadecimal}
-use Rattle.mix_bits.specs.declared.size.Size.TheVariants.{Two}
+use Rattle.mix_bits.specs.declared.size.Size.TheVariants.{Two as TwoBytes}
+use Rattle.ppc_isa.specs.Targets.{branch_target}
 use Rattle.ppc_isa.specs.declared.instruction.SpecialRegister.{SpecialRegister}
 use Rattle.ppc_isa.specs.declared.instruction.SpecialRegister.TheVariants.{Xer, Link, Count}
 use Rattle.ppc_isa.specs.declared.instruction.InstrPpc.{InstrPpc}
 use Rattle.ppc_isa.specs.declared.instruction.InstrPpc.TheVariants.{TrapWordImmediate, MultiplyLowImmediate, SubtractFromImmediateCarrying, CompareImmediate, AddImmediateCarrying, AddImmediate, BranchConditional, Branch, RotateLeftImmediate, RotateLeft, LogicalImmediate, Load, Store, LoadMultiple, StoreMultiple, MoveConditionField, BranchConditionalToRegister, ConditionLogical, InstructionSynchronize, Add, AddExtended, SubtractFrom, SubtractFromExtended, Negate, MultiplyLow, MultiplyHigh, Divide, Logical, Unary, Shift, ShiftRightAlgebraicImmediate, Compare, TrapWord, LoadIndexed, StoreIndexed, LoadReversed, StoreReversed, LoadStringImmediate, StoreStringImmediate, LoadStringIndexed, StoreStringIndexed, MoveFromConditionRegister, MoveToConditionFields, MoveXerToConditionField, MoveFromSpecial, MoveToSpecial, Synchronize}
 use Rattle.ppc_text.specs.declared.operand.Operand.{Operand}
 use Rattle.ppc_text.specs.declared.operand.Operand.TheVariants.{Register, Number, Signed, Displaced, Target}
+use Rattle.ppc_text.specs.declared.operand.Operands.{Operands}
+use Rattle.ppc_text.specs.declared.operand.Operands.TheVariants.{None as NoOperand, One, Two, Three, Four, Five}
 
 abbrev pub register_text : ℕ → List ℕ
 register_text n = codes "r" ++ decimal n
 
 -- sixteen bits as a signed number
 abbrev pub signed_text : ℕ → List ℕ
-signed_text n = signed_decimal (signed_of n Two)
+signed_text n = signed_decimal (signed_of n TwoBytes)
 
 abbrev pub operand_text : Operand → List ℕ
 operand_text (Register n) = register_text n
@@ -26,6 +29,15 @@ operand_text (Number n) = decimal n
 operand_text (Signed n) = signed_text n
 operand_text (Displaced offset base) = signed_text offset ++ codes "(" ++ register_text base ++ codes ")"
 operand_text (Target address) = codes "$" ++ hexadecimal 8 address
+
+-- operands as a list
+abbrev pub listed : Operands → List Operand
+listed NoOperand = []
+listed (One a) = a ∷ []
+listed (Two a b) = a ∷ b ∷ []
+listed (Three a b c) = a ∷ b ∷ c ∷ []
+listed (Four a b c d) = a ∷ b ∷ c ∷ d ∷ []
+listed (Five a b c d e) = a ∷ b ∷ c ∷ d ∷ e ∷ []
 
 -- with commas between them
 abbrev pub joined : List Operand → List ℕ
@@ -35,10 +47,6 @@ joined os = join_with_byte 44 (map operand_text os)
 abbrev pub operands_text : List Operand → List ℕ
 operands_text [] = []
 operands_text (o ∷ os) = codes " " ++ joined (o ∷ os)
-
--- where a branch goes: its displacement counts from address 0 or from its own address
-abbrev pub target : Bool → ℕ → ℕ → ℕ
-target aa at displacement = if aa then displacement else (at + displacement) % 2 ^ 32
 
 abbrev pub special_number : SpecialRegister → ℕ
 special_number Xer = 1
@@ -56,8 +64,8 @@ operands (TrapWordImmediate to a immediate) at = Number to ∷ Register a ∷ Si
 operands (LogicalImmediate op a s immediate) at = Register a ∷ Register s ∷ Number immediate ∷ []
 operands (RotateLeftImmediate outside a s sh mb me rc) at = Register a ∷ Register s ∷ Number sh ∷ Number mb ∷ Number me ∷ []
 operands (RotateLeft a s b mb me rc) at = Register a ∷ Register s ∷ Register b ∷ Number mb ∷ Number me ∷ []
-operands (BranchConditional bo bi displacement aa lk) at = Number bo ∷ Number bi ∷ Target (target aa at displacement) ∷ []
-operands (Branch displacement aa lk) at = Target (target aa at displacement) ∷ []
+operands (BranchConditional bo bi displacement aa lk) at = Number bo ∷ Number bi ∷ Target (branch_target aa at displacement) ∷ []
+operands (Branch displacement aa lk) at = Target (branch_target aa at displacement) ∷ []
 operands (Load kind update d a offset) at = Register d ∷ Displaced offset a ∷ []
 operands (Store kind update s a offset) at = Register s ∷ Displaced offset a ∷ []
 operands (LoadMultiple d a offset) at = Register d ∷ Displaced offset a ∷ []

@@ -4,9 +4,13 @@
 #![tactic(auto)]
 
 mod append;
+mod laws;
 mod names;
 mod operand;
 mod operands;
 mod text;
 
-pub use text::text_ppc;
+pub use laws::text_laws;
+pub use operand::{Operand, Operands};
+pub use operands::operands_ppc;
+pub use text::{text_long, text_ppc};

@@ -1,5 +1,5 @@
-ghost use Rattle.std.specs.Prelude.{◌≡◌, ◌+◌, ◌*◌, ◌≤◌, ◌++◌, length};
-ghost use Rattle.ppc_text.specs.Operands.{joined, operand_text, operands_text, register_text, signed_text};
+ghost use Rattle.std.specs.Prelude.{◌≡◌, ◌+◌, ◌*◌, ◌<◌, ◌≤◌, ◌++◌, length};
+ghost use Rattle.ppc_text.specs.Operands.{joined, listed, operand_text, operands_text, register_text, signed_text};
 
 use super::append::{add_long, add_number};
 use mix_bits::Line;
@@ -17,6 +17,17 @@ pub enum Operand {
     Displaced(u16, u8),
     /// The address that a branch goes to.
     Target(u32),
+}
+
+/// The operands of an instruction: at most five.
+#[derive(Clone, Copy)]
+pub enum Operands {
+    None,
+    One(Operand),
+    Two(Operand, Operand),
+    Three(Operand, Operand, Operand),
+    Four(Operand, Operand, Operand, Operand),
+    Five(Operand, Operand, Operand, Operand, Operand),
 }
 
 fn add_register(line: &mut Line, n: u8)
@@ -82,14 +93,29 @@ fn add_joined(line: &mut Line, operands: &[Operand])
     }
 }
 
-/// Appends a space and the operands.
-pub fn add_list(line: &mut Line, operands: &[Operand])
-    requires { length line.old + 15 * length operands.now + 1 ≤ 160 }
+/// Appends a space and operands.
+fn add_list(line: &mut Line, operands: &[Operand])
+    requires some { 0 < length operands.now }
+    requires room { length line.old + 15 * length operands.now + 1 ≤ 160 }
     ensures text { line.new ≡ line.old ++ operands_text operands.now }
     ensures grows { length line.new ≤ length line.old + 15 * length operands.now + 1 }
 {
-    if !operands.is_empty() {
-        line.add(" ");
-        add_joined(line, operands);
+    line.add(" ");
+    add_joined(line, operands);
+}
+
+/// Appends the operands of an instruction.
+pub fn add_operands(line: &mut Line, operands: Operands)
+    requires { length line.old ≤ 8 }
+    ensures text { line.new ≡ line.old ++ operands_text (listed operands) }
+    ensures grows { length line.new ≤ length line.old + 76 }
+{
+    match operands {
+        Operands::None => {}
+        Operands::One(a) => add_list(line, &[a]),
+        Operands::Two(a, b) => add_list(line, &[a, b]),
+        Operands::Three(a, b, c) => add_list(line, &[a, b, c]),
+        Operands::Four(a, b, c, d) => add_list(line, &[a, b, c, d]),
+        Operands::Five(a, b, c, d, e) => add_list(line, &[a, b, c, d, e]),
     }
 }

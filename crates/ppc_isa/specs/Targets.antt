@@ -1,0 +1,7 @@
+-- Where a branch by a distance goes.
+use Rattle.std.specs.Prelude.{ℕ, Bool, if◌then◌else◌}
+use Rattle.mix_bits.specs.Addresses.{onward}
+
+-- with AA the displacement counts from address 0, else from the branch
+abbrev pub branch_target : Bool → ℕ → ℕ → ℕ
+branch_target aa at displacement = if aa then displacement else onward at displacement
