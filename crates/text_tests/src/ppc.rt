@@ -1,5 +1,6 @@
 // Texts of PowerPC words, which GNU as 2.40 (-m601 -mregnames) makes of the same line, but for its
-// spelling of targets and for words that are no instruction.
+// spelling of targets and for words that are no instruction. Each text is assembled back.
+use asm_ppc::assemble_ppc;
 use mix_bits::Line;
 use ppc_text::text_ppc;
 use std::process::Abort;
@@ -12,6 +13,7 @@ fn compare<R: Abort>(rt: &R, rows: &[Row]) {
         let mut line = Line::new();
         text_ppc(*word, *at, &mut line);
         assert_eq!(rt; line.bytes(), text.as_bytes(), "{text}");
+        assert!(rt; assemble_ppc(text.as_bytes(), *at) == Ok(*word), "{text}");
     }
 }
 
@@ -226,6 +228,59 @@ fn conditions_and_special_registers(rt: HostRuntime) {
             (0x7C61_02A6, 0x0, "mfspr r3,1"),
             (0x7C69_03A6, 0x0, "mtspr 9,r3"),
             (0x7C08_03A6, 0x0, "mtspr 8,r0"),
+        ],
+    );
+}
+
+// OE is bit 21 and Rc bit 31 of the word: these are worked out by hand from the manual's formats.
+#[test]
+fn marks(rt: HostRuntime) {
+    compare(
+        &rt,
+        &[
+            (0x7C64_2A15, 0x0, "add. r3,r4,r5"),
+            (0x7C64_2E14, 0x0, "addo r3,r4,r5"),
+            (0x7C64_2C14, 0x0, "addco r3,r4,r5"),
+            (0x7C64_2C15, 0x0, "addco. r3,r4,r5"),
+            (0x7C64_2915, 0x0, "adde. r3,r4,r5"),
+            (0x7C64_2D15, 0x0, "addeo. r3,r4,r5"),
+            (0x7C64_0195, 0x0, "addze. r3,r4"),
+            (0x7C64_0594, 0x0, "addzeo r3,r4"),
+            (0x7C64_01D5, 0x0, "addme. r3,r4"),
+            (0x7C64_05D5, 0x0, "addmeo. r3,r4"),
+            (0x7C64_2851, 0x0, "subf. r3,r4,r5"),
+            (0x7C64_2C50, 0x0, "subfo r3,r4,r5"),
+            (0x7C64_2811, 0x0, "subfc. r3,r4,r5"),
+            (0x7C64_2C11, 0x0, "subfco. r3,r4,r5"),
+            (0x7C64_2D10, 0x0, "subfeo r3,r4,r5"),
+            (0x7C64_2D11, 0x0, "subfeo. r3,r4,r5"),
+            (0x7C64_0191, 0x0, "subfze. r3,r4"),
+            (0x7C64_0590, 0x0, "subfzeo r3,r4"),
+            (0x7C64_0591, 0x0, "subfzeo. r3,r4"),
+            (0x7C64_01D0, 0x0, "subfme r3,r4"),
+            (0x7C64_01D1, 0x0, "subfme. r3,r4"),
+            (0x7C64_05D0, 0x0, "subfmeo r3,r4"),
+            (0x7C64_00D1, 0x0, "neg. r3,r4"),
+            (0x7C64_04D0, 0x0, "nego r3,r4"),
+            (0x7C64_29D7, 0x0, "mullw. r3,r4,r5"),
+            (0x7C64_2DD6, 0x0, "mullwo r3,r4,r5"),
+            (0x7C64_2897, 0x0, "mulhw. r3,r4,r5"),
+            (0x7C64_2BD7, 0x0, "divw. r3,r4,r5"),
+            (0x7C64_2FD7, 0x0, "divwo. r3,r4,r5"),
+            (0x7C64_2B97, 0x0, "divwu. r3,r4,r5"),
+            (0x7C64_2F96, 0x0, "divwuo r3,r4,r5"),
+            (0x7C83_2A79, 0x0, "xor. r3,r4,r5"),
+            (0x7C83_2BB9, 0x0, "nand. r3,r4,r5"),
+            (0x7C83_28F9, 0x0, "nor. r3,r4,r5"),
+            (0x7C83_2A39, 0x0, "eqv. r3,r4,r5"),
+            (0x7C83_2879, 0x0, "andc. r3,r4,r5"),
+            (0x7C83_2B38, 0x0, "orc r3,r4,r5"),
+            (0x7C83_0775, 0x0, "extsb. r3,r4"),
+            (0x7C83_0734, 0x0, "extsh r3,r4"),
+            (0x7C83_0035, 0x0, "cntlzw. r3,r4"),
+            (0x7C83_2831, 0x0, "slw. r3,r4,r5"),
+            (0x7C83_2C30, 0x0, "srw r3,r4,r5"),
+            (0x7C83_2E31, 0x0, "sraw. r3,r4,r5"),
         ],
     );
 }

@@ -1,0 +1,5 @@
+pub mod Reading
+pub mod Spelling
+pub mod Table
+pub mod Assembly
+pub mod Laws
