@@ -7,9 +7,10 @@ use Rattle.std.proofs.lemmas.List.{length-append}
 use Rattle.std.proofs.lemmas.List.Elements.{All-cons, All-append, All-filter, filter_passes}
 use Rattle.std.proofs.lemmas.List.Kept.{AllPairs-cons, AllPairs-filter}
 use Rattle.host_heap.specs.declared.block.Block.{Block}
-use Rattle.host_heap.specs.Space.{Space, rounded, IsApart, HasRoom, IsLowest}
-use Rattle.host_heap.specs.Place.{IsPlace, place_for, lowest_fit, with_block, with_place, taken, begins_at, freed}
+use Rattle.host_heap.specs.Space.{Space, block_limit, rounded, IsApart, HasRoom, IsLowest}
+use Rattle.host_heap.specs.Place.{IsPlace, place_for, lowest_fit, placed, placed_where, taken, begins_at, freed}
 use Rattle.host_heap.specs.Sound.{IsInside, IsAligned, EndsBefore, IsSound}
+use Rattle.host_heap.proofs.Fits.{CanPlace}
 use Rattle.host_heap.proofs.Lowest.{place_for-place, IsLowest-from}
 use Rattle.host_heap.proofs.Order.{AllPairs-append, length-filter_two, length-filter-le, filter_out_none}
 
@@ -58,14 +59,14 @@ pub rounded-least : (size : ℕ) → 8 ≤ rounded size
 rounded-least size = omega arith
 
 -- a new block in room of its own
-pub IsSound-added : (s : Space) (size address : ℕ) → IsSound s → length s.blocks < 4096 → size % 8 ≡ 0 → 8 ≤ size → address % 8 ≡ 0 → HasRoom s size address → IsSound (record s { blocks = with_block s.blocks (record { address = address; size = size }) })
-IsSound-added s size address h few whole least even room =
+pub IsSound-placed : (s : Space) (size address : ℕ) → IsSound s → CanPlace s size address → IsSound (placed s size address)
+IsSound-placed s size address h can =
     record {
       low = h.low;
       high = h.high;
       order = h.order;
-      inside = All-append (IsInside s) below (new ∷ above) (All-filter is_below (IsInside s) s.blocks h.inside) (All-cons (IsInside s) new above (room.above, room.below) (All-filter is_above (IsInside s) s.blocks h.inside));
-      aligned = All-append IsAligned below (new ∷ above) (All-filter is_below IsAligned s.blocks h.aligned) (All-cons IsAligned new above (even, whole, least) (All-filter is_above IsAligned s.blocks h.aligned));
+      inside = All-append (IsInside s) below (new ∷ above) (All-filter is_below (IsInside s) s.blocks h.inside) (All-cons (IsInside s) new above (can.room.above, can.room.below) (All-filter is_above (IsInside s) s.blocks h.inside));
+      aligned = All-append IsAligned below (new ∷ above) (All-filter is_below IsAligned s.blocks h.aligned) (All-cons IsAligned new above (can.even, can.whole, can.least) (All-filter is_above IsAligned s.blocks h.aligned));
       apart = AllPairs-append EndsBefore below (new ∷ above)
           (AllPairs-filter EndsBefore is_below s.blocks h.apart)
           (AllPairs-cons EndsBefore new above over (AllPairs-filter EndsBefore is_above s.blocks h.apart))
@@ -93,41 +94,45 @@ IsSound-added s size address h few whole least even room =
     under : All (λ b. EndsBefore b new) below
     under = λ k d l.
         let low = ltb-true _ address (filter_passes is_below s.blocks k d l) in
-        ⊎_elim (λ e. absurd (omega arith)) (λ e. e) (All-filter is_below (IsApart size address) s.blocks room.apart k d l)
+        ⊎_elim (λ e. absurd (omega arith)) (λ e. e) (All-filter is_below (IsApart size address) s.blocks can.room.apart k d l)
 
     over : All (EndsBefore new) above
     over = λ k d l.
         let high = ltb-true address _ (filter_passes is_above s.blocks k d l) in
-        ⊎_elim (λ e. e) (λ e. absurd (omega arith)) (All-filter is_above (IsApart size address) s.blocks room.apart k d l)
+        ⊎_elim (λ e. e) (λ e. absurd (omega arith)) (All-filter is_above (IsApart size address) s.blocks can.room.apart k d l)
 
--- whatever `get` may answer
-pub IsSound-placed : (s : Space) (size : ℕ) → (r : Option ℕ) → IsSound s → IsPlace s size r → IsSound (record s { blocks = with_place s.blocks (rounded size) r })
-IsSound-placed s size None h place = h
-IsSound-placed s size (Some address) h place =
-    IsSound-added s (rounded size) address h place.0 (rounded-aligned size) (rounded-least size)
-    (IsLowest-aligned s (rounded size) address h place.1)
-    place.1.room
+-- the block that `get` makes may be placed
+pub CanPlace-got : (s : Space) (size address : ℕ) → IsSound s → length s.blocks < block_limit → IsLowest s (rounded size) address → CanPlace s (rounded size) address
+CanPlace-got s size address h few low = record {
+  few = few;
+  whole = rounded-aligned size;
+  least = rounded-least size;
+  even = IsLowest-aligned s (rounded size) address h low;
+  room = low.room;
+}
+
+IsSound-where : (s : Space) (size : ℕ) → (r : Option ℕ) → IsSound s → IsPlace s size r → IsSound (placed_where s (rounded size) r)
+IsSound-where s size None h place = h
+IsSound-where s size (Some address) h place = IsSound-placed s (rounded size) address h (CanPlace-got s size address h place.0 place.1)
 
 pub IsSound-taken : (s : Space) (size : ℕ) → IsSound s → IsSound (taken s size)
-IsSound-taken s size h = IsSound-placed s size (place_for s size) h (place_for-place s size)
+IsSound-taken s size h = IsSound-where s size (place_for s size) h (place_for-place s size)
 
 -- no block begins where a new one goes
-pub none_begins : (s : Space) (size address : ℕ) → IsSound s → 8 ≤ size → IsLowest s size address → All (λ b. b.address ≢ address) s.blocks
-none_begins s size address h least low = λ k d l e.
-    let room = low.room in
+pub none_begins : (s : Space) (size address : ℕ) → IsSound s → 8 ≤ size → HasRoom s size address → All (λ b. b.address ≢ address) s.blocks
+none_begins s size address h least room = λ k d l e.
     let whole = h.aligned k d l in ⊎_elim (λ before. omega (arith, e, before)) (λ after. omega (arith, e, after, whole.2)) (room.apart k d l)
 
--- the block that `get` makes, with its size as the code has it
-pub IsSound-got : (s : Space) (size wide address : ℕ) → IsSound s → length s.blocks < 4096 → wide ≡ rounded size → Some address ≡ lowest_fit s wide → IsSound (record s { blocks = with_block s.blocks (record { address = address; size = wide }) })
-IsSound-got s size wide address h free e lowest =
-    let P : ℕ → Type 0 = λ n. IsSound (record s { blocks = with_block s.blocks (record { address = address; size = n }) }) in
-    subst P (sym e) (IsSound-placed s size (Some address) h (free, IsLowest-from s (rounded size) address (lowest ∙ ap (lowest_fit s) e)))
+-- the same, with the size as the code has it
+pub CanPlace-found : (s : Space) (size wide address : ℕ) → IsSound s → length s.blocks < block_limit → wide ≡ rounded size → Some address ≡ lowest_fit s wide → CanPlace s wide address
+CanPlace-found s size wide address h few e lowest =
+    let P : ℕ → Type 0 = λ n. CanPlace s n address in
+    subst P (sym e) (CanPlace-got s size address h few (IsLowest-from s (rounded size) address (lowest ∙ ap (lowest_fit s) e)))
 
 -- what `get` leaves, by its answer
 pub taken-none : (s : Space) (size : ℕ) → None ≡ place_for s size → s ≡ taken s size
-taken-none s size e = ap (λ (r : Option ℕ). record s { blocks = with_place s.blocks (rounded size) r }) e
+taken-none s size e = ap (placed_where s (rounded size)) e
 
-pub taken-some : (s : Space) (size wide address : ℕ) → wide ≡ rounded size → Some address ≡ place_for s size → record s { blocks = with_block s.blocks (record { address = address; size = wide }) } ≡ taken s size
+pub taken-some : (s : Space) (size wide address : ℕ) → wide ≡ rounded size → Some address ≡ place_for s size → placed s wide address ≡ taken s size
 taken-some s size wide address e place =
-    ap (λ (n : ℕ). record s { blocks = with_block s.blocks (record { address = address; size = n }) }) e
-    ∙ ap (λ (r : Option ℕ). record s { blocks = with_place s.blocks (rounded size) r }) place
+    ap (λ (n : ℕ). placed s n address) e ∙ ap (placed_where s (rounded size)) place

@@ -3,7 +3,7 @@ use Rattle.std.proofs.Common.{ℕ, ◌≡◌, ◌+◌, ◌-◌, ◌<◌, ◌≤�
 use Rattle.std.proofs.lemmas.Option.{MatchOption-at_some}
 use Rattle.std.specs.Prelude.{MatchOption}
 use Rattle.std.proofs.lemmas.Bool.{cases_Bool, cases_lt, both_ways, lt-ltb, le-ltb}
-use Rattle.host_heap.specs.Space.{Space, rounded, IsLowest, HasNone}
+use Rattle.host_heap.specs.Space.{Space, block_limit, rounded, IsLowest, HasNone}
 use Rattle.host_heap.specs.Place.{fits, IsPlace, first_from, lowest_fit, place_for}
 use Rattle.host_heap.proofs.Fits.{HasRoom-from_fits, fits_from}
 
@@ -63,34 +63,34 @@ same_place s size (Some a) (Some b) h k =
 pub same_lowest_fit : (s : Space) (size : ℕ) → (r : Option ℕ) → MatchOption r (HasNone s size) (IsLowest s size) → r ≡ lowest_fit s size
 same_lowest_fit s size r h = same_place s size r _ h (lowest_fit-lowest s size)
 
-pub place_for-full : (s : Space) (size : ℕ) → 4096 ≤ length s.blocks → place_for s size ≡ None
+pub place_for-full : (s : Space) (size : ℕ) → block_limit ≤ length s.blocks → place_for s size ≡ None
 unfolding place_for
-place_for-full s size full = rw (le-ltb (length s.blocks) 4096 full) refl
+place_for-full s size full = rw (le-ltb (length s.blocks) block_limit full) refl
 
-pub place_for-free : (s : Space) (size : ℕ) → length s.blocks < 4096 → place_for s size ≡ lowest_fit s (rounded size)
+pub place_for-free : (s : Space) (size : ℕ) → length s.blocks < block_limit → place_for s size ≡ lowest_fit s (rounded size)
 unfolding place_for
-place_for-free s size free = rw (lt-ltb (length s.blocks) 4096 free) refl
+place_for-free s size free = rw (lt-ltb (length s.blocks) block_limit free) refl
 
-place_when_full : (s : Space) (size : ℕ) → (r : Option ℕ) → 4096 ≤ length s.blocks → r ≡ None → IsPlace s size r
+place_when_full : (s : Space) (size : ℕ) → (r : Option ℕ) → block_limit ≤ length s.blocks → r ≡ None → IsPlace s size r
 place_when_full s size None full e = inl full
 place_when_full s size (Some a) full e = absurd (cc)
 
-place_when_free : (s : Space) (size : ℕ) → (r : Option ℕ) → length s.blocks < 4096 → MatchOption r (HasNone s (rounded size)) (IsLowest s (rounded size)) → IsPlace s size r
+place_when_free : (s : Space) (size : ℕ) → (r : Option ℕ) → length s.blocks < block_limit → MatchOption r (HasNone s (rounded size)) (IsLowest s (rounded size)) → IsPlace s size r
 place_when_free s size None free h = inr h
 place_when_free s size (Some a) free h = (free, h)
 
 pub place_for-place : (s : Space) (size : ℕ) → IsPlace s size (place_for s size)
 place_for-place s size =
     ⊎_elim
-    (λ (free : length s.blocks < 4096). rw (place_for-free s size free) (place_when_free s size _ free (lowest_fit-lowest s (rounded size))))
-    (λ (full : 4096 ≤ length s.blocks). place_when_full s size _ full (place_for-full s size full))
-    (cases_lt (length s.blocks) 4096)
+    (λ (free : length s.blocks < block_limit). rw (place_for-free s size free) (place_when_free s size _ free (lowest_fit-lowest s (rounded size))))
+    (λ (full : block_limit ≤ length s.blocks). place_when_full s size _ full (place_for-full s size full))
+    (cases_lt (length s.blocks) block_limit)
 
 pub IsLowest-from : (s : Space) (size address : ℕ) → Some address ≡ lowest_fit s size → IsLowest s size address
 IsLowest-from s size address e = MatchOption-at_some (HasNone s size) (IsLowest s size) address (sym e) (lowest_fit-lowest s size)
 
 -- an answer of `lowest_fit` where there is room for one more block
-pub same_place_for : (s : Space) (size wide : ℕ) → (r : Option ℕ) → length s.blocks < 4096 → wide ≡ rounded size → r ≡ lowest_fit s wide → r ≡ place_for s size
+pub same_place_for : (s : Space) (size wide : ℕ) → (r : Option ℕ) → length s.blocks < block_limit → wide ≡ rounded size → r ≡ lowest_fit s wide → r ≡ place_for s size
 same_place_for s size wide r free e h = h ∙ ap (lowest_fit s) e ∙ sym (place_for-free s size free)
 
 pub IsPlace-from : (s : Space) (size : ℕ) → (r : Option ℕ) → r ≡ place_for s size → IsPlace s size r
@@ -101,7 +101,7 @@ pub place_from : (s : Space) (size : ℕ) → (r : Option ℕ) → IsPlace s siz
 place_from s size None (inl full) = sym (place_for-full s size full)
 place_from s size None (inr none) =
     ⊎_elim
-    (λ (free : length s.blocks < 4096). same_lowest_fit s (rounded size) None none ∙ sym (place_for-free s size free))
-    (λ (full : 4096 ≤ length s.blocks). sym (place_for-full s size full))
-    (cases_lt (length s.blocks) 4096)
+    (λ (free : length s.blocks < block_limit). same_lowest_fit s (rounded size) None none ∙ sym (place_for-free s size free))
+    (λ (full : block_limit ≤ length s.blocks). sym (place_for-full s size full))
+    (cases_lt (length s.blocks) block_limit)
 place_from s size (Some a) h = same_lowest_fit s (rounded size) (Some a) h.1 ∙ sym (place_for-free s size h.0)

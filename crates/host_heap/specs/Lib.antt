@@ -1,3 +1,4 @@
 pub mod Space
 pub mod Place
 pub mod Sound
+pub mod Laws

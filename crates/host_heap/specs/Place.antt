@@ -1,13 +1,13 @@
--- What `get` and `free` answer, and what they leave.
-use Rattle.std.specs.Prelude.{ℕ, zero, suc, ◌+◌, ◌-◌, ◌<◌, ◌≤◌, ◌⊎◌, Bool, ◌==◌, ◌&&◌, ◌||◌, not, nat_lt, nat_le, if◌then◌else◌, Option, Some, None, List, ◌∷◌, ◌++◌, length, filter}
+-- What `get`, `place` and `free` answer, and what they leave.
+use Rattle.std.specs.Prelude.{ℕ, zero, suc, ◌+◌, ◌-◌, ◌%◌, ◌<◌, ◌≤◌, ◌⊎◌, Bool, ◌==◌, ◌&&◌, ◌||◌, not, nat_lt, nat_le, if◌then◌else◌, Option, Some, None, List, ◌∷◌, ◌++◌, length, filter}
 use Rattle.std.specs.List.{list_all, list_any}
 use Rattle.host_heap.specs.declared.block.Block.{Block}
-use Rattle.host_heap.specs.Space.{Space, rounded, IsLowest, HasNone}
+use Rattle.host_heap.specs.Space.{Space, block_limit, rounded, IsLowest, HasNone}
 
--- what `get` may answer: the lowest address with room, and None exactly where 4096 blocks stand or no address has room
+-- what `get` may answer: the lowest address with room, and None exactly where no block more may stand or no address has room
 abbrev pub IsPlace : Space → ℕ → Option ℕ → Type 0
-IsPlace s size None = (4096 ≤ length s.blocks) ⊎ HasNone s (rounded size)
-IsPlace s size (Some address) = (length s.blocks < 4096) × IsLowest s (rounded size) address
+IsPlace s size None = (block_limit ≤ length s.blocks) ⊎ HasNone s (rounded size)
+IsPlace s size (Some address) = (length s.blocks < block_limit) × IsLowest s (rounded size) address
 
 -- `IsApart` and `HasRoom` as tests
 abbrev pub is_apart : ℕ → ℕ → Block → Bool
@@ -17,6 +17,11 @@ is_apart size address block =
 unfoldable pub fits : Space → ℕ → ℕ → Bool
 fits s size address =
     nat_le s.low address && nat_le (address + size) s.high && list_all (is_apart size address) s.blocks
+
+-- whether a block of this size may stand at this address beside those that stand
+abbrev pub can_place : Space → ℕ → ℕ → Bool
+can_place s size address =
+    nat_lt (length s.blocks) block_limit && (size % 8 == 0 && (nat_le 8 size && (address % 8 == 0 && fits s size address)))
 
 -- the first of `count` numbers, from `start` on, that passes the test
 unfoldable pub first_from : (ℕ → Bool) → ℕ → ℕ → Option ℕ
@@ -29,20 +34,24 @@ lowest_fit s size = first_from (fits s size) s.low (s.high + 1 - s.low)
 
 -- what `get` answers, as a value
 unfoldable pub place_for : Space → ℕ → Option ℕ
-place_for s size = if nat_lt (length s.blocks) 4096 then lowest_fit s (rounded size) else None
+place_for s size = if nat_lt (length s.blocks) block_limit then lowest_fit s (rounded size) else None
 
 -- the blocks below the new one, the new one, and the blocks above it
 abbrev pub with_block : List Block → Block → List Block
 with_block blocks new =
     filter (λ b. nat_lt b.address new.address) blocks ++ new ∷ filter (λ b. nat_lt new.address b.address) blocks
 
-abbrev pub with_place : List Block → ℕ → Option ℕ → List Block
-with_place blocks size None = blocks
-with_place blocks size (Some address) = with_block blocks (record { address = address; size = size })
+-- the heap with a block of this size at this address
+abbrev pub placed : Space → ℕ → ℕ → Space
+placed s size address = record s { blocks = with_block s.blocks (record { address = address; size = size }) }
+
+abbrev pub placed_where : Space → ℕ → Option ℕ → Space
+placed_where s size None = s
+placed_where s size (Some address) = placed s size address
 
 -- what `get` leaves
 abbrev pub taken : Space → ℕ → Space
-taken s size = record s { blocks = with_place s.blocks (rounded size) (place_for s size) }
+taken s size = placed_where s (rounded size) (place_for s size)
 
 abbrev pub begins_at : List Block → ℕ → Bool
 begins_at blocks address = list_any (λ b. b.address == address) blocks

@@ -1,7 +1,7 @@
 -- What holds of every heap.
 use Rattle.std.specs.Prelude.{◌≡◌, ◌+◌, ◌%◌, ◌≤◌, length, All, AllPairs}
 use Rattle.host_heap.specs.declared.block.Block.{Block}
-use Rattle.host_heap.specs.Space.{Space}
+use Rattle.host_heap.specs.Space.{Space, block_limit}
 
 abbrev pub IsInside : Space → Block → Type 0
 IsInside s b = (s.low ≤ b.address) × (b.address + b.size ≤ s.high)
@@ -19,4 +19,4 @@ pub record IsSound (s : Space) : Type 0 where
   pub inside : All (IsInside s) s.blocks
   pub aligned : All IsAligned s.blocks
   pub apart : AllPairs EndsBefore s.blocks
-  pub count : length s.blocks ≤ 4096
+  pub count : length s.blocks ≤ block_limit

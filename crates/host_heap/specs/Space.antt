@@ -1,5 +1,6 @@
 -- The heap as contracts see it: its bounds, and its blocks in order of address. Numbers are unbounded.
-use Rattle.std.specs.Prelude.{ℕ, ◌+◌, ◌*◌, ◌/◌, ◌≤◌, ◌⊎◌, List, All, max}
+use Rattle.std.specs.Prelude.{ℕ, ◌+◌, ◌≤◌, ◌⊎◌, List, All, max}
+use Rattle.mix_bits.specs.Multiples.{rounded_up}
 use Rattle.host_heap.specs.declared.block.Block.{Block}
 
 -- the addresses from low on, below high, and the blocks in them
@@ -8,9 +9,13 @@ pub record Space : Type 0 where
   pub high : ℕ
   pub blocks : List Block
 
+-- how many blocks a heap holds at the most
+abbrev pub block_limit : ℕ
+block_limit = 4096
+
 -- how many bytes a block takes that was asked for with this size: a multiple of 8, and at least 8
 abbrev pub rounded : ℕ → ℕ
-rounded size = max 8 ((size + 7) / 8 * 8)
+rounded size = max 8 (rounded_up 8 size)
 
 -- the bytes from the address on meet none of the block's
 abbrev pub IsApart : ℕ → ℕ → Block → Type 0

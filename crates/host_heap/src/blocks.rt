@@ -1,11 +1,14 @@
 //! The steps of the heap on its list of blocks, which stands in order of address. Sums are 64 bits wide, so none wraps.
 ghost use Rattle.std.specs.Prelude.{◌≡◌, ◌≢◌, ◌+◌, ◌<◌, ◌≤◌, ◌^◌, IfSome, All, vec_len, vec_capacity};
+ghost use Rattle.std.specs.List.{list_all};
 ghost use Rattle.std.specs.List.Sorted.{IsNonDecreasingBy};
 ghost use Rattle.host_heap.specs.Space.{rounded};
-ghost use Rattle.host_heap.specs.Place.{lowest_fit, with_block, begins_at, without};
+ghost use Rattle.host_heap.specs.Place.{can_place, fits, is_apart, lowest_fit, with_block, begins_at, without};
 ghost use Rattle.host_heap.specs.Sound.{IsSound};
 
 use crate::block::Block;
+use crate::heap::BLOCK_LIMIT;
+use mix_bits::round_up;
 
 /// The size in bytes of the block that a request for `size` bytes gets. It may be 2^32, which fits nowhere.
 pub fn rounded(size: u32) -> u64
@@ -13,7 +16,7 @@ pub fn rounded(size: u32) -> u64
     ensures least { 8 ≤ result }
     ensures most { result ≤ 2 ^ 32 }
 {
-    ((u64::from(size) + 7) / 8 * 8).max(8)
+    round_up(u64::from(size), 8).max(8)
 }
 
 /// The lowest address from `low` on at which `size` bytes end by `high` and meet no block.
@@ -36,6 +39,37 @@ pub fn lowest_fit(blocks: &[Block], low: u32, high: u32, size: u64) -> Option<u3
     } else {
         None
     }
+}
+
+/// Whether a block of `size` bytes may stand at this address beside those that stand.
+pub fn can_place(blocks: &[Block], low: u32, high: u32, size: u32, address: u32) -> bool
+    ensures { result ≡ can_place (record { low = low; high = high; blocks = blocks.now }) size address }
+{
+    blocks.len() < BLOCK_LIMIT
+        && (size % 8 == 0
+            && (8 <= size && (address % 8 == 0 && fits(blocks, low, high, size, address))))
+}
+
+/// Whether `size` bytes from this address on lie between `low` and `high` and meet no block.
+#[tactic(auto, unfolding(crate::specs::Place::fits))]
+fn fits(blocks: &[Block], low: u32, high: u32, size: u32, address: u32) -> bool
+    ensures { result ≡ fits (record { low = low; high = high; blocks = blocks.now }) size address }
+{
+    let inside = (low <= address) & (u64::from(address) + u64::from(size) <= u64::from(high));
+    inside && meets_none(blocks, size, address)
+}
+
+fn meets_none(blocks: &[Block], size: u32, address: u32) -> bool
+    ensures { result ≡ list_all (is_apart size address) blocks.now }
+{
+    blocks.iter().all(|block| is_apart(block, size, address))
+}
+
+fn is_apart(block: &Block, size: u32, address: u32) -> bool
+    ensures { result ≡ is_apart size address block.now }
+{
+    u64::from(address) + u64::from(size) <= u64::from(block.address)
+        || u64::from(block.address) + u64::from(block.size) <= u64::from(address)
 }
 
 /// Puts a block in between those below it and those above it.

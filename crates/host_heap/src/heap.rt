@@ -1,17 +1,18 @@
 //! The heap's own calls: each keeps its blocks in it, apart, in order of address and at multiples of 8.
-ghost use Rattle.std.specs.Prelude.{◌≡◌, ◌<◌, ◌≤◌, ◌%◌, [], IfOk, IfSome, IfNone};
-ghost use Rattle.std.specs.Bool.{OnFalse};
+ghost use Rattle.std.specs.Prelude.{◌≡◌, ◌<◌, ◌≤◌, ◌+◌, ◌%◌, ◌^◌, [], IfOk, IfSome, IfNone, length};
+ghost use Rattle.std.specs.Bool.{OnFalse, OnTrue};
+ghost use Rattle.std.specs.List.{slice_get};
 ghost use Rattle.host_heap.specs.Space.{Space};
-ghost use Rattle.host_heap.specs.Place.{IsPlace, place_for, taken, begins_at, freed};
+ghost use Rattle.host_heap.specs.Place.{IsPlace, place_for, can_place, placed, taken, begins_at, freed};
 ghost use Rattle.host_heap.specs.Sound.{IsSound};
 
 use crate::block::Block;
-use crate::blocks::{add, begins_at, lowest_fit, remove, rounded};
+use crate::blocks::{add, begins_at, can_place, lowest_fit, remove, rounded};
 use std::alloc::{AllocError, Global};
 use std::marker::Model;
 
 // How many blocks a heap holds at the most.
-const BLOCK_LIMIT: usize = 4096;
+pub const BLOCK_LIMIT: usize = 4096;
 
 /// A range of addresses and the blocks of it that are in use. Contracts see its bounds and the list of its blocks.
 #[derive(Drop)]
@@ -23,14 +24,14 @@ pub struct Heap {
 
 impl Model for Heap {
     ghost use Rattle.std.specs.Prelude.{◌≤◌, vec_capacity};
-    ghost use Rattle.host_heap.specs.Space.{Space};
+    ghost use Rattle.host_heap.specs.Space.{Space, block_limit};
     ghost use Rattle.host_heap.specs.Sound.{IsSound};
 
     ghost Value = { Space };
 
     ghost view = { λ h. record { low = h.low; high = h.high; blocks = h.blocks.items } };
 
-    ghost invariant = { λ h. IsSound (record { low = h.low; high = h.high; blocks = h.blocks.items }) × (4096 ≤ vec_capacity h.blocks) };
+    ghost invariant = { λ h. IsSound (record { low = h.low; high = h.high; blocks = h.blocks.items }) × (block_limit ≤ vec_capacity h.blocks) };
 }
 
 impl Heap {
@@ -70,6 +71,23 @@ impl Heap {
         Some(address)
     }
 
+    /// Makes a block of exactly `size` bytes at this address, and says whether it may stand there: the address and the size
+    /// are multiples of 8, the size is not 0, the bytes lie in the heap and meet no block, and there is room for one more block.
+    pub fn place(&mut self, address: u32, size: u32) -> bool
+        ensures exact { result ≡ can_place self.old size address }
+        ensures after { OnTrue result (self.new ≡ placed self.old size address) }
+        ensures unchanged { OnFalse result (self.new ≡ self.old) }
+        ensures within { OnTrue result (address + size < 2 ^ 32) }
+    {
+        let possible = can_place(&self.blocks, self.low, self.high, size, address);
+        if possible {
+            add(&mut self.blocks, Block { address, size });
+            true
+        } else {
+            false
+        }
+    }
+
     /// Gives up the block that begins at this address, and says whether there was one.
     pub fn free(&mut self, address: u32) -> bool
         ensures found { result ≡ begins_at self.old.blocks address }
@@ -79,6 +97,34 @@ impl Heap {
         let found = begins_at(&self.blocks, address);
         remove(&mut self.blocks, address);
         found
+    }
+
+    /// The heap's first address, and the one behind its last.
+    pub fn bounds(&self) -> (u32, u32)
+        ensures { result ≡ (self.now.low, self.now.high) }
+    {
+        (self.low, self.high)
+    }
+
+    /// How many blocks are in use.
+    pub fn count(&self) -> u32
+        ensures { result ≡ length self.now.blocks }
+    {
+        self.blocks.len() as u32
+    }
+
+    /// The block with this number in order of address, from 0 on.
+    pub fn block(&self, number: u32) -> Option<Block>
+        ensures { result ≡ slice_get self.now.blocks number }
+    {
+        self.blocks.get(number as usize).copied()
+    }
+
+    /// The blocks in use, in order of address.
+    pub fn blocks(&self) -> &[Block]
+        ensures { result.now ≡ self.now.blocks }
+    {
+        &self.blocks
     }
 
     /// What holds of every heap: its blocks lie in it, apart, in order of address, at multiples of 8, and are at most 4096.

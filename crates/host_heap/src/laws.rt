@@ -3,6 +3,7 @@ ghost use Rattle.std.specs.Prelude.{◌≡◌, ℕ, ◌%◌, ◌≤◌, ◌↔�
 ghost use Rattle.host_heap.specs.Space.{Space, IsLowest, HasNone};
 ghost use Rattle.host_heap.specs.Place.{IsPlace, lowest_fit, place_for, taken, freed};
 ghost use Rattle.host_heap.specs.Sound.{IsSound};
+ghost use Rattle.host_heap.specs.Laws.{FreeingNothing, FreeingUndoesPlacing, PlacingKeepsSound, PlacingUndoesFreeing, TakingPlaces};
 
 /// The value `lowest_fit` is the lowest address with room, and None exactly where there is none.
 pub fn lowest_fit_is_lowest()
@@ -37,4 +38,13 @@ pub fn freeing_keeps_sound()
 /// To give up the block that a sound heap has just made gives that heap again.
 pub fn freeing_undoes_taking()
     ensures { (s : Space) (size address : ℕ) → IsSound s → IsPlace s size (Some address) → freed (taken s size) address ≡ s }
+{}
+
+/// What placing blocks and giving them up leaves of a heap.
+pub fn placing_laws()
+    ensures sound { PlacingKeepsSound }
+    ensures taking { TakingPlaces }
+    ensures freeing { FreeingUndoesPlacing }
+    ensures again { PlacingUndoesFreeing }
+    ensures nothing { FreeingNothing }
 {}

@@ -13,5 +13,5 @@ pub use block::Block;
 pub use heap::Heap;
 pub use laws::{
     empty_heap_is_sound, freeing_keeps_sound, freeing_undoes_taking, lowest_fit_is_lowest,
-    place_is_aligned, place_is_unique, taking_keeps_sound,
+    place_is_aligned, place_is_unique, placing_laws, taking_keeps_sound,
 };

@@ -79,6 +79,34 @@ fn does_not_wrap_at_the_last_address(rt: HostRuntime) -> Result<(), Fail> {
 }
 
 #[test]
+fn places_blocks_where_they_stood(rt: HostRuntime) -> Result<(), Fail> {
+    let mut heap = Heap::new(rt.alloc(), 0x1_0000, 0x1_0030)?;
+    assert!(rt; heap.place(0x1_0010, 16));
+    assert!(rt; !heap.place(0x1_0008, 16));
+    assert!(rt; !heap.place(0x1_0020, 0));
+    assert!(rt; !heap.place(0x1_0024, 8));
+    assert!(rt; !heap.place(0x1_0028, 16));
+    let steps = [
+        Get(17, None),
+        Get(16, Some(0x1_0000)),
+        Get(8, Some(0x1_0020)),
+        Free(0x1_0010, true),
+    ];
+    assert!(rt; answers(&mut heap, &steps));
+    assert!(rt; heap.place(0x1_0010, 16));
+    assert_eq!(rt; heap.bounds(), (0x1_0000, 0x1_0030));
+    assert_eq!(rt; heap.count(), 3);
+    assert_eq!(rt;
+        heap.block(1).map(|block| (block.address, block.size)),
+        Some((0x1_0010, 16))
+    );
+    assert!(rt; heap.block(3).is_none());
+    let total: u32 = heap.blocks().len() as u32;
+    assert_eq!(rt; total, heap.count());
+    Ok(())
+}
+
+#[test]
 fn holds_4096_blocks(rt: HostRuntime) -> Result<(), Fail> {
     let mut heap = Heap::new(rt.alloc(), 0x1_0000, 0x1_8010)?;
     for index in 0..4096u32 {

@@ -19,7 +19,7 @@ use Rattle.toolbox.specs.declared.values.Results.{Results}
 use Rattle.toolbox.specs.declared.function.Function.{Function}
 use Rattle.toolbox.specs.declared.function.Function.TheVariants.{AskDevice, EjectDevice}
 use Rattle.toolbox.specs.declared.outcome.Outcome.TheVariants.{Given, Asked as AskedFor}
-use Rattle.toolbox.specs.Effects.{Around, quiet, results, results_of, answer_in, after_ask, first_answer, noted, holds_device, emptied, no_slot}
+use Rattle.toolbox.specs.Effects.{Around, journal_limit, quiet, results, results_of, answer_in, after_ask, first_answer, noted, holds_device, emptied, no_slot}
 use Rattle.toolbox.specs.Effects.Effect.{Gives}
 use Rattle.toolbox.specs.Calls.{Input, place, with_rack, answers_since, ask_of}
 use Rattle.toolbox.specs.Calls.Taken.{Nothing}
@@ -79,8 +79,8 @@ asked-fits old new slot word result answer input rest h first after =
     let since : answers_since old new ++ rest ≡ result_ok result ∷ rest = since-one old new (record { slot = slot; word = word; answer = result_ok result }) rest h.noted in
     record {
       gives =
-          asked-at (holds_device (around_at old input (answers_since old new ++ rest)) slot) (length old.journal == 4096)
-          (holds old slot input (answers_since old new ++ rest) ∙ ap is_some h.heard.held) (ne_eqb (length old.journal) 4096 (omega (arith, h.room)))
+          asked-at (holds_device (around_at old input (answers_since old new ++ rest)) slot) (length old.journal == journal_limit)
+          (holds old slot input (answers_since old new ++ rest) ∙ ap is_some h.heard.held) (ne_eqb (length old.journal) journal_limit (omega (arith, h.room)))
           (first_answer (answers_since old new ++ rest))
           ∙ ap first_answer since ∙ first;
       leaves =
@@ -102,7 +102,7 @@ fits old new slot word Empty input rest h = record {
   leaves = refused-leaves old new input rest h.1;
 }
 fits old new slot word Full input rest h = record {
-  gives = full-at _ _ _ (holds old slot input (answers_since old new ++ rest) ∙ h.0) (eq-eqb (length old.journal) 4096 h.1);
+  gives = full-at _ _ _ (holds old slot input (answers_since old new ++ rest) ∙ h.0) (eq-eqb (length old.journal) journal_limit h.1);
   leaves = refused-leaves old new input rest h.2;
 }
 

@@ -4,3 +4,4 @@ pub mod Carried
 pub mod Devices
 pub mod Settled
 pub mod OneNumber
+pub mod ByName

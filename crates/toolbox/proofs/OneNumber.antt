@@ -1,10 +1,28 @@
--- A trap word has one number.
+-- A function has its own number, and a trap word has one.
 use Rattle.std.proofs.Common.{◌≡◌, ℕ, zero, suc, ◌==◌, false, Option, Some, None, refl, sym, ap, ◌∙◌, subst, arith}
 use Rattle.std.proofs.lemmas.Bool.Decides.{nat_tests}
 use Rattle.toolbox.specs.declared.function.Function.{Function}
 use Rattle.toolbox.specs.declared.function.Function.TheVariants.{NewRoutineDescriptor, NewFatRoutineDescriptor, DisposeRoutineDescriptor, CallUniversalProc, NewPtr, NewPtrClear, DisposePtr, BlockMove, ExitToShell, PutByte, GetByte, PutBlock, AskDevice, EjectDevice, ExitWith, UnloadSeg}
-use Rattle.toolbox.specs.Functions.{function_at, has_trap, number_of, trap_below, trap_number, trap_of}
+use Rattle.toolbox.specs.Functions.{NumbersAreOwn, function_at, has_trap, number_of, trap_below, trap_number, trap_of}
 use Rattle.toolbox.specs.Names.{TrapsHaveOneNumber}
+
+pub numbers-own : NumbersAreOwn
+numbers-own NewRoutineDescriptor = refl
+numbers-own NewFatRoutineDescriptor = refl
+numbers-own DisposeRoutineDescriptor = refl
+numbers-own CallUniversalProc = refl
+numbers-own NewPtr = refl
+numbers-own NewPtrClear = refl
+numbers-own DisposePtr = refl
+numbers-own BlockMove = refl
+numbers-own ExitToShell = refl
+numbers-own PutByte = refl
+numbers-own GetByte = refl
+numbers-own PutBlock = refl
+numbers-own AskDevice = refl
+numbers-own EjectDevice = refl
+numbers-own ExitWith = refl
+numbers-own UnloadSeg = refl
 
 other-word : (trap word : ℕ) → (trap ≡ word → ⊥) → (trap == word) ≡ false
 other-word trap word differ = grind (arith, nat_tests, differ)

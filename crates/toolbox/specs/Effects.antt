@@ -113,7 +113,11 @@ takes_from r (byte ∷ left) =
 abbrev pub takes : Resources → Effect
 takes r = takes_from r r.around.input
 
--- what comes of an ask: the slot is looked at first, then the journal, which holds 4096 entries
+-- how many entries the journal holds
+abbrev pub journal_limit : ℕ
+journal_limit = 4096
+
+-- what comes of an ask: the slot is looked at first, then the journal's room
 abbrev pub first_answer : List (Option ℕ) → Answer
 first_answer [] = Failed
 first_answer (None ∷ answers) = Failed
@@ -124,7 +128,7 @@ holds_device around slot = slice_index_or around.slots slot false
 
 abbrev pub answer_in : Around → ℕ → Answer
 answer_in around slot =
-    if not (holds_device around slot) then Empty else (if length around.asks == 4096 then Full else first_answer around.answers)
+    if not (holds_device around slot) then Empty else (if length around.asks == journal_limit then Full else first_answer around.answers)
 
 -- a device that was asked used up an answer, and the journal has an entry of it
 abbrev pub noted : Around → ℕ → ℕ → Option ℕ → Around

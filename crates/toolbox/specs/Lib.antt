@@ -1,3 +1,4 @@
+pub mod Table
 pub mod Functions
 pub mod Names
 pub mod Effects

@@ -34,7 +34,7 @@ pub fn new_cleared_block(ram: &mut Ram, heap: &mut Heap, size: u32) -> Results
     ensures free { OnlyFree ram.old ram.new }
 {
     laws();
-    let _len = ram.len();
+    ram.meets_invariant();
     match heap.get(size) {
         Some(address) => {
             ram.fill(address, size).unwrap();
@@ -59,7 +59,7 @@ pub fn new_descriptor(
     ensures free { OnlyFree ram.old ram.new }
 {
     laws();
-    let _len = ram.len();
+    ram.meets_invariant();
     match heap.get(image_size(m68k)) {
         Some(address) => {
             build(ram, address, info, m68k, isa, proc).unwrap();

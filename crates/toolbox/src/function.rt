@@ -1,5 +1,6 @@
 ghost use Rattle.std.specs.Prelude.{◌≡◌};
-ghost use Rattle.toolbox.specs.Functions.{function_at, sets_codes as sets_codes_by_trap};
+ghost use Rattle.toolbox.specs.Functions.{function_at};
+ghost use Rattle.toolbox.specs.Table.{row};
 
 /// A function of the host table.
 #[derive(Clone, Copy)]
@@ -49,7 +50,7 @@ impl Function {
 
     /// Whether its trap sets the condition codes.
     pub fn sets_codes(self) -> bool
-        ensures { result ≡ sets_codes_by_trap self }
+        ensures { result ≡ (row self).sets_codes }
     {
         match self {
             Function::NewPtr => true,

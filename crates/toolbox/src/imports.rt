@@ -1,8 +1,18 @@
-ghost use Rattle.std.specs.Prelude.{◌≡◌, ◌↔◌, IsTrue};
-ghost use Rattle.toolbox.specs.Names.{IsImportIndex, host_lib, interface_lib};
+ghost use Rattle.std.specs.Prelude.{◌≡◌, ◌<◌, ◌↔◌, IsTrue, IfSome};
+ghost use Rattle.toolbox.specs.Table.{host_lib, interface_lib};
+ghost use Rattle.toolbox.specs.Names.{IsImportIndex, import_index};
 
 /// The number of the function that a PEF container imports by the name of its library and its own.
+#[tactic(auto, using(crate::proofs::ByName::index_is, crate::proofs::ByName::index_below))]
 pub fn import_index(library: &[u8], name: &[u8]) -> Option<u32>
+    ensures is { IsImportIndex library.now name.now result }
+    ensures value { result ≡ import_index library.now name.now }
+    ensures below { IfSome result (λ k. k < 15) }
+{
+    library_index(library, name)
+}
+
+fn library_index(library: &[u8], name: &[u8]) -> Option<u32>
     ensures { IsImportIndex library.now name.now result }
 {
     if is(library, "InterfaceLib") {

@@ -1,3 +1,5 @@
+ghost use Rattle.toolbox.specs.Functions.{NumbersAreOwn};
+ghost use Rattle.toolbox.specs.Names.{ImportsAreNumbered, ImportsHaveOneNumber};
 ghost use Rattle.toolbox.specs.Performs.{AreLaws};
 
 use big_memory::memory_laws;
@@ -10,3 +12,10 @@ pub fn laws()
     memory_laws();
     journal_laws();
 }
+
+/// What holds of the host table. It does nothing: the clauses are its point.
+pub fn table_laws()
+    ensures numbers { NumbersAreOwn }
+    ensures imports { ImportsHaveOneNumber }
+    ensures numbered { ImportsAreNumbered }
+{}

@@ -20,5 +20,6 @@ mod values;
 
 pub use call::host_call;
 pub use imports::import_index;
+pub use laws::table_laws;
 pub use out::HostOut;
 pub use traps::{trap_index, trap_laws};

@@ -74,7 +74,7 @@ fn move_block(operands: Operands, ram: &mut Ram) -> Outcome
     ensures { (heap : Space) (outside : Outside) → Performs Function.BlockMove operands result (place ram.old heap outside) (place ram.new heap outside) }
 {
     laws();
-    let _len = ram.len();
+    ram.meets_invariant();
     match ram.copy(operands.first, operands.second, operands.third) {
         Ok(()) => Outcome::Given(one(0)),
         Err(access) => Outcome::Refused(access),

@@ -1,6 +1,7 @@
 // Operands from registers, and results into them.
 ghost use Rattle.std.specs.Prelude.{◌≡◌, ◌∷◌, []};
-ghost use Rattle.toolbox.specs.Registers.{answered, at_link, codes_of_word, operands_of as operands_in, result_registers, with_registers, with_results, with_stack};
+ghost use Rattle.toolbox.specs.Table.{row};
+ghost use Rattle.toolbox.specs.Registers.{answered, at_link, codes_of_word, operands_of as operands_in, with_registers, with_results, with_stack};
 
 use crate::function::Function;
 use crate::values::{Operands, Results};
@@ -75,7 +76,7 @@ fn settle_68k(function: Function, regs: &mut Regs68, results: Results)
 }
 
 fn give_68k(function: Function, regs: &mut Regs68, results: Results)
-    ensures { regs.new ≡ with_stack function (with_registers (result_registers function) (results.first ∷ results.second ∷ []) regs.old) }
+    ensures { regs.new ≡ with_stack function (with_registers (row function).results (results.first ∷ results.second ∷ []) regs.old) }
 {
     match function {
         Function::NewRoutineDescriptor => regs.a[0] = results.first,
@@ -99,7 +100,7 @@ fn give_68k(function: Function, regs: &mut Regs68, results: Results)
 
 /// An address and an error.
 fn give_address(regs: &mut Regs68, results: Results)
-    ensures { regs.new ≡ with_registers (result_registers Function.NewPtr) (results.first ∷ results.second ∷ []) regs.old }
+    ensures { regs.new ≡ with_registers (row Function.NewPtr).results (results.first ∷ results.second ∷ []) regs.old }
 {
     regs.a[0] = results.first;
     regs.d[0] = results.second;
@@ -107,7 +108,7 @@ fn give_address(regs: &mut Regs68, results: Results)
 
 /// An error and an answer.
 fn give_two(regs: &mut Regs68, results: Results)
-    ensures { regs.new ≡ with_registers (result_registers Function.AskDevice) (results.first ∷ results.second ∷ []) regs.old }
+    ensures { regs.new ≡ with_registers (row Function.AskDevice).results (results.first ∷ results.second ∷ []) regs.old }
 {
     regs.d[0] = results.first;
     regs.d[1] = results.second;

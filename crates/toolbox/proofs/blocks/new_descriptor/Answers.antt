@@ -11,7 +11,7 @@ unwrap-requires c =
     let bytes = image c.args.info c.args.m68k c.args.isa c.args.proc in
     let none : refusal m c.in-Some.address (length bytes) ≡ None =
     subst (λ n. refusal m c.in-Some.address n ≡ None) (c.image_size.ensures c.args.info c.args.isa c.args.proc)
-    (block_free m c.args.heap.now c.image_size.result c.in-Some.address c.len-len.ensures.whole c.requires c.in-Some.ensures.place) in
+    (block_free m c.args.heap.now c.image_size.result c.in-Some.address c.meets_invariant.ensures c.requires c.in-Some.ensures.place) in
     let all = done _ m (with_bytes c.in-Some.address bytes m) _ c.build.result _ none c.build.ensures.exact in
     rw (all.0) (search rules)
 
@@ -21,6 +21,6 @@ returns-in-Some-clause-free c =
     let bytes = image c.args.info c.args.m68k c.args.isa c.args.proc in
     let none : refusal m c.in-Some.address (length bytes) ≡ None =
     subst (λ n. refusal m c.in-Some.address n ≡ None) (c.image_size.ensures c.args.info c.args.isa c.args.proc)
-    (block_free m c.args.heap.now c.image_size.result c.in-Some.address c.len-len.ensures.whole c.requires c.in-Some.ensures.place) in
+    (block_free m c.args.heap.now c.image_size.result c.in-Some.address c.meets_invariant.ensures c.requires c.in-Some.ensures.place) in
     let all = done _ m (with_bytes c.in-Some.address bytes m) _ c.build.result _ none c.build.ensures.exact in
-    rw (all.1) (c.laws.ensures.stores m c.in-Some.address (length bytes) bytes refl c.len-len.ensures.whole none)
+    rw (all.1) (c.laws.ensures.stores m c.in-Some.address (length bytes) bytes refl c.meets_invariant.ensures none)

@@ -1,6 +1,6 @@
 -- Each name is its function's.
 use Rattle.std.proofs.Common.{refl}
-use Rattle.toolbox.specs.Names.{host_lib}
+use Rattle.toolbox.specs.Table.{host_lib}
 use Rattle.toolbox.specs.declared.function.Function.TheVariants.{PutByte, GetByte, PutBlock, AskDevice, EjectDevice, ExitWith}
 use Rattle.toolbox.proofs.Named.{named}
 use Rattle.toolbox.proofs.imports.host_index.Goals as goal

@@ -1,6 +1,6 @@
 -- Each name is its function's.
 use Rattle.std.proofs.Common.{refl}
-use Rattle.toolbox.specs.Names.{interface_lib}
+use Rattle.toolbox.specs.Table.{interface_lib}
 use Rattle.toolbox.specs.declared.function.Function.TheVariants.{NewRoutineDescriptor, NewFatRoutineDescriptor, DisposeRoutineDescriptor, CallUniversalProc, NewPtr, NewPtrClear, DisposePtr, BlockMove, ExitToShell}
 use Rattle.toolbox.proofs.Named.{named}
 use Rattle.toolbox.proofs.imports.interface_index.Goals as goal

@@ -3,4 +3,4 @@ use Rattle.toolbox.proofs.Carried.{moved}
 use Rattle.toolbox.proofs.perform.move_block.Goals as goal
 
 pub returns-in-Ok : goal.returns-in-Ok
-returns-in-Ok c = λ heap outside. moved c.laws.ensures c.args.operands c.one.result c.args.ram.now _ heap outside c.copy.result c.one.ensures c.len-len.ensures.whole c.in-Ok.is c.copy.ensures
+returns-in-Ok c = λ heap outside. moved c.laws.ensures c.args.operands c.one.result c.args.ram.now _ heap outside c.copy.result c.one.ensures c.meets_invariant.ensures c.in-Ok.is c.copy.ensures

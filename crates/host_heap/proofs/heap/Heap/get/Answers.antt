@@ -1,6 +1,6 @@
 use Rattle.std.proofs.Common.{◌<◌, Some, None, length, sym, ◌∙◌, arith}
 use Rattle.host_heap.proofs.Lowest.{place_for-full, same_place_for, IsPlace-from, IsLowest-from}
-use Rattle.host_heap.proofs.Keeps.{IsSound-got, IsLowest-aligned, none_begins, taken-none, taken-some}
+use Rattle.host_heap.proofs.Keeps.{CanPlace-found, IsLowest-aligned, IsSound-placed, none_begins, taken-none, taken-some}
 use Rattle.host_heap.proofs.heap.Heap.get.Goals as goal
 
 pub returns-then-len-eq-BLOCK_LIMIT-clause-value : goal.returns-then-len-eq-BLOCK_LIMIT-clause-value
@@ -23,12 +23,12 @@ returns-in_err-address-clause-after c = taken-none _ _ (sym c.from_residual.ensu
 
 pub add-requires-clause-apart : goal.add-requires-clause-apart
 add-requires-clause-apart c =
-    none_begins _ _ _ c.self.invariant.0 c.rounded-rounded_size.ensures.least (IsLowest-from _ _ c.in_ok-address.address (rw c.deref.ensures.value at c.in_ok-address.ensures.value))
+    none_begins _ _ _ c.self.invariant.0 c.rounded-rounded_size.ensures.least (IsLowest-from _ _ c.in_ok-address.address (rw c.deref.ensures.value at c.in_ok-address.ensures.value)).room
 
 pub invariant_of-self : goal.invariant_of-self
 invariant_of-self c =
     let few : length c.self.inside.blocks.items < 4096 = let most = c.self.invariant.0.count in omega (arith, most, c.self.inside.blocks.ok.0) in
-    (rw c.add.ensures.items (IsSound-got _ c.args.size _ _ c.self.invariant.0 few c.rounded-rounded_size.ensures.value (rw c.deref.ensures.value at c.in_ok-address.ensures.value)), omega arith)
+    (rw c.add.ensures.items (IsSound-placed _ _ _ c.self.invariant.0 (CanPlace-found _ c.args.size _ _ c.self.invariant.0 few c.rounded-rounded_size.ensures.value (rw c.deref.ensures.value at c.in_ok-address.ensures.value))), omega arith)
 
 pub returns-clause-value : goal.returns-clause-value
 returns-clause-value c =

@@ -1,0 +1,32 @@
+-- What holds of blocks that are placed and given up.
+use Rattle.std.specs.Prelude.{◌≡◌, ℕ, Some, IsTrue, false}
+use Rattle.std.specs.List.{Contains}
+use Rattle.host_heap.specs.declared.block.Block.{Block}
+use Rattle.host_heap.specs.Space.{Space, rounded}
+use Rattle.host_heap.specs.Place.{place_for, can_place, placed, taken, begins_at, freed}
+use Rattle.host_heap.specs.Sound.{IsSound}
+
+-- a sound heap stays sound with a block that may be placed
+abbrev pub PlacingKeepsSound : Type 0
+PlacingKeepsSound = (s : Space) (size address : ℕ) → IsSound s → IsTrue (can_place s size address) → IsSound (placed s size address)
+
+-- the block that `get` makes may be placed, and `get` leaves what `place` leaves
+abbrev pub TakingPlaces : Type 0
+TakingPlaces =
+    (s : Space) (size address : ℕ) → IsSound s → place_for s size ≡ Some address →
+    IsTrue (can_place s (rounded size) address) × (taken s size ≡ placed s (rounded size) address)
+
+-- to give up a block that was placed gives the heap that was
+abbrev pub FreeingUndoesPlacing : Type 0
+FreeingUndoesPlacing =
+    (s : Space) (size address : ℕ) → IsSound s → IsTrue (can_place s size address) → freed (placed s size address) address ≡ s
+
+-- a block that was given up may be placed again, and that gives the heap that was
+abbrev pub PlacingUndoesFreeing : Type 0
+PlacingUndoesFreeing =
+    (s : Space) (block : Block) → IsSound s → Contains s.blocks block →
+    IsTrue (can_place (freed s block.address) block.size block.address) × (placed (freed s block.address) block.size block.address ≡ s)
+
+-- where no block begins, there is none to give up
+abbrev pub FreeingNothing : Type 0
+FreeingNothing = (s : Space) (address : ℕ) → begins_at s.blocks address ≡ false → freed s address ≡ s

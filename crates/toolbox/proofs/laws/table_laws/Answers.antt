@@ -1,0 +1,12 @@
+use Rattle.toolbox.proofs.OneNumber.{numbers-own}
+use Rattle.toolbox.proofs.ByName.{imports-have_one, imports-numbered}
+use Rattle.toolbox.proofs.laws.table_laws.Goals as goal
+
+pub returns-clause-numbers : goal.returns-clause-numbers
+returns-clause-numbers c = numbers-own
+
+pub returns-clause-imports : goal.returns-clause-imports
+returns-clause-imports c = imports-have_one
+
+pub returns-clause-numbered : goal.returns-clause-numbered
+returns-clause-numbered c = imports-numbered
