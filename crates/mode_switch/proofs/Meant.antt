@@ -12,11 +12,11 @@ use Rattle.big_memory.specs.Memory.{Memory, loaded}
 use Rattle.proc_info.specs.declared.bad_info.BadInfo.{BadInfo}
 use Rattle.proc_info.specs.Codes.{is_dispatched}
 use Rattle.proc_info.specs.Signature.{Signature, signature_of}
-use Rattle.routine_desc.specs.declared.record.Rec.{Rec}
 use Rattle.routine_desc.specs.declared.record.BadDesc.{BadDesc}
 use Rattle.routine_desc.specs.Choice.{choice}
+use Rattle.routine_desc.specs.Layout.{Routine, mixed_mode_magic}
 use Rattle.routine_desc.specs.Read.{desc_of}
-use Rattle.routine_desc.proofs.Held.{holds-records, records-alike}
+use Rattle.routine_desc.proofs.Held.{holds-records, infos-signed, records-alike}
 use Rattle.routine_desc.proofs.Takes.{takes-record}
 use Rattle.m68_isa.specs.declared.registers.Regs68.{Regs68}
 use Rattle.ppc_isa.specs.declared.registers.RegsPpc.{RegsPpc}
@@ -25,7 +25,7 @@ use Rattle.args_ppc.specs.Words.{selector_in as selector_in_ppc}
 use Rattle.switch_frame.specs.declared.kind.Kind.{Kind}
 use Rattle.switch_frame.specs.declared.kind.Kind.TheVariants.{M68ToPpc}
 use Rattle.switch_frame.specs.Sets.{caller_isa}
-use Rattle.mode_switch.specs.Wanted.{Want, Means, call_of_record, calls_record, described, even_sp, goes_by, kind_into, loaded_or_fault, matched, raw_call, raw_signature, selector_68k, selector_ppc, settled, signed, taken, takes_68k, takes_by, takes_ppc, wants_68k, wants_desc_ppc, wants_ppc, wants_raw, wants_word}
+use Rattle.mode_switch.specs.Wanted.{Want, Means, call_of_record, described, even_sp, goes_by, kind_into, loaded_or_fault, matched, raw_call, raw_signature, selector_68k, selector_ppc, settled, taken, takes_68k, takes_by, takes_ppc, wants_68k, wants_desc_ppc, wants_ppc, wants_raw, wants_word}
 use Rattle.mode_switch.specs.Laws.{MeansWhatItWants}
 use Rattle.mode_switch.specs.Wanted.Want.{Calls}
 
@@ -35,15 +35,11 @@ means_after set (Ok v) f h = h v refl
 means_after set (Err e) f h = tt
 
 -- the parts that are done
-signed_is : (pc at : ℕ) (x : Result Signature BadInfo) (sig : Signature) → signed pc at x ≡ Ok sig → x ≡ Ok sig
-signed_is pc at (Ok s) sig h = let e : s ≡ sig = cc in ap Ok e
-signed_is pc at (Err e) sig h = absurd (cc)
-
 raw_is : (pc info : ℕ) (x : Result Signature BadInfo) (sig : Signature) → raw_signature pc info x ≡ Ok sig → x ≡ Ok sig
 raw_is pc info (Ok s) sig h = let e : s ≡ sig = cc in ap Ok e
 raw_is pc info (Err e) sig h = absurd (cc)
 
-taken_is : (pc : ℕ) (selector : Option ℕ) (o : Option Rec) (rec : Rec) → taken pc selector o ≡ Ok rec → o ≡ Some rec
+taken_is : (pc : ℕ) (selector : Option ℕ) (o : Option Routine) (rec : Routine) → taken pc selector o ≡ Ok rec → o ≡ Some rec
 taken_is pc selector (Some r) rec h = let e : r ≡ rec = cc in ap Some e
 taken_is pc selector None rec h = absurd (cc)
 
@@ -58,42 +54,38 @@ some_if true v = refl
 some_if false v = refl
 
 -- the call of a record of a descriptor
-means-record : (set : Isa) (m : Memory) (a pc at : ℕ) (records : List Rec) (first : Rec) (kind : Kind) (sig : Signature) (selector : Option ℕ) (rec : Rec)
-    → caller_isa kind ≡ set → desc_of m a ≡ Ok records → Contains records first → signature_of first.info ≡ Ok sig → is_some selector ≡ is_dispatched sig.conv → choice records set selector ≡ Some rec
-    → Means set (settled (calls_record pc at kind rec selector))
-means-record set m a pc at records first kind sig selector rec caller read among is some chosen =
-    means_after set (signed pc at (signature_of rec.info)) (λ s. Ok (Calls (call_of_record kind rec selector s))) (λ s done.
-    let its : signature_of rec.info ≡ Ok s = signed_is pc at (signature_of rec.info) s done in
-    let like = records-alike m a records first rec sig s read among (takes-record records set selector rec chosen) is its in
-    record { caller = caller; signature = its; selector = some ∙ ap is_dispatched like.conv })
+means-record : (set : Isa) (m : Memory) (a : ℕ) (records : List Routine) (first rec : Routine) (kind : Kind) (selector : Option ℕ)
+    → caller_isa kind ≡ set → desc_of m a ≡ Ok records → Contains records first → is_some selector ≡ is_dispatched first.sig.conv → choice records set selector ≡ Some rec
+    → Means set (Calls (call_of_record kind rec selector))
+means-record set m a records first rec kind selector caller read among some chosen =
+    let also : Contains records rec = takes-record records set selector rec chosen in
+    let like = records-alike m a records first rec read among also in
+    record { caller = caller; signature = infos-signed m a records rec read also; selector = some ∙ ap is_dispatched like.conv }
 
 -- 68K code
-means-goes : (m : Memory) (a pc : ℕ) (records : List Rec) (first : Rec) (sig : Signature) (selector : Option ℕ) (rec : Rec) (isa : Isa)
-    → desc_of m a ≡ Ok records → Contains records first → signature_of first.info ≡ Ok sig → is_some selector ≡ is_dispatched sig.conv → choice records set_m68 selector ≡ Some rec
-    → Means set_m68 (settled (goes_by isa pc rec selector))
-means-goes m a pc records first sig selector rec set_m68 read among is some chosen = refl
-means-goes m a pc records first sig selector rec set_ppc read among is some chosen =
-    means-record set_m68 m a pc pc records first M68ToPpc sig selector rec refl read among is some chosen
+means-goes : (m : Memory) (a : ℕ) (records : List Routine) (first rec : Routine) (selector : Option ℕ) (isa : Isa)
+    → desc_of m a ≡ Ok records → Contains records first → is_some selector ≡ is_dispatched first.sig.conv → choice records set_m68 selector ≡ Some rec
+    → Means set_m68 (goes_by isa rec selector)
+means-goes m a records first rec selector set_m68 read among some chosen = refl
+means-goes m a records first rec selector set_ppc read among some chosen =
+    means-record set_m68 m a records first rec M68ToPpc selector refl read among some chosen
 
-means-takes_68k : (m : Memory) (r : Regs68) (records : List Rec) → desc_of m r.pc ≡ Ok records → Means set_m68 (settled (takes_68k m r records))
-means-takes_68k m r [] read = let few : 1 ≤ length {A = Rec} [] = (holds-records m r.pc [] read).0 in absurd (omega arith)
-means-takes_68k m r (rec ∷ rest) read =
-    let records = rec ∷ rest in
-    let among : Contains records rec = All-head (Contains records) rec rest (All-contains_itself records) in
+means-takes_68k : (m : Memory) (r : Regs68) (records : List Routine) → desc_of m r.pc ≡ Ok records → Means set_m68 (settled (takes_68k m r records))
+means-takes_68k m r [] read = let few : 1 ≤ length {A = Routine} [] = (holds-records m r.pc [] read).0 in absurd (omega arith)
+means-takes_68k m r (first ∷ rest) read =
+    let records = first ∷ rest in
+    let among : Contains records first = All-head (Contains records) first rest (All-contains_itself records) in
     means_after set_m68 (even_sp r.pc (slice_index r.a 7))
-    (λ even. signed r.pc r.pc (signature_of rec.info) >>= λ sig. loaded_or_fault r.pc (selector_68k sig r m) >>= λ selector. taken r.pc selector (choice records set_m68 selector) >>= λ rec. goes_by rec.isa r.pc rec selector)
-    (λ even even_is. means_after set_m68 (signed r.pc r.pc (signature_of rec.info))
-    (λ sig. loaded_or_fault r.pc (selector_68k sig r m) >>= λ selector. taken r.pc selector (choice records set_m68 selector) >>= λ rec. goes_by rec.isa r.pc rec selector)
-    (λ sig sig_is. means_after set_m68 (loaded_or_fault r.pc (selector_68k sig r m))
-    (λ selector. taken r.pc selector (choice records set_m68 selector) >>= λ rec. goes_by rec.isa r.pc rec selector)
+    (λ even. loaded_or_fault r.pc (selector_68k first.sig r m) >>= λ selector. taken r.pc selector (choice records set_m68 selector) >>= λ rec. Ok (goes_by rec.isa rec selector))
+    (λ even even_is. means_after set_m68 (loaded_or_fault r.pc (selector_68k first.sig r m))
+    (λ selector. taken r.pc selector (choice records set_m68 selector) >>= λ rec. Ok (goes_by rec.isa rec selector))
     (λ selector selector_is. means_after set_m68 (taken r.pc selector (choice records set_m68 selector))
-    (λ rec. goes_by rec.isa r.pc rec selector)
-    (λ taker taker_is. means-goes m r.pc r.pc records rec sig selector taker taker.isa read among
-    (signed_is r.pc r.pc (signature_of rec.info) sig sig_is)
-    (some_68k r.pc (is_dispatched sig.conv) (selector_in_68k sig r m) selector selector_is)
-    (taken_is r.pc selector (choice records set_m68 selector) taker taker_is)))))
+    (λ rec. Ok (goes_by rec.isa rec selector))
+    (λ taker taker_is. means-goes m r.pc records first taker selector taker.isa read among
+    (some_68k r.pc (is_dispatched first.sig.conv) (selector_in_68k first.sig r m) selector selector_is)
+    (taken_is r.pc selector (choice records set_m68 selector) taker taker_is))))
 
-means-described_68k : (m : Memory) (r : Regs68) (d : Result (List Rec) BadDesc) → desc_of m r.pc ≡ d → Means set_m68 (settled (described r.pc r.pc d >>= λ records. takes_68k m r records))
+means-described_68k : (m : Memory) (r : Regs68) (d : Result (List Routine) BadDesc) → desc_of m r.pc ≡ d → Means set_m68 (settled (described r.pc r.pc d >>= λ records. takes_68k m r records))
 means-described_68k m r (Ok records) read = means-takes_68k m r records read
 means-described_68k m r (Err bad) read = tt
 
@@ -105,26 +97,24 @@ caller_into : (isa : Isa) → caller_isa (kind_into isa) ≡ set_ppc
 caller_into set_m68 = refl
 caller_into set_ppc = refl
 
-means-takes_by : (m : Memory) (r : RegsPpc) (pointer info : ℕ) (records : List Rec) (first : Rec) (sig : Signature) (selector : Option ℕ)
-    → desc_of m pointer ≡ Ok records → Contains records first → signature_of first.info ≡ Ok sig → is_some selector ≡ is_dispatched sig.conv
-    → Means set_ppc (settled (takes_by r pointer info records selector))
-means-takes_by m r pointer info records first sig selector read among is some =
+means-takes_by : (m : Memory) (r : RegsPpc) (pointer info : ℕ) (records : List Routine) (first : Routine) (selector : Option ℕ)
+    → desc_of m pointer ≡ Ok records → Contains records first → is_some selector ≡ is_dispatched first.sig.conv
+    → Means set_ppc (settled (takes_by r info records selector))
+means-takes_by m r pointer info records first selector read among some =
     means_after set_ppc (taken r.pc selector (choice records set_ppc selector))
-    (λ rec. matched r.pc info rec.info >>= λ same. calls_record r.pc pointer (kind_into rec.isa) rec selector)
-    (λ taker taker_is. means_after set_ppc (matched r.pc info taker.info) (λ same. calls_record r.pc pointer (kind_into taker.isa) taker selector)
-    (λ same same_is. means-record set_ppc m pointer r.pc pointer records first (kind_into taker.isa) sig selector taker (caller_into taker.isa) read among is some
+    (λ rec. matched r.pc info rec.info >>= λ same. Ok (Calls (call_of_record (kind_into rec.isa) rec selector)))
+    (λ taker taker_is. means_after set_ppc (matched r.pc info taker.info) (λ same. Ok (Calls (call_of_record (kind_into taker.isa) taker selector)))
+    (λ same same_is. means-record set_ppc m pointer records first taker (kind_into taker.isa) selector (caller_into taker.isa) read among some
     (taken_is r.pc selector (choice records set_ppc selector) taker taker_is)))
 
-means-takes_ppc : (m : Memory) (r : RegsPpc) (pointer info : ℕ) (records : List Rec) → desc_of m pointer ≡ Ok records → Means set_ppc (settled (takes_ppc r pointer info records))
-means-takes_ppc m r pointer info [] read = let few : 1 ≤ length {A = Rec} [] = (holds-records m pointer [] read).0 in absurd (omega arith)
-means-takes_ppc m r pointer info (rec ∷ rest) read =
-    let records = rec ∷ rest in
-    let among : Contains records rec = All-head (Contains records) rec rest (All-contains_itself records) in
-    means_after set_ppc (signed r.pc pointer (signature_of rec.info)) (λ sig. takes_by r pointer info records (selector_ppc sig r))
-    (λ sig sig_is. means-takes_by m r pointer info records rec sig (selector_ppc sig r) read among (signed_is r.pc pointer (signature_of rec.info) sig sig_is)
-    (some_if (is_dispatched sig.conv) (selector_in_ppc sig r)))
+means-takes_ppc : (m : Memory) (r : RegsPpc) (pointer info : ℕ) (records : List Routine) → desc_of m pointer ≡ Ok records → Means set_ppc (settled (takes_ppc r info records))
+means-takes_ppc m r pointer info [] read = let few : 1 ≤ length {A = Routine} [] = (holds-records m pointer [] read).0 in absurd (omega arith)
+means-takes_ppc m r pointer info (first ∷ rest) read =
+    let records = first ∷ rest in
+    let among : Contains records first = All-head (Contains records) first rest (All-contains_itself records) in
+    means-takes_by m r pointer info records first (selector_ppc first.sig r) read among (some_if (is_dispatched first.sig.conv) (selector_in_ppc first.sig r))
 
-means-described_ppc : (m : Memory) (r : RegsPpc) (pointer info : ℕ) (d : Result (List Rec) BadDesc) → desc_of m pointer ≡ d → Means set_ppc (settled (described r.pc pointer d >>= λ records. takes_ppc r pointer info records))
+means-described_ppc : (m : Memory) (r : RegsPpc) (pointer info : ℕ) (d : Result (List Routine) BadDesc) → desc_of m pointer ≡ d → Means set_ppc (settled (described r.pc pointer d >>= λ records. takes_ppc r info records))
 means-described_ppc m r pointer info (Ok records) read = means-takes_ppc m r pointer info records read
 means-described_ppc m r pointer info (Err bad) read = tt
 
@@ -139,7 +129,7 @@ means-if false x y here there = there
 
 means-word : (m : Memory) (r : RegsPpc) (pointer info : ℕ) (w : Result ℕ Access) → Means set_ppc (settled (wants_word m r pointer info w))
 means-word m r pointer info (Ok word) =
-    means-if (word == 0xAAFE) (wants_desc_ppc m r pointer info) (wants_raw r pointer info)
+    means-if (word == mixed_mode_magic) (wants_desc_ppc m r pointer info) (wants_raw r pointer info)
     (means-described_ppc m r pointer info (desc_of m pointer) refl) (means-raw r pointer info)
 means-word m r pointer info (Err access) = tt
 

@@ -8,16 +8,16 @@ use Rattle.mix_bits.specs.declared.isa.Isa.{Isa}
 use Rattle.mix_bits.specs.declared.isa.Isa.TheVariants.{M68 as set_m68, Ppc as set_ppc}
 use Rattle.mix_bits.specs.declared.size.Size.TheVariants.{Two}
 use Rattle.big_memory.specs.declared.refusals.Access.{Access}
-use Rattle.big_memory.specs.Faults.{fault_at, fault_of}
+use Rattle.mix_bits.specs.Faults.{fault_at}
+use Rattle.big_memory.specs.Faults.{fault_of}
 use Rattle.big_memory.specs.Memory.{Memory, loaded}
 use Rattle.proc_info.specs.declared.bad_info.BadInfo.{BadInfo}
 use Rattle.proc_info.specs.Codes.{bad_info_code, is_dispatched}
 use Rattle.proc_info.specs.Signature.{Signature, signature_of}
-use Rattle.routine_desc.specs.declared.record.Rec.{Rec}
 use Rattle.routine_desc.specs.declared.record.BadDesc.{BadDesc}
-use Rattle.routine_desc.specs.declared.record.BadDesc.TheVariants.{Access as IsAccess, Info}
+use Rattle.routine_desc.specs.declared.record.BadDesc.TheVariants.{Access as IsAccess}
 use Rattle.routine_desc.specs.Codes.{bad_desc_code}
-use Rattle.routine_desc.specs.Layout.{has_flag}
+use Rattle.routine_desc.specs.Layout.{Routine, has_flag, mixed_mode_magic}
 use Rattle.routine_desc.specs.Read.{desc_of}
 use Rattle.routine_desc.specs.Choice.{choice}
 use Rattle.m68_isa.specs.declared.registers.Regs68.{Regs68}
@@ -58,22 +58,18 @@ abbrev pub bad_desc : ℕ → ℕ → BadDesc → Fault
 bad_desc pc at bad = record { kind = IsBadDesc; pc = pc; detail = at; also = bad_desc_code bad }
 
 -- its records
-abbrev pub described : ℕ → ℕ → Result (List Rec) BadDesc → Result (List Rec) Fault
+abbrev pub described : ℕ → ℕ → Result (List Routine) BadDesc → Result (List Routine) Fault
 described pc at (Ok records) = Ok records
 described pc at (Err bad) = Err (bad_desc pc at bad)
-
--- the signature of one of them; each has one, and all have one convention and one selector size
-abbrev pub signed : ℕ → ℕ → Result Signature BadInfo → Result Signature Fault
-signed pc at (Ok sig) = Ok sig
-signed pc at (Err bad) = Err (bad_desc pc at (Info bad))
-
-abbrev pub first_info : List Rec → ℕ
-first_info [] = 0
-first_info (rec ∷ records) = rec.info
 
 -- the selector of a dispatched call in 68K code, at whose A7 the return address is, or the refusal of its bytes
 abbrev pub selector_68k : Signature → Regs68 → Memory → Result (Option ℕ) Access
 selector_68k sig r m = if is_dispatched sig.conv then (selector_in_68k sig r m >>= λ v. Ok (Some v)) else Ok None
+
+-- all records of a descriptor have one convention and one selector size, so the first one tells
+abbrev pub selector_among_68k : List Routine → Regs68 → Memory → Result (Option ℕ) Access
+selector_among_68k [] r m = Ok None
+selector_among_68k (first ∷ others) r m = selector_68k first.sig r m
 
 abbrev pub loaded_or_fault : ℕ → Result (Option ℕ) Access → Result (Option ℕ) Fault
 loaded_or_fault pc (Ok selector) = Ok selector
@@ -83,22 +79,29 @@ loaded_or_fault pc (Err access) = Err (fault_of pc access)
 abbrev pub selector_ppc : Signature → RegsPpc → Option ℕ
 selector_ppc sig r = if is_dispatched sig.conv then Some (selector_in_ppc sig r) else None
 
+abbrev pub selector_among_ppc : List Routine → RegsPpc → Option ℕ
+selector_among_ppc [] r = None
+selector_among_ppc (first ∷ others) r = selector_ppc first.sig r
+
 -- the record that was chosen
 abbrev pub or_zero : Option ℕ → ℕ
 or_zero None = 0
 or_zero (Some v) = v
 
-abbrev pub taken : ℕ → Option ℕ → Option Rec → Result Rec Fault
+abbrev pub taken : ℕ → Option ℕ → Option Routine → Result Routine Fault
 taken pc selector (Some rec) = Ok rec
 taken pc selector None = Err (fault_at pc NoRecord (or_zero selector))
 
 -- the call of a record
-abbrev pub call_of_record : Kind → Rec → Option ℕ → Signature → Crossing
-call_of_record kind rec selector sig =
-    record { kind = kind; info = rec.info; sig = sig; selector = selector; passes = is_dispatched sig.conv && not (has_flag rec.flags 8); target = rec.target }
-
-abbrev pub calls_record : ℕ → ℕ → Kind → Rec → Option ℕ → Result Want Fault
-calls_record pc at kind rec selector = signed pc at (signature_of rec.info) >>= λ sig. Ok (Calls (call_of_record kind rec selector sig))
+abbrev pub call_of_record : Kind → Routine → Option ℕ → Crossing
+call_of_record kind rec selector = record {
+  kind = kind;
+  info = rec.info;
+  sig = rec.sig;
+  selector = selector;
+  passes = is_dispatched rec.sig.conv && not (has_flag rec.flags 8);
+  target = rec.target;
+}
 
 -- 68K code
 
@@ -106,17 +109,16 @@ abbrev pub even_sp : ℕ → ℕ → Result (Unit {0}) Fault
 even_sp pc sp = if sp % 2 == 1 then Err (fault_at pc Odd sp) else Ok tt
 
 -- a record of 68K code is gone on with, without a call
-abbrev pub goes_by : Isa → ℕ → Rec → Option ℕ → Result Want Fault
-goes_by set_m68 pc rec selector = Ok (Jumps rec.target)
-goes_by set_ppc pc rec selector = calls_record pc pc M68ToPpc rec selector
+abbrev pub goes_by : Isa → Routine → Option ℕ → Want
+goes_by set_m68 rec selector = Jumps rec.target
+goes_by set_ppc rec selector = Calls (call_of_record M68ToPpc rec selector)
 
-abbrev pub takes_68k : Memory → Regs68 → List Rec → Result Want Fault
+abbrev pub takes_68k : Memory → Regs68 → List Routine → Result Want Fault
 takes_68k m r records =
     even_sp r.pc (slice_index r.a 7) >>= λ even.
-    signed r.pc r.pc (signature_of (first_info records)) >>= λ sig.
-    loaded_or_fault r.pc (selector_68k sig r m) >>= λ selector.
+    loaded_or_fault r.pc (selector_among_68k records r m) >>= λ selector.
     taken r.pc selector (choice records set_m68 selector) >>= λ rec.
-    goes_by rec.isa r.pc rec selector
+    Ok (goes_by rec.isa rec selector)
 
 -- the descriptor stands at pc
 abbrev pub wants_desc_68k : Memory → Regs68 → Result Want Fault
@@ -147,22 +149,21 @@ abbrev pub kind_into : Isa → Kind
 kind_into set_m68 = PpcToM68
 kind_into set_ppc = PpcToPpc
 
-abbrev pub takes_by : RegsPpc → ℕ → ℕ → List Rec → Option ℕ → Result Want Fault
-takes_by r pointer info records selector =
+abbrev pub takes_by : RegsPpc → ℕ → List Routine → Option ℕ → Result Want Fault
+takes_by r info records selector =
     taken r.pc selector (choice records set_ppc selector) >>= λ rec.
     matched r.pc info rec.info >>= λ same.
-    calls_record r.pc pointer (kind_into rec.isa) rec selector
+    Ok (Calls (call_of_record (kind_into rec.isa) rec selector))
 
-abbrev pub takes_ppc : RegsPpc → ℕ → ℕ → List Rec → Result Want Fault
-takes_ppc r pointer info records =
-    signed r.pc pointer (signature_of (first_info records)) >>= λ sig. takes_by r pointer info records (selector_ppc sig r)
+abbrev pub takes_ppc : RegsPpc → ℕ → List Routine → Result Want Fault
+takes_ppc r info records = takes_by r info records (selector_among_ppc records r)
 
 abbrev pub wants_desc_ppc : Memory → RegsPpc → ℕ → ℕ → Result Want Fault
-wants_desc_ppc m r pointer info = described r.pc pointer (desc_of m pointer) >>= λ records. takes_ppc r pointer info records
+wants_desc_ppc m r pointer info = described r.pc pointer (desc_of m pointer) >>= λ records. takes_ppc r info records
 
 -- the word at the pointer tells which of them stands there
 abbrev pub wants_word : Memory → RegsPpc → ℕ → ℕ → Result ℕ Access → Result Want Fault
-wants_word m r pointer info (Ok word) = if word == 0xAAFE then wants_desc_ppc m r pointer info else wants_raw r pointer info
+wants_word m r pointer info (Ok word) = if word == mixed_mode_magic then wants_desc_ppc m r pointer info else wants_raw r pointer info
 wants_word m r pointer info (Err access) = Err (bad_desc r.pc pointer IsAccess)
 
 abbrev pub wants_ppc : Memory → RegsPpc → ℕ → ℕ → Want

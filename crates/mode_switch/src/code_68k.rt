@@ -1,13 +1,13 @@
 // What 68K code wants.
 ghost use Rattle.std.specs.Prelude.{◌≡◌, ◌+◌, ◌≤◌, length, slice_index, Ok};
-ghost use Rattle.proc_info.specs.Signature.{signature_of};
 ghost use Rattle.proc_info.specs.Views.{signature};
 ghost use Rattle.routine_desc.specs.Read.{Counts};
+ghost use Rattle.routine_desc.specs.Views.{routine, routines};
 ghost use Rattle.mode_switch.specs.Views.{told, wanted_of};
-ghost use Rattle.mode_switch.specs.Wanted.{Means, even_sp as even_sp_lem, goes_by as goes_by_lem, loaded_or_fault, selector_68k as selector_68k_lem, settled, signed as signed_lem, takes_68k as takes_68k_lem, wants_desc_68k, wants_68k as wants_68k_lem};
+ghost use Rattle.mode_switch.specs.Wanted.{Means, even_sp as even_sp_lem, goes_by as goes_by_lem, loaded_or_fault, selector_68k as selector_68k_lem, selector_among_68k, settled, takes_68k as takes_68k_lem, wants_desc_68k, wants_68k as wants_68k_lem};
 
 use crate::Wanted;
-use crate::records::{FEW, bad_desc, calls_record, first_info, settle, signed, taken};
+use crate::records::{FEW, bad_desc, call_of, settle, taken};
 use args_m68::select68;
 use big_memory::Ram;
 use m68_isa::Regs68;
@@ -43,7 +43,8 @@ fn wants_of_few(ram: &Ram, regs: &Regs68, count: u32) -> Wanted
     requires few { count ≤ 4 }
     ensures { wanted_of result ≡ settled (wants_desc_68k ram.now regs.now) }
 {
-    let mut records = [Rec::NONE; 4];
+    let empty = Rec::empty();
+    let mut records = [empty; 4];
     wants_in(ram, regs, &mut records[..count as usize])
 }
 
@@ -55,7 +56,8 @@ fn wants_of_many(ram: &Ram, regs: &Regs68, count: u32) -> Wanted
     requires few { count ≤ 64 }
     ensures { wanted_of result ≡ settled (wants_desc_68k ram.now regs.now) }
 {
-    let mut records = [Rec::NONE; 64];
+    let empty = Rec::empty();
+    let mut records = [empty; 64];
     wants_in(ram, regs, &mut records[..count as usize])
 }
 
@@ -76,14 +78,12 @@ fn wants_in(ram: &Ram, regs: &Regs68, records: &mut [Rec]) -> Wanted
 /// What it wants of the records of a descriptor.
 #[inline(always)]
 fn takes(ram: &Ram, regs: &Regs68, records: &[Rec]) -> Result<Wanted, Fault>
-    ensures { told result ≡ takes_68k_lem ram.now regs.now records.now }
+    ensures { told result ≡ takes_68k_lem ram.now regs.now (routines records.now) }
 {
     even_sp(regs)?;
-    let info = first_info(records);
-    let sig = signed(regs.pc, regs.pc, info)?;
-    let selector = selector(ram, regs, &sig)?;
+    let selector = selector_among(ram, regs, records)?;
     let rec = taken(regs.pc, selector, choose_among(records, Isa::M68, selector))?;
-    goes_by(regs.pc, &rec, selector, info, &sig)
+    Ok(goes_by(rec, selector))
 }
 
 /// An odd A7 is refused.
@@ -92,14 +92,19 @@ fn even_sp(regs: &Regs68) -> Result<(), Fault>
 {
     let sp = regs.a[7];
     if sp % 2 == 1 {
-        Err(Fault {
-            kind: FaultKind::Odd,
-            pc: regs.pc,
-            detail: sp,
-            also: 0,
-        })
+        Err(Fault::at(regs.pc, FaultKind::Odd, sp))
     } else {
         Ok(())
+    }
+}
+
+/// The selector of a call by these records: the first one tells whether there is one.
+fn selector_among(ram: &Ram, regs: &Regs68, records: &[Rec]) -> Result<Option<u32>, Fault>
+    ensures { result ≡ loaded_or_fault regs.now.pc (selector_among_68k (routines records.now) regs.now ram.now) }
+{
+    match records {
+        [] => Ok(None),
+        [first, ..] => selector(ram, regs, &first.sig),
     }
 }
 
@@ -117,21 +122,12 @@ fn selector(ram: &Ram, regs: &Regs68, sig: &Sig) -> Result<Option<u32>, Fault>
     }
 }
 
-/// A record of 68K code is gone on with, and one of PowerPC code is called; the signature of another
-/// record's procInfo is known.
-#[inline(always)]
-fn goes_by(
-    pc: u32,
-    rec: &Rec,
-    selector: Option<u32>,
-    known: u32,
-    sig: &Sig,
-) -> Result<Wanted, Fault>
-    requires { signed_lem pc pc (signature_of known) ≡ Ok (signature sig.now) }
-    ensures { told result ≡ goes_by_lem rec.now.isa pc rec.now selector }
+/// A record of 68K code is gone on with, and one of PowerPC code is called.
+fn goes_by(rec: &Rec, selector: Option<u32>) -> Wanted
+    ensures { wanted_of result ≡ goes_by_lem rec.now.isa (routine rec.now) selector }
 {
     match rec.isa {
-        Isa::M68 => Ok(Wanted::Jumps(rec.target)),
-        Isa::Ppc => calls_record(pc, pc, Kind::M68ToPpc, rec, selector, known, sig),
+        Isa::M68 => Wanted::Jumps(rec.target),
+        Isa::Ppc => Wanted::Calls(call_of(Kind::M68ToPpc, rec, selector)),
     }
 }

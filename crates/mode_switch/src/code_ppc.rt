@@ -3,12 +3,13 @@ ghost use Rattle.std.specs.Prelude.{◌≡◌, ◌+◌, ◌≤◌, length, Ok};
 ghost use Rattle.proc_info.specs.Signature.{signature_of};
 ghost use Rattle.proc_info.specs.Views.{signature};
 ghost use Rattle.routine_desc.specs.Read.{Counts};
+ghost use Rattle.routine_desc.specs.Views.{routines};
 ghost use Rattle.mix_bits.specs.declared.size.Size.TheVariants.{Two};
 ghost use Rattle.big_memory.specs.Memory.{loaded};
 ghost use Rattle.mode_switch.specs.Views.{signed_kept, told, wanted_of};
-ghost use Rattle.mode_switch.specs.Wanted.{Means, kind_into as kind_into_lem, matched as matched_lem, raw_signature as raw_signature_lem, selector_ppc as selector_ppc_lem, settled, takes_ppc as takes_ppc_lem, wants_desc_ppc, wants_ppc as wants_ppc_lem, wants_raw as wants_raw_lem, wants_word as wants_word_lem};
+ghost use Rattle.mode_switch.specs.Wanted.{Means, kind_into as kind_into_lem, matched as matched_lem, raw_signature as raw_signature_lem, selector_among_ppc, selector_ppc as selector_ppc_lem, settled, takes_ppc as takes_ppc_lem, wants_desc_ppc, wants_ppc as wants_ppc_lem, wants_raw as wants_raw_lem, wants_word as wants_word_lem};
 
-use crate::records::{FEW, bad_desc, calls_record, first_info, settle, signed, taken};
+use crate::records::{FEW, bad_desc, call_of, settle, taken};
 use crate::{Call, Wanted};
 use args_ppc::select_ppc;
 use big_memory::Ram;
@@ -92,7 +93,8 @@ fn wants_of_few(ram: &Ram, regs: &RegsPpc, pointer: u32, info: u32, count: u32) 
     requires few { count ≤ 4 }
     ensures { wanted_of result ≡ settled (wants_desc_ppc ram.now regs.now pointer info) }
 {
-    let mut records = [Rec::NONE; 4];
+    let empty = Rec::empty();
+    let mut records = [empty; 4];
     wants_in(ram, regs, pointer, info, &mut records[..count as usize])
 }
 
@@ -104,7 +106,8 @@ fn wants_of_many(ram: &Ram, regs: &RegsPpc, pointer: u32, info: u32, count: u32)
     requires few { count ≤ 64 }
     ensures { wanted_of result ≡ settled (wants_desc_ppc ram.now regs.now pointer info) }
 {
-    let mut records = [Rec::NONE; 64];
+    let empty = Rec::empty();
+    let mut records = [empty; 64];
     wants_in(ram, regs, pointer, info, &mut records[..count as usize])
 }
 
@@ -117,30 +120,30 @@ fn wants_in(ram: &Ram, regs: &RegsPpc, pointer: u32, info: u32, records: &mut [R
     ensures { wanted_of result ≡ settled (wants_desc_ppc ram.now regs.now pointer info) }
 {
     match read_all(ram, pointer, records) {
-        Ok(()) => settle(takes(regs, pointer, info, records)),
+        Ok(()) => settle(takes(regs, info, records)),
         Err(bad) => Wanted::Refuses(bad_desc(regs.pc, pointer, bad)),
     }
 }
 
 /// What it wants of the records of a descriptor.
 #[inline(always)]
-fn takes(regs: &RegsPpc, pointer: u32, info: u32, records: &[Rec]) -> Result<Wanted, Fault>
-    ensures { told result ≡ takes_ppc_lem regs.now pointer info records.now }
+fn takes(regs: &RegsPpc, info: u32, records: &[Rec]) -> Result<Wanted, Fault>
+    ensures { told result ≡ takes_ppc_lem regs.now info (routines records.now) }
 {
-    let first = first_info(records);
-    let sig = signed(regs.pc, pointer, first)?;
-    let selector = selector(regs, &sig);
+    let selector = selector_among(regs, records);
     let rec = taken(regs.pc, selector, choose_among(records, Isa::Ppc, selector))?;
     matched(regs.pc, info, rec.info)?;
-    calls_record(
-        regs.pc,
-        pointer,
-        kind_into(rec.isa),
-        &rec,
-        selector,
-        first,
-        &sig,
-    )
+    Ok(Wanted::Calls(call_of(kind_into(rec.isa), rec, selector)))
+}
+
+/// The selector of a call by these records: the first one tells whether there is one.
+fn selector_among(regs: &RegsPpc, records: &[Rec]) -> Option<u32>
+    ensures { result ≡ selector_among_ppc (routines records.now) regs.now }
+{
+    match records {
+        [] => None,
+        [first, ..] => selector(regs, &first.sig),
+    }
 }
 
 /// The selector of a dispatched call.

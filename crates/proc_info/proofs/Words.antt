@@ -11,7 +11,7 @@ use Rattle.proc_info.specs.declared.conv.Shape.TheVariants.{Stack, Dispatched, R
 use Rattle.proc_info.specs.declared.param.Param.{Param}
 use Rattle.proc_info.specs.Codes.{conv_at, conv_code, shape_of, size_at, size_code, is_place}
 use Rattle.proc_info.proofs.Makes.{made, made_once, tested}
-use Rattle.proc_info.specs.Signature.{Signature, base, param_at, params_at, digit_of_param, params_word, on_stack, with_selector, in_registers, signature_by, signature_of, word_by, word_of, IsSignature}
+use Rattle.proc_info.specs.Signature.{Signature, base, no_parameters, param_at, params_at, digit_of_param, params_word, on_stack, with_selector, in_registers, signature_by, signature_of, word_by, word_of, IsSignature}
 
 -- a size's number is the number that it was read from
 pub size_back : (code : ℕ) → code < 4 → size_code (size_at code) ≡ code
@@ -104,3 +104,8 @@ is_signature w s fits said =
       fits = subst (λ n. n < 2 ^ 32) (sym back) fits;
       back = ap signature_of back ∙ said;
     }
+
+-- the word 0 is that of a call without parameters and result
+pub empty_signature : IsSignature no_parameters
+unfolding signature_of signature_by params_at
+empty_signature = record { fits = omega arith; back = refl }

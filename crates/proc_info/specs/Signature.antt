@@ -8,6 +8,7 @@ use Rattle.mix_bits.specs.declared.size.Size.TheVariants.{Zero}
 use Rattle.proc_info.specs.declared.bad_info.BadInfo.{BadInfo}
 use Rattle.proc_info.specs.declared.bad_info.BadInfo.TheVariants.{TopBit, Place, Gap, Twice}
 use Rattle.proc_info.specs.declared.conv.Conv.{Conv}
+use Rattle.proc_info.specs.declared.conv.Conv.TheVariants.{Pascal}
 use Rattle.proc_info.specs.declared.conv.Shape.{Shape}
 use Rattle.proc_info.specs.declared.conv.Shape.TheVariants.{Stack, Dispatched, Registers}
 use Rattle.proc_info.specs.declared.param.Param.{Param}
@@ -86,6 +87,18 @@ signature_of w = conv_at (w % 16) >>= λ conv. signature_by (shape_of conv) conv
 -- whether a word has a signature
 abbrev pub has_signature : ℕ → Bool
 has_signature w = is_ok (signature_of w)
+
+-- a Pascal call without parameters and result, whose word is 0
+abbrev pub no_parameters : Signature
+no_parameters = record { conv = Pascal; result = Zero; place = 0; selector = Zero; params = [] }
+
+abbrev pub signed_or : Signature → Result Signature BadInfo → Signature
+signed_or other (Ok s) = s
+signed_or other (Err e) = other
+
+-- the signature of a word that has one
+abbrev pub signature_in : ℕ → Signature
+signature_in w = signed_or no_parameters (signature_of w)
 
 -- the digit of a parameter
 abbrev pub digit_of_param : Shape → Param → ℕ

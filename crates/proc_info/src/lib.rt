@@ -17,6 +17,6 @@ mod writer;
 pub use bad_info::BadInfo;
 pub use conv::Conv;
 pub use param::Param;
-pub use reader::read;
+pub use reader::{read, read_signed};
 pub use sig::Sig;
 pub use writer::write;

@@ -1,11 +1,11 @@
-ghost use Rattle.std.specs.Prelude.{◌≡◌, ◌≢◌, ◌+◌, ◌/◌, ◌%◌, ◌≤◌, length, replicate, IfOk, OnErr, Ok, nat_le, ◌||◌, ◌&&◌, ◌==◌};
+ghost use Rattle.std.specs.Prelude.{◌≡◌, ◌≢◌, ◌+◌, ◌/◌, ◌%◌, ◌≤◌, length, replicate, IfOk, OnErr, Ok, true, nat_le, ◌||◌, ◌&&◌, ◌==◌};
 ghost use Rattle.std.specs.List.{list_any};
 ghost use Rattle.mix_bits.specs.Digits.{digit_of};
 ghost use Rattle.proc_info.specs.Codes.{size_at, is_place};
 ghost use Rattle.proc_info.specs.Filling.{Fills};
 ghost use Rattle.proc_info.specs.Nothing.{nothing};
 ghost use Rattle.proc_info.specs.Rules.{KeepsRules};
-ghost use Rattle.proc_info.specs.Signature.{Signature, base, param_at, params_at, is_twice, signature_by, signature_of, word_of};
+ghost use Rattle.proc_info.specs.Signature.{Signature, base, has_signature, param_at, params_at, is_twice, signature_by, signature_in, signature_of, word_of};
 ghost use Rattle.proc_info.specs.Views.{answered, signature};
 
 use super::bad_info::BadInfo;
@@ -28,6 +28,18 @@ pub fn read(w: u32) -> Result<Sig, BadInfo>
         Shape::Stack => read_stack(conv, w),
         Shape::Dispatched => read_dispatched(conv, w),
         Shape::Registers => read_registers(conv, w),
+    }
+}
+
+/// The signature of a word that has one, as each word that a frame keeps.
+pub fn read_signed(w: u32) -> Sig
+    requires { has_signature w ≡ true }
+    ensures value { signature result ≡ signature_in w }
+    ensures exact { signature_of w ≡ Ok (signature result) }
+{
+    match read(w) {
+        Ok(sig) => sig,
+        Err(_) => unreachable!(),
     }
 }
 

@@ -28,7 +28,24 @@ pub struct Sig {
 impl Sig {
     ghost use Rattle.std.specs.Prelude.{◌≡◌, length};
     ghost use Rattle.proc_info.specs.Rules.{KeepsRules};
+    ghost use Rattle.proc_info.specs.Signature.{no_parameters};
     ghost use Rattle.proc_info.specs.Views.{params_of, signature};
+
+    /// The signature of the word 0: a Pascal call without parameters and result.
+    #[inline(always)]
+    pub fn empty() -> Sig
+        ensures value { signature result ≡ no_parameters }
+        ensures count { result.count ≡ 0 }
+    {
+        Sig {
+            conv: Conv::Pascal,
+            result: Size::Zero,
+            place: 0,
+            selector: Size::Zero,
+            count: 0,
+            params: [Param::NONE; 13],
+        }
+    }
 
     /// The parameters, the first one first.
     pub fn params(&self) -> &[Param]

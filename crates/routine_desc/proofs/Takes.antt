@@ -4,25 +4,24 @@ use Rattle.std.specs.List.{All, Contains}
 use Rattle.std.proofs.lemmas.List.Elements.{All-contains_itself, All-filter, All-head, All-nil}
 use Rattle.mix_bits.specs.declared.isa.Isa.{Isa}
 use Rattle.mix_bits.specs.declared.isa.Isa.TheVariants.{Ppc}
-use Rattle.routine_desc.specs.declared.record.Rec.{Rec}
-use Rattle.routine_desc.specs.Layout.{has_flag}
+use Rattle.routine_desc.specs.Layout.{Routine, has_flag}
 use Rattle.routine_desc.specs.Choice.{candidates, chosen_among, first_of, has_selector, head_of, is_default, is_isa, or_else}
 use Rattle.routine_desc.specs.Laws.{TakesARecord, TakesNone}
 use Rattle.routine_desc.proofs.ChoiceLemmas.{head-first_of}
 
-all_first_of : (P : Rec → Type 0) (xs ys : List Rec) → All P xs → All P ys → All P (first_of xs ys)
+all_first_of : (P : Routine → Type 0) (xs ys : List Routine) → All P xs → All P ys → All P (first_of xs ys)
 all_first_of P [] ys here there = there
 all_first_of P (x ∷ xs) ys here there = here
 
-all_if : (P : Rec → Type 0) (b : Bool) (xs : List Rec) → All P xs → All P (if b then xs else [])
+all_if : (P : Routine → Type 0) (b : Bool) (xs : List Routine) → All P xs → All P (if b then xs else [])
 all_if P true xs here = here
 all_if P false xs here = All-nil P
 
-of_head : (P : Rec → Type 0) (xs : List Rec) (r : Rec) → All P xs → head_of xs ≡ Some r → P r
+of_head : (P : Routine → Type 0) (xs : List Routine) (r : Routine) → All P xs → head_of xs ≡ Some r → P r
 of_head P [] r here h = absurd (cc)
 of_head P (x ∷ xs) r here h = let e : x ≡ r = cc in subst P e (All-head P x xs here)
 
-of_chosen : (P : Rec → Type 0) (caller : Isa) (cs : List Rec) (r : Rec) → All P cs → chosen_among caller cs ≡ Some r → P r
+of_chosen : (P : Routine → Type 0) (caller : Isa) (cs : List Routine) (r : Routine) → All P cs → chosen_among caller cs ≡ Some r → P r
 of_chosen P caller [] r here h = absurd (cc)
 of_chosen P caller (c ∷ cs) r here h =
     let native = filter (λ c. is_isa c.isa Ppc) (c ∷ cs) in
@@ -32,22 +31,22 @@ of_chosen P caller (c ∷ cs) r here h =
     (all_if P (has_flag c.flags 4) native (All-filter (λ c. is_isa c.isa Ppc) P (c ∷ cs) here))
     (all_first_of P own (c ∷ cs) (All-filter (λ c. is_isa c.isa caller) P (c ∷ cs) here) here)) h
 
-all_candidates : (P : Rec → Type 0) (records : List Rec) (selector : Option ℕ) → All P records → All P (candidates records selector)
+all_candidates : (P : Routine → Type 0) (records : List Routine) (selector : Option ℕ) → All P records → All P (candidates records selector)
 all_candidates P records None here = here
 all_candidates P records (Some s) here =
     all_first_of P (filter (has_selector s) records) (filter is_default records) (All-filter (has_selector s) P records here) (All-filter is_default P records here)
 
 pub takes-record : TakesARecord
 takes-record records caller selector r h =
-    let Among : Rec → Type 0 = λ r. Contains records r in
+    let Among : Routine → Type 0 = λ r. Contains records r in
     of_chosen Among caller (candidates records selector) r (all_candidates Among records selector (All-contains_itself records)) h
 
-some_else : (x y : Option Rec) (r : Rec) → or_else x (or_else y (Some r)) ≡ None → ⊥
+some_else : (x y : Option Routine) (r : Routine) → or_else x (or_else y (Some r)) ≡ None → ⊥
 some_else None None r h = cc
 some_else None (Some q) r h = cc
 some_else (Some q) y r h = cc
 
-chosen_none : (caller : Isa) (cs : List Rec) → chosen_among caller cs ≡ None → cs ≡ []
+chosen_none : (caller : Isa) (cs : List Routine) → chosen_among caller cs ≡ None → cs ≡ []
 chosen_none caller [] h = refl
 chosen_none caller (c ∷ cs) h =
     let native = (if has_flag c.flags 4 then filter (λ c. is_isa c.isa Ppc) (c ∷ cs) else []) in

@@ -3,8 +3,7 @@ use Rattle.std.specs.Prelude.{ℕ, ◌≡◌, ◌≤◌, ◌+◌, List, [], ◌�
 use Rattle.byteorder.specs.Endian.{big_bytes}
 use Rattle.big_memory.specs.Memory.{Memory, with_bytes}
 use Rattle.proc_info.specs.Signature.{Signature, signature_of}
-use Rattle.routine_desc.specs.declared.record.Rec.{Rec}
-use Rattle.routine_desc.specs.Layout.{isa_of}
+use Rattle.routine_desc.specs.Layout.{Routine, isa_of}
 use Rattle.routine_desc.specs.Read.{desc_of}
 
 -- the header, with the index of the last record
@@ -20,17 +19,17 @@ image info None isa proc = header_bytes 0 ++ record_bytes info isa proc
 image info (Some m68k) isa proc = header_bytes 1 ++ (record_bytes info 0 m68k ++ record_bytes info isa proc)
 
 -- the records that were asked for
-abbrev pub asked_record : ℕ → ℕ → ℕ → Rec
-asked_record info isa proc = record { info = info; isa = isa_of isa; flags = 0; target = proc; selector = 0 }
+abbrev pub asked_record : ℕ → Signature → ℕ → ℕ → Routine
+asked_record info sig isa proc = record { info = info; sig = sig; isa = isa_of isa; flags = 0; target = proc; selector = 0 }
 
-abbrev pub asked : ℕ → Option ℕ → ℕ → ℕ → List Rec
-asked info None isa proc = asked_record info isa proc ∷ []
-asked info (Some m68k) isa proc = asked_record info 0 m68k ∷ (asked_record info isa proc ∷ [])
+abbrev pub asked : ℕ → Signature → Option ℕ → ℕ → ℕ → List Routine
+asked info sig None isa proc = asked_record info sig isa proc ∷ []
+asked info sig (Some m68k) isa proc = asked_record info sig 0 m68k ∷ (asked_record info sig isa proc ∷ [])
 
 -- a descriptor that was built is read back as these records, if its procInfo has a signature and its ISA is one of the two
 abbrev pub ReadsBack : Memory → ℕ → ℕ → Option ℕ → ℕ → ℕ → Type 0
 ReadsBack m a info m68k isa proc =
-    isa ≤ 1 → (signature : Signature) → signature_of info ≡ Ok signature → desc_of m a ≡ Ok (asked info m68k isa proc)
+    isa ≤ 1 → (sig : Signature) → signature_of info ≡ Ok sig → desc_of m a ≡ Ok (asked info sig m68k isa proc)
 
 -- the bytes stand in memory from an address on, and nothing else changed
 pub record IsPut (old : Memory) (a : ℕ) (bytes : List ℕ) (new : Memory) : Type 0 where

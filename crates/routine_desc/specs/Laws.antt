@@ -1,22 +1,22 @@
 -- Laws of descriptors, and of the choice among their records.
-use Rattle.std.specs.Prelude.{◌≡◌, ◌↔◌, ℕ, ◌+◌, ◌*◌, ◌≤◌, true, false, List, [], Contains, length, Option, Some, None, Ok}
+use Rattle.std.specs.Prelude.{◌≡◌, ◌↔◌, ℕ, ◌+◌, ◌*◌, ◌≤◌, false, List, [], Contains, length, Option, Some, None, Ok}
 use Rattle.mix_bits.specs.declared.isa.Isa.{Isa}
 use Rattle.big_memory.specs.Lists.{part}
 use Rattle.big_memory.specs.Memory.{Memory}
 use Rattle.proc_info.specs.Codes.{is_dispatched}
-use Rattle.proc_info.specs.Signature.{Signature, has_signature, signature_of}
-use Rattle.routine_desc.specs.declared.record.Rec.{Rec}
+use Rattle.proc_info.specs.Signature.{Signature, signature_of}
+use Rattle.routine_desc.specs.Layout.{Routine}
 use Rattle.routine_desc.specs.Read.{desc_of}
 use Rattle.routine_desc.specs.Choice.{candidates, choice}
 
 -- a descriptor has one record up to 64
 abbrev pub HoldsRecords : Type 0
-HoldsRecords = (m : Memory) (a : ℕ) (records : List Rec) → desc_of m a ≡ Ok records → (1 ≤ length records) × (length records ≤ 64)
+HoldsRecords = (m : Memory) (a : ℕ) (records : List Routine) → desc_of m a ≡ Ok records → (1 ≤ length records) × (length records ≤ 64)
 
--- each procInfo in it has a signature
+-- each record in it has the signature of its procInfo
 abbrev pub InfosAreSigned : Type 0
 InfosAreSigned =
-    (m : Memory) (a : ℕ) (records : List Rec) (r : Rec) → desc_of m a ≡ Ok records → Contains records r → has_signature r.info ≡ true
+    (m : Memory) (a : ℕ) (records : List Routine) (r : Routine) → desc_of m a ≡ Ok records → Contains records r → signature_of r.info ≡ Ok r.sig
 
 -- signatures that are called alike: in one convention, with one selector size, and if there is no selector, they are one
 pub record IsCalledLike (s t : Signature) : Type 0 where
@@ -27,19 +27,18 @@ pub record IsCalledLike (s t : Signature) : Type 0 where
 -- any two of its records are called alike
 abbrev pub RecordsAreAlike : Type 0
 RecordsAreAlike =
-    (m : Memory) (a : ℕ) (records : List Rec) (r q : Rec) (s t : Signature) → desc_of m a ≡ Ok records → Contains records r → Contains records q
-    → signature_of r.info ≡ Ok s → signature_of q.info ≡ Ok t → IsCalledLike s t
+    (m : Memory) (a : ℕ) (records : List Routine) (r q : Routine) → desc_of m a ≡ Ok records → Contains records r → Contains records q → IsCalledLike r.sig q.sig
 
 -- it is read from its bytes alone: a header of 12, and 20 for each record
 abbrev pub ReadsItsBytes : Type 0
 ReadsItsBytes =
-    (m n : Memory) (a : ℕ) (records : List Rec) → desc_of m a ≡ Ok records
+    (m n : Memory) (a : ℕ) (records : List Routine) → desc_of m a ≡ Ok records
     → part a (12 + 20 * length records) n.bytes ≡ part a (12 + 20 * length records) m.bytes → desc_of n a ≡ Ok records
 
 -- the record that is taken is one of the records
 abbrev pub TakesARecord : Type 0
-TakesARecord = (records : List Rec) (caller : Isa) (selector : Option ℕ) (r : Rec) → choice records caller selector ≡ Some r → Contains records r
+TakesARecord = (records : List Routine) (caller : Isa) (selector : Option ℕ) (r : Routine) → choice records caller selector ≡ Some r → Contains records r
 
 -- none is taken exactly where there is no candidate
 abbrev pub TakesNone : Type 0
-TakesNone = (records : List Rec) (caller : Isa) (selector : Option ℕ) → (choice records caller selector ≡ None) ↔ (candidates records selector ≡ [])
+TakesNone = (records : List Routine) (caller : Isa) (selector : Option ℕ) → (choice records caller selector ≡ None) ↔ (candidates records selector ≡ [])

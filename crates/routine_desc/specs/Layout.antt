@@ -1,17 +1,17 @@
 -- The layout of a routine descriptor, as this project takes it
 -- (Inside Macintosh: PowerPC System Software, chapter 2).
-use Rattle.std.specs.Prelude.{ℕ, ◌+◌, ◌/◌, ◌%◌, ◌^◌, ◌==◌, nat_lt, Bool, not, ◌&&◌, ◌||◌, if◌then◌else◌, drop, Option, Some, None}
-use Rattle.byteorder.specs.Endian.{big_number}
+use Rattle.std.specs.Prelude.{ℕ, ◌+◌, ◌/◌, ◌%◌, ◌^◌, ◌==◌, nat_lt, Bool, not, ◌&&◌, ◌||◌, if◌then◌else◌, Option, Some, None}
 use Rattle.mix_bits.specs.declared.isa.Isa.{Isa}
 use Rattle.mix_bits.specs.declared.isa.Isa.TheVariants.{M68, Ppc}
 use Rattle.big_memory.specs.Memory.{Memory, in_memory}
-use Rattle.routine_desc.specs.declared.record.Rec.{Rec}
+use Rattle.big_memory.specs.Numbers.{number_at}
+use Rattle.proc_info.specs.Signature.{Signature, no_parameters}
 use Rattle.routine_desc.specs.declared.record.BadDesc.{BadDesc}
 use Rattle.routine_desc.specs.declared.record.BadDesc.TheVariants.{Access, Magic, Version, Reserved, Count, Isa as BadIsa, Flags}
 
--- the number in the n bytes at an address
-abbrev pub number_at : Memory → ℕ → ℕ → ℕ
-number_at m a n = big_number n (drop a m.bytes)
+-- the word with which a descriptor begins
+abbrev pub mixed_mode_magic : ℕ
+mixed_mode_magic = 0xAAFE
 
 -- whether flags have one of a power of two
 abbrev pub has_flag : ℕ → ℕ → Bool
@@ -29,19 +29,19 @@ are_good_flags flags = nat_lt flags 0x20 && not (has_flag flags 2)
 abbrev pub bad_header : Memory → ℕ → Option BadDesc
 bad_header m a =
     if not (in_memory m a 12) then Some Access
-    else (if not (number_at m a 2 == 0xAAFE) then Some Magic
-    else (if not (number_at m (a + 2) 1 == 7) then Some Version
-    else (if not ((number_at m (a + 4) 4 == 0) && (number_at m (a + 8) 1 == 0)) then Some Reserved
-    else (if nat_lt 63 (number_at m (a + 10) 2) then Some Count
+    else (if not (number_at a 2 m.bytes == mixed_mode_magic) then Some Magic
+    else (if not (number_at (a + 2) 1 m.bytes == 7) then Some Version
+    else (if not ((number_at (a + 4) 4 m.bytes == 0) && (number_at (a + 8) 1 m.bytes == 0)) then Some Reserved
+    else (if nat_lt 63 (number_at (a + 10) 2 m.bytes) then Some Count
     else None))))
 
 -- the first rule that a record breaks, but for the signature of its procInfo
 abbrev pub bad_record : Memory → ℕ → Option BadDesc
 bad_record m p =
     if not (in_memory m p 20) then Some Access
-    else (if not ((number_at m (p + 4) 1 == 0) && (number_at m (p + 12) 4 == 0)) then Some Reserved
-    else (if nat_lt 1 (number_at m (p + 5) 1) then Some BadIsa
-    else (if not (are_good_flags (number_at m (p + 6) 2)) then Some Flags
+    else (if not ((number_at (p + 4) 1 m.bytes == 0) && (number_at (p + 12) 4 m.bytes == 0)) then Some Reserved
+    else (if nat_lt 1 (number_at (p + 5) 1 m.bytes) then Some BadIsa
+    else (if not (are_good_flags (number_at (p + 6) 2 m.bytes)) then Some Flags
     else None)))
 
 abbrev pub isa_of : ℕ → Isa
@@ -51,12 +51,26 @@ isa_of code = if code == 0 then M68 else Ppc
 abbrev pub target_of : ℕ → ℕ → ℕ → ℕ
 target_of a flags proc = if has_flag flags 1 then (a + proc) % 2 ^ 32 else proc
 
--- the record at p of the descriptor at a
-abbrev pub record_at : Memory → ℕ → ℕ → Rec
-record_at m a p = record {
-  info = number_at m p 4;
-  isa = isa_of (number_at m (p + 5) 1);
-  flags = number_at m (p + 6) 2;
-  target = target_of a (number_at m (p + 6) 2) (number_at m (p + 8) 4);
-  selector = number_at m (p + 16) 4;
+-- a routine record, with the signature of its procInfo
+pub record Routine : Type 0 where
+  pub info : ℕ
+  pub sig : Signature
+  pub isa : Isa
+  pub flags : ℕ
+  pub target : ℕ
+  pub selector : ℕ
+
+-- what stands where no record was read
+abbrev pub no_routine : Routine
+no_routine = record { info = 0; sig = no_parameters; isa = M68; flags = 0; target = 0; selector = 0 }
+
+-- the record at p of the descriptor at a, whose procInfo has this signature
+abbrev pub record_at : Memory → ℕ → ℕ → Signature → Routine
+record_at m a p sig = record {
+  info = number_at p 4 m.bytes;
+  sig = sig;
+  isa = isa_of (number_at (p + 5) 1 m.bytes);
+  flags = number_at (p + 6) 2 m.bytes;
+  target = target_of a (number_at (p + 6) 2 m.bytes) (number_at (p + 8) 4 m.bytes);
+  selector = number_at (p + 16) 4 m.bytes;
 }

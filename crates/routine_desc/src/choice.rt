@@ -1,6 +1,8 @@
 // The choice among records.
 ghost use Rattle.std.specs.Prelude.{◌≡◌, ◌≤◌};
 ghost use Rattle.routine_desc.specs.Read.{records_of};
+ghost use Rattle.routine_desc.specs.Scans.{found as found_kept, scan as scan_kept};
+ghost use Rattle.routine_desc.specs.Views.{picked, routine, routines};
 ghost use Rattle.routine_desc.specs.Choice.{choice, choice_of_one, chosen_of, found_before, is_default as is_default_lem, is_isa as is_isa_lem, matches_selector, scan_of};
 
 use super::flags::RoutineFlags;
@@ -9,40 +11,42 @@ use mix_bits::Isa;
 
 /// The first of some records, the first one of PowerPC code, and the first one of the caller's set.
 #[derive(Clone, Copy)]
-pub struct Found {
-    pub first: Option<Rec>,
-    pub native: Option<Rec>,
-    pub own: Option<Rec>,
+pub struct Found<'a> {
+    pub first: Option<&'a Rec>,
+    pub native: Option<&'a Rec>,
+    pub own: Option<&'a Rec>,
 }
 
 /// What is found among the records with an equal selector, or all where none is given, and among the
 /// defaults.
 #[derive(Clone, Copy)]
-pub struct Scan {
-    pub equal: Found,
-    pub fallback: Found,
+pub struct Scan<'a> {
+    pub equal: Found<'a>,
+    pub fallback: Found<'a>,
 }
 
-/// Nothing found.
-const NOTHING: Found = Found {
-    first: None,
-    native: None,
-    own: None,
-};
+impl Found<'_> {
+    /// Nothing found.
+    const NOTHING: Found<'static> = Found {
+        first: None,
+        native: None,
+        own: None,
+    };
+}
 
 /// The record that a caller of a set takes. A dispatched descriptor has a selector: the records that
 /// have it are asked first, and the defaults where there is none. Of those asked, the first of PowerPC
 /// code is taken where the first one says so, else the first of the caller's set, else the first.
-pub fn choose(desc: &Desc, caller: Isa, selector: Option<u32>) -> Option<Rec>
+pub fn choose(desc: &Desc, caller: Isa, selector: Option<u32>) -> Option<&Rec>
     requires { desc.now.count ≤ 64 }
-    ensures { result ≡ choice (records_of desc.now) caller selector }
+    ensures { picked result ≡ choice (records_of desc.now) caller selector }
 {
     choose_among(&desc.recs[..desc.count as usize], caller, selector)
 }
 
 /// The same among the records of a descriptor.
-pub fn choose_among(records: &[Rec], caller: Isa, selector: Option<u32>) -> Option<Rec>
-    ensures { result ≡ choice records.now caller selector }
+pub fn choose_among(records: &[Rec], caller: Isa, selector: Option<u32>) -> Option<&Rec>
+    ensures { picked result ≡ choice (routines records.now) caller selector }
 {
     match records {
         [only] => choose_only(only, selector),
@@ -51,19 +55,19 @@ pub fn choose_among(records: &[Rec], caller: Isa, selector: Option<u32>) -> Opti
 }
 
 /// The choice where there is one record.
-fn choose_only(only: &Rec, selector: Option<u32>) -> Option<Rec>
-    ensures { result ≡ choice_of_one only.now selector }
+fn choose_only(only: &Rec, selector: Option<u32>) -> Option<&Rec>
+    ensures { picked result ≡ choice_of_one (routine only.now) selector }
 {
     if matches(only, selector) || is_default(only) {
-        Some(*only)
+        Some(only)
     } else {
         None
     }
 }
 
 /// The choice by one scan of the records.
-fn choose_by_scan(records: &[Rec], caller: Isa, selector: Option<u32>) -> Option<Rec>
-    ensures { result ≡ choice records.now caller selector }
+fn choose_by_scan(records: &[Rec], caller: Isa, selector: Option<u32>) -> Option<&Rec>
+    ensures { picked result ≡ choice (routines records.now) caller selector }
 {
     let scan = look(records, caller, selector);
     match selector {
@@ -75,12 +79,12 @@ fn choose_by_scan(records: &[Rec], caller: Isa, selector: Option<u32>) -> Option
 
 /// Scans the records once.
 fn look(recs: &[Rec], caller: Isa, selector: Option<u32>) -> Scan
-    ensures { result ≡ scan_of caller selector recs.now }
+    ensures { scan_kept result ≡ scan_of caller selector (routines recs.now) }
 {
     match recs {
         [] => Scan {
-            equal: NOTHING,
-            fallback: NOTHING,
+            equal: Found::NOTHING,
+            fallback: Found::NOTHING,
         },
         [first, others @ ..] => {
             let rest = look(others, caller, selector);
@@ -93,19 +97,19 @@ fn look(recs: &[Rec], caller: Isa, selector: Option<u32>) -> Scan
 }
 
 /// What is found when a record stands before the others, if it is one of those asked.
-fn found_with(rec: &Rec, caller: Isa, asked: bool, others: Found) -> Found
-    ensures { result ≡ found_before rec.now caller asked others }
+fn found_with<'a>(rec: &'a Rec, caller: Isa, asked: bool, others: Found<'a>) -> Found<'a>
+    ensures { found_kept result ≡ found_before (routine rec.now) caller asked (found_kept others.entry) }
 {
     if asked {
         Found {
-            first: Some(*rec),
+            first: Some(rec),
             native: if is_isa(rec.isa, Isa::Ppc) {
-                Some(*rec)
+                Some(rec)
             } else {
                 others.native
             },
             own: if is_isa(rec.isa, caller) {
-                Some(*rec)
+                Some(rec)
             } else {
                 others.own
             },
@@ -116,8 +120,8 @@ fn found_with(rec: &Rec, caller: Isa, asked: bool, others: Found) -> Found
 }
 
 /// The record that is taken of those found.
-fn chosen(found: Found) -> Option<Rec>
-    ensures { result ≡ chosen_of found }
+fn chosen<'a>(found: Found<'a>) -> Option<&'a Rec>
+    ensures { picked result ≡ chosen_of (found_kept found.entry) }
 {
     match found.first {
         None => None,
@@ -135,7 +139,7 @@ fn chosen(found: Found) -> Option<Rec>
 
 /// Whether a record has the selector, if one is asked for.
 fn matches(rec: &Rec, selector: Option<u32>) -> bool
-    ensures { result ≡ matches_selector selector rec.now }
+    ensures { result ≡ matches_selector selector (routine rec.now) }
 {
     match selector {
         None => true,
@@ -145,7 +149,7 @@ fn matches(rec: &Rec, selector: Option<u32>) -> bool
 
 /// Whether a record is a default.
 fn is_default(rec: &Rec) -> bool
-    ensures { result ≡ is_default_lem rec.now }
+    ensures { result ≡ is_default_lem (routine rec.now) }
 {
     RoutineFlags::DEFAULT.is_in(rec.flags)
 }

@@ -2,16 +2,19 @@
 ghost use Rattle.std.specs.Prelude.{◌≡◌, ◌≤◌, ◌+◌, length, IfNone, IfOk};
 ghost use Rattle.std.specs.List.{list_all};
 ghost use Rattle.mix_bits.specs.Sizes.{bytes_of};
-ghost use Rattle.routine_desc.specs.Layout.{are_good_flags, bad_header, bad_record, isa_of, number_at, record_at, target_of};
+ghost use Rattle.big_memory.specs.Numbers.{number_at};
+ghost use Rattle.routine_desc.specs.Layout.{are_good_flags, bad_header, bad_record, isa_of, record_at, target_of};
 ghost use Rattle.proc_info.specs.Codes.{conv_at};
-ghost use Rattle.routine_desc.specs.Read.{Counts, FillsBody, FillsRecords, Reads, ReadsBody, all_alike as all_alike_lem, is_alike as is_alike_lem, is_dispatched_in, read_record as read_record_lem};
+ghost use Rattle.proc_info.specs.Views.{signature};
+ghost use Rattle.routine_desc.specs.Views.{answered, routine, routines};
+ghost use Rattle.routine_desc.specs.Read.{Counts, FillsBody, FillsRecords, Reads, ReadsBody, TellsHeader, all_alike as all_alike_lem, is_alike as is_alike_lem, is_dispatched_in, read_record as read_record_lem};
 
 use super::flags::RoutineFlags;
 use super::record::{BadDesc, Desc, MIXED_MODE_MAGIC, MOST_RECORDS, Rec};
 use big_memory::Ram;
 use bitflags::Flags;
 use mix_bits::{Isa, Size};
-use proc_info::read;
+use proc_info::{Sig, read};
 
 /// The version of a descriptor.
 const VERSION: u32 = 7;
@@ -36,10 +39,11 @@ pub fn read_desc(ram: &Ram, a: u32) -> Result<Desc, BadDesc>
 /// not matter.
 pub fn count_records(ram: &Ram, a: u32) -> Result<u32, BadDesc>
     ensures value { Counts ram.now a result }
+    ensures header { TellsHeader ram.now a result }
     ensures within { IfOk result (λ _. a + 12 ≤ length ram.now.bytes) }
     ensures few { IfOk result (λ count. count ≤ 64) }
 {
-    let _len = ram.len();
+    ram.meets_invariant();
     match broken_header(ram, a) {
         Some(bad) => Err(bad),
         None => Ok(number(ram, a + 10, Size::Two) + 1),
@@ -51,7 +55,7 @@ pub fn count_records(ram: &Ram, a: u32) -> Result<u32, BadDesc>
 pub fn read_all(ram: &Ram, a: u32, recs: &mut [Rec]) -> Result<(), BadDesc>
     requires header { a + 12 ≤ length ram.now.bytes }
     requires few { length recs.old ≤ 64 }
-    requires all { length recs.old ≡ number_at ram.now (a + 10) 2 + 1 }
+    requires all { length recs.old ≡ number_at (a + 10) 2 ram.now.bytes + 1 }
     ensures { FillsBody ram.now a recs.new result }
 {
     match read_records(ram, a, recs) {
@@ -69,12 +73,13 @@ pub fn read_all(ram: &Ram, a: u32, recs: &mut [Rec]) -> Result<(), BadDesc>
 /// The records of a descriptor whose header is good.
 fn read_body(ram: &Ram, a: u32) -> Result<Desc, BadDesc>
     requires header { a + 12 ≤ length ram.now.bytes }
-    requires few { number_at ram.now (a + 10) 2 ≤ 63 }
+    requires few { number_at (a + 10) 2 ram.now.bytes ≤ 63 }
     ensures { ReadsBody ram.now a result }
 {
-    let _len = ram.len();
+    ram.meets_invariant();
     let count = number(ram, a + 10, Size::Two) + 1;
-    let mut recs = [Rec::NONE; MOST_RECORDS];
+    let empty = Rec::empty();
+    let mut recs = [empty; MOST_RECORDS];
     match read_all(ram, a, &mut recs[..count as usize]) {
         Ok(()) => Ok(Desc { at: a, count, recs }),
         Err(bad) => Err(bad),
@@ -85,9 +90,9 @@ fn read_body(ram: &Ram, a: u32) -> Result<Desc, BadDesc>
 fn broken_header(ram: &Ram, a: u32) -> Option<BadDesc>
     ensures value { result ≡ bad_header ram.now a }
     ensures within { IfNone result (a + 12 ≤ length ram.now.bytes) }
-    ensures few { IfNone result (number_at ram.now (a + 10) 2 ≤ 63) }
+    ensures few { IfNone result (number_at (a + 10) 2 ram.now.bytes ≤ 63) }
 {
-    let _len = ram.len();
+    ram.meets_invariant();
     if !ram.has(a, HEADER_BYTES) {
         Some(BadDesc::Access)
     } else if number(ram, a, Size::Two) != MIXED_MODE_MAGIC {
@@ -108,7 +113,7 @@ fn broken_record(ram: &Ram, p: u32) -> Option<BadDesc>
     ensures value { result ≡ bad_record ram.now p }
     ensures within { IfNone result (p + 20 ≤ length ram.now.bytes) }
 {
-    let _len = ram.len();
+    ram.meets_invariant();
     if !ram.has(p, RECORD_BYTES) {
         Some(BadDesc::Access)
     } else if number(ram, p + 4, Size::One) != 0 || number(ram, p + 12, Size::Four) != 0 {
@@ -125,26 +130,27 @@ fn broken_record(ram: &Ram, p: u32) -> Option<BadDesc>
 /// A record, or the rule that it breaks.
 #[tactic(auto, unfolding(crate::specs::Read::read_record))]
 fn read_record(ram: &Ram, a: u32, p: u32) -> Result<Rec, BadDesc>
-    ensures { result ≡ read_record_lem ram.now a p }
+    ensures { answered result ≡ read_record_lem ram.now a p }
 {
     match broken_record(ram, p) {
         Some(bad) => Err(bad),
         None => match read(number(ram, p, Size::Four)) {
-            Ok(_) => Ok(record(ram, a, p)),
+            Ok(sig) => Ok(record(ram, a, p, &sig)),
             Err(bad) => Err(BadDesc::Info(bad)),
         },
     }
 }
 
-/// The record at `p` of the descriptor at `a`.
-fn record(ram: &Ram, a: u32, p: u32) -> Rec
+/// The record at `p` of the descriptor at `a`, with the signature of its procInfo.
+fn record(ram: &Ram, a: u32, p: u32, sig: &Sig) -> Rec
     requires { p + 20 ≤ length ram.now.bytes }
-    ensures { result ≡ record_at ram.now a p }
+    ensures { routine result ≡ record_at ram.now a p (signature sig.now) }
 {
-    let _len = ram.len();
+    ram.meets_invariant();
     let flags = number(ram, p + 6, Size::Two);
     Rec {
         info: number(ram, p, Size::Four),
+        sig: *sig,
         isa: isa(number(ram, p + 5, Size::One)),
         flags,
         target: target(a, flags, number(ram, p + 8, Size::Four)),
@@ -183,7 +189,7 @@ fn read_records(ram: &Ram, a: u32, recs: &mut [Rec]) -> Result<(), BadDesc>
     requires few { length recs.old ≤ 64 }
     ensures { FillsRecords ram.now a recs.old recs.new result }
 {
-    let _len = ram.len();
+    ram.meets_invariant();
     for k in 0..recs.len() {
         match read_record(ram, a, a + HEADER_BYTES + RECORD_BYTES * k as u32) {
             Ok(rec) => recs[k] = rec,
@@ -195,7 +201,7 @@ fn read_records(ram: &Ram, a: u32, recs: &mut [Rec]) -> Result<(), BadDesc>
 
 /// Whether all records are called like the first one.
 fn all_alike(recs: &[Rec]) -> bool
-    ensures { result ≡ all_alike_lem recs.now }
+    ensures { result ≡ all_alike_lem (routines recs.now) }
 {
     match recs {
         [] => true,
@@ -205,7 +211,7 @@ fn all_alike(recs: &[Rec]) -> bool
 
 /// Whether all records are called as a procInfo word says.
 fn are_like(info: u32, recs: &[Rec]) -> bool
-    ensures { result ≡ list_all (λ other. is_alike_lem info other.info) recs.now }
+    ensures { result ≡ list_all (λ other. is_alike_lem info other.info) (routines recs.now) }
 {
     match recs {
         [] => true,
@@ -236,7 +242,7 @@ fn is_dispatched(code: u32) -> bool
 /// The number in the bytes at `a`.
 fn number(ram: &Ram, a: u32, s: Size) -> u32
     requires { a + bytes_of s ≤ length ram.now.bytes }
-    ensures { result ≡ number_at ram.now a (bytes_of s) }
+    ensures { result ≡ number_at a (bytes_of s) ram.now.bytes }
 {
     match ram.load(a, s) {
         Ok(number) => number,

@@ -3,7 +3,7 @@ ghost use Rattle.std.specs.Prelude.{◌≡◌};
 ghost use Rattle.routine_desc.specs.Codes.{bad_desc_code};
 
 use mix_bits::Isa;
-use proc_info::BadInfo;
+use proc_info::{BadInfo, Sig};
 
 /// The word with which a descriptor begins, `_MixedModeMagic`. 68K code that reaches it calls the routine.
 pub const MIXED_MODE_MAGIC: u32 = 0xAAFE;
@@ -12,10 +12,12 @@ pub const MIXED_MODE_MAGIC: u32 = 0xAAFE;
 pub(crate) const MOST_RECORDS: usize = 64;
 
 /// A routine record.
-#[derive(Clone, Copy, Debug, PartialEq, Eq)]
+#[derive(Clone, Copy)]
 pub struct Rec {
-    /// The procInfo word, which has a signature in a record that was read.
+    /// The procInfo word.
     pub info: u32,
+    /// Its signature, in a record that was read.
+    pub sig: Sig,
     pub isa: Isa,
     /// The routine flags, as `RoutineFlags` names them.
     pub flags: u32,
@@ -25,14 +27,24 @@ pub struct Rec {
 }
 
 impl Rec {
-    /// A record of nothing.
-    pub const NONE: Rec = Rec {
-        info: 0,
-        isa: Isa::M68,
-        flags: 0,
-        target: 0,
-        selector: 0,
-    };
+    ghost use Rattle.std.specs.Prelude.{◌≡◌};
+    ghost use Rattle.routine_desc.specs.Layout.{no_routine};
+    ghost use Rattle.routine_desc.specs.Views.{routine};
+
+    /// What stands where no record was read.
+    #[inline(always)]
+    pub fn empty() -> Rec
+        ensures { routine result ≡ no_routine }
+    {
+        Rec {
+            info: 0,
+            sig: Sig::empty(),
+            isa: Isa::M68,
+            flags: 0,
+            target: 0,
+            selector: 0,
+        }
+    }
 }
 
 /// A routine descriptor: its address and the first `count` records.

@@ -1,7 +1,7 @@
 use crate::{BadDesc, Desc, Rec, build, choose, read_desc};
 use big_memory::{Access, Ram};
 use mix_bits::{Isa, Size};
-use proc_info::BadInfo;
+use proc_info::{BadInfo, Sig, read};
 use std::test::Fail;
 
 /// Where the descriptors of these tests stand.
@@ -17,11 +17,17 @@ const FAT: [u8; 52] = [
 fn rec(info: u32, isa: Isa, flags: u32, target: u32, selector: u32) -> Rec {
     Rec {
         info,
+        sig: read(info).unwrap_or(Sig::empty()),
         isa,
         flags,
         target,
         selector,
     }
+}
+
+/// The fields beside the signature, for which there is no comparison.
+fn fields(rec: &Rec) -> (u32, Isa, u32, u32, u32) {
+    (rec.info, rec.isa, rec.flags, rec.target, rec.selector)
 }
 
 /// Stores bytes one by one.
@@ -97,7 +103,7 @@ fn as_many_records_as_a_descriptor_may_have(rt: HostRuntime) -> Result<(), Fail>
         Ok(desc) => {
             assert_eq!(rt; desc.at, AT);
             assert_eq!(rt; desc.count, 64);
-            assert_eq!(rt; desc.recs[63], rec(0x31, Isa::Ppc, 0, 0x1_0060, 0));
+            assert_eq!(rt; fields(&desc.recs[63]), (0x31, Isa::Ppc, 0, 0x1_0060, 0));
         }
         Err(_) => assert!(rt; false),
     }
@@ -111,7 +117,7 @@ fn descriptors_are_built_and_read_back(rt: HostRuntime) -> Result<(), Fail> {
     match read_desc(&ram, AT) {
         Ok(desc) => {
             assert_eq!(rt; desc.count, 1);
-            assert_eq!(rt; desc.recs[0], rec(0x31, Isa::Ppc, 0, 0x1_0040, 0));
+            assert_eq!(rt; fields(&desc.recs[0]), (0x31, Isa::Ppc, 0, 0x1_0040, 0));
         }
         Err(_) => assert!(rt; false),
     }
@@ -122,8 +128,8 @@ fn descriptors_are_built_and_read_back(rt: HostRuntime) -> Result<(), Fail> {
     match read_desc(&ram, AT) {
         Ok(desc) => {
             assert_eq!(rt; desc.count, 2);
-            assert_eq!(rt; desc.recs[0], rec(0x31, Isa::M68, 0, 0x1_0058, 0));
-            assert_eq!(rt; desc.recs[1], rec(0x31, Isa::Ppc, 0, 0x1_0060, 0));
+            assert_eq!(rt; fields(&desc.recs[0]), (0x31, Isa::M68, 0, 0x1_0058, 0));
+            assert_eq!(rt; fields(&desc.recs[1]), (0x31, Isa::Ppc, 0, 0x1_0060, 0));
         }
         Err(_) => assert!(rt; false),
     }
@@ -146,49 +152,67 @@ fn a_relative_target_is_counted_from_the_descriptor(rt: HostRuntime) -> Result<(
     put(&mut ram, AT + 19, &[1]);
     put(&mut ram, AT + 20, &[0, 0, 0, 0x20]);
     match read_desc(&ram, AT) {
-        Ok(desc) => assert_eq!(rt; desc.recs[0], rec(0x31, Isa::M68, 1, 0x1_0040, 0)),
+        Ok(desc) => assert_eq!(rt; fields(&desc.recs[0]), (0x31, Isa::M68, 1, 0x1_0040, 0)),
         Err(_) => assert!(rt; false),
     }
     Ok(())
 }
 
+/// The targets of the records in the choices.
+const OLD: u32 = 1;
+
+const NATIVE: u32 = 2;
+
+const NEW: u32 = 3;
+
+const OTHER: u32 = 4;
+
+/// The record with this target.
+fn rec_at(target: u32) -> Rec {
+    match target {
+        OLD => rec(0xB9, Isa::M68, 0, OLD, 7),
+        NATIVE => rec(0xB9, Isa::M68, 4, NATIVE, 7),
+        NEW => rec(0xB9, Isa::Ppc, 0, NEW, 7),
+        _ => rec(0xB9, Isa::M68, 0x10, OTHER, 9),
+    }
+}
+
 #[test]
 fn the_choice_among_records(rt: HostRuntime) {
-    let old = rec(0xB9, Isa::M68, 0, 1, 7);
-    let native = rec(0xB9, Isa::M68, 4, 2, 7);
-    let new = rec(0xB9, Isa::Ppc, 0, 3, 7);
-    let other = rec(0xB9, Isa::M68, 0x10, 4, 9);
     let rows = [
-        ([old, new], Isa::M68, None, Some(old)),
-        ([old, new], Isa::Ppc, None, Some(new)),
-        ([native, new], Isa::M68, None, Some(new)),
-        ([new, native], Isa::M68, None, Some(native)),
-        ([new, new], Isa::M68, None, Some(new)),
-        ([other, new], Isa::M68, Some(7), Some(new)),
-        ([old, other], Isa::Ppc, Some(9), Some(other)),
-        ([old, other], Isa::Ppc, Some(8), Some(other)),
-        ([other, old], Isa::M68, Some(9), Some(other)),
-        ([other, old], Isa::Ppc, Some(7), Some(old)),
-        ([other, new], Isa::Ppc, Some(9), Some(other)),
-        ([native, other], Isa::M68, Some(7), Some(native)),
-        ([native, new], Isa::M68, Some(7), Some(new)),
-        ([native, new], Isa::Ppc, Some(7), Some(new)),
-        ([native, old], Isa::M68, None, Some(native)),
-        ([old, native], Isa::M68, None, Some(old)),
-        ([old, native], Isa::Ppc, None, Some(old)),
-        ([new, old], Isa::Ppc, None, Some(new)),
-        ([new, old], Isa::M68, None, Some(old)),
-        ([old, new], Isa::Ppc, Some(8), None),
+        ([OLD, NEW], Isa::M68, None, Some(OLD)),
+        ([OLD, NEW], Isa::Ppc, None, Some(NEW)),
+        ([NATIVE, NEW], Isa::M68, None, Some(NEW)),
+        ([NEW, NATIVE], Isa::M68, None, Some(NATIVE)),
+        ([NEW, NEW], Isa::M68, None, Some(NEW)),
+        ([OTHER, NEW], Isa::M68, Some(7), Some(NEW)),
+        ([OLD, OTHER], Isa::Ppc, Some(9), Some(OTHER)),
+        ([OLD, OTHER], Isa::Ppc, Some(8), Some(OTHER)),
+        ([OTHER, OLD], Isa::M68, Some(9), Some(OTHER)),
+        ([OTHER, OLD], Isa::Ppc, Some(7), Some(OLD)),
+        ([OTHER, NEW], Isa::Ppc, Some(9), Some(OTHER)),
+        ([NATIVE, OTHER], Isa::M68, Some(7), Some(NATIVE)),
+        ([NATIVE, NEW], Isa::M68, Some(7), Some(NEW)),
+        ([NATIVE, NEW], Isa::Ppc, Some(7), Some(NEW)),
+        ([NATIVE, OLD], Isa::M68, None, Some(NATIVE)),
+        ([OLD, NATIVE], Isa::M68, None, Some(OLD)),
+        ([OLD, NATIVE], Isa::Ppc, None, Some(OLD)),
+        ([NEW, OLD], Isa::Ppc, None, Some(NEW)),
+        ([NEW, OLD], Isa::M68, None, Some(OLD)),
+        ([OLD, NEW], Isa::Ppc, Some(8), None),
     ];
     for ([first, second], caller, selector, wanted) in rows {
-        let mut recs = [Rec::NONE; 64];
-        recs[0] = first;
-        recs[1] = second;
+        let mut recs = [Rec::empty(); 64];
+        recs[0] = rec_at(first);
+        recs[1] = rec_at(second);
         let desc = Desc {
             at: AT,
             count: 2,
             recs,
         };
-        assert_eq!(rt; choose(&desc, caller, selector), wanted);
+        assert_eq!(rt;
+            choose(&desc, caller, selector).map(|rec| rec.target),
+            wanted
+        );
     }
 }

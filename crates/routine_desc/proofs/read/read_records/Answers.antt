@@ -1,7 +1,8 @@
 -- One more record is read, or refused.
 use Rattle.std.proofs.Common.{◌≡◌, ◌+◌, ◌-◌, suc, length, Ok, Err, sym, ap, ◌∙◌, arith}
 use Rattle.routine_desc.specs.Read.{first_records}
-use Rattle.routine_desc.proofs.RecordLemmas.{records-none, records-more, records-refused, records-stay_refused, take-set}
+use Rattle.routine_desc.specs.Views.{routine}
+use Rattle.routine_desc.proofs.RecordLemmas.{records-none, records-more, records-refused, records-stay_refused, routines-set}
 use Rattle.routine_desc.proofs.read.read_records.Goals as goal
 
 pub loop-k-init : goal.loop-k-init
@@ -21,5 +22,5 @@ pub loop-k-preserved : goal.loop-k-preserved
 loop-k-preserved c =
     let more : c.loop-k.k + 1 ≡ suc c.loop-k.k = omega arith in
     ap (λ n. first_records c.args.ram.now c.args.a n) more
-    ∙ records-more _ _ c.loop-k.k _ c.in-Ok.rec c.loop-k.invariant (sym c.in-Ok.ensures)
-    ∙ ap Ok (take-set c.loop-k.recs c.loop-k.k c.in-Ok.rec (omega arith))
+    ∙ records-more _ _ c.loop-k.k _ (routine c.in-Ok.rec) c.loop-k.invariant (sym c.in-Ok.ensures)
+    ∙ ap Ok (routines-set c.loop-k.recs c.loop-k.k c.in-Ok.rec (omega arith))

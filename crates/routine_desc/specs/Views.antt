@@ -1,0 +1,24 @@
+-- Kept records, as the definitions have them.
+use Rattle.std.specs.Prelude.{List, map, Option, Some, None, Result, Ok, Err}
+use Rattle.std.specs.Borrow.{Bor}
+use Rattle.proc_info.specs.Views.{signature}
+use Rattle.routine_desc.specs.declared.record.Rec.{Rec}
+use Rattle.routine_desc.specs.declared.record.BadDesc.{BadDesc}
+use Rattle.routine_desc.specs.Layout.{Routine}
+
+abbrev pub routine : Rec → Routine
+routine rec =
+    record { info = rec.info; sig = signature rec.sig; isa = rec.isa; flags = rec.flags; target = rec.target; selector = rec.selector }
+
+abbrev pub routines : List Rec → List Routine
+routines recs = map routine recs
+
+-- a record that a call answers
+abbrev pub answered : Result Rec BadDesc → Result Routine BadDesc
+answered (Ok rec) = Ok (routine rec)
+answered (Err bad) = Err bad
+
+-- one of those that stand in a list
+abbrev pub picked : Option (Bor Rec) → Option Routine
+picked None = None
+picked (Some rec) = Some (routine rec.now)
