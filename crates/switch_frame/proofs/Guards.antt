@@ -13,7 +13,7 @@ use Rattle.switch_frame.specs.Sets.{frame_size}
 use Rattle.switch_frame.specs.Records.{Record, isa_of}
 use Rattle.switch_frame.specs.Chain.{Apart, Fits, Frames, Chain, covered, in_range, cleared}
 use Rattle.switch_frame.specs.Laws.{IsStored, StoresBeside, GuardIsFrames, meets_frames}
-use Rattle.switch_frame.proofs.Pieces.{ram-kept}
+use Rattle.big_memory.proofs.Rams.{bytes_keep_ram}
 use Rattle.switch_frame.proofs.Linked.{IsLen, IsRange, frames-kept, len-ram, range-fits}
 use Rattle.switch_frame.proofs.Beside.{cleared-put}
 
@@ -33,7 +33,7 @@ units-end lo hi Ppc size aligned = omega arith
 pub units-fits : (len : ℕ) (r : Record) (rs : List Record) → IsLen len → Fits len r rs → IsUnits r
 units-fits len r rs ok fits =
     let range : IsRange len r = range-fits len r rs ok fits in
-    record { lo = fits.aligned; hi = units-end r.lo r.hi (isa_of r.caller) fits.size fits.aligned; order = omega (arith, range.some) }
+    record { lo = fits.alone.aligned; hi = units-end r.lo r.hi (isa_of r.caller) fits.alone.size fits.alone.aligned; order = omega (arith, range.some) }
 
 -- no unit of n bytes at a lies in the range of a record
 abbrev pub IsBeside : ℕ → ℕ → List Record → Type 0
@@ -136,7 +136,7 @@ stored-apart m top rs a ys within apart chain =
     let kept : Frames (length m.bytes) (put a ys m.bytes) rs = frames-kept (length m.bytes) a ys m.bytes rs ok within apart links.frames in
     record {
       chain = record {
-        links = record { ram = ram-kept m a ys within links.ram; first = links.first; few = links.few; frames = subst (λ len. Frames len (put a ys m.bytes) rs) (sym same) kept };
+        links = record { ram = bytes_keep_ram m a ys within links.ram; first = links.first; few = links.few; frames = subst (λ len. Frames len (put a ys m.bytes) rs) (sym same) kept };
         guarded = chain.guarded;
       };
       memory = cleared-put (length m.bytes) a ys m.bytes rs refl within apart links.frames ok;

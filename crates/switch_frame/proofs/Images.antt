@@ -1,21 +1,24 @@
 -- What stands in a frame, read by its layout, is the record.
 use Rattle.std.proofs.Common.{◌≡◌, ℕ, ◌+◌, ◌*◌, ◌/◌, ◌%◌, ◌^◌, ◌<◌, ◌≤◌, ◌==◌, Bool, true, false, lit<, lit≤, List, [], ◌∷◌, ◌++◌, length, get_or, arith, ap, ◌∙◌, refl}
 use Rattle.std.specs.Int.{from_bool}
-use Rattle.std.proofs.lemmas.List.{length-append}
+use Rattle.std.proofs.lemmas.List.{append_assoc, length-append}
 use Rattle.m68_isa.specs.declared.registers.Ccr.{Ccr}
 use Rattle.m68_isa.specs.declared.registers.Regs68.{Regs68}
 use Rattle.m68_isa.specs.Registers.{ccr_bits, ccr_of}
+use Rattle.m68_isa.specs.Longs.{longs_of as longs_of_m68}
+use Rattle.ppc_isa.specs.Longs.{longs_of as longs_of_ppc}
 use Rattle.ppc_isa.specs.declared.registers.RegsPpc.{RegsPpc}
 use Rattle.big_memory.specs.Lists.{part}
 use Rattle.switch_frame.specs.declared.active.Active.{Active}
 use Rattle.switch_frame.specs.declared.active.Active.TheVariants.{M68, Ppc}
 use Rattle.switch_frame.specs.declared.kind.Kind.{Kind}
 use Rattle.switch_frame.specs.declared.kind.Kind.TheVariants.{M68ToPpc, PpcToM68, PpcToPpc}
-use Rattle.switch_frame.specs.Longs.{long_at, longs_at, bytes_of_longs}
+use Rattle.big_memory.specs.Numbers.{long_at, longs_at, bytes_of_longs}
 use Rattle.switch_frame.specs.Sets.{caller_isa, kind_code, kind_at, frame_size}
-use Rattle.switch_frame.specs.Records.{Record, isa_of, longs_of_file, longs_of_m68, longs_of_ppc, longs_of, image, m68_at, ppc_at, file_at, record_at}
+use Rattle.switch_frame.specs.Records.{Record, fill_of, head_of, isa_of, longs_of_file, longs_of, image, m68_at, ppc_at, file_at, record_at}
 use Rattle.switch_frame.specs.Chain.{AreM68, ArePpc, IsFile}
-use Rattle.switch_frame.proofs.Pieces.{length-bytes, long-part, long-behind, longs-behind, parted}
+use Rattle.big_memory.proofs.Numbers.{length_of_bytes, long_of_part, longs_of_part}
+use Rattle.switch_frame.proofs.Pieces.{long-behind, parted}
 
 -- structs with the same fields are the same
 ccr-same : (s t : Ccr) → s.x ≡ t.x → s.n ≡ t.n → s.z ≡ t.z → s.v ≡ t.v → s.c ≡ t.c → s ≡ t
@@ -75,42 +78,53 @@ kind-small M68ToPpc = lit< tt
 kind-small PpcToM68 = lit< tt
 kind-small PpcToPpc = lit< tt
 
+-- the longs of a register file, with others behind them
+pub m68-longs : (file : Regs68) (behind : List ℕ) → longs_of_m68 file ++ behind ≡ file.d ++ (file.a ++ (file.pc ∷ ccr_bits file.ccr ∷ behind))
+m68-longs file behind =
+    let tail = file.pc ∷ ccr_bits file.ccr ∷ [] in
+    append_assoc file.d (file.a ++ tail) behind ∙ ap (λ xs. file.d ++ xs) (append_assoc file.a tail behind)
+
+pub ppc-longs : (file : RegsPpc) (behind : List ℕ) → longs_of_ppc file ++ behind ≡ file.gpr ++ (file.cr ∷ file.lr ∷ file.ctr ∷ file.xer ∷ file.pc ∷ behind)
+ppc-longs file behind = append_assoc file.gpr (file.cr ∷ file.lr ∷ file.ctr ∷ file.xer ∷ file.pc ∷ []) behind
+
 -- the registers of a caller behind the head of its frame
-m68-back : (a n b : ℕ) (head : List ℕ) (file : Regs68) (bytes : List ℕ) → part a n bytes ≡ bytes_of_longs (head ++ longs_of_m68 file) → b ≡ a + 4 * length head → AreM68 file.d file.a file.pc → m68_at b bytes ≡ file
+m68-back : (a n b : ℕ) (head : List ℕ) (file : Regs68) (bytes : List ℕ) → part a n bytes ≡ bytes_of_longs (head ++ (longs_of_m68 file ++ (0 ∷ 0 ∷ []))) → b ≡ a + 4 * length head → AreM68 file.d file.a file.pc → m68_at b bytes ≡ file
 m68-back a n b head file bytes piece place ok =
     let tail = file.pc ∷ ccr_bits file.ccr ∷ 0 ∷ 0 ∷ [] in
-    let behind_d : part a n bytes ≡ bytes_of_longs ((head ++ file.d) ++ (file.a ++ tail)) = parted a n head file.d (file.a ++ tail) bytes piece in
+    let whole : part a n bytes ≡ bytes_of_longs (head ++ (file.d ++ (file.a ++ tail))) = piece ∙ ap (λ xs. bytes_of_longs (head ++ xs)) (m68-longs file (0 ∷ 0 ∷ [])) in
+    let behind_d : part a n bytes ≡ bytes_of_longs ((head ++ file.d) ++ (file.a ++ tail)) = parted a n head file.d (file.a ++ tail) bytes whole in
     let behind_a : part a n bytes ≡ bytes_of_longs (((head ++ file.d) ++ file.a) ++ tail) = parted a n (head ++ file.d) file.a tail bytes behind_d in
     let count_d : length (head ++ file.d) ≡ length head + 8 = length-append head file.d ∙ ap (λ k. length head + k) ok.data_registers.count in
     let count_a : length ((head ++ file.d) ++ file.a) ≡ length head + 16 = omega (arith, length-append (head ++ file.d) file.a, ok.address_registers.count, count_d) in
-    let d : longs_at 8 b bytes ≡ file.d = longs-behind a n b 8 head file.d (file.a ++ tail) bytes piece place ok.data_registers in
-    let a_is : longs_at 8 (b + 32) bytes ≡ file.a = longs-behind a n (b + 32) 8 (head ++ file.d) file.a tail bytes behind_d (omega (arith, count_d)) ok.address_registers in
+    let d : longs_at 8 b bytes ≡ file.d = longs_of_part a n b 8 head file.d (file.a ++ tail) bytes whole place ok.data_registers in
+    let a_is : longs_at 8 (b + 32) bytes ≡ file.a = longs_of_part a n (b + 32) 8 (head ++ file.d) file.a tail bytes behind_d (omega (arith, count_d)) ok.address_registers in
     let pc : long_at (b + 64) bytes ≡ file.pc = long-behind a n (b + 64) 0 ((head ++ file.d) ++ file.a) tail bytes behind_a (omega (arith, count_a)) (lit< tt) ok.pc_fits in
     let bits : long_at (b + 68) bytes ≡ ccr_bits file.ccr = long-behind a n (b + 68) 1 ((head ++ file.d) ++ file.a) tail bytes behind_a (omega (arith, count_a)) (lit< tt) (ccr-small file.ccr) in
     m68-same _ file d a_is pc (ap ccr_of bits ∙ ccr-back file.ccr)
 
-ppc-back : (a n b : ℕ) (head : List ℕ) (file : RegsPpc) (bytes : List ℕ) → part a n bytes ≡ bytes_of_longs (head ++ longs_of_ppc file) → b ≡ a + 4 * length head → ArePpc file.gpr file.cr file.lr file.ctr file.xer file.pc → ppc_at b bytes ≡ file
+ppc-back : (a n b : ℕ) (head : List ℕ) (file : RegsPpc) (bytes : List ℕ) → part a n bytes ≡ bytes_of_longs (head ++ (longs_of_ppc file ++ (0 ∷ 0 ∷ 0 ∷ []))) → b ≡ a + 4 * length head → ArePpc file.gpr file.cr file.lr file.ctr file.xer file.pc → ppc_at b bytes ≡ file
 ppc-back a n b head file bytes piece place ok =
     let tail = file.cr ∷ file.lr ∷ file.ctr ∷ file.xer ∷ file.pc ∷ 0 ∷ 0 ∷ 0 ∷ [] in
-    let behind : part a n bytes ≡ bytes_of_longs ((head ++ file.gpr) ++ tail) = parted a n head file.gpr tail bytes piece in
+    let whole : part a n bytes ≡ bytes_of_longs (head ++ (file.gpr ++ tail)) = piece ∙ ap (λ xs. bytes_of_longs (head ++ xs)) (ppc-longs file (0 ∷ 0 ∷ 0 ∷ [])) in
+    let behind : part a n bytes ≡ bytes_of_longs ((head ++ file.gpr) ++ tail) = parted a n head file.gpr tail bytes whole in
     let count : length (head ++ file.gpr) ≡ length head + 32 = length-append head file.gpr ∙ ap (λ k. length head + k) ok.general.count in
     let at : (k c : ℕ) → c ≡ b + 128 + 4 * k → k < 8 → get_or tail k 0 < 2 ^ 32 → long_at c bytes ≡ get_or tail k 0
     = λ k c here small fits. long-behind a n c k (head ++ file.gpr) tail bytes behind (omega (arith, count)) small fits in
-    let gpr : longs_at 32 b bytes ≡ file.gpr = longs-behind a n b 32 head file.gpr tail bytes piece place ok.general in
+    let gpr : longs_at 32 b bytes ≡ file.gpr = longs_of_part a n b 32 head file.gpr tail bytes whole place ok.general in
     ppc-same _ file gpr (at 0 (b + 128) (omega arith) (lit< tt) ok.cr_fits) (at 1 (b + 132) (omega arith) (lit< tt) ok.lr_fits) (at 2 (b + 136) (omega arith) (lit< tt) ok.ctr_fits)
     (at 3 (b + 140) (omega arith) (lit< tt) ok.xer_fits) (at 4 (b + 144) (omega arith) (lit< tt) ok.pc_fits)
 
-file-back : (a n b : ℕ) (head : List ℕ) (file : Active) (bytes : List ℕ) → part a n bytes ≡ bytes_of_longs (head ++ longs_of_file file) → b ≡ a + 4 * length head → IsFile file → file_at (isa_of file) b bytes ≡ file
+file-back : (a n b : ℕ) (head : List ℕ) (file : Active) (bytes : List ℕ) → part a n bytes ≡ bytes_of_longs (head ++ (longs_of_file file ++ fill_of (isa_of file))) → b ≡ a + 4 * length head → IsFile file → file_at (isa_of file) b bytes ≡ file
 file-back a n b head (M68 file) bytes piece place ok = ap M68 (m68-back a n b head file bytes piece place ok)
 file-back a n b head (Ppc file) bytes piece place ok = ap Ppc (ppc-back a n b head file bytes piece place ok)
 
 -- how many longs a frame has
-pub length-file : (file : Active) → IsFile file → 4 * length (longs_of_file file) + 32 ≡ frame_size (isa_of file)
-length-file (M68 file) ok = omega (arith, length-append file.d (file.a ++ (file.pc ∷ ccr_bits file.ccr ∷ 0 ∷ 0 ∷ [])), length-append file.a (file.pc ∷ ccr_bits file.ccr ∷ 0 ∷ 0 ∷ []), ok.data_registers.count, ok.address_registers.count)
-length-file (Ppc file) ok = omega (arith, length-append file.gpr (file.cr ∷ file.lr ∷ file.ctr ∷ file.xer ∷ file.pc ∷ 0 ∷ 0 ∷ 0 ∷ []), ok.general.count)
+pub length-file : (file : Active) → IsFile file → 4 * length (longs_of_file file ++ fill_of (isa_of file)) + 32 ≡ frame_size (isa_of file)
+length-file (M68 file) ok = rw (m68-longs file (0 ∷ 0 ∷ [])) (omega (arith, length-append file.d (file.a ++ (file.pc ∷ ccr_bits file.ccr ∷ 0 ∷ 0 ∷ [])), length-append file.a (file.pc ∷ ccr_bits file.ccr ∷ 0 ∷ 0 ∷ []), ok.data_registers.count, ok.address_registers.count))
+length-file (Ppc file) ok = rw (ppc-longs file (0 ∷ 0 ∷ 0 ∷ [])) (omega (arith, length-append file.gpr (file.cr ∷ file.lr ∷ file.ctr ∷ file.xer ∷ file.pc ∷ 0 ∷ 0 ∷ 0 ∷ []), ok.general.count))
 
 pub length-image : (r : Record) (outer depth : ℕ) → IsFile r.caller → length (image r outer depth) ≡ frame_size (isa_of r.caller)
-length-image r outer depth ok = omega (arith, length-bytes (longs_of r outer depth), length-file r.caller ok)
+length-image r outer depth ok = omega (arith, length_of_bytes (longs_of r outer depth), length-file r.caller ok)
 
 pub size-least : (file : Active) → 112 ≤ frame_size (isa_of file)
 size-least (M68 file) = lit≤ tt
@@ -126,10 +140,10 @@ pub record IsReadAt (bytes : List ℕ) (r : Record) (outer depth : ℕ) : Type 0
 pub image-back : (bytes : List ℕ) (n : ℕ) (r : Record) (outer depth : ℕ) → part r.lo n bytes ≡ image r outer depth → IsFile r.caller → caller_isa r.kind ≡ isa_of r.caller
     → outer < 2 ^ 32 → depth < 2 ^ 32 → r.info < 2 ^ 32 → r.selector < 2 ^ 32 → r.target < 2 ^ 32 → r.hi < 2 ^ 32 → r.want < 2 ^ 32 → IsReadAt bytes r outer depth
 image-back bytes n r outer depth piece ok set o d i s t h w =
-    let head = outer ∷ kind_code r.kind ∷ r.info ∷ r.selector ∷ r.target ∷ r.hi ∷ r.want ∷ depth ∷ [] in
+    let head = head_of r outer depth in
     let longs = longs_of r outer depth in
     let at : (k c : ℕ) → c ≡ r.lo + 4 * k → k < 8 → get_or longs k 0 < 2 ^ 32 → long_at c bytes ≡ get_or longs k 0
-    = λ k c here small fits. ap (λ b. long_at b bytes) here ∙ long-part r.lo n longs bytes k piece (omega arith) fits in
+    = λ k c here small fits. ap (λ b. long_at b bytes) here ∙ long_of_part r.lo n longs bytes k piece (omega arith) fits in
     let kind : long_at (r.lo + 4) bytes ≡ kind_code r.kind = at 1 (r.lo + 4) (omega arith) (lit< tt) (kind-small r.kind) in
     let kind_is : kind_at (long_at (r.lo + 4) bytes) ≡ r.kind = ap kind_at kind ∙ kind-back r.kind in
     let file : file_at (caller_isa (kind_at (long_at (r.lo + 4) bytes))) (r.lo + 32) bytes ≡ r.caller

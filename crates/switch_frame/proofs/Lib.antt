@@ -6,4 +6,6 @@ pub mod Guards
 pub mod Seen
 pub mod Ranges
 pub mod Places
+pub mod Marked
 pub mod Turns
+pub mod Gates

@@ -28,10 +28,10 @@ pub record IsRange (len : ℕ) (r : Record) : Type 0 where
 pub range-fits : (len : ℕ) (r : Record) (rs : List Record) → IsLen len → Fits len r rs → IsRange len r
 range-fits len r rs ok fits =
     let least = size-least r.caller in
-    record { some = omega (arith, fits.size); end = fits.within; start = omega (arith, fits.stack, ok.least) }
+    record { some = omega (arith, fits.alone.size); end = fits.alone.within; start = omega (arith, fits.alone.stack, ok.least) }
 
 pub length-image_fits : (len : ℕ) (r : Record) (rs : List Record) (outer depth : ℕ) → Fits len r rs → length (image r outer depth) ≡ r.hi - r.lo
-length-image_fits len r rs outer depth fits = length-image r outer depth fits.held.file ∙ (let e : frame_size (isa_of r.caller) ≡ r.hi - r.lo = omega (arith, fits.size) in e)
+length-image_fits len r rs outer depth fits = length-image r outer depth fits.alone.held.file ∙ (let e : frame_size (isa_of r.caller) ≡ r.hi - r.lo = omega (arith, fits.alone.size) in e)
 
 -- an innermost frame's lo is in the stack
 pub outer-small : (len : ℕ) (bytes : List ℕ) (rs : List Record) → IsLen len → Frames len bytes rs → outer_of rs < 2 ^ 32
@@ -42,9 +42,9 @@ outer-small len bytes (r ∷ rs) ok frames = let range : IsRange len r = range-f
 pub first-back : (len : ℕ) (bytes : List ℕ) (r : Record) (rs : List Record) → IsLen len → length rs < 2 ^ 31 → Frames len bytes (r ∷ rs) → IsReadAt bytes r (outer_of rs) (suc (length rs))
 first-back len bytes r rs ok few frames =
     let fits = frames.1 in
-    let hi : r.hi < 2 ^ 32 = omega (arith, fits.within, ok.most) in
-    image-back bytes (r.hi - r.lo) r (outer_of rs) (suc (length rs)) frames.0 fits.held.file fits.kind (outer-small len bytes rs ok frames.2) (omega arith)
-    fits.held.info_fits fits.held.selector_fits fits.held.target_fits hi fits.held.want_fits
+    let hi : r.hi < 2 ^ 32 = omega (arith, fits.alone.within, ok.most) in
+    image-back bytes (r.hi - r.lo) r (outer_of rs) (suc (length rs)) frames.0 fits.alone.held.file fits.alone.kind (outer-small len bytes rs ok frames.2) (omega arith)
+    fits.alone.held.info_fits fits.alone.held.selector_fits fits.alone.held.target_fits hi fits.alone.held.want_fits
 
 -- the chain read from the bytes
 chain-back : (len : ℕ) (bytes : List ℕ) (rs : List Record) → IsLen len → length rs < 2 ^ 31 → Frames len bytes rs → read_chain (length rs) bytes (outer_of rs) ≡ rs

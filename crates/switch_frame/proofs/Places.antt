@@ -22,7 +22,7 @@ called-inside r (s ∷ rs) inside = inside.1
 
 pub first_is_held : FirstIsHeld
 first_is_held m top r rs links =
-    let fits : Fits (length m.bytes) r rs = links.frames.1 in record { kind = fits.kind; signature = fits.signature; called = called-inside r rs fits.inside }
+    let fits : Fits (length m.bytes) r rs = links.frames.1 in record { kind = fits.alone.kind; signature = fits.alone.signature; called = called-inside r rs fits.inside }
 
 pub place_by_length : PlaceByLength
 place_by_length m n rs kind lo hi same place =

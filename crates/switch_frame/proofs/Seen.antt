@@ -57,7 +57,7 @@ low-cleared a n bytes (r ∷ rs) low ok frames =
     let range : IsRange (length bytes) r = range-fits (length bytes) r rs ok frames.1 in
     let rest : length (cleared bytes rs) ≡ length bytes = length-cleared bytes rs frames.2 ok in
     let size : length (zeros (r.hi - r.lo)) ≡ r.hi - r.lo = length-zeros (r.hi - r.lo) in
-    let below : a + n ≤ r.lo = omega (arith, low, frames.1.stack) in
+    let below : a + n ≤ r.lo = omega (arith, low, frames.1.alone.stack) in
     part-put_apart a n r.lo (zeros (r.hi - r.lo)) (cleared bytes rs) (omega (arith, range.some, range.end)) (inl below) ∙ low-cleared a n bytes rs low ok frames.2
 
 pub low_is_memory : LowIsMemory

@@ -1,32 +1,25 @@
 -- What a push and a pop do to a chain, and what is read of its innermost frame.
-use Rattle.std.proofs.Common.{◌≡◌, ℕ, suc, ◌+◌, ◌-◌, ◌*◌, ◌/◌, ◌%◌, ◌<◌, ◌≤◌, ◌==◌, nat_lt, nat_le, Bool, true, false, not, ◌&&◌, ◌||◌, List, [], ◌∷◌, length, get_or, replicate, cond, Some, arith, ap, sym, subst, ◌∙◌, refl}
+use Rattle.std.proofs.Common.{◌≡◌, ℕ, suc, ◌+◌, ◌-◌, ◌*◌, ◌/◌, ◌%◌, ◌<◌, ◌≤◌, ◌==◌, nat_lt, Bool, true, false, not, ◌&&◌, ◌||◌, List, [], ◌∷◌, length, drop, get_or, replicate, cond, Some, arith, ap, sym, subst, ◌∙◌, refl}
 use Rattle.std.proofs.lemmas.Bool.Decides.{nat_tests}
-use Rattle.std.proofs.lemmas.List.{length-replicate}
 use Rattle.mix_bits.specs.declared.isa.Isa.{Isa}
 use Rattle.mix_bits.specs.declared.isa.Isa.TheVariants.{M68, Ppc}
 use Rattle.big_memory.specs.Lists.{put}
 use Rattle.big_memory.specs.Memory.{Memory, IsRam, floor_of, with_bytes, with_marks}
-use Rattle.big_memory.proofs.Lists.{length-put, part-put_same, put-put_same, get_or-put_replicate}
+use Rattle.big_memory.proofs.Lists.{length-put, part-put_same, put-put_same}
 use Rattle.proc_info.specs.Signature.{has_signature}
 use Rattle.switch_frame.specs.declared.held.Held.{Held}
-use Rattle.switch_frame.specs.Longs.{long_at}
+use Rattle.big_memory.specs.Numbers.{long_at}
 use Rattle.switch_frame.specs.Sets.{caller_isa, frame_size, kind_at}
 use Rattle.switch_frame.specs.Records.{Record, isa_of, image, record_at, record_of, held_of}
 use Rattle.switch_frame.specs.Chain.{Apart, Fits, Frames, IsFrameRange, IsHeld, IsInside, Links, Chain, outer_of, records, depth_at, covered, in_range, cleared, zeros, most_frames}
-use Rattle.switch_frame.specs.Calls.{IsPlace, IsCalled, innermost, is_crossed}
-use Rattle.switch_frame.proofs.Pieces.{length-zeros, ram-kept}
+use Rattle.switch_frame.specs.Calls.{IsPlace, IsCalled, IsInnermost, innermost, is_crossed}
+use Rattle.big_memory.proofs.Rams.{bytes_keep_ram}
+use Rattle.switch_frame.proofs.Pieces.{length-zeros}
 use Rattle.switch_frame.proofs.Images.{IsReadAt}
 use Rattle.switch_frame.proofs.Linked.{IsLen, IsRange, Above, apart-above, first-back, depth-back, frames-above, frames-kept, len-ram, length-cleared, length-image_fits, range-fits, reads_back}
 use Rattle.switch_frame.proofs.Beside.{cleared-put}
-use Rattle.switch_frame.proofs.Guards.{IsUnits, units-fits}
+use Rattle.switch_frame.proofs.Marked.{fits_is_range, mark_at, marks_kept, range-moves}
 use Rattle.switch_frame.proofs.Places.{called-inside}
-
--- the marks of a range set or cleared
-range-units : (lo hi unit : ℕ) → lo % 16 ≡ 0 → hi % 16 ≡ 0 → lo < hi → (nat_le (lo / 16) unit && nat_lt unit (lo / 16 + (hi - lo) / 16)) ≡ in_range lo hi unit
-range-units lo hi unit low high order =
-    let first : nat_le (lo / 16) unit ≡ nat_le lo (16 * unit) = grind (arith, nat_tests) in
-    let last : nat_lt unit (lo / 16 + (hi - lo) / 16) ≡ nat_lt (16 * unit) hi = grind (arith, nat_tests) in
-    rw (first, last) refl
 
 cond-true : (b x : Bool) → cond b true x ≡ (b || x)
 cond-true true x = refl
@@ -43,29 +36,6 @@ cond-false false x none = refl
 
 in-low : (lo hi unit : ℕ) → in_range lo hi unit ≡ true → 16 * unit < hi
 in-low lo hi unit e = grind (arith, nat_tests)
-
-below-range : (lo hi unit : ℕ) → 16 * unit < lo → in_range lo hi unit ≡ false
-below-range lo hi unit low = grind (arith, nat_tests)
-
--- memory with the marks of a record's units replaced
-mark-at : (m : Memory) (r : Record) (on : Bool) (unit : ℕ) → IsUnits r → r.hi ≤ length m.bytes → IsRam m → get_or (put (r.lo / 16) (replicate ((r.hi - r.lo) / 16) on) m.marks) unit false ≡ cond (in_range r.lo r.hi unit) on (get_or m.marks unit false)
-mark-at m r on unit units within ram =
-    get_or-put_replicate (r.lo / 16) ((r.hi - r.lo) / 16) unit on false m.marks (omega (arith, ram.units, units.lo, units.hi, units.order))
-    ∙ ap (λ b. cond b on (get_or m.marks unit false)) (range-units r.lo r.hi unit units.lo units.hi units.order)
-
-marks-kept : (m : Memory) (r : Record) (on : Bool) → IsUnits r → floor_of m ≤ r.lo → r.hi ≤ length m.bytes → IsRam m → IsRam (with_marks (r.lo / 16) (replicate ((r.hi - r.lo) / 16) on) m)
-marks-kept m r on units stack within ram =
-    let count : length (replicate ((r.hi - r.lo) / 16) on) ≡ (r.hi - r.lo) / 16 = length-replicate ((r.hi - r.lo) / 16) on in
-    let same : length (put (r.lo / 16) (replicate ((r.hi - r.lo) / 16) on) m.marks) ≡ length m.marks
-    = length-put (r.lo / 16) (replicate ((r.hi - r.lo) / 16) on) m.marks (omega (arith, ram.units, units.lo, units.hi, units.order)) in
-    record {
-      units = ram.units ∙ ap (λ n. 16 * n) (sym same);
-      least = ram.least;
-      most = ram.most;
-      whole = ram.whole;
-      clear = λ unit low.
-          mark-at m r on unit units within ram ∙ ap (λ b. cond b on (get_or m.marks unit false)) (below-range r.lo r.hi unit (omega (arith, stack, low))) ∙ ram.clear unit low;
-    }
 
 -- memory after a push, and after a pop
 abbrev pub pushed : Memory → Record → List Record → Memory
@@ -89,24 +59,22 @@ pushed-chain m top rs r chain few fits =
     let ok : IsLen (length m.bytes) = len-ram m links.ram in
     let held = image r (outer_of rs) (suc (length rs)) in
     let range : IsRange (length m.bytes) r = range-fits len r rs ok fits in
-    let units : IsUnits r = units-fits len r rs ok fits in
     let size : length (image r (outer_of rs) (suc (length rs))) ≡ r.hi - r.lo = length-image_fits len r rs (outer_of rs) (suc (length rs)) fits in
     let within : r.lo + length (image r (outer_of rs) (suc (length rs))) ≤ length m.bytes = omega (arith, range.some, range.end) in
     let same : length (put r.lo held m.bytes) ≡ length m.bytes = length-put r.lo held m.bytes within in
-    let ram : IsRam (with_bytes r.lo held m) = ram-kept m r.lo held within links.ram in
+    let ram : IsRam (with_bytes r.lo held m) = bytes_keep_ram m r.lo held within links.ram in
     let apart : Apart r.lo (length held) rs = outside-apart len m.bytes r rs (length held) ok fits links.frames size in
     let kept : Frames (length m.bytes) (put r.lo held m.bytes) rs = frames-kept len r.lo held m.bytes rs ok within apart links.frames in
     let whole : Frames (length m.bytes) (put r.lo held m.bytes) (r ∷ rs) = (part-put_same r.lo (r.hi - r.lo) held m.bytes size (omega (arith, range.some, range.end)), fits, kept) in
-    let end : r.hi ≤ length (put r.lo held m.bytes) = omega (arith, range.end, same) in
-    let stack : floor_of (with_bytes r.lo held m) ≤ r.lo = omega (arith, same, fits.stack) in
+    let there : IsFrameRange (with_bytes r.lo held m) r.lo r.hi = range-moves m (with_bytes r.lo held m) r.lo r.hi same (fits_is_range m r fits.alone) in
     record {
       links = record {
-        ram = marks-kept (with_bytes r.lo held m) r true units stack end ram;
+        ram = marks_kept (with_bytes r.lo held m) r.lo r.hi true ram there;
         first = refl;
         few = omega (arith, few);
         frames = subst (λ n. Frames n (put r.lo held m.bytes) (r ∷ rs)) (sym same) whole;
       };
-      guarded = λ unit. mark-at (with_bytes r.lo held m) r true unit units end ram ∙ cond-true (in_range r.lo r.hi unit) (get_or m.marks unit false) ∙ ap (λ b. in_range r.lo r.hi unit || b) (chain.guarded unit);
+      guarded = λ unit. mark_at (with_bytes r.lo held m) r.lo r.hi unit true ram there ∙ cond-true (in_range r.lo r.hi unit) (get_or m.marks unit false) ∙ ap (λ b. in_range r.lo r.hi unit || b) (chain.guarded unit);
     }
 
 popped-chain : (m : Memory) (top : ℕ) (rs : List Record) (r : Record) → Chain m top (r ∷ rs) → Chain (popped m r) (outer_of rs) rs
@@ -117,24 +85,22 @@ popped-chain m top rs r chain =
     let fits : Fits (length m.bytes) r rs = links.frames.1 in
     let none = zeros (r.hi - r.lo) in
     let range : IsRange (length m.bytes) r = range-fits len r rs ok fits in
-    let units : IsUnits r = units-fits len r rs ok fits in
     let size : length (zeros (r.hi - r.lo)) ≡ r.hi - r.lo = length-zeros (r.hi - r.lo) in
     let within : r.lo + length (zeros (r.hi - r.lo)) ≤ length m.bytes = omega (arith, range.some, range.end) in
     let same : length (put r.lo none m.bytes) ≡ length m.bytes = length-put r.lo none m.bytes within in
-    let ram : IsRam (with_bytes r.lo none m) = ram-kept m r.lo none within links.ram in
+    let ram : IsRam (with_bytes r.lo none m) = bytes_keep_ram m r.lo none within links.ram in
     let apart : Apart r.lo (length none) rs = outside-apart len m.bytes r rs (length none) ok fits links.frames.2 size in
     let kept : Frames (length m.bytes) (put r.lo none m.bytes) rs = frames-kept len r.lo none m.bytes rs ok within apart links.frames.2 in
-    let end : r.hi ≤ length (put r.lo none m.bytes) = omega (arith, range.end, same) in
-    let stack : floor_of (with_bytes r.lo none m) ≤ r.lo = omega (arith, same, fits.stack) in
+    let there : IsFrameRange (with_bytes r.lo none m) r.lo r.hi = range-moves m (with_bytes r.lo none m) r.lo r.hi same (fits_is_range m r fits.alone) in
     let above : Above r.hi rs = frames-above len m.bytes r rs ok fits.inside links.frames.2 in
     record {
       links = record {
-        ram = marks-kept (with_bytes r.lo none m) r false units stack end ram;
+        ram = marks_kept (with_bytes r.lo none m) r.lo r.hi false ram there;
         first = refl;
         few = omega (arith, links.few);
         frames = subst (λ n. Frames n (put r.lo none m.bytes) rs) (sym same) kept;
       };
-      guarded = λ unit. mark-at (with_bytes r.lo none m) r false unit units end ram
+      guarded = λ unit. mark_at (with_bytes r.lo none m) r.lo r.hi unit false ram there
           ∙ ap (λ b. cond (in_range r.lo r.hi unit) false b) (chain.guarded unit)
           ∙ cond-false (in_range r.lo r.hi unit) (covered unit rs) (λ e. covered-above r.hi unit rs above (in-low r.lo r.hi unit e));
     }
@@ -205,69 +171,85 @@ live-is m top (r ∷ rs) links live =
     let back : IsReadAt m.bytes r (outer_of rs) (suc (length rs)) = first-back (length m.bytes) m.bytes r rs ok (omega (arith, links.few)) links.frames in
     let kind : kind_at (long_at (r.lo + 4) m.bytes) ≡ r.kind = ap (λ x. x.kind) back.record_is in
     let hi : long_at (r.lo + 20) m.bytes ≡ r.hi = ap (λ x. x.hi) back.record_is in
-    let size : frame_size (caller_isa (kind_at (long_at (r.lo + 4) m.bytes))) ≡ frame_size (isa_of r.caller) = ap (λ k. frame_size (caller_isa k)) kind ∙ ap frame_size fits.kind in
+    let size : frame_size (caller_isa (kind_at (long_at (r.lo + 4) m.bytes))) ≡ frame_size (isa_of r.caller) = ap (λ k. frame_size (caller_isa k)) kind ∙ ap frame_size fits.alone.kind in
     let here : IsLive m r.lo (r ∷ rs) = record {
       is = ap Some (sym (ap (λ x. held_of x (long_at (r.lo + 28) m.bytes)) back.record_is ∙ ap (λ d. held_of r d) back.depth_is));
       head = omega (arith, range.some, range.end);
-      whole = omega (arith, size, fits.size, range.end);
-      hi = omega (arith, hi, size, fits.size);
-      aligned = fits.aligned;
-      stack = fits.stack;
+      whole = omega (arith, size, fits.alone.size, range.end);
+      hi = omega (arith, hi, size, fits.alone.size);
+      aligned = fits.alone.aligned;
+      stack = fits.alone.stack;
       depth = back.depth_is;
     } in
     subst (λ t. IsLive m t (r ∷ rs)) (sym links.first) here
 
-range-size : (m : Memory) (lo hi : ℕ) (isa : Isa) → hi ≡ lo + frame_size isa → lo % 16 ≡ 0 → floor_of m ≤ lo → lo + frame_size isa ≤ length m.bytes → IsFrameRange m lo hi
-range-size m lo hi M68 size aligned stack within =
-    record { first = aligned; last = omega arith; stack = stack; order = omega arith; small = omega arith; within = omega arith }
-range-size m lo hi Ppc size aligned stack within =
-    record { first = aligned; last = omega arith; stack = stack; order = omega arith; small = omega arith; within = omega arith }
+-- the range of the innermost frame
+pub innermost-range : (m : Memory) (top lo hi : ℕ) (rs : List Record) → Links m top rs → IsInnermost lo hi rs → IsFrameRange m lo hi
+innermost-range m top lo hi [] links first = absurd first
+innermost-range m top lo hi (r ∷ rs) links first =
+    subst (λ a. IsFrameRange m a hi) first.0 (subst (λ b. IsFrameRange m r.lo b) first.1 (fits_is_range m r links.frames.1.alone))
 
-pub live-range : (m : Memory) (top : ℕ) (rs : List Record) (held : Held) → Links m top rs → 0 < top → held ≡ held_of (record_at top m.bytes) (long_at (top + 28) m.bytes) → IsFrameRange m held.lo held.hi
-live-range m top rs held links live read =
-    let all : IsLive m top rs = live-is m top rs links live in
-    let here : IsFrameRange m top (long_at (top + 20) m.bytes) = range-size m top (long_at (top + 20) m.bytes) (caller_isa (kind_at (long_at (top + 4) m.bytes))) all.hi all.aligned all.stack all.whole in
-    subst (λ h. IsFrameRange m h.lo h.hi) (sym read) here
-
--- what a pop ensures
-pub record IsPopped (m new : Memory) (top : ℕ) (held : Held) (rs : List Record) : Type 0 where
-  pub records_are : rs ≡ record_of held ∷ records new.bytes top
-  pub depth : held.depth ≡ length rs
+-- what giving up the innermost frame ensures
+pub record IsGivenUp (m new : Memory) (top : ℕ) (rs : List Record) : Type 0 where
+  pub records_are : records new.bytes top ≡ drop 1 rs
   pub chain : Chain new top (records new.bytes top)
   pub memory : cleared new.bytes (records new.bytes top) ≡ cleared m.bytes rs
   pub len : length new.bytes ≡ length m.bytes
-  pub kind : caller_isa held.kind ≡ isa_of held.caller
-  pub signature : has_signature held.info ≡ true
-  pub called : IsCalled held.caller (records new.bytes top)
 
-pub pop-is : (m new : Memory) (top outer : ℕ) (rs : List Record) (held : Held) → Chain m top rs → 0 < top → held ≡ held_of (record_at top m.bytes) (long_at (top + 28) m.bytes) → outer ≡ long_at held.lo m.bytes
-    → new ≡ with_marks (held.lo / 16) (replicate ((held.hi - held.lo) / 16) false) (with_bytes held.lo (zeros (held.hi - held.lo)) m) → IsPopped m new outer held rs
-pop-is m new top outer [] held chain live read out e = absurd (omega (arith, chain.links.first))
-pop-is m new top outer (r ∷ rs) held chain live read out e =
+pub given-up : (m new : Memory) (top outer lo hi : ℕ) (rs : List Record) → Chain m top rs → IsInnermost lo hi rs → outer ≡ long_at lo m.bytes
+    → new ≡ with_marks (lo / 16) (replicate ((hi - lo) / 16) false) (with_bytes lo (zeros (hi - lo)) m) → IsGivenUp m new outer rs
+given-up m new top outer lo hi [] chain first out e = absurd first
+given-up m new top outer lo hi (r ∷ rs) chain first out e =
     let links = chain.links in
     let ok : IsLen (length m.bytes) = len-ram m links.ram in
     let fits : Fits (length m.bytes) r rs = links.frames.1 in
     let range : IsRange (length m.bytes) r = range-fits (length m.bytes) r rs ok fits in
     let back : IsReadAt m.bytes r (outer_of rs) (suc (length rs)) = first-back (length m.bytes) m.bytes r rs ok (omega (arith, links.few)) links.frames in
-    let held_is : held ≡ held_of r (suc (length rs))
-    = read ∙ ap (λ t. held_of (record_at t m.bytes) (long_at (t + 28) m.bytes)) links.first ∙ ap (λ x. held_of x (long_at (r.lo + 28) m.bytes)) back.record_is ∙ ap (λ d. held_of r d) back.depth_is in
-    let outer_is : outer ≡ outer_of rs = out ∙ ap (λ h. long_at h.lo m.bytes) held_is ∙ back.outer_is in
-    let new_is : new ≡ popped m r = e ∙ ap (λ h. with_marks (h.lo / 16) (replicate ((h.hi - h.lo) / 16) false) (with_bytes h.lo (zeros (h.hi - h.lo)) m)) held_is in
+    let outer_is : outer ≡ outer_of rs = out ∙ ap (λ a. long_at a m.bytes) (sym first.0) ∙ back.outer_is in
+    let new_is : new ≡ popped m r
+    = e ∙ ap (λ a. with_marks (a / 16) (replicate ((hi - a) / 16) false) (with_bytes a (zeros (hi - a)) m)) (sym first.0)
+    ∙ ap (λ b. with_marks (r.lo / 16) (replicate ((b - r.lo) / 16) false) (with_bytes r.lo (zeros (b - r.lo)) m)) (sym first.1) in
     let size : length (zeros (r.hi - r.lo)) ≡ r.hi - r.lo = length-zeros (r.hi - r.lo) in
     let done : Chain (popped m r) (outer_of rs) rs = popped-chain m top rs r chain in
     let rest : records (popped m r).bytes (outer_of rs) ≡ rs = reads_back (popped m r) (outer_of rs) rs done.links in
-    let result : IsPopped m (popped m r) (outer_of rs) (held_of r (suc (length rs))) (r ∷ rs) = record {
-      records_are = ap (λ xs. r ∷ xs) (sym rest);
-      depth = refl;
+    let result : IsGivenUp m (popped m r) (outer_of rs) (r ∷ rs) = record {
+      records_are = rest;
       chain = subst (λ xs. Chain (popped m r) (outer_of rs) xs) (sym rest) done;
       memory = ap (λ xs. cleared (popped m r).bytes xs) rest ∙ popped-cleared m top rs r links;
       len = length-put r.lo (zeros (r.hi - r.lo)) m.bytes (omega (arith, range.some, range.end));
-      kind = fits.kind;
-      signature = fits.signature;
-      called = subst (λ xs. IsCalled r.caller xs) (sym rest) (called-inside r rs fits.inside);
     } in
-    subst (λ n. IsPopped m n outer held (r ∷ rs)) (sym new_is)
-    (subst (λ t. IsPopped m (popped m r) t held (r ∷ rs)) (sym outer_is) (subst (λ h. IsPopped m (popped m r) (outer_of rs) h (r ∷ rs)) (sym held_is) result))
+    subst (λ n. IsGivenUp m n outer (r ∷ rs)) (sym new_is) (subst (λ t. IsGivenUp m (popped m r) t (r ∷ rs)) (sym outer_is) result)
+
+-- what a pop ensures of the caller that it gives
+pub record IsPopped (held : Held) (rs rest : List Record) : Type 0 where
+  pub records_are : rs ≡ record_of held ∷ rest
+  pub depth : held.depth ≡ length rs
+  pub kind : caller_isa held.kind ≡ isa_of held.caller
+  pub signature : has_signature held.info ≡ true
+  pub called : IsCalled held.caller rest
+
+pub innermost-read : (m : Memory) (top : ℕ) (rs : List Record) (held : Held) → Links m top rs → 0 < top → held ≡ held_of (record_at top m.bytes) (long_at (top + 28) m.bytes) → innermost rs ≡ Some held
+innermost-read m top rs held links live read = (live-is m top rs links live).is ∙ ap Some (sym read)
+
+pub innermost-is : (rs : List Record) (held : Held) → innermost rs ≡ Some held → IsInnermost held.lo held.hi rs
+innermost-is [] held is = absurd (cc)
+innermost-is (r ∷ rs) held is =
+    let same : held_of r (suc (length rs)) ≡ held = cc in (ap (λ h. h.lo) same, ap (λ h. h.hi) same)
+
+pub pop-is : (m : Memory) (top : ℕ) (rs rest : List Record) (held : Held) → Links m top rs → innermost rs ≡ Some held → rest ≡ drop 1 rs → IsPopped held rs rest
+pop-is m top [] rest held links is left = absurd (cc)
+pop-is m top (r ∷ rs) rest held links is left =
+    let fits : Fits (length m.bytes) r rs = links.frames.1 in
+    let same : held_of r (suc (length rs)) ≡ held = cc in
+    let behind : rs ≡ rest = sym left in
+    let result : IsPopped (held_of r (suc (length rs))) (r ∷ rs) rs = record {
+      records_are = refl;
+      depth = refl;
+      kind = fits.alone.kind;
+      signature = fits.alone.signature;
+      called = called-inside r rs fits.inside;
+    } in
+    subst (λ xs. IsPopped held (r ∷ rs) xs) behind (subst (λ h. IsPopped h (r ∷ rs) rs) same result)
 
 -- the record of a caller that a place was given to
 lo-aligned : (lo hi : ℕ) (isa : Isa) → hi ≡ lo + frame_size isa → hi % 16 ≡ 0 → lo % 16 ≡ 0
@@ -282,13 +264,15 @@ pub fits-place : (m : Memory) (rs : List Record) (held : Held) → IsPlace m rs 
     → has_signature held.info ≡ true → caller_isa held.kind ≡ isa_of held.caller → IsCalled held.caller rs → Fits (length m.bytes) (record_of held) rs
 fits-place m rs held place numbers signature kind called =
     record {
-      held = numbers;
-      signature = signature;
-      kind = kind;
-      size = place.size ∙ ap (λ isa. held.lo + frame_size isa) kind;
-      aligned = lo-aligned held.lo held.hi (caller_isa held.kind) place.size place.aligned;
-      stack = place.stack;
-      within = place.within;
+      alone = record {
+        held = numbers;
+        signature = signature;
+        kind = kind;
+        size = place.size ∙ ap (λ isa. held.lo + frame_size isa) kind;
+        aligned = lo-aligned held.lo held.hi (caller_isa held.kind) place.size place.aligned;
+        stack = place.stack;
+        within = place.within;
+      };
       inside = inside-place (record_of held) rs place.below called;
     }
 
@@ -304,11 +288,17 @@ pub depth-is : (m : Memory) (top : ℕ) (rs : List Record) → Links m top rs �
 depth-is m top rs links = ap (λ t. depth_at m.bytes t) links.first ∙ depth-back (length m.bytes) m.bytes rs (len-ram m links.ram) (omega (arith, links.few)) links.frames
 
 -- the chain outside the innermost frame
-pub outer-links : (m : Memory) (top outer : ℕ) (rs : List Record) → Links m top rs → 0 < top → outer ≡ long_at top m.bytes → Links m outer (records m.bytes outer)
-outer-links m top outer [] links live e = absurd (omega (arith, links.first))
-outer-links m top outer (r ∷ rs) links live e =
+pub record IsOuter (m : Memory) (outer : ℕ) (rs : List Record) : Type 0 where
+  pub value : outer ≡ outer_of (drop 1 rs)
+  pub rest : records m.bytes outer ≡ drop 1 rs
+  pub links : Links m outer (records m.bytes outer)
+
+pub outer-is : (m : Memory) (top outer : ℕ) (rs : List Record) → Links m top rs → 0 < top → outer ≡ long_at top m.bytes → IsOuter m outer rs
+outer-is m top outer [] links live e = absurd (omega (arith, links.first))
+outer-is m top outer (r ∷ rs) links live e =
     let back : IsReadAt m.bytes r (outer_of rs) (suc (length rs)) = first-back (length m.bytes) m.bytes r rs (len-ram m links.ram) (omega (arith, links.few)) links.frames in
     let outer_is : outer ≡ outer_of rs = e ∙ ap (λ t. long_at t m.bytes) links.first ∙ back.outer_is in
     let rest : Links m (outer_of rs) rs = record { ram = links.ram; first = refl; few = omega (arith, links.few); frames = links.frames.2 } in
     let read : records m.bytes (outer_of rs) ≡ rs = reads_back m (outer_of rs) rs rest in
-    rw (outer_is, read) rest
+    let result : IsOuter m (outer_of rs) (r ∷ rs) = record { value = refl; rest = read; links = subst (λ xs. Links m (outer_of rs) xs) (sym read) rest } in
+    subst (λ a. IsOuter m a (r ∷ rs)) (sym outer_is) result

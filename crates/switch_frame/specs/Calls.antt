@@ -1,5 +1,6 @@
 -- What the calls on a chain answer.
 use Rattle.std.specs.Prelude.{◌≡◌, ℕ, suc, ◌+◌, ◌-◌, ◌/◌, ◌%◌, ◌<◌, ◌≤◌, ◌==◌, nat_lt, Bool, false, ◌||◌, if◌then◌else◌, List, [], ◌∷◌, length, replicate, Option, Some, None, Result, Ok, Err}
+use Rattle.mix_bits.specs.declared.isa.Isa.{Isa}
 use Rattle.big_memory.specs.Memory.{Memory, floor_of, with_bytes, with_marks}
 use Rattle.switch_frame.specs.declared.active.Active.{Active}
 use Rattle.switch_frame.specs.declared.kind.Kind.{Kind}
@@ -14,6 +15,11 @@ use Rattle.switch_frame.specs.Chain.{outer_of, most_frames}
 abbrev pub innermost : List Record → Option Held
 innermost [] = None
 innermost (r ∷ rs) = Some (held_of r (suc (length rs)))
+
+-- the innermost frame has this range
+abbrev pub IsInnermost : ℕ → ℕ → List Record → Type 0
+IsInnermost lo hi [] = ⊥
+IsInnermost lo hi (r ∷ rs) = (r.lo ≡ lo) × (r.hi ≡ hi)
 
 -- whether a stack pointer stands above the innermost frame's lo
 abbrev pub is_crossed : List Record → ℕ → Bool
@@ -51,6 +57,17 @@ pub record IsPlace (m : Memory) (rs : List Record) (kind : Kind) (lo hi : ℕ) :
 abbrev pub IsCalled : Active → List Record → Type 0
 IsCalled caller [] = Unit {0}
 IsCalled caller (r ∷ rs) = callee_isa r.kind ≡ isa_of caller
+
+-- the set of the innermost caller's callee, or that of the main program
+abbrev pub active_set : Isa → List Record → Isa
+active_set main [] = main
+active_set main (r ∷ rs) = callee_isa r.kind
+
+-- the outermost caller is of the main program's set
+abbrev pub IsOutermost : Isa → List Record → Type 0
+IsOutermost main [] = Unit {0}
+IsOutermost main (r ∷ []) = caller_isa r.kind ≡ main
+IsOutermost main (r ∷ s ∷ rs) = IsOutermost main (s ∷ rs)
 
 -- the memory with a frame's bytes, and its guard, replaced
 abbrev pub with_frame : ℕ → ℕ → List ℕ → Bool → Memory → Memory

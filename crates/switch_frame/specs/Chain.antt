@@ -1,11 +1,11 @@
 -- The chain of frames in memory, from the innermost outward: read as a function of the bytes, and as a relation.
-use Rattle.std.specs.Prelude.{◌≡◌, ℕ, zero, suc, ◌+◌, ◌-◌, ◌*◌, ◌/◌, ◌%◌, ◌^◌, ◌<◌, ◌≤◌, ◌==◌, nat_le, nat_lt, ◌⊎◌, Bool, true, false, ◌&&◌, ◌||◌, if◌then◌else◌, List, [], ◌∷◌, length, replicate, slice_index_or, get_or}
+use Rattle.std.specs.Prelude.{◌≡◌, ℕ, zero, suc, ◌+◌, ◌-◌, ◌*◌, ◌/◌, ◌%◌, ◌^◌, ◌<◌, ◌≤◌, ◌==◌, nat_le, nat_lt, ◌⊎◌, Bool, true, false, ◌&&◌, ◌||◌, if◌then◌else◌, List, [], ◌∷◌, length, replicate, slice_index_or}
 use Rattle.big_memory.specs.Lists.{part, put}
 use Rattle.big_memory.specs.Memory.{Memory, IsRam, floor_of}
+use Rattle.big_memory.specs.Numbers.{AreLongs, long_at}
 use Rattle.proc_info.specs.Signature.{has_signature}
 use Rattle.switch_frame.specs.declared.active.Active.{Active}
 use Rattle.switch_frame.specs.declared.active.Active.TheVariants.{M68, Ppc}
-use Rattle.switch_frame.specs.Longs.{long_at}
 use Rattle.switch_frame.specs.Sets.{caller_isa, callee_isa, frame_size}
 use Rattle.switch_frame.specs.Records.{Record, isa_of, image, record_at}
 
@@ -30,11 +30,6 @@ records bytes top = read_chain (depth_at bytes top) bytes top
 -- at most so many frames are live
 abbrev pub most_frames : ℕ
 most_frames = 256
-
--- a list of n numbers that longs hold
-pub record AreLongs (n : ℕ) (xs : List ℕ) : Type 0 where
-  pub count : length xs ≡ n
-  pub each : (k : ℕ) → get_or xs k 0 < 2 ^ 32
 
 -- what every register file meets
 pub record ArePpc (gpr : List ℕ) (cr lr ctr xer pc : ℕ) : Type 0 where
@@ -67,8 +62,8 @@ pub record IsHeld (r : Record) : Type 0 where
   pub target_fits : r.target < 2 ^ 32
   pub want_fits : r.want < 2 ^ 32
 
--- what a live record meets in memory of `len` bytes, inside the records of the frames outside it
-pub record Fits (len : ℕ) (r : Record) (rs : List Record) : Type 0 where
+-- what a live record meets in memory of `len` bytes, whatever frames are outside it
+pub record FitsAlone (len : ℕ) (r : Record) : Type 0 where
   pub held : IsHeld r
   pub signature : has_signature r.info ≡ true
   pub kind : caller_isa r.kind ≡ isa_of r.caller
@@ -76,6 +71,10 @@ pub record Fits (len : ℕ) (r : Record) (rs : List Record) : Type 0 where
   pub aligned : r.lo % 16 ≡ 0
   pub stack : len - len / 4 ≤ r.lo
   pub within : r.hi ≤ len
+
+-- and inside the records of the frames outside it
+pub record Fits (len : ℕ) (r : Record) (rs : List Record) : Type 0 where
+  pub alone : FitsAlone len r
   pub inside : IsInside r rs
 
 -- each record fits, and its range holds its image

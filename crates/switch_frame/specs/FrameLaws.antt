@@ -4,7 +4,7 @@ use Rattle.big_memory.specs.Lists.{part}
 use Rattle.big_memory.specs.Memory.{Memory, IsRam, floor_of}
 use Rattle.proc_info.specs.Signature.{has_signature}
 use Rattle.switch_frame.specs.declared.kind.Kind.{Kind}
-use Rattle.switch_frame.specs.Longs.{bytes_of_longs}
+use Rattle.big_memory.specs.Numbers.{bytes_of_longs}
 use Rattle.switch_frame.specs.Sets.{caller_isa}
 use Rattle.switch_frame.specs.Records.{Record, isa_of}
 use Rattle.switch_frame.specs.Chain.{Apart, Chain, Links, cleared, most_frames, zeros}

@@ -1,4 +1,3 @@
-pub mod Longs
 pub mod Sets
 pub mod Files
 pub mod Records
@@ -9,3 +8,5 @@ pub mod Pieces
 pub mod Program
 pub mod Laws
 pub mod FrameLaws
+pub mod RangeLaws
+pub mod GateLaws

@@ -1,11 +1,12 @@
 -- What every loaded program meets.
-use Rattle.std.specs.Prelude.{◌≡◌, ℕ, zero, suc, ◌+◌, ◌-◌, ◌%◌, ◌≤◌, false, List, [], ◌∷◌, length, replicate, slice_index_or}
+use Rattle.std.specs.Prelude.{◌≡◌, ℕ, zero, suc, ◌+◌, ◌-◌, ◌*◌, ◌/◌, ◌%◌, ◌<◌, ◌≤◌, ◌==◌, nat_le, nat_lt, false, ◌&&◌, if◌then◌else◌, List, [], ◌∷◌, length, replicate, slice_index_or, Option, Some, None}
 use Rattle.mix_bits.specs.declared.isa.Isa.{Isa}
 use Rattle.mix_bits.specs.declared.isa.Isa.TheVariants.{M68, Ppc}
 use Rattle.big_memory.specs.Lists.{part}
 use Rattle.big_memory.specs.Map.{host_vector_at, host_code_at, host_functions}
 use Rattle.big_memory.specs.Memory.{IsRam, Memory, floor_of}
 use Rattle.switch_frame.specs.declared.program.Program.{Program}
+use Rattle.big_memory.specs.Numbers.{long_at}
 use Rattle.switch_frame.specs.Records.{isa_of}
 use Rattle.switch_frame.specs.Pieces.{Piece, long_piece, puts}
 
@@ -35,11 +36,25 @@ blank n = replicate n 0
 unfoldable pub page_bytes : ℕ → ℕ → ℕ → ℕ → List ℕ
 page_bytes entry vector a5 len = part 0x1000 0x1000 (puts (gate_longs entry vector a5 len) (blank 0x2000))
 
+-- the long at an address of the transition vectors of the first n host functions, 0 outside them
+unfoldable pub vector_long : ℕ → ℕ → ℕ
+vector_long n a =
+    if nat_le (host_vector_at 0) a && nat_lt a (host_vector_at n) && a % 8 == 0 then host_code_at ((a - host_vector_at 0) / 8) else 0
+
+-- the long at an address of the gate page, in memory of `len` bytes: none where any value may stand, for the entry and
+-- the main vector
+unfoldable pub gate_long : ℕ → ℕ → ℕ → Option ℕ
+gate_long a5 len a =
+    if a == 0x1020 then None else (if a == 0x1024 then None else (if a == 0x1028 then Some a5 else (if a == 0x102C then Some len else Some (vector_long host_functions a))))
+
+-- a number is the one that is told, if one is
+abbrev pub Stands : Option ℕ → ℕ → Type 0
+Stands None value = Unit {0}
+Stands (Some told) value = value ≡ told
+
 -- memory has the gate page of the memory map, whatever entry and main vector it tells
 pub record HasGatePage (a5 : ℕ) (bytes : List ℕ) : Type 0 where
-  pub entry : ℕ
-  pub vector : ℕ
-  pub page : part 0x1000 0x1000 bytes ≡ page_bytes entry vector a5 (length bytes)
+  pub longs : (k : ℕ) → k < 1024 → Stands (gate_long a5 (length bytes) (0x1000 + 4 * k)) (long_at (0x1000 + 4 * k) bytes)
 
 -- the stack pointer with which a main program starts, and is to end
 abbrev pub start_sp_of : Isa → ℕ → ℕ

@@ -3,13 +3,15 @@ use Rattle.std.specs.Prelude.{ℕ, ◌+◌, List, [], ◌∷◌, ◌++◌}
 use Rattle.mix_bits.specs.declared.isa.Isa.{Isa}
 use Rattle.mix_bits.specs.declared.isa.Isa.TheVariants.{M68 as set_m68, Ppc as set_ppc}
 use Rattle.m68_isa.specs.declared.registers.Regs68.{Regs68}
-use Rattle.m68_isa.specs.Registers.{ccr_bits, ccr_of}
+use Rattle.m68_isa.specs.Registers.{ccr_of}
+use Rattle.m68_isa.specs.Longs.{longs_of as longs_of_m68}
 use Rattle.ppc_isa.specs.declared.registers.RegsPpc.{RegsPpc}
+use Rattle.ppc_isa.specs.Longs.{longs_of as longs_of_ppc}
+use Rattle.big_memory.specs.Numbers.{long_at, longs_at, bytes_of_longs}
 use Rattle.switch_frame.specs.declared.active.Active.{Active}
 use Rattle.switch_frame.specs.declared.active.Active.TheVariants.{M68, Ppc}
 use Rattle.switch_frame.specs.declared.kind.Kind.{Kind}
 use Rattle.switch_frame.specs.declared.held.Held.{Held}
-use Rattle.switch_frame.specs.Longs.{long_at, longs_at, bytes_of_longs}
 use Rattle.switch_frame.specs.Sets.{caller_isa, kind_code, kind_at}
 
 -- a suspended caller: its registers, what it called, where its frame lies, and the stack pointer at which the
@@ -38,21 +40,24 @@ abbrev pub isa_of : Active → Isa
 isa_of (M68 file) = set_m68
 isa_of (Ppc file) = set_ppc
 
--- the longs of a register file in a frame, with the zeros that fill the frame
-abbrev pub longs_of_m68 : Regs68 → List ℕ
-longs_of_m68 file = file.d ++ (file.a ++ (file.pc ∷ ccr_bits file.ccr ∷ 0 ∷ 0 ∷ []))
-
-abbrev pub longs_of_ppc : RegsPpc → List ℕ
-longs_of_ppc file = file.gpr ++ (file.cr ∷ file.lr ∷ file.ctr ∷ file.xer ∷ file.pc ∷ 0 ∷ 0 ∷ 0 ∷ [])
-
+-- the longs of a register file
 abbrev pub longs_of_file : Active → List ℕ
 longs_of_file (M68 file) = longs_of_m68 file
 longs_of_file (Ppc file) = longs_of_ppc file
 
--- the longs of a frame: the lo of the next outer frame, the record, and how many frames are live with this one
+-- the longs before them in a frame: the lo of the next outer frame, the record, and how many frames are live with
+-- this one
+abbrev pub head_of : Record → ℕ → ℕ → List ℕ
+head_of r outer depth = outer ∷ kind_code r.kind ∷ r.info ∷ r.selector ∷ r.target ∷ r.hi ∷ r.want ∷ depth ∷ []
+
+-- the zeros behind them, which fill the frame up to a multiple of 16 bytes
+abbrev pub fill_of : Isa → List ℕ
+fill_of set_m68 = 0 ∷ 0 ∷ []
+fill_of set_ppc = 0 ∷ 0 ∷ 0 ∷ []
+
+-- the longs of a frame
 abbrev pub longs_of : Record → ℕ → ℕ → List ℕ
-longs_of r outer depth =
-    outer ∷ kind_code r.kind ∷ r.info ∷ r.selector ∷ r.target ∷ r.hi ∷ r.want ∷ depth ∷ longs_of_file r.caller
+longs_of r outer depth = head_of r outer depth ++ (longs_of_file r.caller ++ fill_of (isa_of r.caller))
 
 -- the bytes of a frame
 abbrev pub image : Record → ℕ → ℕ → List ℕ

@@ -1,13 +1,14 @@
 // Register files as longs in memory.
-ghost use Rattle.std.specs.Prelude.{◌≡◌, ◌+◌, ◌≤◌, length};
+ghost use Rattle.std.specs.Prelude.{◌≡◌, ◌+◌, ◌≤◌, ◌++◌, length};
 ghost use Rattle.big_memory.specs.Memory.{IsRam, with_bytes};
 ghost use Rattle.switch_frame.specs.Chain.{IsFile};
-ghost use Rattle.switch_frame.specs.Longs.{bytes_of_longs};
-ghost use Rattle.switch_frame.specs.Records.{file_at, isa_of, longs_of_file, longs_of_m68, longs_of_ppc, m68_at, ppc_at};
+ghost use Rattle.big_memory.specs.Numbers.{bytes_of_longs};
+ghost use Rattle.switch_frame.specs.Records.{file_at, fill_of, isa_of, longs_of_file, m68_at, ppc_at};
+ghost use Rattle.m68_isa.specs.Longs.{longs_of as longs_of_m68};
+ghost use Rattle.ppc_isa.specs.Longs.{longs_of as longs_of_ppc};
 ghost use Rattle.switch_frame.specs.Sets.{frame_size};
 
 use crate::Active;
-use crate::longs::{read_longs, write_longs};
 use big_memory::Ram;
 use m68_isa::{Ccr, Regs68};
 use mix_bits::Isa;
@@ -35,9 +36,9 @@ fn read_m68(ram: &Ram, at: u32) -> Regs68
     let mut d = [0; 8];
     let mut a = [0; 8];
     let mut rest = [0; 2];
-    read_longs(ram, at, &mut d);
-    read_longs(ram, at + 32, &mut a);
-    read_longs(ram, at + 64, &mut rest);
+    ram.read_longs(at, &mut d);
+    ram.read_longs(at + 32, &mut a);
+    ram.read_longs(at + 64, &mut rest);
     let [pc, ccr] = rest;
     Regs68 {
         d,
@@ -55,8 +56,8 @@ fn read_ppc(ram: &Ram, at: u32) -> RegsPpc
 {
     let mut gpr = [0; 32];
     let mut rest = [0; 5];
-    read_longs(ram, at, &mut gpr);
-    read_longs(ram, at + 128, &mut rest);
+    ram.read_longs(at, &mut gpr);
+    ram.read_longs(at + 128, &mut rest);
     let [cr, lr, ctr, xer, pc] = rest;
     RegsPpc {
         gpr,
@@ -72,7 +73,7 @@ fn read_ppc(ram: &Ram, at: u32) -> RegsPpc
 pub fn write_file(ram: &mut Ram, a: u32, file: &Active)
     requires ram { IsRam ram.old }
     requires within { a + frame_size (isa_of file.now) ≤ length ram.old.bytes + 32 }
-    ensures bytes { ram.new ≡ with_bytes a (bytes_of_longs (longs_of_file file.now)) ram.old }
+    ensures bytes { ram.new ≡ with_bytes a (bytes_of_longs (longs_of_file file.now ++ fill_of (isa_of file.now))) ram.old }
     ensures ram { IsRam ram.new }
     ensures file { IsFile file.now }
 {
@@ -85,25 +86,24 @@ pub fn write_file(ram: &mut Ram, a: u32, file: &Active)
 fn write_m68(ram: &mut Ram, at: u32, file: &Regs68)
     requires ram { IsRam ram.old }
     requires within { at + 80 ≤ length ram.old.bytes }
-    ensures bytes { ram.new ≡ with_bytes at (bytes_of_longs (longs_of_m68 file.now)) ram.old }
+    ensures bytes { ram.new ≡ with_bytes at (bytes_of_longs (longs_of_m68 file.now ++ fill_of (Isa.M68))) ram.old }
     ensures ram { IsRam ram.new }
     ensures file { IsFile (Active.M68 file.now) }
 {
-    write_longs(ram, at, &file.d);
-    write_longs(ram, at + 32, &file.a);
-    write_longs(ram, at + 64, &[file.pc, file.ccr.bits(), 0, 0]);
+    ram.fix_longs(at, &file.d);
+    ram.fix_longs(at + 32, &file.a);
+    ram.fix_longs(at + 64, &[file.pc, file.ccr.bits(), 0, 0]);
 }
 
 fn write_ppc(ram: &mut Ram, at: u32, file: &RegsPpc)
     requires ram { IsRam ram.old }
     requires within { at + 160 ≤ length ram.old.bytes }
-    ensures bytes { ram.new ≡ with_bytes at (bytes_of_longs (longs_of_ppc file.now)) ram.old }
+    ensures bytes { ram.new ≡ with_bytes at (bytes_of_longs (longs_of_ppc file.now ++ fill_of (Isa.Ppc))) ram.old }
     ensures ram { IsRam ram.new }
     ensures file { IsFile (Active.Ppc file.now) }
 {
-    write_longs(ram, at, &file.gpr);
-    write_longs(
-        ram,
+    ram.fix_longs(at, &file.gpr);
+    ram.fix_longs(
         at + 128,
         &[file.cr, file.lr, file.ctr, file.xer, file.pc, 0, 0, 0],
     );

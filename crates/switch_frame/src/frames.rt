@@ -1,16 +1,15 @@
 // The chain of frames: its innermost frame is pushed, read and popped.
-ghost use Rattle.std.specs.Prelude.{◌≡◌, ◌+◌, ◌-◌, ◌<◌, ◌≤◌, ◌↔◌, ◌∷◌, length, true, false, IsNone};
+ghost use Rattle.std.specs.Prelude.{◌≡◌, ◌+◌, ◌-◌, ◌<◌, ◌≤◌, ◌↔◌, ◌∷◌, length, drop, true, false, IsNone};
 ghost use Rattle.big_memory.specs.Lists.{put};
 ghost use Rattle.big_memory.specs.Memory.{IsRam, with_bytes};
 ghost use Rattle.proc_info.specs.Signature.{has_signature};
-ghost use Rattle.switch_frame.specs.Calls.{IsCalled, IsPlace, innermost, with_frame};
-ghost use Rattle.switch_frame.specs.Chain.{Chain, IsFrameRange, IsHeld, Links, cleared, records, zeros};
-ghost use Rattle.switch_frame.specs.Longs.{long_at};
+ghost use Rattle.switch_frame.specs.Calls.{IsCalled, IsInnermost, IsPlace, innermost, with_frame};
+ghost use Rattle.switch_frame.specs.Chain.{Chain, IsFrameRange, IsHeld, Links, cleared, outer_of, records, zeros};
+ghost use Rattle.big_memory.specs.Numbers.{long_at};
 ghost use Rattle.switch_frame.specs.Records.{held_of, image, isa_of, record_at, record_of};
 ghost use Rattle.switch_frame.specs.Sets.{caller_isa, frame_size, kind_at};
 
 use crate::files::{read_file, write_file};
-use crate::longs::{read_long, read_longs, write_longs};
 use crate::{Held, Kind};
 use big_memory::Ram;
 
@@ -66,10 +65,36 @@ pub fn pop(ram: &mut Ram, top: &mut u32) -> Held
     ensures len { length ram.new.bytes ≡ length ram.old.bytes }
 {
     let held = read_held(ram, *top);
-    let outer = read_long(ram, held.lo);
+    give_up(ram, top, &held);
+    held
+}
+
+/// Takes away the innermost frame, from which a caller was read. Only the frame's range is taken from
+/// `held`: its registers may have gone on since.
+#[inline(always)]
+pub fn give_up(ram: &mut Ram, top: &mut u32, held: &Held)
+    requires chain { Chain ram.old top.old (records ram.old.bytes top.old) }
+    requires innermost { IsInnermost held.now.lo held.now.hi (records ram.old.bytes top.old) }
+    ensures records { records ram.new.bytes top.new ≡ drop 1 (records ram.old.bytes top.old) }
+    ensures chain { Chain ram.new top.new (records ram.new.bytes top.new) }
+    ensures memory { cleared ram.new.bytes (records ram.new.bytes top.new) ≡ cleared ram.old.bytes (records ram.old.bytes top.old) }
+    ensures frame { ram.new ≡ with_frame held.now.lo held.now.hi (zeros (held.now.hi - held.now.lo)) false ram.old }
+    ensures len { length ram.new.bytes ≡ length ram.old.bytes }
+{
+    let outer = ram.read_long(held.lo);
     clear(ram, held.lo, held.hi);
     *top = outer;
-    held
+}
+
+/// Where the frame outside the one that begins at `lo` begins, 0 for the outermost.
+pub fn outer_lo(ram: &Ram, lo: u32) -> u32
+    requires links { Links ram.now lo (records ram.now.bytes lo) }
+    requires live { 0 < lo }
+    ensures value { result ≡ outer_of (drop 1 (records ram.now.bytes lo)) }
+    ensures rest { records ram.now.bytes result ≡ drop 1 (records ram.now.bytes lo) }
+    ensures links { Links ram.now result (records ram.now.bytes result) }
+{
+    ram.read_long(lo)
 }
 
 /// How many frames are live.
@@ -77,11 +102,7 @@ pub fn depth(ram: &Ram, top: u32) -> u32
     requires { Links ram.now top (records ram.now.bytes top) }
     ensures { result ≡ length (records ram.now.bytes top) }
 {
-    if top == 0 {
-        0
-    } else {
-        read_long(ram, top + 28)
-    }
+    if top == 0 { 0 } else { ram.read_long(top + 28) }
 }
 
 /// Ends the frame of [`lo`, `hi`): zeros stand in it, and it is guarded no more.
@@ -102,7 +123,7 @@ fn read_held(ram: &Ram, lo: u32) -> Held
     ensures { result ≡ held_of (record_at lo ram.now.bytes) (long_at (lo + 28) ram.now.bytes) }
 {
     let mut head = [0; 8];
-    read_longs(ram, lo, &mut head);
+    ram.read_longs(lo, &mut head);
     let [_outer, code, info, selector, target, hi, want_sp, depth] = head;
     let kind = Kind::of_code(code);
     Held {
@@ -136,6 +157,6 @@ fn write_held(ram: &mut Ram, held: &Held, outer: u32)
         held.want_sp,
         held.depth,
     ];
-    write_longs(ram, held.lo, &head);
+    ram.fix_longs(held.lo, &head);
     write_file(ram, held.lo + 32, &held.caller);
 }

@@ -1,4 +1,6 @@
 ghost use Rattle.switch_frame.specs.FrameLaws.{BelowInnermost, FirstIsHeld, LengthBytes, LengthZeros, MeetsNone, PlaceByLength, RoomByLength, RoomIsPlace, StoredApart, TopIsZero, ZerosBeside};
+ghost use Rattle.switch_frame.specs.GateLaws.{LongsArePage, PageByBytes, PageHasLongs};
+ghost use Rattle.switch_frame.specs.RangeLaws.{FitsIsRange, MarkAt, MarksKept, MarksSame, TopTells};
 ghost use Rattle.switch_frame.specs.Laws.{BeginsEmpty, FreeKeepsChain, GuardIsFrames, KeepsLength, LowIsMemory, PlacesAreFree, PlacesAreGiven, ReadsBack, ReadsOuter, RefusalsAreRanges, SeenIsMemory, StoresBeside, ViewIsMemory};
 
 /// What follows from the definitions of a chain. It does nothing: the clauses are its point.
@@ -31,4 +33,20 @@ pub fn frame_laws()
     ensures zeros { ZerosBeside }
     ensures length_zeros { LengthZeros }
     ensures length_bytes { LengthBytes }
+{}
+
+/// What follows for a frame's range and its marks. It does nothing, either.
+pub fn range_laws()
+    ensures top { TopTells }
+    ensures range { FitsIsRange }
+    ensures mark { MarkAt }
+    ensures marks_kept { MarksKept }
+    ensures marks_same { MarksSame }
+{}
+
+/// What follows for the gate page. It does nothing, either.
+pub fn gate_laws()
+    ensures longs { PageHasLongs }
+    ensures page { LongsArePage }
+    ensures bytes { PageByBytes }
 {}

@@ -13,17 +13,16 @@ mod full;
 mod held;
 mod kind;
 mod laws;
-mod longs;
 mod program;
 mod rooms;
 #[cfg(test)]
 mod tests;
 
 pub use active::Active;
-pub use frames::{depth, pop, push, top};
+pub use frames::{depth, give_up, outer_lo, pop, push, top};
 pub use full::Full;
 pub use held::Held;
 pub use kind::Kind;
-pub use laws::{chain_laws, frame_laws};
-pub use program::Program;
+pub use laws::{chain_laws, frame_laws, gate_laws, range_laws};
+pub use program::{Program, start_sp_of};
 pub use rooms::{MOST_FRAMES, room};

@@ -1,6 +1,12 @@
+ghost use Rattle.std.specs.Prelude.{◌≡◌, ◌≤◌};
+ghost use Rattle.switch_frame.specs.Program.{start_sp_of};
+
 use crate::Active;
 use big_memory::Ram;
 use mix_bits::Isa;
+
+/// How many bytes below the end of RAM the stack pointer of PowerPC code starts.
+const PPC_STACK: u32 = 64;
 
 /// A loaded program, ready to start.
 #[derive(Drop)]
@@ -18,4 +24,15 @@ pub struct Program {
     pub heap_lo: u32,
     /// Where the heap ends.
     pub heap_hi: u32,
+}
+
+/// The stack pointer at which a main program of this set starts, and is expected to end, in `len` bytes of RAM.
+pub fn start_sp_of(main: Isa, len: u32) -> u32
+    requires { 64 ≤ len }
+    ensures { result ≡ start_sp_of main len }
+{
+    match main {
+        Isa::M68 => len,
+        Isa::Ppc => len - PPC_STACK,
+    }
 }

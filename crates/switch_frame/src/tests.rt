@@ -6,8 +6,7 @@ ghost use Rattle.switch_frame.specs.Sets.{caller_isa, callee_isa};
 ghost use Rattle.switch_frame.specs.declared.active.Active.{Active};
 
 use crate::frames::depth;
-use crate::longs::read_long;
-use crate::{Active, Full, Held, Kind, pop, push, room, top};
+use crate::{Active, Full, Held, Kind, outer_lo, pop, push, room, top};
 use big_memory::{NoMemory, Ram};
 use m68_isa::{Ccr, Regs68};
 use mix_bits::{Isa, Size};
@@ -119,15 +118,6 @@ fn suspend(
     Ok(held)
 }
 
-/// Where the frame outside this one begins.
-fn outside(ram: &Ram, lo: u32) -> u32
-    requires links { Links ram.now lo (records ram.now.bytes lo) }
-    requires live { 0 < lo }
-    ensures { Links ram.now result (records ram.now.bytes result) }
-{
-    read_long(ram, lo)
-}
-
 /// Whether these longs stand from `a` on.
 fn holds(ram: &Ram, a: u32, longs: &[u32]) -> bool
     requires { a + 4 * length longs.now < 2 ^ 32 }
@@ -158,7 +148,7 @@ fn reads(rt: &impl Abort, ram: &Ram, innermost: u32, callers: [&Held; 3])
     for held in callers {
         assert!(rt; is_held(top(ram, lo), held));
         assert!(rt; lo > 0);
-        lo = outside(ram, lo);
+        lo = outer_lo(ram, lo);
     }
     assert!(rt; top(ram, lo).is_none());
 }

@@ -1,5 +1,5 @@
 use Rattle.std.proofs.Common.{◌≡◌, ℕ, ◌+◌, ◌*◌, ◌<◌, get_or, arith}
-use Rattle.switch_frame.specs.Longs.{long_at}
+use Rattle.big_memory.specs.Numbers.{long_at}
 use Rattle.switch_frame.proofs.Pieces.{long-read}
 use Rattle.switch_frame.proofs.files.read_ppc.Goals as goal
 

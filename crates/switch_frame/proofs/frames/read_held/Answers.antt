@@ -1,5 +1,5 @@
 use Rattle.std.proofs.Common.{◌≡◌, ℕ, ◌+◌, ◌*◌, ◌<◌, List, get_or, arith, ap, ◌∙◌}
-use Rattle.switch_frame.specs.Longs.{long_at, longs_at}
+use Rattle.big_memory.specs.Numbers.{long_at, longs_at}
 use Rattle.switch_frame.specs.Records.{file_at}
 use Rattle.switch_frame.specs.Sets.{caller_isa, frame_size, kind_at}
 use Rattle.switch_frame.specs.declared.kind.Kind.{Kind}

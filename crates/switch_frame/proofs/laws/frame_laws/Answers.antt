@@ -1,4 +1,5 @@
-use Rattle.switch_frame.proofs.Pieces.{length-bytes, length-zeros}
+use Rattle.big_memory.proofs.Numbers.{length_of_bytes}
+use Rattle.switch_frame.proofs.Pieces.{length-zeros}
 use Rattle.switch_frame.proofs.Guards.{stored-apart}
 use Rattle.switch_frame.proofs.Seen.{zeros_beside}
 use Rattle.switch_frame.proofs.Ranges.{below_innermost, meets_none}
@@ -17,5 +18,5 @@ returns c = record {
   room_by_length = room_by_length;
   zeros = zeros_beside;
   length_zeros = length-zeros;
-  length_bytes = length-bytes;
+  length_bytes = length_of_bytes;
 }

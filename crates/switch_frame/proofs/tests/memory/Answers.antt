@@ -2,7 +2,7 @@ use Rattle.std.proofs.Common.{◌≡◌, inl, inr, ℕ, ◌/◌, ◌≤◌, fals
 use Rattle.std.proofs.lemmas.Bool.{cases_lt}
 use Rattle.std.proofs.lemmas.List.{get_or-replicate, get_or_past, length-replicate}
 use Rattle.big_memory.specs.Memory.{Memory, IsRam, zeroed}
-use Rattle.big_memory.specs.declared.refusals.NoMemory.{NoMemory}
+use Rattle.mix_bits.specs.declared.no_memory.NoMemory.{NoMemory}
 use Rattle.switch_frame.specs.Chain.{Chain, records}
 use Rattle.switch_frame.proofs.Linked.{begins_empty, reads_back}
 use Rattle.switch_frame.proofs.tests.memory.Goals as goal
