@@ -1,14 +1,13 @@
 -- No name in the host table has 64 bytes, so the first 64 of a name tell whether it is there.
-use Rattle.std.proofs.Common.{◌≡◌, refl, sym, ap, ◌∙◌, lit<, ℕ, zero, suc, ◌<◌, Bool, true, false, true≢false, ◌&&◌, List, bytes_eq, length, take, length-take, Option, Some, None, arith}
+use Rattle.std.proofs.Common.{◌≡◌, refl, sym, ap, ◌∙◌, lit<, ℕ, ◌<◌, Bool, true, false, true≢false, ◌&&◌, if◌then◌else◌, List, [], ◌∷◌, bytes_eq, length, take, length-take, Option, Some, None, arith}
 use Rattle.std.proofs.lemmas.List.{take_all}
 use Rattle.std.proofs.lemmas.Slice.Eq.{bytes_eq-Decides}
 use Rattle.pef_head.specs.Parts.{ImportParts, cut}
-use Rattle.pef_head.specs.Search.{◌or◌, refused, least}
 use Rattle.toolbox.specs.declared.function.Function.{Function}
 use Rattle.toolbox.specs.declared.function.Function.TheVariants.{NewRoutineDescriptor, NewFatRoutineDescriptor, DisposeRoutineDescriptor, CallUniversalProc, NewPtr, NewPtrClear, DisposePtr, BlockMove, ExitToShell, PutByte, GetByte, PutBlock, AskDevice, EjectDevice, ExitWith, UnloadSeg}
-use Rattle.toolbox.specs.Functions.{function_at}
-use Rattle.toolbox.specs.Names.{import_of}
-use Rattle.mix_load.specs.HostTable.{import_index, imports, is_named}
+use Rattle.toolbox.specs.Table.{functions}
+use Rattle.toolbox.specs.Functions.{number_of}
+use Rattle.toolbox.specs.Names.{import_among, import_index, import_of, is_named}
 use Rattle.mix_load.specs.Sections.{import_address, resolved}
 
 abbrev IsShort : Option (List ℕ × List ℕ) → Type 0
@@ -57,16 +56,16 @@ same_named library name None is = refl
 same_named library name (Some both) is =
     ap (λ (b : Bool). b && bytes_eq both.1 (take 64 name)) (same_eq both.0 library is.0) ∙ ap (λ (b : Bool). bytes_eq both.0 library && b) (same_eq both.1 name is.1)
 
-least_same : (one other : ℕ → Bool) (n : ℕ) → ((k : ℕ) → one k ≡ other k) → least one n ≡ least other n
-least_same one other zero same = refl
-least_same one other (suc n) same =
-    ap (λ (o : Option ℕ). o or refused (one n) n) (least_same one other n same) ∙ ap (λ (b : Bool). least other n or refused b n) (same n)
+among_same : (fs : List Function) (library name : List ℕ) → import_among fs (take 64 library) (take 64 name) ≡ import_among fs library name
+unfolding import_among
+among_same [] library name = refl
+among_same (f ∷ fs) library name =
+    ap (λ (b : Bool). if b then Some (number_of f) else import_among fs (take 64 library) (take 64 name)) (same_named library name (import_of f) (short f))
+    ∙ ap (λ (o : Option ℕ). if is_named library name (import_of f) then Some (number_of f) else o) (among_same fs library name)
 
 cut_index : (library name : List ℕ) → import_index (take 64 library) (take 64 name) ≡ import_index library name
 unfolding import_index
-cut_index library name =
-    least_same (imports (take 64 library) (take 64 name)) (imports library name) 15
-    (λ k. same_named library name (import_of (function_at k)) (short (function_at k)))
+cut_index library name = among_same functions library name
 
 pub cut_address : (i : ImportParts) → import_address (cut 64 i) ≡ import_address i
 cut_address i = ap (resolved i.weak) (cut_index i.library i.name)

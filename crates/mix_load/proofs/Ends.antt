@@ -5,7 +5,8 @@ use Rattle.rsrc_fork.specs.Resources.{Resource}
 use Rattle.big_memory.specs.Memory.{Memory}
 use Rattle.pef_head.specs.Parts.{SectionParts, section_at}
 use Rattle.switch_frame.specs.Pieces.{Piece}
-use Rattle.mix_load.specs.Pieces.{rounded_up, with_pieces}
+use Rattle.mix_bits.specs.Multiples.{rounded_up}
+use Rattle.mix_load.specs.Pieces.{with_pieces}
 use Rattle.mix_load.specs.Segments.{added_segment, segment_at, segment_pieces, segments_end, with_segment}
 use Rattle.mix_load.specs.Sections.{base_behind, section_base, sections_end, total_at}
 
@@ -77,9 +78,9 @@ section_above bytes start k = omega (arith, start_within bytes start k, base_abo
 
 -- one segment more
 pub step-memory : (resources : List Resource) (start id end : ℕ) (segment : Option (List ℕ)) (new old first : Memory) → end ≡ segments_end resources start id → segment ≡ segment_at resources id
-    → new ≡ with_pieces (added_segment (rounded_up end) segment []) old → old ≡ with_pieces (segment_pieces resources start id) first → new ≡ with_pieces (segment_pieces resources start (suc id)) first
+    → new ≡ with_pieces (added_segment (rounded_up 16 end) segment []) old → old ≡ with_pieces (segment_pieces resources start id) first → new ≡ with_pieces (segment_pieces resources start (suc id)) first
 step-memory resources start id end segment new old first end_is segment_is new_is old_is =
-    new_is ∙ (ap (with_pieces (added_segment (rounded_up end) segment [])) old_is
-    ∙ (added_over (rounded_up end) segment (segment_pieces resources start id) first
-    ∙ (ap (λ (e : ℕ). with_pieces (added_segment (rounded_up e) segment (segment_pieces resources start id)) first) end_is
-    ∙ ap (λ (o : Option (List ℕ)). with_pieces (added_segment (rounded_up (segments_end resources start id)) o (segment_pieces resources start id)) first) segment_is)))
+    new_is ∙ (ap (with_pieces (added_segment (rounded_up 16 end) segment [])) old_is
+    ∙ (added_over (rounded_up 16 end) segment (segment_pieces resources start id) first
+    ∙ (ap (λ (e : ℕ). with_pieces (added_segment (rounded_up 16 e) segment (segment_pieces resources start id)) first) end_is
+    ∙ ap (λ (o : Option (List ℕ)). with_pieces (added_segment (rounded_up 16 (segments_end resources start id)) o (segment_pieces resources start id)) first) segment_is)))

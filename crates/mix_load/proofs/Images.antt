@@ -5,22 +5,22 @@ use Rattle.big_memory.specs.Lists.{put}
 use Rattle.big_memory.proofs.Lists.{length-put}
 use Rattle.rsrc_fork.specs.Resources.{Resource}
 use Rattle.switch_frame.specs.Pieces.{Piece, puts}
-use Rattle.mix_load.specs.Pieces.{rounded_up}
+use Rattle.mix_bits.specs.Multiples.{rounded_up}
 use Rattle.mix_load.specs.Segments.{added_segment, jump_target, segment_at, segment_in, segment_pieces, segments_end, table_pieces, with_segment}
 use Rattle.mix_load.proofs.Ends.{ends_grow}
 use Rattle.mix_load.proofs.Placing.{take-put_behind}
 
 added-length : (end : ℕ) (segment : Option (List ℕ)) (pieces : List Piece) (xs : List ℕ) → length (puts pieces xs) ≡ length xs → with_segment end segment ≤ length xs
-    → length (puts (added_segment (rounded_up end) segment pieces) xs) ≡ length xs
+    → length (puts (added_segment (rounded_up 16 end) segment pieces) xs) ≡ length xs
 added-length end None pieces xs before within = before
 added-length end (Some segment) pieces xs before within =
-    length-put (rounded_up end) segment (puts pieces xs) (omega (arith, before, within)) ∙ before
+    length-put (rounded_up 16 end) segment (puts pieces xs) (omega (arith, before, within)) ∙ before
 
 added-front : (end n : ℕ) (segment : Option (List ℕ)) (pieces : List Piece) (xs : List ℕ) → n ≤ end → length (puts pieces xs) ≡ length xs → with_segment end segment ≤ length xs
-    → take n (puts (added_segment (rounded_up end) segment pieces) xs) ≡ take n (puts pieces xs)
+    → take n (puts (added_segment (rounded_up 16 end) segment pieces) xs) ≡ take n (puts pieces xs)
 added-front end n None pieces xs behind before within = refl
 added-front end n (Some segment) pieces xs behind before within =
-    take-put_behind n (rounded_up end) segment (puts pieces xs) (omega (arith, behind)) (omega (arith, before, within))
+    take-put_behind n (rounded_up 16 end) segment (puts pieces xs) (omega (arith, behind)) (omega (arith, before, within))
 
 pub segments-length : (resources : List Resource) (start n : ℕ) (xs : List ℕ) → segments_end resources start n ≤ length xs → length (puts (segment_pieces resources start n) xs) ≡ length xs
 segments-length resources start zero xs within = refl

@@ -11,5 +11,4 @@ pub mod Loads
 pub mod Forks
 pub mod Placed
 pub mod Vectors
-pub mod HostNames
 pub mod Cuts

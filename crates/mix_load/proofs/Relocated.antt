@@ -5,7 +5,8 @@ use Rattle.std.proofs.lemmas.List.{places}
 use Rattle.big_memory.specs.Lists.{part}
 use Rattle.big_memory.specs.Memory.{Memory, in_memory, with_bytes}
 use Rattle.big_memory.proofs.Lists.{length-put}
-use Rattle.byteorder.specs.Endian.{big_bytes, big_number}
+use Rattle.byteorder.specs.Endian.{big_bytes}
+use Rattle.big_memory.specs.Numbers.{long_at}
 use Rattle.pef_head.specs.Container.{instantiated_count}
 use Rattle.pef_head.specs.Parts.{relocs_of}
 use Rattle.pef_reloc.specs.Additions.{Sources, with_long}
@@ -21,7 +22,7 @@ adds-length : (section later : List ℕ) → Adds section later → length later
 adds-length _ _ (Same section later is) = ap length is
 adds-length _ _ (Long position value section later within more) =
     adds-length (with_long position value section) later more
-    ∙ length-put position (big_bytes 4 ((big_number 4 (drop position section) + value) % 2 ^ 32)) section within
+    ∙ length-put position (big_bytes 4 ((long_at position section + value) % 2 ^ 32)) section within
 
 pub relocated-length : AddsLongs → (bytes : List ℕ) (start k : ℕ) → length (relocated_bytes bytes start k) ≡ length (contents_at bytes k)
 relocated-length law bytes start k =

@@ -1,5 +1,5 @@
 -- The program as it starts has what every loaded program has.
-use Rattle.std.proofs.Common.{◌≡◌, inl, subst, sym, ap, ◌∙◌, refl, ℕ, zero, suc, ◌+◌, ◌-◌, ◌/◌, ◌≤◌, List, [], ◌∷◌, false, slice_index_or, length, take, drop, replicate, arith}
+use Rattle.std.proofs.Common.{◌≡◌, inl, subst, sym, ap, ◌∙◌, refl, ℕ, zero, suc, ◌+◌, ◌-◌, ◌/◌, ◌^◌, ◌<◌, ◌≤◌, List, [], ◌∷◌, false, slice_index_or, length, take, drop, replicate, arith}
 use Rattle.std.proofs.lemmas.List.{same_lists, places}
 use Rattle.byteorder.specs.Endian.{big_bytes}
 use Rattle.mix_bits.specs.declared.isa.Isa.{Isa}
@@ -12,9 +12,11 @@ use Rattle.switch_frame.specs.declared.program.Program.{Program}
 use Rattle.switch_frame.specs.Records.{isa_of}
 use Rattle.switch_frame.specs.Pieces.{Piece, puts}
 use Rattle.switch_frame.specs.Program.{blank, gate_longs, page_bytes, told, vectors, start_sp_of, IsProgram}
+use Rattle.switch_frame.proofs.Gates.{page_has_longs}
 use Rattle.big_memory.specs.Map.{exit_gate, host_vector_at}
 use Rattle.mix_load.specs.declared.image.Image.{Image}
-use Rattle.mix_load.specs.Pieces.{rounded_up, with_pieces}
+use Rattle.mix_bits.specs.Multiples.{rounded_up}
+use Rattle.mix_load.specs.Pieces.{with_pieces}
 use Rattle.mix_load.specs.Start.{program_of, stack_pieces, start_file, start_memory}
 use Rattle.mix_load.specs.Load.{no_image}
 use Rattle.mix_load.specs.Loaded.{IsImage}
@@ -101,8 +103,8 @@ file-set : (main : Isa) (image : Image) (len : ℕ) → isa_of (start_file main 
 file-set M68 image len = refl
 file-set Ppc image len = refl
 
-pub is_program : (main : Isa) (image : Image) → 131072 ≤ length image.ram.bytes → IsImage image → IsRam (program_of main image).ram → IsProgram (program_of main image)
-is_program main image large whole ram =
+pub is_program : (main : Isa) (image : Image) → image.a5 < 2 ^ 32 → 131072 ≤ length image.ram.bytes → IsImage image → IsRam (program_of main image).ram → IsProgram (program_of main image)
+is_program main image small large whole ram =
     let len = length image.ram.bytes in
     let gate_len : length (puts (gate_longs image.entry image.vector image.a5 len) image.ram.bytes) ≡ len =
     pieces-length 0x2000 (gate_longs image.entry image.vector image.a5 len) image.ram.bytes (gate-below image.entry image.vector image.a5 len) (omega (arith, large)) in
@@ -111,13 +113,10 @@ is_program main image large whole ram =
     record {
       ram = ram;
       unguarded = whole.unguarded;
-      page = record {
-        entry = image.entry;
-        vector = image.vector;
-        page = stack-page main len (puts (gate_longs image.entry image.vector image.a5 len) image.ram.bytes) large gate_len
-            ∙ (page-is image.entry image.vector image.a5 len image.ram.bytes (omega (arith, large)) (whole.front 0x2000 (omega arith))
-            ∙ ap (page_bytes image.entry image.vector image.a5) (sym all_len));
-      };
+      page = page_has_longs image.entry image.vector image.a5 (program_of main image).ram.bytes small (omega (arith, ram.most))
+          (stack-page main len (puts (gate_longs image.entry image.vector image.a5 len) image.ram.bytes) large gate_len
+          ∙ (page-is image.entry image.vector image.a5 len image.ram.bytes (omega (arith, large)) (whole.front 0x2000 (omega arith))
+          ∙ ap (page_bytes image.entry image.vector image.a5) (sym all_len)));
       set = file-set main image len;
       start = ap (start_sp_of main) (sym all_len);
       heap = record {
@@ -148,7 +147,7 @@ made main image ram active sp lo hi = record { ram = ram; active = active; a5 = 
 
 pub program-is : (main : Isa) (image : Image) (gated ram : Memory) (active : Active) (sp lo hi len whole : ℕ) → len ≡ length image.ram.bytes
     → gated ≡ with_pieces (gate_longs image.entry image.vector image.a5 len) image.ram → ram ≡ with_pieces (stack_pieces main len) gated → active ≡ start_file main image len
-    → whole ≡ len → sp ≡ start_sp_of main whole → lo ≡ rounded_up image.end → hi ≡ floor_of image.ram
+    → whole ≡ len → sp ≡ start_sp_of main whole → lo ≡ rounded_up 16 image.end → hi ≡ floor_of image.ram
     → record { ram = ram; active = active; a5 = image.a5; main = main; start_sp = sp; heap_lo = lo; heap_hi = hi } ≡ program_of main image
 program-is main image gated ram active sp lo hi len whole len_is gated_is ram_is active_is whole_is sp_is lo_is hi_is =
     let memory : ram ≡ start_memory main image (length image.ram.bytes) =
@@ -159,9 +158,9 @@ program-is main image gated ram active sp lo hi len whole len_is gated_is ram_is
     ∙ (ap (λ (a : Active). made main image (start_memory main image (length image.ram.bytes)) a sp lo hi) file
     ∙ (ap (λ (s : ℕ). made main image (start_memory main image (length image.ram.bytes)) (start_file main image (length image.ram.bytes)) s lo hi) stack
     ∙ (ap (λ (n : ℕ). made main image (start_memory main image (length image.ram.bytes)) (start_file main image (length image.ram.bytes)) (start_sp_of main (length image.ram.bytes)) n hi) lo_is
-    ∙ ap (made main image (start_memory main image (length image.ram.bytes)) (start_file main image (length image.ram.bytes)) (start_sp_of main (length image.ram.bytes)) (rounded_up image.end)) hi_is)))
+    ∙ ap (made main image (start_memory main image (length image.ram.bytes)) (start_file main image (length image.ram.bytes)) (start_sp_of main (length image.ram.bytes)) (rounded_up 16 image.end)) hi_is)))
 
 -- and it has what every loaded program has
-pub program-loaded : (main : Isa) (image : Image) (p : Program) → p ≡ program_of main image → 131072 ≤ length image.ram.bytes → IsImage image → IsRam p.ram → IsProgram p
-program-loaded main image p is large whole ram =
-    subst IsProgram (sym is) (is_program main image large whole (subst (λ (q : Program). IsRam q.ram) is ram))
+pub program-loaded : (main : Isa) (image : Image) (p : Program) → p ≡ program_of main image → image.a5 < 2 ^ 32 → 131072 ≤ length image.ram.bytes → IsImage image → IsRam p.ram → IsProgram p
+program-loaded main image p is small large whole ram =
+    subst IsProgram (sym is) (is_program main image small large whole (subst (λ (q : Program). IsRam q.ram) is ram))

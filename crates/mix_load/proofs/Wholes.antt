@@ -9,7 +9,7 @@ use Rattle.switch_frame.specs.Program.{program_start}
 use Rattle.switch_frame.specs.Pieces.{puts}
 use Rattle.mix_load.specs.declared.header.CodeHeader.{CodeHeader}
 use Rattle.mix_load.specs.declared.image.Image.{Image}
-use Rattle.mix_load.specs.Pieces.{rounded_up}
+use Rattle.mix_bits.specs.Multiples.{rounded_up}
 use Rattle.mix_load.specs.Segments.{a5_of, entry_count, header_of, segment_pieces, segment_places, segments_end, segments_start, table_pieces, table_start}
 use Rattle.std.proofs.lemmas.Bool.Decides.{nat_tests}
 use Rattle.pef_head.specs.Search.{refused}
@@ -22,10 +22,10 @@ use Rattle.mix_load.proofs.Images.{segments-front, segments-length, table-front,
 use Rattle.mix_load.proofs.Placing.{take-put_behind}
 
 -- the world of A5 is in front of the segments
-pub world_within : (ids floor : ℕ) (resources : List Resource) (h : CodeHeader) → rounded_up (fork_end ids resources h) ≤ floor → a5_of h + h.above ≤ floor
+pub world_within : (ids floor : ℕ) (resources : List Resource) (h : CodeHeader) → rounded_up 16 (fork_end ids resources h) ≤ floor → a5_of h + h.above ≤ floor
 world_within ids floor resources h fits = omega (arith, ends_grow resources (segments_start h) 0 ids (omega arith), fits)
 
-pub flat_whole : (main : Isa) (bytes : List ℕ) (image : Image) → rounded_up (program_start + length bytes) ≤ floor_of image.ram → IsImage image → IsImage (flat_image main bytes image)
+pub flat_whole : (main : Isa) (bytes : List ℕ) (image : Image) → rounded_up 16 (program_start + length bytes) ≤ floor_of image.ram → IsImage image → IsImage (flat_image main bytes image)
 flat_whole main bytes image fits whole =
     let room : program_start + length bytes ≤ length image.ram.bytes = omega (arith, fits) in
     let len_is : length (put program_start bytes image.ram.bytes) ≡ length image.ram.bytes = length-put program_start bytes image.ram.bytes room in
@@ -59,7 +59,7 @@ fork_whole ids resources code0 image room whole =
     }
 
 pub added_whole : (old new : Image) → new.ram.marks ≡ old.ram.marks → ((n : ℕ) → n ≤ old.end → take n new.ram.bytes ≡ take n old.ram.bytes)
-    → length new.ram.bytes ≡ length old.ram.bytes → old.end ≤ new.end → rounded_up new.end ≤ floor_of old.ram → new.vector + 8 ≤ length old.ram.bytes → IsImage old → IsImage new
+    → length new.ram.bytes ≡ length old.ram.bytes → old.end ≤ new.end → rounded_up 16 new.end ≤ floor_of old.ram → new.vector + 8 ≤ length old.ram.bytes → IsImage old → IsImage new
 added_whole old new marks front len_is later fits vector whole = record {
   unguarded = λ unit. ap (λ (ms : List Bool). slice_index_or ms unit false) marks ∙ whole.unguarded unit;
   front = λ n le. front n (omega (arith, le, whole.behind)) ∙ whole.front n le;
@@ -68,10 +68,10 @@ added_whole old new marks front len_is later fits vector whole = record {
   vector = omega (arith, vector, len_is);
 }
 
-pub not_too_large : (floor end : ℕ) → too_large floor end ≡ None → rounded_up end ≤ floor
-not_too_large floor end none = by (nat_lt floor (rounded_up end)) refl none
+pub not_too_large : (floor end : ℕ) → too_large floor end ≡ None → rounded_up 16 end ≤ floor
+not_too_large floor end none = by (nat_lt floor (rounded_up 16 end)) refl none
   where
-    by : (b : Bool) → nat_lt floor (rounded_up end) ≡ b → refused b (TooLarge end) ≡ None → rounded_up end ≤ floor
+    by : (b : Bool) → nat_lt floor (rounded_up 16 end) ≡ b → refused b (TooLarge end) ≡ None → rounded_up 16 end ≤ floor
     by true q never = absurd (cc)
     by false q none = grind (arith, nat_tests)
 

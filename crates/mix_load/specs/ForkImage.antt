@@ -9,13 +9,14 @@ use Rattle.mix_load.specs.declared.error.LoadError.{LoadError}
 use Rattle.mix_load.specs.declared.error.LoadError.TheVariants.{NoCode, Far, JumpTable, TooLarge, Rsrc}
 use Rattle.mix_load.specs.declared.header.CodeHeader.{CodeHeader}
 use Rattle.mix_load.specs.declared.image.Image.{Image}
-use Rattle.mix_load.specs.Pieces.{with_pieces, rounded_up}
+use Rattle.mix_bits.specs.Multiples.{rounded_up}
+use Rattle.mix_load.specs.Pieces.{with_pieces}
 use Rattle.mix_load.specs.Outcome.{unless}
 use Rattle.mix_load.specs.Segments.{HasTable, code_at, id_count, header_of, a5_of, segments_start, table_start, entry_of, segments_end, segment_places, segment_pieces, is_segment, is_far, is_short, has_table, entry_count, entry_place, is_bad_entry, table_pieces}
 
 -- an end that is, rounded up to 16, above the floor of the stack
 abbrev pub too_large : ℕ → ℕ → Option LoadError
-too_large floor end = refused (nat_lt floor (rounded_up end)) (TooLarge end)
+too_large floor end = refused (nat_lt floor (rounded_up 16 end)) (TooLarge end)
 
 -- where the segments of the ids below a count end
 abbrev pub fork_end : ℕ → List Resource → CodeHeader → ℕ
@@ -69,5 +70,5 @@ with_fork bytes image = with_resources id_count (resources_of bytes) image
 -- a fork that is not refused has its room
 pub record HasRoom (ids floor : ℕ) (resources : List Resource) (code0 : List ℕ) : Type 0 where
   pub table : HasTable code0
-  pub end_fits : rounded_up (fork_end ids resources (header_of code0)) ≤ floor
+  pub end_fits : rounded_up 16 (fork_end ids resources (header_of code0)) ≤ floor
   pub world_fits : a5_of (header_of code0) + (header_of code0).above ≤ floor

@@ -1,5 +1,4 @@
 pub mod Pieces
-pub mod HostTable
 pub mod Outcome
 pub mod Segments
 pub mod ForkImage

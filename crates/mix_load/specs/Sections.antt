@@ -12,12 +12,13 @@ use Rattle.pef_reloc.specs.Program.{Relocated, relocated}
 use Rattle.big_memory.specs.Map.{host_vector_at}
 use Rattle.switch_frame.specs.Pieces.{Piece}
 use Rattle.mix_load.specs.declared.sections.Placement.{Placement}
-use Rattle.mix_load.specs.HostTable.{import_index}
-use Rattle.mix_load.specs.Pieces.{numbered, numbered_pieces, rounded_to}
+use Rattle.toolbox.specs.Names.{import_index}
+use Rattle.mix_bits.specs.Multiples.{rounded_up}
+use Rattle.mix_load.specs.Pieces.{numbered, numbered_pieces}
 
 -- where a section stands that follows an end: at a multiple of 16 and of its alignment, a power of two
 abbrev pub base_behind : SectionParts → ℕ → ℕ
-base_behind s end = rounded_to (max 16 s.align) end
+base_behind s end = rounded_up (max 16 s.align) end
 
 -- where the first sections end
 abbrev pub sections_end : List ℕ → ℕ → ℕ → ℕ

@@ -12,7 +12,8 @@ use Rattle.rsrc_fork.specs.Resources.{Resource, bytes_of, named}
 use Rattle.switch_frame.specs.Pieces.{Piece, piece, long_piece}
 use Rattle.switch_frame.specs.Program.{program_start}
 use Rattle.mix_load.specs.declared.header.CodeHeader.{CodeHeader}
-use Rattle.mix_load.specs.Pieces.{numbered, rounded_up}
+use Rattle.mix_bits.specs.Multiples.{rounded_up}
+use Rattle.mix_load.specs.Pieces.{numbered}
 
 -- 'CODE'
 abbrev pub code_kind : ℕ
@@ -41,11 +42,11 @@ header_of code0 = record {
 
 -- where A5 points: behind what is below it
 abbrev pub a5_of : CodeHeader → ℕ
-a5_of h = program_start + rounded_up h.below
+a5_of h = program_start + rounded_up 16 h.below
 
 -- where the segments begin: behind what is above A5
 abbrev pub segments_start : CodeHeader → ℕ
-segments_start h = a5_of h + rounded_up h.above
+segments_start h = a5_of h + rounded_up 16 h.above
 
 abbrev pub table_start : CodeHeader → ℕ
 table_start h = a5_of h + h.table_offset
@@ -57,7 +58,7 @@ entry_of h = table_start h + 2
 -- the segments below an id, in order of their ids, each at a multiple of 16: where they end
 abbrev pub with_segment : ℕ → Option (List ℕ) → ℕ
 with_segment end None = end
-with_segment end (Some segment) = rounded_up end + length segment
+with_segment end (Some segment) = rounded_up 16 end + length segment
 
 abbrev pub segments_end : List Resource → ℕ → ℕ → ℕ
 segments_end resources start zero = start
@@ -65,7 +66,7 @@ segments_end resources start (suc id) = with_segment (segments_end resources sta
 
 -- where a segment stands
 abbrev pub segment_place : List Resource → ℕ → ℕ → ℕ
-segment_place resources start id = rounded_up (segments_end resources start id)
+segment_place resources start id = rounded_up 16 (segments_end resources start id)
 
 -- the segments below an id as pieces
 abbrev pub added_segment : ℕ → Option (List ℕ) → List Piece → List Piece

@@ -1,6 +1,5 @@
 -- The state in which a program starts.
-use Rattle.std.specs.Prelude.{ℕ, ◌+◌, ◌-◌, ◌==◌, if◌then◌else◌, List, [], ◌∷◌, length, drop, slice_set}
-use Rattle.byteorder.specs.Endian.{big_number}
+use Rattle.std.specs.Prelude.{ℕ, ◌+◌, ◌-◌, ◌==◌, if◌then◌else◌, List, [], ◌∷◌, length, slice_set}
 use Rattle.mix_bits.specs.declared.isa.Isa.{Isa}
 use Rattle.mix_bits.specs.declared.isa.Isa.TheVariants.{M68 as set_m68, Ppc as set_ppc}
 use Rattle.m68_isa.specs.declared.registers.Regs68.{Regs68}
@@ -8,6 +7,7 @@ use Rattle.m68_isa.specs.Registers.{cleared_registers as cleared_m68}
 use Rattle.ppc_isa.specs.declared.registers.RegsPpc.{RegsPpc}
 use Rattle.ppc_isa.specs.Registers.{cleared_registers as cleared_ppc}
 use Rattle.big_memory.specs.Memory.{Memory, floor_of}
+use Rattle.big_memory.specs.Numbers.{long_at}
 use Rattle.switch_frame.specs.declared.active.Active.{Active}
 use Rattle.switch_frame.specs.declared.active.Active.TheVariants.{M68, Ppc}
 use Rattle.switch_frame.specs.declared.program.Program.{Program}
@@ -15,19 +15,16 @@ use Rattle.switch_frame.specs.Pieces.{Piece, long_piece}
 use Rattle.switch_frame.specs.Program.{program_start, gate_longs, start_sp_of}
 use Rattle.big_memory.specs.Map.{exit_gate}
 use Rattle.mix_load.specs.declared.image.Image.{Image}
-use Rattle.mix_load.specs.Pieces.{with_pieces, rounded_up}
-
--- the long at an address
-abbrev pub long_in : Memory → ℕ → ℕ
-long_in m a = big_number 4 (drop a m.bytes)
+use Rattle.mix_bits.specs.Multiples.{rounded_up}
+use Rattle.mix_load.specs.Pieces.{with_pieces}
 
 -- PowerPC code starts as its main vector says: at a code address, and with a TOC. A flat file has no vector: it starts
 -- at its first byte, with 0 for the TOC
 abbrev pub code_of : Image → ℕ
-code_of image = if image.vector == 0 then program_start else long_in image.ram image.vector
+code_of image = if image.vector == 0 then program_start else long_at image.vector image.ram.bytes
 
 abbrev pub toc_of : Image → ℕ
-toc_of image = if image.vector == 0 then 0 else long_in image.ram (image.vector + 4)
+toc_of image = if image.vector == 0 then 0 else long_at (image.vector + 4) image.ram.bytes
 
 -- 68K code has its A5, and its stack pointer at the address to which it returns
 abbrev pub start_m68 : Image → ℕ → Regs68
@@ -65,6 +62,6 @@ program_of main image = record {
   a5 = image.a5;
   main = main;
   start_sp = start_sp_of main (length image.ram.bytes);
-  heap_lo = rounded_up image.end;
+  heap_lo = rounded_up 16 image.end;
   heap_hi = floor_of image.ram;
 }

@@ -1,9 +1,8 @@
 //! The gate page.
-ghost use Rattle.std.specs.Prelude.{◌≡◌, ◌≤◌, length};
+ghost use Rattle.std.specs.Prelude.{◌≡◌, ◌^◌, ◌<◌, ◌≤◌, length};
 ghost use Rattle.switch_frame.specs.Program.{gate_longs, vectors};
 ghost use Rattle.mix_load.specs.Pieces.{with_pieces};
 
-use crate::image::put_long;
 use big_memory::{HOST_FUNCTIONS, Ram, host_address, host_vector};
 
 /// Where the gate page tells the entry of 68K code, the main vector of PowerPC code, the program's A5, and
@@ -25,8 +24,8 @@ fn put_vectors(ram: &mut Ram, count: u32)
     ensures len { length ram.new.bytes ≡ length ram.old.bytes }
 {
     for k in 0..count {
-        put_long(ram, host_vector(k), host_address(k));
-        put_long(ram, host_vector(k) + 4, 0);
+        ram.fix_long(host_vector(k), host_address(k));
+        ram.fix_long(host_vector(k) + 4, 0);
     }
 }
 
@@ -36,10 +35,11 @@ pub fn put_gate_page(ram: &mut Ram, entry: u32, vector: u32, a5: u32, len: u32)
     requires { 0x2000 ≤ length ram.old.bytes }
     ensures memory { ram.new ≡ with_pieces (gate_longs entry vector a5 len) ram.old }
     ensures len { length ram.new.bytes ≡ length ram.old.bytes }
+    ensures fits { a5 < 2 ^ 32 }
 {
     put_vectors(ram, HOST_FUNCTIONS);
-    put_long(ram, ENTRY, entry);
-    put_long(ram, MAIN_VECTOR, vector);
-    put_long(ram, PROGRAM_A5, a5);
-    put_long(ram, RAM_SIZE, len);
+    ram.fix_long(ENTRY, entry);
+    ram.fix_long(MAIN_VECTOR, vector);
+    ram.fix_long(PROGRAM_A5, a5);
+    ram.fix_long(RAM_SIZE, len);
 }

@@ -1,8 +1,9 @@
 ghost use Rattle.std.specs.Prelude.{IsTrue, ◌≡◌, ◌+◌, ◌^◌, ◌≤◌, ◌<◌, length};
 ghost use Rattle.mix_load.specs.Segments.{HasTable, a5_of, has_table, header_of, segments_start, table_start};
 
-use crate::image::{PROGRAM_START, round_up};
+use crate::image::PROGRAM_START;
 use file_fields::long_at;
+use mix_bits::round_up;
 
 /// What CODE 0 says of the world of A5: its sizes in bytes, and the jump table in it.
 #[derive(Clone, Copy)]
@@ -48,7 +49,7 @@ pub fn a5_of(h: CodeHeader) -> u64
     ensures is { result ≡ a5_of h }
     ensures few { result ≤ 2 ^ 33 }
 {
-    PROGRAM_START as u64 + round_up(h.below as u64)
+    PROGRAM_START as u64 + round_up(h.below as u64, 16)
 }
 
 /// Where the segments begin.
@@ -56,7 +57,7 @@ pub fn segments_start(h: CodeHeader) -> u64
     ensures is { result ≡ segments_start h }
     ensures few { result ≤ 2 ^ 34 }
 {
-    a5_of(h) + round_up(h.above as u64)
+    a5_of(h) + round_up(h.above as u64, 16)
 }
 
 /// Where the jump table stands.

@@ -1,9 +1,8 @@
 //! The imports of a container: transition vectors of the host's functions.
-ghost use Rattle.std.specs.Prelude.{◌≡◌, ℕ, ◌^◌, ◌<◌, ◌≤◌, length, option_map, slice_index, IfOk, IfSome};
+ghost use Rattle.std.specs.Prelude.{◌≡◌, ℕ, ◌^◌, ◌<◌, ◌≤◌, length, option_map, slice_index, IfOk};
 ghost use Rattle.pef_head.specs.Parts.{import_count, import_of, library_of, names};
 ghost use Rattle.pef_head.specs.Search.{least};
 ghost use Rattle.mix_load.specs.ContainerImage.{imports_refusal};
-ghost use Rattle.mix_load.specs.HostTable.{import_index};
 ghost use Rattle.mix_load.specs.Outcome.{Finds};
 ghost use Rattle.mix_load.specs.Sections.{import_address, import_addresses, is_missing};
 
@@ -16,20 +15,11 @@ use toolbox::import_index;
 /// How many bytes of a name are looked at. No name in the host table has as many.
 const NAME_BYTES: usize = 64;
 
-/// The number of the host function of this library and name.
-#[tactic(auto, using(crate::proofs::HostNames::index_is, crate::proofs::HostNames::index_below))]
-fn function_index(library: &[u8], name: &[u8]) -> Option<u32>
-    ensures is { result ≡ import_index library.now name.now }
-    ensures below { IfSome result (λ k. k < 15) }
-{
-    import_index(library, name)
-}
-
 /// An import's address, 0 where it may be missing and is; None where it may not.
 fn address_of(import: Import) -> Option<u32>
     ensures { result ≡ import_address (names import.entry) }
 {
-    match function_index(import.library, import.name) {
+    match import_index(import.library, import.name) {
         Some(k) => Some(host_vector(k)),
         None if import.weak => Some(0),
         None => None,

@@ -1,31 +1,20 @@
 //! Programs as they start.
 ghost use Rattle.std.specs.Prelude.{◌≡◌, ◌+◌, ◌^◌, ◌≤◌, length};
-ghost use Rattle.switch_frame.specs.Program.{IsProgram, start_sp_of};
+ghost use Rattle.switch_frame.specs.Program.{IsProgram};
 ghost use Rattle.mix_load.specs.Loaded.{IsImage};
 ghost use Rattle.mix_load.specs.Pieces.{with_pieces};
-ghost use Rattle.mix_load.specs.Start.{long_in, program_of, stack_pieces, start_file, start_m68, start_ppc};
+ghost use Rattle.mix_load.specs.Start.{program_of, stack_pieces, start_file, start_m68, start_ppc};
 
 use crate::gate::put_gate_page;
-use crate::image::{Image, PROGRAM_START, put_long, round_up};
+use crate::image::{Image, PROGRAM_START};
 use big_memory::{Ram, exit_gate};
 use m68_isa::Regs68;
-use mix_bits::{Isa, Size};
+use mix_bits::{Isa, round_up};
 use ppc_isa::RegsPpc;
-use switch_frame::{Active, Program};
+use switch_frame::{Active, Program, start_sp_of};
 
 /// How many bytes below the end of RAM the stack pointer of PowerPC code starts.
 const PPC_STACK: u32 = 64;
-
-/// The long at an address.
-fn long_in(ram: &Ram, a: u32) -> u32
-    requires { a + 4 ≤ length ram.now.bytes }
-    ensures { result ≡ long_in ram.now a }
-{
-    match ram.load(a, Size::Four) {
-        Ok(long) => long,
-        Err(_) => unreachable!(),
-    }
-}
 
 /// The registers in which 68K code starts.
 fn start_m68(image: &Image, len: u32) -> Regs68
@@ -51,7 +40,7 @@ fn start_ppc(image: &Image, len: u32) -> RegsPpc
         (PROGRAM_START, 0)
     } else {
         let vector = image.vector;
-        (long_in(&image.ram, vector), long_in(&image.ram, vector + 4))
+        (image.ram.read_long(vector), image.ram.read_long(vector + 4))
     };
     regs.gpr[1] = len - PPC_STACK;
     regs.gpr[2] = toc;
@@ -81,18 +70,8 @@ fn put_stack(ram: &mut Ram, main: Isa, len: u32)
     ensures len { length ram.new.bytes ≡ length ram.old.bytes }
 {
     match main {
-        Isa::M68 => put_long(ram, len - 4, exit_gate(Isa::M68)),
+        Isa::M68 => ram.fix_long(len - 4, exit_gate(Isa::M68)),
         Isa::Ppc => {}
-    }
-}
-
-fn start_sp_of(main: Isa, len: u32) -> u32
-    requires { 131072 ≤ len }
-    ensures { result ≡ start_sp_of main len }
-{
-    match main {
-        Isa::M68 => len,
-        Isa::Ppc => len - PPC_STACK,
     }
 }
 
@@ -104,7 +83,7 @@ pub fn program(main: Isa, mut image: Image) -> Program
 {
     let len = image.ram.len();
     let active = start_file(main, &image, len);
-    let (lo, hi) = (round_up(image.end as u64) as u32, image.ram.floor());
+    let (lo, hi) = (round_up(image.end as u64, 16) as u32, image.ram.floor());
     put_gate_page(&mut image.ram, image.entry, image.vector, image.a5, len);
     put_stack(&mut image.ram, main, len);
     let whole = image.ram.len();

@@ -11,6 +11,7 @@ ghost use Rattle.mix_load.specs.Sections.{HasBases, base_behind, bases, contents
 use crate::contents::contents;
 use crate::error::LoadError;
 use big_memory::Ram;
+use mix_bits::round_up;
 use pef_head::{Pef, Section};
 use std::alloc::{AllocError, Global};
 
@@ -35,7 +36,7 @@ fn base_behind(section: Section, end: u64) -> u64
     ensures most { result ≤ end + 4095 }
 {
     let unit = section.align.max(LEAST_ALIGNMENT) as u64;
-    (end + (unit - 1)) / unit * unit
+    round_up(end, unit)
 }
 
 /// Where the first sections end that begin behind `start`.

@@ -4,13 +4,14 @@ ghost use Rattle.std.specs.Result.{result_err};
 ghost use Rattle.std.specs.Option.{option_map_or};
 ghost use Rattle.pef_head.specs.Search.{◌or◌, any_below, least, refused};
 ghost use Rattle.mix_load.specs.ForkImage.{segments_refusal};
-ghost use Rattle.mix_load.specs.Pieces.{rounded_up, with_pieces};
+ghost use Rattle.mix_bits.specs.Multiples.{rounded_up};
+ghost use Rattle.mix_load.specs.Pieces.{with_pieces};
 ghost use Rattle.mix_load.specs.Segments.{added_segment, code_at, is_far, is_far_code, is_segment, is_short, is_short_code, segment_at, segment_pieces, segment_places, segments_end, with_segment};
 
 use crate::error::LoadError;
-use crate::image::round_up;
 use big_memory::Ram;
 use file_fields::word_at;
+use mix_bits::round_up;
 use rsrc_fork::Fork;
 use std::alloc::{AllocError, Global};
 
@@ -129,7 +130,7 @@ pub fn segments_end(fork: &Fork, start: u64, ids: u16) -> u64
     let mut end = start;
     for id in 0..ids {
         if let Some(code) = segment_at(fork, id) {
-            end = round_up(end) + code.len() as u64;
+            end = round_up(end, 16) + code.len() as u64;
         }
     }
     end
@@ -140,13 +141,13 @@ fn put_segment(ram: &mut Ram, end: u64, segment: Option<&[u8]>) -> u64
     requires fits { with_segment end (option_map (λ code. code.now) segment) ≤ length ram.old.bytes }
     requires small { length ram.old.bytes ≤ 2 ^ 24 }
     ensures end { result ≡ with_segment end (option_map (λ code. code.now) segment.entry) }
-    ensures memory { ram.new ≡ with_pieces (added_segment (rounded_up end) (option_map (λ code. code.now) segment.entry) []) ram.old }
+    ensures memory { ram.new ≡ with_pieces (added_segment (rounded_up 16 end) (option_map (λ code. code.now) segment.entry) []) ram.old }
     ensures len { length ram.new.bytes ≡ length ram.old.bytes }
 {
     let Some(code) = segment else {
         return end;
     };
-    let place = round_up(end);
+    let place = round_up(end, 16);
     ram.fix(place as u32, code);
     place + code.len() as u64
 }
@@ -159,7 +160,7 @@ pub fn put_segments(
     start: u64,
     ids: u16,
 ) -> Result<Vec<u32>, AllocError>
-    requires fits { rounded_up (segments_end fork.now start ids) ≤ length ram.old.bytes }
+    requires fits { rounded_up 16 (segments_end fork.now start ids) ≤ length ram.old.bytes }
     requires small { length ram.old.bytes ≤ 2 ^ 24 }
     ensures places { IfOk result (λ places. places.items ≡ segment_places fork.now start ids) }
     ensures memory { IfOk result (λ _. ram.new ≡ with_pieces (segment_pieces fork.now start ids) ram.old) }
@@ -168,7 +169,7 @@ pub fn put_segments(
     let mut places = Vec::new(alloc);
     let mut end = start;
     for id in 0..ids {
-        let place = round_up(end) as u32;
+        let place = round_up(end, 16) as u32;
         places.push(place)?;
         end = put_segment(ram, end, segment_at(fork, id));
     }

@@ -8,7 +8,6 @@ ghost use Rattle.mix_load.specs.Segments.{HasTable, entry_count, entry_place, he
 
 use crate::error::LoadError;
 use crate::header::{has_table, read_header, table_start};
-use crate::image::put_long;
 use crate::segments::segment_at;
 use big_memory::Ram;
 use file_fields::word_at;
@@ -133,8 +132,8 @@ fn put_entries(ram: &mut Ram, table: u32, code0: &[u8], places: &[u32], count: u
 {
     for i in 0..count {
         let entry = table + 8 * i;
-        put_long(ram, entry, segment_in(code0, i) as u32 * 65536 + JUMP);
-        put_long(ram, entry + 4, jump_target(places, code0, i));
+        ram.fix_long(entry, segment_in(code0, i) as u32 * 65536 + JUMP);
+        ram.fix_long(entry + 4, jump_target(places, code0, i));
     }
 }
 

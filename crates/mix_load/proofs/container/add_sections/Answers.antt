@@ -7,7 +7,7 @@ use Rattle.mix_load.specs.declared.error.LoadError.{LoadError}
 use Rattle.mix_load.specs.declared.error.LoadError.TheVariants.{NoMain}
 use Rattle.mix_load.specs.ContainerImage.{container_image, is_ppc}
 use Rattle.mix_load.specs.Outcome.{unless}
-use Rattle.mix_load.specs.Pieces.{rounded_up}
+use Rattle.mix_bits.specs.Multiples.{rounded_up}
 use Rattle.mix_load.specs.Sections.{sections_end}
 use Rattle.mix_load.proofs.Ends.{start_within}
 use Rattle.mix_load.proofs.Placed.{container-image-is, sections-fail, sections-large, sections-placed}
@@ -57,8 +57,8 @@ pub returns-clause-whole : goal.returns-clause-whole
 returns-clause-whole c =
     let end_is : c.sections_end-end.result ≡ sections_end c.args.pef.now c.args.image.end (instantiated_count c.args.pef.now) =
     c.sections_end-end.ensures.is ∙ ap (sections_end c.args.pef.now c.args.image.end) c.sections.ensures.is in
-    let low : rounded_up c.sections_end-end.result ≤ floor_of c.args.image.ram =
-    subst (λ (f : ℕ). rounded_up c.sections_end-end.result ≤ f) c.floor.ensures (not_too_large c.floor.result c.sections_end-end.result (sym c.in_ok-test_end.ensures)) in
+    let low : rounded_up 16 c.sections_end-end.result ≤ floor_of c.args.image.ram =
+    subst (λ (f : ℕ). rounded_up 16 c.sections_end-end.result ≤ f) c.floor.ensures (not_too_large c.floor.result c.sections_end-end.result (sym c.in_ok-test_end.ensures)) in
     added_whole c.args.image _ (ap (λ (m : Memory). m.marks) c.in_ok-vector.ensures.memory) c.in_ok-vector.ensures.front c.in_ok-vector.ensures.len
     (omega (arith, end_is, start_within c.args.pef.now c.args.image.end (instantiated_count c.args.pef.now))) low
     (subst (λ (n : ℕ). n + 8 ≤ length c.args.image.ram.bytes) (sym c.unwrap_or.ensures)

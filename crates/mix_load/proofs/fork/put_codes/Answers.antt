@@ -1,5 +1,5 @@
 use Rattle.std.proofs.Common.{ℕ, ◌≤◌, subst, sym, ap, ◌∙◌, ◌≡◌, length, arith}
-use Rattle.mix_load.specs.Pieces.{rounded_up}
+use Rattle.mix_bits.specs.Multiples.{rounded_up}
 use Rattle.mix_load.specs.Segments.{header_of, segments_end, segments_start}
 use Rattle.mix_load.proofs.Forks.{codes-memory}
 use Rattle.mix_load.proofs.fork.put_codes.Goals as goal
@@ -7,7 +7,7 @@ use Rattle.mix_load.proofs.fork.put_codes.Goals as goal
 pub put_segments-requires-clause-fits : goal.put_segments-requires-clause-fits
 put_segments-requires-clause-fits c =
     let start_is : c.segments_start-start.result ≡ segments_start (header_of c.args.code0.now) = c.segments_start-start.ensures.is ∙ ap segments_start c.read_header.ensures in
-    subst (λ (s : ℕ). rounded_up (segments_end c.args.fork.now s c.args.ids) ≤ length c.args.ram.now.bytes) (sym start_is) c.requires.room.end_fits
+    subst (λ (s : ℕ). rounded_up 16 (segments_end c.args.fork.now s c.args.ids) ≤ length c.args.ram.now.bytes) (sym start_is) c.requires.room.end_fits
 
 pub put_table-requires-clause-room : goal.put_table-requires-clause-room
 put_table-requires-clause-room c = omega (arith, c.requires.room.world_fits, c.requires.room.table.above, c.in_ok-places.ensures.len)

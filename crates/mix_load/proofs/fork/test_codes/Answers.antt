@@ -1,6 +1,6 @@
 use Rattle.std.proofs.Common.{ℕ, ◌≤◌, subst, sym, ap, ◌∙◌, ◌≡◌}
 use Rattle.mix_load.specs.ForkImage.{fork_end}
-use Rattle.mix_load.specs.Pieces.{rounded_up}
+use Rattle.mix_bits.specs.Multiples.{rounded_up}
 use Rattle.mix_load.specs.Segments.{header_of, segments_end, segments_start}
 use Rattle.mix_load.proofs.Wholes.{not_too_large, world_within}
 use Rattle.mix_load.proofs.fork.test_codes.Goals as goal
@@ -9,8 +9,8 @@ pub returns-clause-room : goal.returns-clause-room
 returns-clause-room c =
     let end_is : c.segments_end-end.result ≡ fork_end c.args.ids c.args.fork.now (header_of c.args.code0.now) =
     c.segments_end-end.ensures.is ∙ ap (λ (s : ℕ). segments_end c.args.fork.now s c.args.ids) (c.segments_start-start.ensures.is ∙ ap segments_start c.read_header.ensures) in
-    let fits : rounded_up (fork_end c.args.ids c.args.fork.now (header_of c.args.code0.now)) ≤ c.args.floor =
-    subst (λ (n : ℕ). rounded_up n ≤ c.args.floor) end_is (not_too_large c.args.floor c.segments_end-end.result (sym c.in_ok-test_end.ensures)) in
+    let fits : rounded_up 16 (fork_end c.args.ids c.args.fork.now (header_of c.args.code0.now)) ≤ c.args.floor =
+    subst (λ (n : ℕ). rounded_up 16 n ≤ c.args.floor) end_is (not_too_large c.args.floor c.segments_end-end.result (sym c.in_ok-test_end.ensures)) in
     record {
       table = c.in_ok-test_table.ensures.table;
       end_fits = fits;

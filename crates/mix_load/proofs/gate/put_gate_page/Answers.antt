@@ -11,6 +11,6 @@ longed a v m = with_bytes a (big_bytes 4 v) m
 pub returns-clause-memory : goal.returns-clause-memory
 unfolding told
 returns-clause-memory c =
-    c.put_long-4.ensures.is ∙ ap (longed 0x102C c.args.len) (c.put_long-3.ensures.is
-    ∙ ap (longed 0x1028 c.args.a5) (c.put_long-2.ensures.is ∙ ap (longed 0x1024 c.args.vector) (c.put_long.ensures.is
+    c.fix_long-4.ensures.bytes ∙ ap (longed 0x102C c.args.len) (c.fix_long-3.ensures.bytes
+    ∙ ap (longed 0x1028 c.args.a5) (c.fix_long-2.ensures.bytes ∙ ap (longed 0x1024 c.args.vector) (c.fix_long.ensures.bytes
     ∙ ap (longed 0x1020 c.args.entry) c.put_vectors.ensures.memory)))

@@ -16,4 +16,4 @@ returns-clause-loaded c =
     c.len-len.ensures.len c.put_gate_page.ensures.memory c.put_stack.ensures.memory c.start_file-active.ensures
     (c.len-whole.ensures.len ∙ (c.put_stack.ensures.len ∙ (c.put_gate_page.ensures.len ∙ (omega (arith, c.len-len.ensures.len)))))
     c.start_sp_of.ensures c.round_up.ensures.is c.floor-hi.ensures)
-    c.len-len.ensures.whole.least c.requires c.len-whole.ensures.whole
+    c.put_gate_page.ensures.fits c.len-len.ensures.whole.least c.requires c.len-whole.ensures.whole

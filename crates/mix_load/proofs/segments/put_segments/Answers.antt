@@ -17,8 +17,8 @@ loop-id-preserved c = record {
   len = c.put_segment-end.ensures.len ∙ c.loop-id.invariant.len;
 }
 
-pub round_up-place-requires : goal.round_up-place-requires
-round_up-place-requires c =
+pub round_up-place-requires-clause-room : goal.round_up-place-requires-clause-room
+round_up-place-requires-clause-room c =
     omega (arith, c.loop-id.invariant.end, ends_grow c.args.fork.now c.args.start c.loop-id.id c.args.ids (omega (arith, c.loop-id-test.true)), c.requires.fits, c.requires.small)
 
 pub overflow_cast-place : goal.overflow_cast-place
