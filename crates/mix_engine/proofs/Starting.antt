@@ -8,7 +8,8 @@ use Rattle.switch_frame.proofs.Linked.{begins_empty, reads_back}
 use Rattle.host_heap.specs.Space.{Space}
 use Rattle.toolbox.specs.Effects.{Around}
 use Rattle.mixed_machine.specs.declared.body.Body.{Body}
-use Rattle.mixed_machine.specs.Machine.{IsOutermost, IsWhole, active_set, callers_of, flat, memory_of}
+use Rattle.mixed_machine.specs.Machine.{IsWhole, callers_of, flat, memory_of}
+use Rattle.switch_frame.specs.Calls.{IsOutermost, active_set}
 use Rattle.mixed_machine.specs.State.{State}
 use Rattle.mix_engine.specs.Start.{start_of}
 

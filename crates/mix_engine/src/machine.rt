@@ -16,9 +16,9 @@ ghost use Rattle.mix_engine.specs.Turns.{counts, counts_in};
 
 use crate::runs::run_turns;
 use crate::turn::End;
-use big_memory::NoMemory;
 use dev_rack::Devices;
 use host_heap::Heap;
+use mix_bits::NoMemory;
 use mix_io::{Sink, Source};
 use mix_steps::Outside;
 use mixed_machine::{Body, Stop};

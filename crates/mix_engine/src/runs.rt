@@ -102,12 +102,7 @@ pub fn run_turns<'i, 'o, 't, 'd, I: Source, O: Sink, T: Sink, D: Devices>(
     ensures devices { Accounts (D.state outside.old.rack.now) (D.state outside.new.rack.now) }
     ensures same { AreSame outside.old outside.new }
 {
-    let mut fault = Fault {
-        kind: FaultKind::Illegal,
-        pc: 0,
-        detail: 0,
-        also: 0,
-    };
+    let mut fault = Fault::at(0, FaultKind::Illegal, 0);
     'steps: while *steps > 0 {
         match advance(body, active, outside, &mut fault, steps) {
             Did::Next => *steps -= 1,

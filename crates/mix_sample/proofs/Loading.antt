@@ -16,7 +16,7 @@ use Rattle.mix_load.specs.ContainerImage.{with_container}
 use Rattle.mix_load.specs.Outcome.{unless}
 use Rattle.mix_load.specs.declared.error.File.TheVariants.{Flat, Pef, Rsrc}
 use Rattle.mix_load.specs.declared.error.LoadError.TheVariants.{NoMemory, Empty, Rsrc as NoFork, NoCode, Far, JumpTable, Pef as NoHead, TooLarge, Reloc, Unresolved, NoMain}
-use Rattle.mix_load.specs.Pieces.{rounded_up}
+use Rattle.mix_bits.specs.Multiples.{rounded_up}
 use Rattle.mix_load.specs.Start.{program_of}
 use Rattle.mix_gen.specs.Sample.{sample_files, sample_image}
 use Rattle.mix_gen.proofs.Images.{length-sample}

@@ -7,8 +7,7 @@ ghost use Rattle.mix_sample.specs.Samples.{IsSample, Ran, Steps, nothing, sample
 
 use super::nothing::{NoDevices, NoInput, Nowhere};
 use super::sampled::{Ending, Sampled};
-use big_memory::NoMemory;
-use mix_bits::Isa;
+use mix_bits::{Isa, NoMemory};
 use mix_engine::{Machine, Stop, run};
 use mix_gen::sample;
 use mix_load::{LoadError, load};

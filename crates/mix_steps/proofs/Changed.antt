@@ -7,10 +7,12 @@ use Rattle.big_memory.specs.Stores.{OnlyFree}
 use Rattle.host_heap.specs.Space.{Space}
 use Rattle.switch_frame.specs.Chain.{Chain, cleared}
 use Rattle.switch_frame.specs.Seen.{seen_by}
-use Rattle.switch_frame.specs.Program.{HasGatePage, HasHeap, page_bytes, start_sp_of}
+use Rattle.switch_frame.specs.Program.{HasGatePage, HasHeap, start_sp_of}
+use Rattle.switch_frame.proofs.Gates.{page_by_bytes}
 use Rattle.toolbox.specs.Calls.{KeepsBounds}
 use Rattle.mixed_machine.specs.declared.body.Body.{Body}
-use Rattle.mixed_machine.specs.Machine.{IsOutermost, IsWhole, active_set, callers_of, flat, memory_of, seen_of}
+use Rattle.mixed_machine.specs.Machine.{IsWhole, callers_of, flat, memory_of, seen_of}
+use Rattle.switch_frame.specs.Calls.{IsOutermost, active_set}
 use Rattle.mix_steps.specs.Laws.{AreLaws}
 use Rattle.mix_steps.specs.Changes.{IsChanged}
 
@@ -47,11 +49,7 @@ page-same laws b n set whole free =
     laws.low n b.top (callers_of b) 0x1000 0x1000 chain.links low_new
     ∙ (laws.page b.ram n ram free
     ∙ (sym (laws.low b.ram b.top (callers_of b) 0x1000 0x1000 whole.chain.links low_old) ∙ ap (part 0x1000 0x1000) (sym (memory-is b)))) in
-    record {
-      entry = whole.page.entry;
-      vector = whole.page.vector;
-      page = same ∙ (whole.page.page ∙ ap (page_bytes whole.page.entry whole.page.vector b.a5) longs);
-    }
+    page_by_bytes b.a5 (memory_of b) (cleared n.bytes (callers_of b)) same (sym longs) whole.page
 
 heap-same : (b : Body) (n : Memory) (h : Space) → HasHeap b.heap.low b.heap.high b.ram → OnlyFree b.ram n → KeepsBounds b.heap h → HasHeap h.low h.high n
 heap-same b n h has free bounds =

@@ -1,5 +1,5 @@
 -- A machine while a caller is suspended, and once it goes on.
-use Rattle.std.proofs.Common.{◌≡◌, ℕ, ◌+◌, ◌-◌, ◌/◌, ◌≤◌, List, [], ◌∷◌, ◌++◌, length, None, inl, arith, refl, sym, ap, ◌∙◌, subst}
+use Rattle.std.proofs.Common.{◌≡◌, ℕ, ◌+◌, ◌-◌, ◌/◌, ◌≤◌, List, [], ◌∷◌, ◌++◌, length, drop, None, inl, arith, refl, sym, ap, ◌∙◌, subst}
 use Rattle.mix_bits.specs.declared.isa.Isa.{Isa}
 use Rattle.big_memory.specs.Lists.{put}
 use Rattle.big_memory.specs.Memory.{Memory, floor_of, refusal, with_bytes}
@@ -11,9 +11,11 @@ use Rattle.switch_frame.specs.declared.kind.Kind.{Kind}
 use Rattle.switch_frame.specs.Records.{Record, isa_of, record_of}
 use Rattle.switch_frame.specs.Sets.{caller_isa, callee_isa, frame_size}
 use Rattle.switch_frame.specs.Chain.{Chain, Links, cleared, records, zeros}
-use Rattle.switch_frame.specs.Calls.{IsCalled, IsPlace}
+use Rattle.switch_frame.specs.Calls.{IsCalled, IsInnermost, IsOutermost, IsPlace, active_set}
+use Rattle.switch_frame.specs.FrameLaws.{IsFirst}
 use Rattle.switch_frame.specs.Laws.{IsStored}
-use Rattle.switch_frame.specs.Program.{HasGatePage, HasHeap, page_bytes, start_sp_of}
+use Rattle.switch_frame.specs.Program.{HasGatePage, HasHeap, start_sp_of}
+use Rattle.switch_frame.proofs.Gates.{page_by_bytes}
 use Rattle.toolbox.specs.Calls.{KeepsBounds}
 use Rattle.toolbox.specs.Effects.{Around}
 use Rattle.mode_switch.specs.Callee.{below, fresh, return_sp, stack_of}
@@ -23,7 +25,7 @@ use Rattle.std.specs.Prelude.{is_some}
 use Rattle.mixed_machine.specs.declared.body.Body.{Body}
 use Rattle.mixed_machine.specs.State.{State}
 use Rattle.mixed_machine.specs.Enter.{entered, sp_in, started, suspended}
-use Rattle.mixed_machine.specs.Machine.{HasChain, IsOutermost, IsWhole, active_set, callers_of, flat, memory_of, seen_of}
+use Rattle.mixed_machine.specs.Machine.{HasChain, IsWhole, callers_of, flat, memory_of, seen_of}
 use Rattle.mix_steps.specs.Laws.{AreLaws}
 use Rattle.mix_steps.specs.CallLaws.{AreCallLaws}
 use Rattle.mix_steps.specs.Changes.{IsChanged}
@@ -48,11 +50,7 @@ memory-length laws b chain = laws.length b.ram b.top (callers_of b) chain.links
 -- a piece put above the gate page
 page-kept : AreCallLaws → (a5 at : ℕ) (ys memory : List ℕ) → at + length ys ≤ length memory → 0x1000 + 0x1000 ≤ at → HasGatePage a5 memory → HasGatePage a5 (put at ys memory)
 page-kept more a5 at ys memory within above has =
-    record {
-      entry = has.entry;
-      vector = has.vector;
-      page = more.put_beside 0x1000 0x1000 at ys memory within (inl above) ∙ (has.page ∙ ap (page_bytes has.entry has.vector a5) (sym (more.put_length at ys memory within)));
-    }
+    page_by_bytes a5 memory (put at ys memory) (more.put_beside 0x1000 0x1000 at ys memory within (inl above)) (more.put_length at ys memory within) has
 
 heap-moves : (heap : Space) (m n : Memory) → length n.bytes ≡ length m.bytes → HasHeap heap.low heap.high m → HasHeap heap.low heap.high n
 heap-moves heap m n long has =
@@ -135,20 +133,25 @@ suspends laws more b ram top held whole place kind chain callers memory long =
       rest = refl;
     }
 
--- a caller goes on
-pub resumes : (b : Body) (ram : Memory) (top : ℕ) (set : Isa) (held : Held) → IsWhole b set
-    → records b.ram.bytes b.top ≡ record_of held ∷ records ram.bytes top → caller_isa held.kind ≡ isa_of held.caller → IsCalled held.caller (records ram.bytes top)
+-- the innermost caller
+pub innermost-is : (lo hi : ℕ) (rs : List Record) → IsInnermost lo hi rs → (r : Record) × (rs ≡ r ∷ drop 1 rs)
+innermost-is lo hi [] none = absurd none
+innermost-is lo hi (r ∷ rs) here = (r, refl)
+
+-- it goes on
+pub resumes : AreCallLaws → (b : Body) (ram : Memory) (top : ℕ) (set : Isa) (r : Record) → IsWhole b set → records b.ram.bytes b.top ≡ r ∷ records ram.bytes top
     → Chain ram top (records ram.bytes top) → cleared ram.bytes (records ram.bytes top) ≡ cleared b.ram.bytes (records b.ram.bytes b.top)
-    → length ram.bytes ≡ length b.ram.bytes → IsResumed b (record b { ram = ram; top = top }) held
+    → length ram.bytes ≡ length b.ram.bytes → IsResumed b (record b { ram = ram; top = top }) r
 unfolding callers_of memory_of
-resumes b ram top set held whole callers kind called chain memory long =
+resumes more b ram top set r whole callers chain memory long =
     let new : Body = record b { ram = ram; top = top } in
-    let all : IsOutermost b.main (record_of held ∷ callers_of new) = subst (IsOutermost b.main) callers whole.outermost in
+    let first : IsFirst r (callers_of new) = more.first b.ram b.top r (callers_of new) (subst (Links b.ram b.top) callers whole.chain.links) in
+    let all : IsOutermost b.main (r ∷ callers_of new) = subst (IsOutermost b.main) callers whole.outermost in
     record {
       whole = record {
         chain = chain;
-        active = goes-on b.main (record_of held) (callers_of new) kind called all;
-        outermost = outermost-less b.main (record_of held) (callers_of new) all;
+        active = goes-on b.main r (callers_of new) first.kind first.called all;
+        outermost = outermost-less b.main r (callers_of new) all;
         page = subst (HasGatePage b.a5) (sym memory) whole.page;
         start = whole.start ∙ ap (start_sp_of b.main) (sym long);
         heap = heap-moves b.heap b.ram ram long whole.heap;

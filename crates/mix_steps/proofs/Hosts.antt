@@ -27,13 +27,12 @@ use Rattle.mixed_machine.specs.State.{State}
 use Rattle.mixed_machine.specs.Next.{Next}
 use Rattle.mixed_machine.specs.Next.Next.{Goes}
 use Rattle.mixed_machine.specs.Exec.{Reads, said_of}
-use Rattle.mixed_machine.specs.Host.{effects_of, host_of, line_of_ask}
+use Rattle.mixed_machine.specs.Host.{effects_of, host_of, hosted_by, line_of_ask}
 use Rattle.mixed_machine.specs.Machine.{IsWhole, flat}
 use Rattle.mixed_machine.specs.Outside.{At, around_at, at}
 use Rattle.mixed_machine.specs.Runs.{sinks_of}
 use Rattle.mixed_machine.specs.Acts.{Acts, Done}
 use Rattle.mix_steps.specs.Laws.{AreLaws}
-use Rattle.mix_steps.specs.Called.{hosted_by}
 use Rattle.mix_steps.proofs.Changed.{altered, changed, seen-is}
 use Rattle.mix_steps.proofs.Over.{over-quiet, over-taken, some-took, told-kept, told-none}
 use Rattle.mix_io.proofs.Streams.{grows-none}

@@ -1,22 +1,23 @@
 -- How the host goes on: by a crossing or a call, told by the set, a word or a number.
-use Rattle.std.proofs.Common.{◌≡◌, ◌≢◌, ℕ, Some, None, refl, sym, ap, ◌∙◌, subst, eq-eqb}
+use Rattle.std.proofs.Common.{◌≡◌, ◌≢◌, ℕ, None, refl, sym, ap, ◌∙◌, subst, eq-eqb}
 use Rattle.std.proofs.lemmas.Bool.{ne_eqb}
-use Rattle.mix_bits.specs.declared.isa.Isa.TheVariants.{M68 as set_m68}
 use Rattle.mix_bits.specs.declared.fault.Fault.{Fault as AFault}
 use Rattle.mix_bits.specs.declared.fault.FaultKind.TheVariants.{NoTrap}
 use Rattle.mix_io.specs.Streams.{Output}
-use Rattle.big_memory.specs.Faults.{fault_at}
+use Rattle.mix_bits.specs.Faults.{fault_at}
 use Rattle.m68_isa.specs.declared.registers.Regs68.{Regs68}
 use Rattle.ppc_isa.specs.declared.registers.RegsPpc.{RegsPpc}
 use Rattle.switch_frame.specs.declared.active.Active.{Active}
 use Rattle.switch_frame.specs.declared.active.Active.TheVariants.{M68, Ppc}
 use Rattle.switch_frame.specs.Records.{isa_of}
+use Rattle.routine_desc.specs.Layout.{mixed_mode_magic}
 use Rattle.mode_switch.specs.Wanted.{Want, wants_68k, wants_ppc}
+use Rattle.mode_switch.specs.Wanted.Want.{Jumps}
 use Rattle.toolbox.specs.Functions.{trap_number}
 use Rattle.toolbox.specs.Calls.{Outside}
 use Rattle.toolbox.specs.Effects.{Around}
-use Rattle.toolbox.specs.Host.{Hosted, host}
-use Rattle.toolbox.specs.Host.Hosted.{Goes as HostGoes, Crosses, Leaves, Stops}
+use Rattle.toolbox.specs.Host.{host}
+use Rattle.toolbox.specs.Host.Hosted.{Crosses}
 use Rattle.mixed_machine.specs.declared.body.Body.{Body}
 use Rattle.mixed_machine.specs.declared.did.Did.{Did}
 use Rattle.mixed_machine.specs.declared.did.Did.TheVariants.{Fault}
@@ -25,29 +26,17 @@ use Rattle.mixed_machine.specs.State.{State, seen}
 use Rattle.mixed_machine.specs.Next.{Next}
 use Rattle.mixed_machine.specs.Next.Next.{Faults}
 use Rattle.mixed_machine.specs.Enter.{crosses}
-use Rattle.mixed_machine.specs.Host.{host_of, hosts, mixed_mode_magic, traps, traps_to}
+use Rattle.mixed_machine.specs.Host.{host_of, hosted_by, hosts, traps, traps_to, universal}
 use Rattle.mixed_machine.specs.Machine.{IsWhole, flat}
 use Rattle.mixed_machine.specs.Outside.{at}
 use Rattle.mixed_machine.specs.Acts.{Acts, Done}
 use Rattle.mix_steps.specs.Laws.{AreLaws}
-use Rattle.mix_steps.specs.Called.{hosted_by, hosted_in}
 use Rattle.mix_steps.specs.Cores.{leaves_code}
 use Rattle.mix_steps.specs.Does.{Does, beside}
 use Rattle.mix_steps.proofs.Changed.{seen-is}
 use Rattle.mix_io.proofs.Streams.{grows-none}
 use Rattle.mix_steps.proofs.Amid.{amid}
 use Rattle.mix_steps.proofs.Doing.{does-fault}
-
--- a step of either set is one with a crossing that is settled
-pub hosted-same : (active : Active) (word : ℕ) (s : State) (h : Hosted) → hosted_in active word s h ≡ hosted_by (λ pointer info. hosted_in active word s (Crosses pointer info)) s h
-hosted-same (M68 r) word s (HostGoes h effects) = refl
-hosted-same (M68 r) word s (Crosses pointer info) = refl
-hosted-same (M68 r) word s (Leaves code) = refl
-hosted-same (M68 r) word s (Stops fault) = refl
-hosted-same (Ppc r) word s (HostGoes h effects) = refl
-hosted-same (Ppc r) word s (Crosses pointer info) = refl
-hosted-same (Ppc r) word s (Leaves code) = refl
-hosted-same (Ppc r) word s (Stops fault) = refl
 
 -- the same machine
 pub same-at : (b new : Body) (before after : Active) (o : Outside) (a : Output) → after ≡ before → new ≡ b → at new after o a ≡ at b before o a
@@ -65,12 +54,16 @@ does-from x y did cell b new w before after a t is same does =
       done = λ around out. subst (λ z. Done z did cell (flat b before around) (flat new after around) (beside out a) (beside out t)) (sym (same around)) (from.done around out);
     }
 
--- CallUniversalProc
-pub ppc-crosses : AreLaws → (b : Body) (before : Active) (r : RegsPpc) (word pointer info : ℕ) (want : Want) → IsWhole b (isa_of before) → before ≡ Ppc r → want ≡ wants_ppc b.ram r pointer info
-    → (around : Around) → hosted_in before word (flat b before around) (Crosses pointer info) ≡ crosses (flat b before around) want
-ppc-crosses laws b before r word pointer info want whole is exact around =
-    ap (λ w. hosted_in w word (flat b before around) (Crosses pointer info)) is
+-- code of each set at a universal pointer
+pub ppc-universal : AreLaws → (b : Body) (before : Active) (r : RegsPpc) (pointer info : ℕ) (want : Want) → IsWhole b (isa_of before) → before ≡ Ppc r → want ≡ wants_ppc b.ram r pointer info
+    → (around : Around) → universal (flat b before around) before pointer info ≡ crosses (flat b before around) want
+ppc-universal laws b before r pointer info want whole is exact around =
+    ap (λ w. universal (flat b before around) w pointer info) is
     ∙ (ap (λ m. crosses (flat b before around) (wants_ppc m r pointer info)) (seen-is laws b (isa_of before) whole) ∙ ap (crosses (flat b before around)) (sym exact))
+
+pub m68-universal : (b : Body) (before : Active) (r : Regs68) (pointer info : ℕ) → before ≡ M68 r
+    → (around : Around) → universal (flat b before around) before pointer info ≡ crosses (flat b before around) (Jumps pointer)
+m68-universal b before r pointer info is around = ap (λ w. universal (flat b before around) w pointer info) is
 
 -- a routine descriptor in 68K code, and any other word of line A
 traps-magic : (s : State) (r : Regs68) (word : ℕ) → word ≡ mixed_mode_magic → traps s r word ≡ crosses s (wants_68k (seen s) r)
@@ -91,20 +84,15 @@ m68-crosses laws b before r word want whole is magic exact around =
 pub m68-traps : (before : Active) (r : Regs68) (word : ℕ) (s : State) → before ≡ M68 r → word ≢ mixed_mode_magic → leaves_code before s word ≡ traps_to s word (trap_number word)
 m68-traps before r word s is differs = ap (λ w. leaves_code w s word) is ∙ traps-other s r word differs
 
--- the code address of a host function in PowerPC code
-hosts-is : (s : State) (r : RegsPpc) (number word : ℕ) → hosts s r number ≡ hosted_in (Ppc r) word s (host number (host_of s))
+-- a call of a host function by what it does where it crosses
+pub hosts-are : (s : State) (index : ℕ) → hosts s index ≡ hosted_by (universal s s.active) s (host index (host_of s))
 unfolding hosts
-hosts-is s r number word = refl
+hosts-are s index = refl
 
-pub ppc-hosts : (before : Active) (r : RegsPpc) (number word : ℕ) (s : State) → before ≡ Ppc r → leaves_code before s number ≡ hosted_in before word s (host number (host_of s))
-ppc-hosts before r number word s is =
-    ap (λ w. leaves_code w s number) is ∙ (hosts-is s r number word ∙ ap (λ w. hosted_in w word s (host number (host_of s))) (sym is))
+pub hosts-cross : (s : State) (index pointer info : ℕ) → host index (host_of s) ≡ Crosses pointer info → hosts s index ≡ universal s s.active pointer info
+hosts-cross s index pointer info is = hosts-are s index ∙ ap (hosted_by (universal s s.active) s) is
 
--- a trap that a function has, and one that none has
-pub trap-hosts : (active : Active) (word index : ℕ) (s : State) → isa_of active ≡ set_m68 → trap_number word ≡ Some index → traps_to s word (trap_number word) ≡ hosted_in active word s (host index (host_of s))
-trap-hosts (M68 r) word index s set is = ap (traps_to s word) is
-trap-hosts (Ppc r) word index s set is = cc
-
+-- a trap that none has
 pub no-trap : AreLaws → (word : ℕ) (cell : AFault) (b : Body) (active : Active) (o : Outside) (a : Output) → IsWhole b (isa_of active) → trap_number word ≡ None → cell ≡ fault_at (pc_of active) NoTrap word
     → Acts (λ s. traps_to s word (trap_number word)) Fault cell (at b active o a) (at b active o a)
 no-trap laws word cell b active o a whole none is =

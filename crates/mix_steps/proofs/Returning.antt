@@ -12,7 +12,7 @@ use Rattle.switch_frame.specs.declared.active.Active.{Active}
 use Rattle.switch_frame.specs.declared.held.Held.{Held}
 use Rattle.switch_frame.specs.Records.{Record, held_of, isa_of, record_of}
 use Rattle.switch_frame.specs.Chain.{cleared}
-use Rattle.switch_frame.specs.Calls.{innermost}
+use Rattle.switch_frame.specs.Calls.{IsInnermost, active_set, innermost}
 use Rattle.toolbox.specs.Effects.{Around}
 use Rattle.mode_switch.specs.Returned.{Returned, given_back}
 use Rattle.mixed_machine.specs.declared.body.Body.{Body}
@@ -22,7 +22,7 @@ use Rattle.mixed_machine.specs.State.{State, seen, with_seen}
 use Rattle.mixed_machine.specs.Next.{Next}
 use Rattle.mixed_machine.specs.Next.Next.{Exits, Faults}
 use Rattle.mixed_machine.specs.Leave.{at_gate, at_gate_of, is_exit, is_return, leaves, leaves_with, unmatched}
-use Rattle.mixed_machine.specs.Machine.{IsWhole, active_set, callers_of, flat, memory_of}
+use Rattle.mixed_machine.specs.Machine.{IsWhole, callers_of, flat, memory_of}
 use Rattle.mix_steps.specs.Does.{Does}
 use Rattle.mix_steps.specs.Laws.{AreLaws}
 use Rattle.mix_steps.specs.Changes.{IsChanged}
@@ -67,12 +67,10 @@ pub given-whole : AreLaws → (b : Body) (ram : Memory) (set : Isa) → IsWhole 
 given-whole laws b ram set whole free =
     let all = (given laws b ram set whole free).whole in subst (IsWhole (record b { ram = ram })) all.active all
 
-not-none : (xs ys : List Record) (r : Record) (rs : List Record) → xs ≡ ys → ys ≡ r ∷ rs → xs ≡ [] → ⊥
-not-none xs ys r rs same some none = cc
-
-pub given-live : AreLaws → (b : Body) (ram : Memory) (set : Isa) (r : Record) (outer : List Record) → IsWhole b set → OnlyFree b.ram ram → callers_of b ≡ r ∷ outer
-    → callers_of (record b { ram = ram }) ≡ [] → ⊥
-given-live laws b ram set r outer whole free some = not-none _ _ r outer (given laws b ram set whole free).callers some
+pub given-innermost : AreLaws → (b : Body) (ram : Memory) (set : Isa) (held : Held) (outer : List Record) → IsWhole b set → OnlyFree b.ram ram → callers_of b ≡ record_of held ∷ outer
+    → IsInnermost held.lo held.hi (callers_of (record b { ram = ram }))
+given-innermost laws b ram set held outer whole free first =
+    subst (IsInnermost held.lo held.hi) (sym ((given laws b ram set whole free).callers ∙ first)) (refl, refl)
 
 same-first : (xs : List Record) (r s : Record) (rs ss : List Record) → xs ≡ r ∷ rs → xs ≡ s ∷ ss → r ≡ s
 same-first xs r s rs ss one other = cc
@@ -81,21 +79,21 @@ same-rest : (xs : List Record) (r s : Record) (rs ss : List Record) → xs ≡ r
 same-rest xs r s rs ss one other = cc
 
 -- then its frame was given up, and its caller goes on
-pub record IsBack (b new : Body) (ram : Memory) (before file : Active) (popped : Held) (outer : List Record) : Type 0 where
+pub record IsBack (b new : Body) (ram : Memory) (before file : Active) (popped : Record) (outer : List Record) : Type 0 where
   pub whole : IsWhole new (isa_of file)
-  pub callers : callers_of b ≡ record_of popped ∷ callers_of new
+  pub callers : callers_of b ≡ popped ∷ callers_of new
   pub state : (around : Around) → flat new file around ≡ record (with_seen ram (flat b before around)) { active = file; callers = outer }
 
-pub goes-back : AreLaws → (b new : Body) (ram : Memory) (before file : Active) (held popped : Held) (outer : List Record)
+pub goes-back : AreLaws → (b new : Body) (ram : Memory) (before file : Active) (held : Held) (popped : Record) (outer : List Record)
     → IsWhole b (isa_of before) → callers_of b ≡ record_of held ∷ outer → OnlyFree b.ram ram → isa_of file ≡ isa_of held.caller
     → IsResumed (record b { ram = ram }) new popped → IsBack b new ram before file popped outer
 unfolding memory_of
 goes-back laws b new ram before file held popped outer whole first free set back =
     let mid : Body = record b { ram = ram } in
     let change : IsChanged b mid (isa_of before) = given laws b ram (isa_of before) whole free in
-    let callers : callers_of b ≡ record_of popped ∷ callers_of new = sym change.callers ∙ back.callers in
-    let same : record_of held ≡ record_of popped = same-first (callers_of b) (record_of held) (record_of popped) outer (callers_of new) first callers in
-    let rests : outer ≡ callers_of new = same-rest (callers_of b) (record_of held) (record_of popped) outer (callers_of new) first callers in
+    let callers : callers_of b ≡ popped ∷ callers_of new = sym change.callers ∙ back.callers in
+    let same : record_of held ≡ popped = same-first (callers_of b) (record_of held) popped outer (callers_of new) first callers in
+    let rests : outer ≡ callers_of new = same-rest (callers_of b) (record_of held) popped outer (callers_of new) first callers in
     record {
       whole = subst (IsWhole new) (sym (set ∙ ap (λ (r : Record). isa_of r.caller) same)) back.whole;
       callers = callers;

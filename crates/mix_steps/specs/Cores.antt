@@ -32,7 +32,7 @@ CoreSteps x IsStop cell r next b new set = (x ≡ Stops cell) × (next ≡ r) ×
 -- the host goes on with a number: a word of line A, or the number of a host function
 abbrev pub leaves_code : Active → State → ℕ → Next
 leaves_code (M68 r) s number = traps s r number
-leaves_code (Ppc r) s number = hosts s r number
+leaves_code (Ppc r) s number = hosts s number
 
 -- a number is small where code was left
 abbrev pub IsNumber : Active → ℕ → Type 0

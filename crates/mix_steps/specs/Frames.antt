@@ -5,7 +5,7 @@ use Rattle.big_memory.specs.Lists.{put}
 use Rattle.switch_frame.specs.declared.active.Active.{Active}
 use Rattle.switch_frame.specs.declared.held.Held.{Held}
 use Rattle.switch_frame.specs.declared.kind.Kind.{Kind}
-use Rattle.switch_frame.specs.Records.{isa_of, record_of}
+use Rattle.switch_frame.specs.Records.{Record, isa_of, record_of}
 use Rattle.switch_frame.specs.Sets.{callee_isa}
 use Rattle.switch_frame.specs.Chain.{zeros}
 use Rattle.switch_frame.specs.Calls.{IsPlace}
@@ -32,9 +32,9 @@ pub record IsSuspended (b new : Body) (held : Held) : Type 0 where
   pub rest : new ≡ record b { ram = new.ram; top = new.top }
 
 -- the innermost caller goes on
-pub record IsResumed (b new : Body) (held : Held) : Type 0 where
-  pub whole : IsWhole new (isa_of held.caller)
-  pub callers : callers_of b ≡ record_of held ∷ callers_of new
+pub record IsResumed (b new : Body) (r : Record) : Type 0 where
+  pub whole : IsWhole new (isa_of r.caller)
+  pub callers : callers_of b ≡ r ∷ callers_of new
   pub memory : memory_of new ≡ memory_of b
   pub rest : new ≡ record b { ram = new.ram; top = new.top }
 

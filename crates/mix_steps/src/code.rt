@@ -1,6 +1,6 @@
 // What code of the active set does by itself.
 ghost use Rattle.std.specs.Prelude.{◌≡◌, ◌<◌, ◌≤◌, ◌-◌, true};
-ghost use Rattle.big_memory.specs.Faults.{fault_at};
+ghost use Rattle.mix_bits.specs.Faults.{fault_at};
 ghost use Rattle.big_memory.specs.Map.{in_gate_page as in_gate_page_of};
 ghost use Rattle.mix_bits.specs.declared.isa.Isa.TheVariants.{M68 as set_m68, Ppc as set_ppc};
 ghost use Rattle.switch_frame.specs.declared.active.Active.TheVariants.{M68, Ppc};
@@ -142,12 +142,7 @@ fn refused(fault: &mut Fault, kind: FaultKind, pc: u32, detail: u32) -> Code
     ensures code { result ≡ Code.Stop }
     ensures cell { fault.new ≡ fault_at pc kind detail }
 {
-    *fault = Fault {
-        kind,
-        pc,
-        detail,
-        also: 0,
-    };
+    *fault = Fault::at(pc, kind, detail);
     Code::Stop
 }
 
@@ -161,10 +156,7 @@ fn code_ppc(body: &mut Body, regs: &mut RegsPpc, fault: &mut Fault) -> Code
     }
     match core_ppc(body, regs, fault) {
         Did::Next => Code::Next,
-        Did::Leave => {
-            let number = fault.detail;
-            refused(fault, FaultKind::BadInstr, regs.pc, number)
-        }
+        Did::Leave => Code::Leave,
         Did::Stop => Code::Stop,
     }
 }

@@ -1,7 +1,7 @@
 // Instructions over the memory of a machine.
 ghost use Rattle.std.specs.Prelude.{◌≡◌, ◌<◌, ◌^◌, false};
 ghost use Rattle.mix_bits.specs.declared.isa.Isa.TheVariants.{M68, Ppc};
-ghost use Rattle.big_memory.specs.Map.{is_gate};
+ghost use Rattle.big_memory.specs.Map.{host_functions, is_gate};
 ghost use Rattle.m68_effects.specs.Step.{stepped as stepped_68k};
 ghost use Rattle.ppc_effects.specs.Effects.{stepped as stepped_ppc};
 ghost use Rattle.mixed_machine.specs.Machine.{IsWhole, seen_of};
@@ -12,6 +12,7 @@ use big_memory::Did;
 use m68_isa::Regs68;
 use mix_bits::Fault;
 use mixed_machine::Body;
+use ppc_effects::effect_laws;
 use ppc_isa::RegsPpc;
 
 /// An instruction of 68K code.
@@ -30,8 +31,10 @@ pub fn core_68k(body: &mut Body, regs: &mut Regs68, fault: &mut Fault) -> Did
 pub fn core_ppc(body: &mut Body, regs: &mut RegsPpc, fault: &mut Fault) -> Did
     requires whole { IsWhole body.old Ppc }
     requires outside { is_gate regs.old.pc ≡ false }
-    ensures { CoreSteps (stepped_ppc regs.old (seen_of body.old)) result fault.new regs.old regs.new body.old body.new Ppc }
+    ensures does { CoreSteps (stepped_ppc regs.old (seen_of body.old)) result fault.new regs.old regs.new body.old body.new Ppc }
+    ensures number { result ≡ Did.Leave → fault.new.detail < host_functions }
 {
     body_laws();
+    effect_laws();
     ppc_core::run(regs, &mut body.ram, fault)
 }

@@ -1,23 +1,22 @@
 // Suspended callers in the memory of a machine: no other module makes a frame or gives one up.
-ghost use Rattle.std.specs.Prelude.{◌≡◌, ◌+◌, ◌-◌, ◌≤◌, length, is_some, true, ◌≢◌, []};
+ghost use Rattle.std.specs.Prelude.{◌≡◌, ◌+◌, ◌-◌, ◌≤◌, length, is_some, true};
 ghost use Rattle.big_memory.specs.Memory.{floor_of};
 ghost use Rattle.proc_info.specs.Codes.{is_dispatched};
 ghost use Rattle.proc_info.specs.Signature.{has_signature};
-ghost use Rattle.switch_frame.specs.Calls.{IsPlace};
-ghost use Rattle.switch_frame.specs.declared.held.Held.{Held as HeldCaller};
-ghost use Rattle.switch_frame.specs.Records.{isa_of};
+ghost use Rattle.switch_frame.specs.Calls.{IsInnermost, IsPlace, active_set};
+ghost use Rattle.switch_frame.specs.Records.{Record, isa_of};
 ghost use Rattle.switch_frame.specs.Sets.{callee_isa, caller_isa};
 ghost use Rattle.mode_switch.specs.Callee.{below as below_of, fresh, stack_of};
 ghost use Rattle.mode_switch.specs.Views.{args_of, crossing};
 ghost use Rattle.mode_switch.specs.Wanted.{passed_selector};
-ghost use Rattle.mixed_machine.specs.Machine.{IsWhole, active_set, callers_of};
+ghost use Rattle.mixed_machine.specs.Machine.{IsWhole, callers_of};
 ghost use Rattle.mix_steps.specs.Frames.{IsReady, IsResumed, IsSuspended};
 
 use crate::call_laws::call_laws;
 use crate::laws::body_laws;
 use mixed_machine::Body;
 use mode_switch::{Call, Passed, deliver};
-use switch_frame::{Active, Held, pop, push};
+use switch_frame::{Active, Held, give_up, push};
 
 /// Gives a callee its stack of so many bytes, which ends where the frame of its caller begins, and its
 /// registers.
@@ -68,12 +67,12 @@ pub fn suspend(body: &mut Body, held: &Held)
     push(&mut body.ram, &mut body.top, held);
 }
 
-/// Gives up the innermost frame, whose caller goes on.
-pub fn resume(body: &mut Body)
+/// Gives up the innermost frame, from which `held` was read. Its caller goes on.
+pub fn resume(body: &mut Body, held: &Held)
     requires whole { IsWhole body.old (active_set body.old.main (callers_of body.old)) }
-    requires live { callers_of body.old ≢ [] }
-    ensures { (held : HeldCaller) × IsResumed body.old body.new held }
+    requires innermost { IsInnermost held.now.lo held.now.hi (callers_of body.old) }
+    ensures { (r : Record) × IsResumed body.old body.new r }
 {
     call_laws();
-    pop(&mut body.ram, &mut body.top);
+    give_up(&mut body.ram, &mut body.top, held);
 }

@@ -1,18 +1,16 @@
 // Steps of the host: a call of one of its functions, or a mode switch that code asks for.
 ghost use Rattle.std.specs.Prelude.{◌≡◌, ◌<◌, ◌^◌};
 ghost use Rattle.mix_bits.specs.declared.fault.FaultKind.TheVariants.{NoTrap};
-ghost use Rattle.big_memory.specs.Faults.{fault_at};
+ghost use Rattle.mix_bits.specs.Faults.{fault_at};
 ghost use Rattle.mix_bits.specs.declared.isa.Isa.TheVariants.{M68 as set_m68};
 ghost use Rattle.switch_frame.specs.Records.{isa_of};
 ghost use Rattle.toolbox.specs.Functions.{trap_number};
-ghost use Rattle.toolbox.specs.Host.{host as host_at};
-ghost use Rattle.toolbox.specs.Host.Hosted.{Crosses};
 ghost use Rattle.mixed_machine.specs.Acts.{Acts};
-ghost use Rattle.mixed_machine.specs.Host.{host_of, traps_to};
+ghost use Rattle.mixed_machine.specs.Host.{hosts, traps_to, universal};
 ghost use Rattle.mixed_machine.specs.Machine.{IsWhole};
 ghost use Rattle.switch_frame.specs.Files.{pc_of};
 ghost use Rattle.mix_steps.specs.Beside.{AreSame, machine_beside};
-ghost use Rattle.mix_steps.specs.Called.{IsCalled, hosted_in};
+ghost use Rattle.mix_steps.specs.Called.{IsCalled};
 ghost use Rattle.mix_steps.specs.Cores.{IsNumber, leaves_code};
 ghost use Rattle.mix_io.specs.Streams.{output};
 ghost use Rattle.mix_steps.specs.Does.{Does};
@@ -25,7 +23,7 @@ use dev_rack::Devices;
 use mix_bits::{Fault, FaultKind};
 use mix_io::{Sink, Source};
 use mixed_machine::{Body, Did};
-use mode_switch::{wants_68k, wants_ppc};
+use mode_switch::{Wanted, wants_68k, wants_ppc};
 use routine_desc::MIXED_MODE_MAGIC;
 use switch_frame::Active;
 use toolbox::{HostOut, host_call, trap_index, trap_laws};
@@ -66,7 +64,7 @@ pub fn leave_code<'i, 'o, 't, 'd, I: Source, O: Sink, T: Sink, D: Devices>(
                 trap(number, body, active, outside, fault)
             }
         }
-        Active::Ppc(_) => call_function(number, 0, body, active, outside, fault),
+        Active::Ppc(_) => call_function(number, body, active, outside, fault),
     }
 }
 
@@ -89,7 +87,7 @@ fn trap<'i, 'o, 't, 'd, I: Source, O: Sink, T: Sink, D: Devices>(
     body_laws();
     trap_laws();
     match trap_index(word as u16) {
-        Some(index) => call_function(index, word, body, active, outside, fault),
+        Some(index) => call_function(index, body, active, outside, fault),
         None => no_trap(word, active, fault),
     }
 }
@@ -99,19 +97,13 @@ fn no_trap(word: u32, active: &Active, fault: &mut Fault) -> Did
     ensures did { result ≡ Did.Fault }
     ensures cell { fault.new ≡ fault_at (pc_of active.now) NoTrap word }
 {
-    *fault = Fault {
-        kind: FaultKind::NoTrap,
-        pc: active.pc(),
-        detail: word,
-        also: 0,
-    };
+    *fault = Fault::at(active.pc(), FaultKind::NoTrap, word);
     Did::Fault
 }
 
-/// Calls a host function, from the trap with this word in 68K code.
+/// Calls a host function, and goes on into other code where it asks for that.
 fn call_function<'i, 'o, 't, 'd, I: Source, O: Sink, T: Sink, D: Devices>(
     index: u32,
-    word: u32,
     body: &mut Body,
     active: &mut Active,
     outside: &mut Outside<'i, 'o, 't, 'd, I, O, T, D>,
@@ -119,7 +111,7 @@ fn call_function<'i, 'o, 't, 'd, I: Source, O: Sink, T: Sink, D: Devices>(
 ) -> Did
     requires whole { IsWhole body.old (isa_of active.old) }
     requires index { index < 16 }
-    ensures does { Acts (λ s. hosted_in active.old word s (host_at index (host_of s))) result fault.new
+    ensures does { Acts (λ s. hosts s index) result fault.new
         (machine_beside I.left I.faults O.held O.faults T.held T.faults D.state body.old active.old outside.old)
         (machine_beside I.left I.faults O.held O.faults T.held T.faults D.state body.new active.new outside.new) }
     ensures same { AreSame outside.old outside.new }
@@ -128,7 +120,7 @@ fn call_function<'i, 'o, 't, 'd, I: Source, O: Sink, T: Sink, D: Devices>(
     match call(index, body, active, outside, fault) {
         Called::Went(did) => did,
         Called::Cross { pointer, info } => {
-            cross_by(pointer, info, word, body, active, outside.trace, fault)
+            cross_at(pointer, info, body, active, outside.trace, fault)
         }
     }
 }
@@ -174,23 +166,22 @@ fn call<'i, 'o, 't, 'd, I: Source, O: Sink, T: Sink, D: Devices>(
     }
 }
 
-/// The call of a host function goes on into other code, which only PowerPC code may ask for.
-fn cross_by<T: Sink>(
+/// Goes on at a universal pointer, with a procInfo.
+fn cross_at<T: Sink>(
     pointer: u32,
     info: u32,
-    word: u32,
     body: &mut Body,
     active: &mut Active,
     trace: &mut T,
     fault: &mut Fault,
 ) -> Did
     requires whole { IsWhole body.old (isa_of active.old) }
-    ensures { Does (λ s. hosted_in active.old word s (Crosses pointer info)) result fault.new body.old body.new active.old active.new
+    ensures { Does (λ s. universal s s.active pointer info) result fault.new body.old body.new active.old active.new
         (output (T.held trace.old) (T.faults trace.old)) (output (T.held trace.new) (T.faults trace.new)) }
 {
     body_laws();
     match active {
-        Active::M68(_) => no_trap(word, active, fault),
+        Active::M68(_) => cross(body, active, &Wanted::Jumps(pointer), trace, fault),
         Active::Ppc(regs) => {
             let wanted = wants_ppc(&body.ram, regs, pointer, info);
             cross(body, active, &wanted, trace, fault)

@@ -20,7 +20,7 @@ use mix_bits::Fault;
 use mix_io::Sink;
 use mixed_machine::{Body, Did};
 use mode_switch::give_back;
-use proc_info::{Sig, read};
+use proc_info::{Sig, read_signed};
 use switch_frame::{Active, Held, top};
 
 /// A step at a gate.
@@ -102,10 +102,8 @@ fn return_to<T: Sink>(
         (output (T.held trace.old) (T.faults trace.old)) (output (T.held trace.new) (T.faults trace.new)) }
 {
     call_laws();
-    match read(held.info) {
-        Ok(sig) => return_by(body, active, held, &sig, trace, fault),
-        Err(_) => unreachable!(),
-    }
+    let sig = read_signed(held.info);
+    return_by(body, active, held, &sig, trace, fault)
 }
 
 /// The same by the signature of the call. The result is stored while the frame is live.
@@ -126,7 +124,7 @@ fn return_by<T: Sink>(
     call_laws();
     match give_back(&mut body.ram, sig, active, &mut held.caller) {
         Ok(value) => {
-            resume(body);
+            resume(body, held);
             *active = held.caller;
             match put_ret(trace, sig, value) {
                 Ok(()) => Did::Return,

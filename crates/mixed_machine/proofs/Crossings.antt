@@ -1,5 +1,5 @@
 -- The crossings of a run, counted a step at a time.
-use Rattle.std.proofs.Common.{◌≡◌, ℕ, zero, suc, ◌+◌, ◌-◌, ◌<◌, ◌≤◌, Bool, true, false, arith, sym, ap, ◌∙◌, subst, refl, add-zero, zero-add, add_assoc}
+use Rattle.std.proofs.Common.{◌≡◌, ℕ, zero, suc, ◌+◌, ◌-◌, ◌≤◌, Bool, true, false, arith, sym, ap, ◌∙◌, subst, refl, add-zero, zero-add, add_assoc}
 use Rattle.std.proofs.lemmas.Bool.Decides.{nat_tests}
 use Rattle.std.specs.Int.{from_bool}
 use Rattle.mix_bits.specs.declared.fault.Fault.{Fault}
@@ -10,7 +10,7 @@ use Rattle.mixed_machine.specs.Step.{step}
 use Rattle.mixed_machine.specs.Exec.{exec, exec_to, goes_on, rests, is_back, Leads, GoesTo}
 use Rattle.mixed_machine.specs.Exec.How.{Limited, Exited, Faulted}
 use Rattle.mixed_machine.specs.Exec.End.{Ended}
-use Rattle.mixed_machine.specs.Crossings.{Counted, Counting, Crossed, count_of, count_with, gives_up_frame, makes_frame}
+use Rattle.mixed_machine.specs.Crossings.{Crossed, count_of, count_with, gives_up_frame, makes_frame}
 use Rattle.mixed_machine.specs.CrossingLaws.{CountBegins, CountExits, CountFaults, CountGoesOn, CountLimit}
 use Rattle.mixed_machine.proofs.Runs.{suc-more, no-steps}
 use Rattle.mixed_machine.proofs.Logs.{exec-exits, exec-faults, leads-more, leads-none}

@@ -4,3 +4,5 @@ pub mod Events
 pub mod Over
 pub mod Machines
 pub mod Crossings
+pub mod StepKinds
+pub mod Trapped

@@ -2,12 +2,15 @@
 use Rattle.std.specs.Prelude.{ℕ, ◌==◌, if◌then◌else◌, List, [], Option, Some, None}
 use Rattle.mix_bits.specs.declared.fault.FaultKind.TheVariants.{NoTrap}
 use Rattle.m68_isa.specs.declared.registers.Regs68.{Regs68}
-use Rattle.ppc_isa.specs.declared.registers.RegsPpc.{RegsPpc}
+use Rattle.switch_frame.specs.declared.active.Active.{Active}
+use Rattle.switch_frame.specs.declared.active.Active.TheVariants.{M68, Ppc}
+use Rattle.routine_desc.specs.Layout.{mixed_mode_magic}
 use Rattle.toolbox.specs.Effects.{Ask, Effects as HostEffects}
 use Rattle.toolbox.specs.Functions.{trap_number}
 use Rattle.toolbox.specs.Host.{Host, Hosted, host}
 use Rattle.toolbox.specs.Host.Hosted.{Goes as GoesOn, Crosses, Leaves, Stops}
 use Rattle.mode_switch.specs.Wanted.{wants_68k, wants_ppc}
+use Rattle.mode_switch.specs.Wanted.Want.{Jumps}
 use Rattle.call_trace.specs.Lines.{ask_line}
 use Rattle.mixed_machine.specs.State.{State, seen, with_seen}
 use Rattle.mixed_machine.specs.Next.{Next, Effects, faults}
@@ -30,32 +33,27 @@ effects_of e = record { said = e.said; line = line_of_ask e.asked; reads = e.rea
 abbrev pub after_host : State → Host → State
 after_host s h = record (with_seen h.resources.memory s) { active = h.active; heap = h.resources.heap; around = h.resources.around }
 
--- a host call of PowerPC code, which is a crossing where it is CallUniversalProc
-abbrev pub hosted_ppc : State → RegsPpc → Hosted → Next
-hosted_ppc s r (GoesOn h effects) = Goes (after_host s h) (effects_of effects)
-hosted_ppc s r (Crosses pointer info) = crosses s (wants_ppc (seen s) r pointer info)
-hosted_ppc s r (Leaves code) = Exits code
-hosted_ppc s r (Stops fault) = Faults fault
+-- code of a set goes on at a universal pointer, with a procInfo: PowerPC code by a call, and 68K code as at any code of
+-- its own. No trap asks for that
+abbrev pub universal : State → Active → ℕ → ℕ → Next
+universal s (M68 r) pointer info = crosses s (Jumps pointer)
+universal s (Ppc r) pointer info = crosses s (wants_ppc (seen s) r pointer info)
 
--- a host call of 68K code: no trap is CallUniversalProc
-abbrev pub hosted_68k : State → ℕ → Hosted → Next
-hosted_68k s word (GoesOn h effects) = Goes (after_host s h) (effects_of effects)
-hosted_68k s word (Crosses pointer info) = faults s NoTrap word 0
-hosted_68k s word (Leaves code) = Exits code
-hosted_68k s word (Stops fault) = Faults fault
+-- a host call, by what it does where it crosses
+abbrev pub hosted_by : (ℕ → ℕ → Next) → State → Hosted → Next
+hosted_by crossing s (GoesOn h effects) = Goes (after_host s h) (effects_of effects)
+hosted_by crossing s (Crosses pointer info) = crossing pointer info
+hosted_by crossing s (Leaves code) = Exits code
+hosted_by crossing s (Stops fault) = Faults fault
 
--- the word with which a routine descriptor begins
-abbrev pub mixed_mode_magic : ℕ
-mixed_mode_magic = 0xAAFE
+-- a call of the host function with this number
+unfoldable pub hosts : State → ℕ → Next
+hosts s index = hosted_by (universal s s.active) s (host index (host_of s))
 
 abbrev pub traps_to : State → ℕ → Option ℕ → Next
-traps_to s word (Some index) = hosted_68k s word (host index (host_of s))
+traps_to s word (Some index) = hosts s index
 traps_to s word None = faults s NoTrap word 0
 
 -- a word of line A in 68K code: a crossing at a routine descriptor, or a trap
 unfoldable pub traps : State → Regs68 → ℕ → Next
 traps s r word = if word == mixed_mode_magic then crosses s (wants_68k (seen s) r) else traps_to s word (trap_number word)
-
--- PowerPC code at the code address of a host function
-unfoldable pub hosts : State → RegsPpc → ℕ → Next
-hosts s r index = hosted_ppc s r (host index (host_of s))

@@ -4,8 +4,7 @@ use Rattle.mix_bits.specs.declared.isa.Isa.{Isa}
 use Rattle.mix_bits.specs.declared.fault.FaultKind.TheVariants.{Unmatched}
 use Rattle.big_memory.specs.declared.refusals.Access.{Access}
 use Rattle.big_memory.specs.Map.{exit_gate, return_gate}
-use Rattle.proc_info.specs.declared.bad_info.BadInfo.{BadInfo}
-use Rattle.proc_info.specs.Signature.{Signature, signature_of}
+use Rattle.proc_info.specs.Signature.{Signature, signature_in}
 use Rattle.routine_desc.specs.Choice.{is_isa}
 use Rattle.switch_frame.specs.declared.active.Active.{Active}
 use Rattle.switch_frame.specs.Sets.{callee_isa}
@@ -28,13 +27,13 @@ leaves_with s outer sig (Ok d) =
     Goes (record (with_seen d.memory s) { active = d.file; callers = outer }) (traced (ret_line sig d.value))
 leaves_with s outer sig (Err e) = access_fault s e
 
--- every live frame's procInfo has a signature
-abbrev pub leaves_by : State → Record → List Record → Result Signature BadInfo → Next
-leaves_by s r outer (Ok sig) = leaves_with s outer sig (given_back (seen s) sig s.active r.caller)
-leaves_by s r outer (Err e) = unmatched s r.want
+-- by the signature of the call
+abbrev pub leaves_by : State → Record → List Record → Signature → Next
+leaves_by s r outer sig = leaves_with s outer sig (given_back (seen s) sig s.active r.caller)
 
+-- every live frame's procInfo has a signature
 unfoldable pub leaves : State → Record → List Record → Next
-leaves s r outer = leaves_by s r outer (signature_of r.info)
+leaves s r outer = leaves_by s r outer (signature_in r.info)
 
 -- whether a callee is at its return gate, with the stack pointer that is expected of it
 abbrev pub is_return : Active → Record → Bool

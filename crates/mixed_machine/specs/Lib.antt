@@ -14,3 +14,4 @@ pub mod Laws
 pub mod Events
 pub mod Crossings
 pub mod CrossingLaws
+pub mod StepLaws

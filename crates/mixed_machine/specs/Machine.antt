@@ -1,11 +1,11 @@
 -- A machine in memory: the state that it stands for, and what its parts have to satisfy.
-use Rattle.std.specs.Prelude.{◌≡◌, ℕ, List, [], ◌∷◌, length}
+use Rattle.std.specs.Prelude.{◌≡◌, ℕ, List, length}
 use Rattle.mix_bits.specs.declared.isa.Isa.{Isa}
 use Rattle.big_memory.specs.Memory.{Memory}
 use Rattle.switch_frame.specs.declared.active.Active.{Active}
-use Rattle.switch_frame.specs.Sets.{caller_isa, callee_isa}
 use Rattle.switch_frame.specs.Records.{Record}
 use Rattle.switch_frame.specs.Chain.{Chain, records, cleared}
+use Rattle.switch_frame.specs.Calls.{IsOutermost, active_set}
 use Rattle.switch_frame.specs.Program.{HasGatePage, HasHeap, start_sp_of}
 use Rattle.switch_frame.specs.Seen.{seen_by}
 use Rattle.toolbox.specs.Effects.{Around}
@@ -41,17 +41,6 @@ seen_of b = seen_by (memory_of b) (callers_of b)
 -- its suspended callers stand in a whole chain of frames
 abbrev pub HasChain : Body → Type 0
 HasChain b = Chain b.ram b.top (callers_of b)
-
--- the set of the innermost caller's callee, or that of the main program
-abbrev pub active_set : Isa → List Record → Isa
-active_set main [] = main
-active_set main (r ∷ rs) = callee_isa r.kind
-
--- the outermost caller is of the main program's set
-abbrev pub IsOutermost : Isa → List Record → Type 0
-IsOutermost main [] = Unit {0}
-IsOutermost main (r ∷ []) = caller_isa r.kind ≡ main
-IsOutermost main (r ∷ s ∷ rs) = IsOutermost main (s ∷ rs)
 
 -- a whole machine while a set is active
 pub record IsWhole (b : Body) (set : Isa) : Type 0 where

@@ -1,9 +1,9 @@
 -- One step of the machine: the first rule that applies.
-use Rattle.std.specs.Prelude.{ℕ, ◌%◌, ◌==◌, not, if◌then◌else◌, Option, Some, None}
-use Rattle.mix_bits.specs.declared.fault.FaultKind.TheVariants.{Odd, GateFetch, BadInstr}
+use Rattle.std.specs.Prelude.{◌%◌, ◌==◌, not, if◌then◌else◌}
+use Rattle.mix_bits.specs.declared.fault.FaultKind.TheVariants.{Odd, GateFetch}
 use Rattle.m68_isa.specs.declared.registers.Regs68.{Regs68}
 use Rattle.ppc_isa.specs.declared.registers.RegsPpc.{RegsPpc}
-use Rattle.big_memory.specs.Map.{is_gate, in_gate_page, host_code}
+use Rattle.big_memory.specs.Map.{is_gate, in_gate_page}
 use Rattle.big_memory.specs.Steps.{After}
 use Rattle.big_memory.specs.Steps.After.{Goes as GoesOn, Leaves, Stops}
 use Rattle.m68_effects.specs.Step.{stepped as stepped_68k}
@@ -22,16 +22,11 @@ after_68k s r (GoesOn next memory) = Goes (with_seen memory (with_active (M68 ne
 after_68k s r (Leaves word) = traps s r word
 after_68k s r (Stops fault) = Faults fault
 
--- an instruction of PowerPC code; none leaves the set
+-- PowerPC code, an instruction or the code address of a host function
 abbrev pub after_ppc : State → RegsPpc → After RegsPpc → Next
 after_ppc s r (GoesOn next memory) = Goes (with_seen memory (with_active (Ppc next) s)) quiet
-after_ppc s r (Leaves number) = faults s BadInstr number 0
+after_ppc s r (Leaves index) = hosts s index
 after_ppc s r (Stops fault) = Faults fault
-
--- at the code address of a host function
-abbrev pub host_or_code : State → RegsPpc → Option ℕ → Next
-host_or_code s r (Some index) = hosts s r index
-host_or_code s r None = after_ppc s r (stepped_ppc r (seen s))
 
 -- 68K code; the instruction's own step tests that its words lie in RAM
 unfoldable pub step_68k : State → Regs68 → Next
@@ -41,12 +36,13 @@ step_68k s r =
     else (if in_gate_page r.pc then faults s GateFetch r.pc 0
     else after_68k s r (stepped_68k r (seen s))))
 
--- PowerPC code; the instruction's own step tests the rest of the gate page, and that its word lies in RAM
+-- PowerPC code; the instruction's own step tests the rest of the gate page, where the host functions have their code
+-- addresses, and that its word lies in RAM
 unfoldable pub step_ppc : State → RegsPpc → Next
 step_ppc s r =
     if not (r.pc % 4 == 0) then faults s Odd r.pc 0
     else (if is_gate r.pc then at_gate s
-    else host_or_code s r (host_code r.pc))
+    else after_ppc s r (stepped_ppc r (seen s)))
 
 abbrev pub step_of : State → Active → Next
 step_of s (M68 r) = step_68k s r

@@ -1,6 +1,17 @@
 ghost use Rattle.mixed_machine.specs.CrossingLaws.{CountBegins, CountExits, CountFaults, CountGoesOn, CountLimit};
 ghost use Rattle.mixed_machine.specs.Events.{BeginsAt, CalleeCameBack, CalleeStopped, ComesBackAt, ExitsAt, FaultsAt, GoesOnAt, LimitAt, OutBreaksAt, ReadBreaksAt, TraceBreaksAt};
+ghost use Rattle.mixed_machine.specs.StepLaws.{StepsAreKinds, TrapsNeverCross};
 ghost use Rattle.mixed_machine.specs.Laws.{BacksContinue, BacksStay, CutsContinue, EndsReach, EndsStay, LimitsAreLast, NeverBack, RunsContinue};
+
+/// Laws of single steps. It does nothing: the clauses are its point.
+///
+/// A step suspends a caller, gives the innermost one up, or leaves the callers; it takes a block of the
+/// heap, gives one up, or leaves the heap; and it leaves what the machine was started with. What a trap
+/// calls never goes on into other code.
+pub fn step_laws()
+    ensures kinds { StepsAreKinds }
+    ensures traps { TrapsNeverCross }
+{}
 
 /// Laws of runs. It does nothing: the clauses are its point.
 ///

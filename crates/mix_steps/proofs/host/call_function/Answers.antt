@@ -1,24 +1,18 @@
-use Rattle.std.proofs.Common.{refl, sym, ap, ◌∙◌}
+use Rattle.std.proofs.Common.{refl}
 use Rattle.toolbox.specs.Host.{host}
-use Rattle.toolbox.specs.Host.Hosted.{Crosses}
-use Rattle.mixed_machine.specs.Host.{host_of}
+use Rattle.mixed_machine.specs.Host.{host_of, hosted_by, hosts, universal}
 use Rattle.mixed_machine.specs.Machine.{flat}
-use Rattle.mix_steps.specs.Called.{hosted_by, hosted_in}
 use Rattle.mix_steps.proofs.Amid.{acts-from, amid}
-use Rattle.mix_steps.proofs.Leavings.{hosted-same}
+use Rattle.mix_steps.proofs.Leavings.{hosts-are, hosts-cross}
 use Rattle.mix_steps.proofs.host.call_function.Goals as goal
 
 pub returns-in-Went-clause-does : goal.returns-in-Went-clause-does
 returns-in-Went-clause-does g c =
-    acts-from (λ s. hosted_in c.args.active.now c.args.word s (host c.args.index (host_of s)))
-    (λ s. hosted_by (λ pointer info. hosted_in c.args.active.now c.args.word s (Crosses pointer info)) s (host c.args.index (host_of s))) _ _ _ _ _ refl
-    (λ around. hosted-same c.args.active.now c.args.word (flat c.args.body.now c.args.active.now around) (host c.args.index (host_of (flat c.args.body.now c.args.active.now around))))
-    (c.in-Went.ensures.does (λ s pointer info. hosted_in c.args.active.now c.args.word s (Crosses pointer info)))
+    acts-from (λ s. hosts s c.args.index) (λ s. hosted_by (universal s s.active) s (host c.args.index (host_of s))) _ _ _ _ _ refl
+    (λ around. hosts-are (flat c.args.body.now c.args.active.now around) c.args.index) (c.in-Went.ensures.does (λ s. universal s s.active))
 
 pub returns-in-Cross-clause-does : goal.returns-in-Cross-clause-does
 returns-in-Cross-clause-does g c =
-    acts-from (λ s. hosted_in c.args.active.now c.args.word s (host c.args.index (host_of s)))
-    (λ s. hosted_in c.call.new.active c.args.word s (Crosses c.in-Cross.pointer c.in-Cross.info)) _ _ _ _ _ c.in-Cross.ensures.does.1
-    (λ around. ap (hosted_in c.args.active.now c.args.word (flat c.args.body.now c.args.active.now around)) (c.in-Cross.ensures.does.0 around)
-    ∙ ap (λ w. hosted_in w c.args.word (flat c.args.body.now c.args.active.now around) (Crosses c.in-Cross.pointer c.in-Cross.info)) (sym (ap (λ z. z.active) c.in-Cross.ensures.does.1)))
-    (amid c.body_laws.ensures (λ s. hosted_in c.call.new.active c.args.word s (Crosses c.in-Cross.pointer c.in-Cross.info)) _ _ _ _ _ _ _ _ _ c.cross_by.ensures)
+    acts-from (λ s. hosts s c.args.index) (λ s. universal s s.active c.in-Cross.pointer c.in-Cross.info) _ _ _ _ _ c.in-Cross.ensures.does.1
+    (λ around. hosts-cross (flat c.args.body.now c.args.active.now around) c.args.index c.in-Cross.pointer c.in-Cross.info (c.in-Cross.ensures.does.0 around))
+    (amid c.body_laws.ensures (λ s. universal s s.active c.in-Cross.pointer c.in-Cross.info) _ _ _ _ _ _ _ _ _ c.cross_at.ensures)

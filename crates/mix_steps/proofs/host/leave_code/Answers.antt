@@ -1,15 +1,13 @@
-use Rattle.std.proofs.Common.{refl, sym, subst}
+use Rattle.std.proofs.Common.{refl, sym, ap, subst}
 use Rattle.switch_frame.specs.Records.{isa_of}
 use Rattle.mode_switch.specs.Views.{wanted_of}
 use Rattle.toolbox.specs.Functions.{trap_number}
-use Rattle.toolbox.specs.Host.{host}
 use Rattle.mixed_machine.specs.Enter.{crosses}
-use Rattle.mixed_machine.specs.Host.{host_of, traps_to}
+use Rattle.mixed_machine.specs.Host.{hosts, traps_to}
 use Rattle.mixed_machine.specs.Machine.{IsWhole, flat}
-use Rattle.mix_steps.specs.Called.{hosted_in}
 use Rattle.mix_steps.specs.Cores.{leaves_code}
 use Rattle.mix_steps.proofs.Amid.{acts-from, amid}
-use Rattle.mix_steps.proofs.Leavings.{does-from, m68-crosses, m68-traps, ppc-hosts, same-at}
+use Rattle.mix_steps.proofs.Leavings.{does-from, m68-crosses, m68-traps, same-at}
 use Rattle.mix_steps.proofs.host.leave_code.Goals as goal
 
 pub cross-requires-clause-whole : goal.cross-requires-clause-whole
@@ -31,5 +29,5 @@ returns-else-number-eq-MIXED_MODE_MAGIC-clause-does g c =
 
 pub returns-in-Ppc-clause-does : goal.returns-in-Ppc-clause-does
 returns-in-Ppc-clause-does g c =
-    acts-from (λ s. leaves_code c.args.active.now s c.args.fault.now.detail) (λ s. hosted_in c.args.active.now 0 s (host c.args.fault.now.detail (host_of s))) _ _ _ _ _ refl
-    (λ around. ppc-hosts c.args.active.now c.in-Ppc.field-0 c.args.fault.now.detail 0 (flat c.args.body.now c.args.active.now around) c.in-Ppc.is) c.call_function.ensures.does
+    acts-from (λ s. leaves_code c.args.active.now s c.args.fault.now.detail) (λ s. hosts s c.args.fault.now.detail) _ _ _ _ _ refl
+    (λ around. ap (λ w. leaves_code w (flat c.args.body.now c.args.active.now around) c.args.fault.now.detail) c.in-Ppc.is) c.call_function.ensures.does

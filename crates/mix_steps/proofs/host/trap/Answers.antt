@@ -1,18 +1,15 @@
-use Rattle.std.proofs.Common.{Some, None, refl}
+use Rattle.std.proofs.Common.{Some, None, refl, ap}
 use Rattle.toolbox.specs.Functions.{trap_number}
-use Rattle.toolbox.specs.Host.{host}
-use Rattle.mixed_machine.specs.Host.{host_of, traps_to}
+use Rattle.mixed_machine.specs.Host.{hosts, traps_to}
 use Rattle.mixed_machine.specs.Machine.{flat}
-use Rattle.mix_steps.specs.Called.{hosted_in}
 use Rattle.mix_steps.proofs.Amid.{acts-from}
-use Rattle.mix_steps.proofs.Leavings.{no-trap, trap-hosts}
+use Rattle.mix_steps.proofs.Leavings.{no-trap}
 use Rattle.mix_steps.proofs.host.trap.Goals as goal
 
 pub returns-in-Some-clause-does : goal.returns-in-Some-clause-does
 returns-in-Some-clause-does g c =
-    acts-from (λ s. traps_to s c.args.word (trap_number c.args.word)) (λ s. hosted_in c.args.active.now c.args.word s (host c.in-Some.index (host_of s))) _ _ _ _ _ refl
-    (λ around. trap-hosts c.args.active.now c.args.word c.in-Some.index (flat c.args.body.now c.args.active.now around) c.requires.set (c.trap_laws.ensures c.args.word (Some c.in-Some.index) c.in-Some.ensures))
-    c.call_function.ensures.does
+    acts-from (λ s. traps_to s c.args.word (trap_number c.args.word)) (λ s. hosts s c.in-Some.index) _ _ _ _ _ refl
+    (λ around. ap (traps_to (flat c.args.body.now c.args.active.now around) c.args.word) (c.trap_laws.ensures c.args.word (Some c.in-Some.index) c.in-Some.ensures)) c.call_function.ensures.does
 
 pub returns-in-None-clause-does : goal.returns-in-None-clause-does
 returns-in-None-clause-does g c =

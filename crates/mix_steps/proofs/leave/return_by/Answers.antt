@@ -1,6 +1,6 @@
 use Rattle.std.proofs.Common.{Ok, Err, drop, refl, ap, sym, ◌∙◌}
 use Rattle.proc_info.specs.Views.{signature}
-use Rattle.switch_frame.specs.Records.{isa_of, record_of}
+use Rattle.switch_frame.specs.Records.{isa_of}
 use Rattle.call_trace.specs.Lines.{ret_line}
 use Rattle.mode_switch.specs.Returned.{given_back}
 use Rattle.mixed_machine.specs.Leave.{leaves_with}
@@ -9,16 +9,16 @@ use Rattle.mixed_machine.specs.Next.Next.{Faults}
 use Rattle.mixed_machine.specs.State.{seen, with_seen}
 use Rattle.mix_io.specs.Streams.{output}
 use Rattle.mix_steps.proofs.Doing.{does-cut, does-return, line-cut, line-taken, return-some}
-use Rattle.mix_steps.proofs.Returning.{IsBack, given-live, given-whole, gives-by, goes-back, refused-back}
+use Rattle.mix_steps.proofs.Returning.{IsBack, given-innermost, given-whole, gives-by, goes-back, refused-back}
 use Rattle.mix_steps.proofs.leave.return_by.Goals as goal
 
 pub resume-requires-clause-whole : goal.resume-requires-clause-whole
 resume-requires-clause-whole g c =
     given-whole c.body_laws.ensures c.args.body.now c.give_back.new.ram (isa_of c.args.active.now) c.requires.whole c.in-Ok.ensures.1
 
-pub resume-requires-clause-live : goal.resume-requires-clause-live
-resume-requires-clause-live g c =
-    given-live c.body_laws.ensures c.args.body.now c.give_back.new.ram (isa_of c.args.active.now) (record_of c.args.held.now) (drop 1 (callers_of c.args.body.now))
+pub resume-requires-clause-innermost : goal.resume-requires-clause-innermost
+resume-requires-clause-innermost g c =
+    given-innermost c.body_laws.ensures c.args.body.now c.give_back.new.ram (isa_of c.args.active.now) c.args.held.now (drop 1 (callers_of c.args.body.now))
     c.requires.whole c.in-Ok.ensures.1 c.requires.first
 
 pub returns-in-Ok-put_ret : goal.returns-in-Ok-put_ret
@@ -37,7 +37,7 @@ returns-in-Ok-put_ret g c =
     let back : IsBack body new ram active file c.resume.ensures.0 outer =
     goes-back c.body_laws.ensures body new ram active file held c.resume.ensures.0 outer c.requires.whole c.requires.first c.in-Ok.ensures.1 c.in-Ok.ensures.2 c.resume.ensures.1 in
     does-return c.call_laws.ensures.grows (λ s. leaves_with s outer sig (given_back (seen s) sig s.active held.caller))
-    (λ s. record (with_seen ram s) { active = file; callers = outer }) line c.args.fault.now body new active file ta tb (record_of c.resume.ensures.0)
+    (λ s. record (with_seen ram s) { active = file; callers = outer }) line c.args.fault.now body new active file ta tb c.resume.ensures.0
     back.whole back.callers
     (λ around. gives-by c.body_laws.ensures body active held.caller around sig outer (Ok (record { value = c.in-Ok.value; file = file; memory = ram })) c.requires.whole c.in-Ok.ensures.0)
     back.state (line-taken ta tb line line refl c.in-Ok-put_ret.ensures.line c.in-Ok-put_ret.ensures.cause.same)

@@ -16,8 +16,8 @@ returns g c =
     let active = c.args.active.now in
     let held = c.args.held.now in
     let outer = drop 1 (callers_of body) in
-    let sig = signature c.in-Ok.sig in
+    let sig = signature c.read_signed-sig.result in
     does-same (λ s. leaves_with s outer sig (given_back (seen s) sig s.active held.caller)) (λ s. leaves s (record_of held) outer)
     c.return_by.result c.return_by.new.fault body c.return_by.new.body active c.return_by.new.active
     (output (g.T.Sink.held c.args.trace.now) (g.T.Sink.faults c.args.trace.now)) (output (g.T.Sink.held c.return_by.new.trace) (g.T.Sink.faults c.return_by.new.trace))
-    (λ around. ap (leaves_by (flat body active around) (record_of held) outer) (sym c.in-Ok.ensures.exact)) c.return_by.ensures
+    (λ around. ap (leaves_by (flat body active around) (record_of held) outer) (sym c.read_signed-sig.ensures.value)) c.return_by.ensures

@@ -1,0 +1,83 @@
+-- No trap goes on into other code: CallUniversalProc alone does, and it has no trap.
+use Rattle.std.proofs.Common.{◌≡◌, ℕ, zero, suc, Bool, true, false, if◌then◌else◌, List, [], ◌∷◌, Option, Some, None, refl, sym, ap, ◌∙◌}
+use Rattle.big_memory.specs.declared.refusals.Access.{Access}
+use Rattle.big_memory.specs.Memory.{Memory, copied, copy_refusal, in_memory}
+use Rattle.host_heap.specs.Place.{place_for}
+use Rattle.switch_frame.specs.declared.active.Active.{Active}
+use Rattle.toolbox.specs.declared.function.Function.{Function}
+use Rattle.toolbox.specs.declared.function.Function.TheVariants.{NewRoutineDescriptor, NewFatRoutineDescriptor, DisposeRoutineDescriptor, CallUniversalProc, NewPtr, NewPtrClear, DisposePtr, BlockMove, ExitToShell, PutByte, GetByte, PutBlock, AskDevice, EjectDevice, ExitWith, UnloadSeg}
+use Rattle.toolbox.specs.declared.values.Operands.{Operands}
+use Rattle.toolbox.specs.Functions.{function_at, has_trap, trap_below, trap_of}
+use Rattle.toolbox.specs.Registers.{operands_of}
+use Rattle.toolbox.specs.Effects.{Resources, Effect, effect, made_at, moved_unless, takes_from}
+use Rattle.toolbox.specs.Effects.Effect.{Gives, Crosses as CrossesInto, Leaves as LeavesWith, Refuses as Refused}
+use Rattle.toolbox.specs.Host.{host, settled}
+use Rattle.toolbox.specs.Host.Hosted.{Crosses}
+use Rattle.mixed_machine.specs.StepLaws.{TrapsNeverCross}
+
+-- a call that crosses is one of CallUniversalProc
+abbrev HasNoTrap : Function → Effect → Type 0
+HasNoTrap f (Gives r x effects) = Unit {0}
+HasNoTrap f (CrossesInto pointer info) = trap_of f ≡ None
+HasNoTrap f (LeavesWith code) = Unit {0}
+HasNoTrap f (Refused access) = Unit {0}
+
+made-no_trap : (f : Function) (r : Resources) (size : ℕ) (memory : ℕ → Memory) (place : Option ℕ) → HasNoTrap f (made_at r size memory place)
+made-no_trap f r size memory None = tt
+made-no_trap f r size memory (Some a) = tt
+
+moved-no_trap : (f : Function) (r : Resources) (moved : Memory) (refused : Option Access) → HasNoTrap f (moved_unless r moved refused)
+moved-no_trap f r moved None = tt
+moved-no_trap f r moved (Some e) = tt
+
+takes-no_trap : (f : Function) (r : Resources) (input : List ℕ) → HasNoTrap f (takes_from r input)
+takes-no_trap f r [] = tt
+takes-no_trap f r (byte ∷ left) = tt
+
+either-no_trap : (f : Function) (b : Bool) (x y : Effect) → HasNoTrap f x → HasNoTrap f y → HasNoTrap f (if b then x else y)
+either-no_trap f true x y first second = first
+either-no_trap f false x y first second = second
+
+no-trap : (f : Function) (o : Operands) (r : Resources) → HasNoTrap f (effect f o r)
+no-trap NewRoutineDescriptor o r = made-no_trap NewRoutineDescriptor r _ _ (place_for r.heap _)
+no-trap NewFatRoutineDescriptor o r = made-no_trap NewFatRoutineDescriptor r _ _ (place_for r.heap _)
+no-trap DisposeRoutineDescriptor o r = tt
+no-trap CallUniversalProc o r = refl
+no-trap NewPtr o r = made-no_trap NewPtr r _ _ (place_for r.heap _)
+no-trap NewPtrClear o r = made-no_trap NewPtrClear r _ _ (place_for r.heap _)
+no-trap DisposePtr o r = tt
+no-trap BlockMove o r = moved-no_trap BlockMove r (copied r.memory o.first o.second o.third) (copy_refusal r.memory o.first o.second o.third)
+no-trap ExitToShell o r = tt
+no-trap PutByte o r = tt
+no-trap GetByte o r = takes-no_trap GetByte r r.around.input
+no-trap PutBlock o r = either-no_trap PutBlock (in_memory r.memory o.first o.second) _ _ tt tt
+no-trap AskDevice o r = tt
+no-trap EjectDevice o r = tt
+no-trap ExitWith o r = tt
+no-trap UnloadSeg o r = tt
+
+-- a function that a trap word reaches has a trap
+trapped-by : (n word k : ℕ) (here : Bool) → has_trap (trap_of (function_at n)) word ≡ here → (if here then Some n else trap_below n word) ≡ Some k
+    → (trap_below n word ≡ Some k → has_trap (trap_of (function_at k)) word ≡ true) → has_trap (trap_of (function_at k)) word ≡ true
+trapped-by n word k true has is below = let same : n ≡ k = cc in ap (λ j. has_trap (trap_of (function_at j)) word) (sym same) ∙ has
+trapped-by n word k false has is below = below is
+
+trapped : (n word k : ℕ) → trap_below n word ≡ Some k → has_trap (trap_of (function_at k)) word ≡ true
+unfolding trap_below
+trapped zero word k is = cc
+trapped (suc n) word k is = trapped-by n word k (has_trap (trap_of (function_at n)) word) refl is (trapped n word k)
+
+-- so it is not one that crosses
+crossing-none : (f : Function) (active : Active) (x : Effect) (pointer info : ℕ) → HasNoTrap f x → settled f active x ≡ Crosses pointer info → trap_of f ≡ None
+crossing-none f active (Gives r x effects) pointer info none is = cc
+crossing-none f active (CrossesInto at what) pointer info none is = none
+crossing-none f active (LeavesWith code) pointer info none is = cc
+crossing-none f active (Refused access) pointer info none is = cc
+
+pub traps-never_cross : TrapsNeverCross
+unfolding host
+traps-never_cross word k pointer info h reached is =
+    let none : trap_of (function_at k) ≡ None = crossing-none (function_at k) h.active _ pointer info (no-trap (function_at k) (operands_of (function_at k) h.active) h.resources) is in
+    let has = trapped 16 word k reached in
+    let not : false ≡ true = ap (λ trap. has_trap trap word) (sym none) ∙ has in
+    cc
