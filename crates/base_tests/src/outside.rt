@@ -2,8 +2,8 @@
 ghost use Rattle.std.specs.Prelude.{◌≤◌, IfOk};
 
 use mix_io::{
-    Counter, Device, Failed, FetchError, FileShelf, MemShelf, MemSink, MemSource, ScriptDevice,
-    Shelf, Sink, Source, StdSink, StdSource, Tape, have_distinct_names,
+    Counter, Device, Failed, FetchError, FileKeep, FileShelf, Keeper, MemKeep, MemShelf, MemSink,
+    MemSource, ScriptDevice, Shelf, Sink, Source, StdSink, StdSource, Tape, have_distinct_names,
 };
 use std::io::{self, Read, Write};
 use std::test::Fail;
@@ -102,6 +102,62 @@ fn files_of_the_system(rt: HostRuntime) -> Result<(), Fail> {
         shelf.fetch(alloc, path.as_str(), 5),
         Err(FetchError::Failed)
     );
+    Ok(())
+}
+
+#[test]
+fn a_keeper_in_memory(rt: HostRuntime) -> Result<(), Fail> {
+    let alloc = rt.alloc();
+    let name = String::from_str(alloc, "s")?;
+    let mut keeper = MemKeep::new(alloc, name, 6, vec![in alloc; 2]?)?;
+    for (name, answer, kept) in [
+        ("s", Ok(()), "abcd"),
+        ("s", Err(Failed), "abcd"),
+        ("t", Err(Failed), "abcd"),
+        ("s", Err(Failed), "abcdab"),
+    ] {
+        assert_eq!(rt; keeper.keep(name, b"abcd"), answer);
+        assert_eq!(rt; keeper.kept(), kept.as_bytes());
+    }
+    Ok(())
+}
+
+#[test]
+fn a_file_that_is_kept_piece_after_piece(rt: HostRuntime) -> Result<(), Fail> {
+    let alloc = rt.alloc();
+    let id = process::id(rt.process());
+    let path = format!(in alloc; "/tmp/mix_io-kept-{id}")?;
+    fs::write(&rt, path.as_str(), b"what was there before, and is longer")?;
+    let mut keeper = FileKeep::new(&rt);
+    for (piece, held) in [
+        ("front ", "front "),
+        ("", "front "),
+        ("and back", "front and back"),
+    ] {
+        assert_eq!(rt; keeper.keep(path.as_str(), piece.as_bytes()), Ok(()));
+        assert_eq!(rt; fs::read_to_string(&rt, path.as_str())?.as_str(), held);
+    }
+    fs::remove_file(&rt, path.as_str())?;
+    Ok(())
+}
+
+#[test]
+fn a_file_that_cannot_be_kept(rt: HostRuntime) -> Result<(), Fail> {
+    let alloc = rt.alloc();
+    let id = process::id(rt.process());
+    let folder = format!(in alloc; "/tmp/mix_io-folder-{id}")?;
+    let path = format!(in alloc; "{}/kept", folder.as_str())?;
+    let mut keeper = FileKeep::new(&rt);
+    assert_eq!(rt; keeper.keep(path.as_str(), b"piece"), Err(Failed));
+    fs::create_dir(&rt, folder.as_str())?;
+    assert_eq!(rt; keeper.keep(path.as_str(), b"piece"), Ok(()));
+    assert_eq!(rt; fs::read_to_string(&rt, path.as_str())?.as_str(), "piece");
+    fs::remove_file(&rt, path.as_str())?;
+    fs::remove_dir(&rt, folder.as_str())?;
+    // A device that takes no byte: its file opens, and each write to it fails.
+    let mut full = FileKeep::new(&rt);
+    assert_eq!(rt; full.keep("/dev/full", b"piece"), Err(Failed));
+    assert_eq!(rt; full.keep("/dev/full", b"piece"), Err(Failed));
     Ok(())
 }
 

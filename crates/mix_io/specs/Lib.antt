@@ -2,6 +2,7 @@ pub mod Calls
 pub mod Counts
 pub mod Devices
 pub mod Files
+pub mod Kept
 pub mod Memory
 pub mod Texts
 pub mod Told

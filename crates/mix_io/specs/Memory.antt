@@ -1,4 +1,4 @@
--- The shelf, the source and the sink in memory: what each holds, what a call answers and what it leaves.
+-- The shelf, the source, the sink and the keeper in memory: what each holds, what a call answers and what it leaves.
 use Rattle.std.specs.Prelude.{ℕ, ◌-◌, Bool, true, not, ◌&&◌, ◌||◌, List, [], ◌∷◌, ◌++◌, length, take, drop, Option, Some, None, Result, Ok, Err, is_none, is_some, nat_le, slice_get, bytes_eq, if◌then◌else◌}
 use Rattle.std.specs.List.{list_any}
 use Rattle.mix_io.specs.Calls.{CallNumbers, after_call, counted_if, fails_next}
@@ -86,3 +86,31 @@ after_fetch s name = record {
 abbrev pub are_distinct : List (List ℕ) → Bool
 are_distinct [] = true
 are_distinct (name ∷ names) = not (list_any (bytes_eq name) names) && are_distinct names
+
+-- ---- a keeper: one name with a sink for its pieces, and a count of faults for all other names
+
+pub record MemoryKeep : Type 0 where
+  pub name : List ℕ
+  pub pieces : MemorySink
+  pub other_faults : ℕ
+
+abbrev pub kept_as : MemoryKeep → List ℕ → List ℕ
+kept_as s name = if bytes_eq name s.name then s.pieces.bytes else []
+
+abbrev pub keep_faults : MemoryKeep → List ℕ → ℕ
+keep_faults s name = if bytes_eq name s.name then s.pieces.faults else s.other_faults
+
+-- a piece fails for another name, and where the sink fails
+abbrev pub keeps_piece : MemoryKeep → List ℕ → List ℕ → Bool
+keeps_piece s name piece = bytes_eq name s.name && takes_piece s.pieces piece
+
+-- a sink that a call passed by
+abbrev pub passed_by : MemorySink → MemorySink
+passed_by s = record s { calls = after_call s.calls }
+
+abbrev pub after_keep : MemoryKeep → List ℕ → List ℕ → MemoryKeep
+after_keep s name piece = record {
+  name = s.name;
+  pieces = if bytes_eq name s.name then after_put s.pieces piece else passed_by s.pieces;
+  other_faults = counted_if (not (bytes_eq name s.name)) s.other_faults;
+}

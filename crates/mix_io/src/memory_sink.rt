@@ -3,7 +3,7 @@ ghost use Rattle.std.specs.Prelude.{◌≡◌, ◌≤◌, ◌+◌, ◌++◌, [],
 ghost use Rattle.mix_io.specs.Calls.{calls_from_one};
 ghost use Rattle.mix_io.specs.Counts.{HasCause};
 ghost use Rattle.mix_io.specs.Told.{Puts};
-ghost use Rattle.mix_io.specs.Memory.{MemorySink, takes_piece, after_put};
+ghost use Rattle.mix_io.specs.Memory.{MemorySink, takes_piece, after_put, passed_by};
 
 use super::counts::{Calls, count_fault};
 use super::errors::Failed;
@@ -55,6 +55,13 @@ impl MemSink {
         ensures held { ⟦<MemSink as Sink>⟧.held self.now ≡ Some result.now }
     {
         &self.bytes
+    }
+
+    /// Counts a call that puts nothing.
+    pub(crate) fn pass_by(&mut self)
+        ensures { self.new ≡ passed_by self.old }
+    {
+        let _ = self.calls.is_failing();
     }
 }
 

@@ -1,8 +1,9 @@
-// The four traits by which the machine meets the outside. An object may tell what it holds, for proofs
+// The five traits by which the machine meets the outside. An object may tell what it holds, for proofs
 // alone: a member that is `None` tells nothing. Each keeps a count of its faults, in 64 bits, which
 // never falls and stands still at its last value.
-ghost use Rattle.std.specs.Prelude.{◌≡◌, ℕ, ◌≤◌, List, Option, length, IfOk};
-ghost use Rattle.mix_io.specs.Counts.{HasCause, FetchCause};
+ghost use Rattle.std.specs.Prelude.{◌≡◌, ℕ, ◌≤◌, List, Option, length, IfOk, is_err};
+ghost use Rattle.mix_io.specs.Counts.{HasCause, FetchCause, NamedCause};
+ghost use Rattle.mix_io.specs.Kept.{Saves};
 ghost use Rattle.mix_io.specs.Told.{Takes, Puts, Fetches, Hears};
 
 use super::errors::{Failed, FetchError};
@@ -58,4 +59,18 @@ pub trait Device: Drop {
     fn ask(&mut self, word: u32) -> Result<u32, Failed>
         ensures heard { Hears (told self.old) (told self.new) word result }
         ensures cause { HasCause (faults self.old) (faults self.new) result };
+}
+
+/// A place where bytes are kept by name, piece after piece. It may tell the bytes of each name, and
+/// counts its faults for each name, though one count may serve many names.
+pub trait Keeper {
+    ghost kept: { Self → Option (List ℕ → List ℕ) };
+
+    ghost faults: { Self → List ℕ → ℕ };
+
+    /// Keeps the whole piece behind those that were kept by this name, or fails with a front of it
+    /// kept. The first piece of a name starts it empty, whatever was there before this keeper.
+    fn keep(&mut self, name: &str, piece: &[u8]) -> Result<(), Failed>
+        ensures bytes { Saves (kept self.old) (kept self.new) name.now piece.now result }
+        ensures cause { NamedCause (faults self.old) (faults self.new) name.now (is_err result) };
 }
