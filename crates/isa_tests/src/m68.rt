@@ -1,5 +1,6 @@
-//! Words of instructions as GNU as for m68k assembles them (binutils 2.40, `-m68000`), each
-//! with the source line that it was given.
+//! Words of instructions as GNU as for m68k assembles them (binutils 2.40, `-m68000`, and `-m68020` for the additions),
+//! each with the source line that it was given.
+mod additions;
 mod arithmetic;
 mod branches;
 mod immediates;
@@ -26,6 +27,7 @@ fn data(reg: u8, long: bool, disp: u32) -> Index {
         reg,
         address: false,
         long,
+        scale: 1,
         disp,
     }
 }
@@ -36,6 +38,12 @@ fn address(reg: u8, long: bool, disp: u32) -> Index {
         reg,
         address: true,
         long,
+        scale: 1,
         disp,
     }
+}
+
+/// An index times a number.
+fn times(scale: u32, index: Index) -> Index {
+    Index { scale, ..index }
 }

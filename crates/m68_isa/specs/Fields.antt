@@ -1,5 +1,5 @@
 -- The ranges of an instruction's fields.
-use Rattle.std.specs.Prelude.{ℕ, ◌<◌, ◌≤◌, ◌^◌, ◌≢◌}
+use Rattle.std.specs.Prelude.{ℕ, ◌≡◌, ◌<◌, ◌≤◌, ◌^◌, ◌≢◌, ◌⊎◌}
 use Rattle.mix_bits.specs.Sizes.{modulus}
 use Rattle.mix_bits.specs.declared.size.Size.TheVariants.{Zero}
 use Rattle.m68_isa.specs.declared.ea.Ea.{Ea}
@@ -7,13 +7,17 @@ use Rattle.m68_isa.specs.declared.ea.Ea.TheVariants.{Dn, An, Ind, Post, Pre, Dis
 use Rattle.m68_isa.specs.declared.instructions.ShiftCount.{ShiftCount}
 use Rattle.m68_isa.specs.declared.instructions.ShiftCount.TheVariants.{Number, Register}
 use Rattle.m68_isa.specs.declared.instructions.Instr68.{Instr68}
-use Rattle.m68_isa.specs.declared.instructions.Instr68.TheVariants.{Immediate, ImmediateToCcr, BitByRegister, BitByNumber, Movep, Move, Movea, Negx, Clr, Neg, Not, MoveFromSr, MoveToCcr, Nbcd, Swap, Pea, Ext, MovemToMemory, MovemFromMemory, Tst, Tas, Trap, Link, Unlk, Nop, Rts, Trapv, Rtr, Jsr, Jmp, Chk, Lea, Addq, Subq, Scc, Dbcc, Bcc, Moveq, Or, Div, Sbcd, Sub, Suba, Subx, Cmp, Cmpa, Eor, Cmpm, And, Mul, Abcd, Exg, Add, Adda, Addx, Shift, ShiftMemory}
+use Rattle.m68_isa.specs.declared.instructions.Instr68.TheVariants.{Immediate, ImmediateToCcr, BitByRegister, BitByNumber, Movep, Move, Movea, Negx, Clr, Neg, Not, MoveFromSr, MoveToCcr, Nbcd, Swap, Pea, Ext, MovemToMemory, MovemFromMemory, MulLong, DivLong, Tst, Tas, Trap, Link, Unlk, Nop, Rtd, Rts, Trapv, Rtr, Jsr, Jmp, Chk, Lea, Addq, Subq, Scc, Dbcc, Bcc, Moveq, Or, Div, Sbcd, Sub, Suba, Subx, Cmp, Cmpa, Eor, Cmpm, And, Mul, Abcd, Exg, Add, Adda, Addx, Shift, ShiftMemory}
 use Rattle.m68_isa.specs.declared.instructions.Decoded68.{Decoded68}
 use Rattle.m68_isa.specs.declared.instructions.Decoded68.TheVariants.{Op, LineA, LineF, Privileged, Illegal, Short}
 use Rattle.m68_isa.specs.declared.found.Found.{Found}
 use Rattle.m68_isa.specs.declared.found.Found.TheVariants.{Made, Privileged as RowPrivileged, Illegal as RowIllegal}
 
--- each register of an operand is one of the eight
+-- a scale is one of the four
+abbrev pub IsScale : ℕ → Type 0
+IsScale scale = (scale ≡ 1) ⊎ (scale ≡ 2) ⊎ (scale ≡ 4) ⊎ (scale ≡ 8)
+
+-- each register of an operand is one of the eight, and so is the index, whose scale is one of the four
 abbrev pub HasRegisters : Ea → Type 0
 HasRegisters (Dn n) = n < 8
 HasRegisters (An n) = n < 8
@@ -21,11 +25,11 @@ HasRegisters (Ind n) = n < 8
 HasRegisters (Post n) = n < 8
 HasRegisters (Pre n) = n < 8
 HasRegisters (Disp n d) = n < 8
-HasRegisters (Indexed n i) = (n < 8) × (i.reg < 8)
+HasRegisters (Indexed n i) = (n < 8) × (i.reg < 8) × (IsScale i.scale)
 HasRegisters (AbsWord a) = Unit {0}
 HasRegisters (AbsLong a) = Unit {0}
 HasRegisters (PcDisp at d) = Unit {0}
-HasRegisters (PcIndexed at i) = i.reg < 8
+HasRegisters (PcIndexed at i) = (i.reg < 8) × (IsScale i.scale)
 HasRegisters (Imm v) = Unit {0}
 
 -- a number from 1 to 8 or a register
@@ -52,15 +56,18 @@ HasFields (MoveToCcr from) = HasRegisters from
 HasFields (Nbcd to) = HasRegisters to
 HasFields (Swap register) = register < 8
 HasFields (Pea from) = HasRegisters from
-HasFields (Ext size register) = (size ≢ Zero) × (register < 8)
+HasFields (Ext from to register) = (from ≢ Zero) × (to ≢ Zero) × (register < 8)
 HasFields (MovemToMemory size mask to) = (size ≢ Zero) × (mask < 2 ^ 16) × (HasRegisters to)
 HasFields (MovemFromMemory size mask from) = (size ≢ Zero) × (mask < 2 ^ 16) × (HasRegisters from)
+HasFields (MulLong signed wide by high low) = (HasRegisters by) × (high < 8) × (low < 8)
+HasFields (DivLong signed wide by high low) = (HasRegisters by) × (high < 8) × (low < 8)
 HasFields (Tst size of) = (size ≢ Zero) × (HasRegisters of)
 HasFields (Tas to) = HasRegisters to
 HasFields (Trap number) = number < 16
-HasFields (Link register disp) = register < 8
+HasFields (Link size register disp) = (size ≢ Zero) × (register < 8)
 HasFields (Unlk register) = register < 8
 HasFields Nop = Unit {0}
+HasFields (Rtd disp) = Unit {0}
 HasFields Rts = Unit {0}
 HasFields Trapv = Unit {0}
 HasFields Rtr = Unit {0}

@@ -35,7 +35,7 @@ pub record TableLaws : Type 0 where
   -- no first word is in two rows, so that their order says nothing
   pub one_row : (w : ℕ) → w < 2 ^ 16 → rows_with w < 2
   -- of the 65536 first words so many are in a row
-  pub in_a_row : how_many 16 0 (λ w. nat_lt 0 (rows_with w)) ≡ 45816
+  pub in_a_row : how_many 16 0 (λ w. nat_lt 0 (rows_with w)) ≡ 45939
   -- and of these so many are the supervisor's
   pub privileged : how_many 16 0 (λ w. is_privileged (decoded (w ∷ []))) ≡ 75
   -- each operand of an instruction is in the class of modes that its row allows

@@ -8,6 +8,7 @@ pub mod Fields
 pub mod Extended
 pub mod Places
 pub mod Rows
+pub mod Products
 pub mod Immediates
 pub mod Moves
 pub mod Miscellaneous

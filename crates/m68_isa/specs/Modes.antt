@@ -9,7 +9,7 @@ use Rattle.m68_isa.specs.declared.classes.Class.TheVariants.{Any, Data, Alterabl
 use Rattle.m68_isa.specs.declared.instructions.BitOp.{BitOp}
 use Rattle.m68_isa.specs.declared.instructions.BitOp.TheVariants.{Btst, Bchg, Bclr, Bset}
 use Rattle.m68_isa.specs.declared.instructions.Instr68.{Instr68}
-use Rattle.m68_isa.specs.declared.instructions.Instr68.TheVariants.{Immediate, ImmediateToCcr, BitByRegister, BitByNumber, Movep, Move, Movea, Negx, Clr, Neg, Not, MoveFromSr, MoveToCcr, Nbcd, Swap, Pea, Ext, MovemToMemory, MovemFromMemory, Tst, Tas, Trap, Link, Unlk, Nop, Rts, Trapv, Rtr, Jsr, Jmp, Chk, Lea, Addq, Subq, Scc, Dbcc, Bcc, Moveq, Or, Div, Sbcd, Sub, Suba, Subx, Cmp, Cmpa, Eor, Cmpm, And, Mul, Abcd, Exg, Add, Adda, Addx, Shift, ShiftMemory}
+use Rattle.m68_isa.specs.declared.instructions.Instr68.TheVariants.{Immediate, ImmediateToCcr, BitByRegister, BitByNumber, Movep, Move, Movea, Negx, Clr, Neg, Not, MoveFromSr, MoveToCcr, Nbcd, Swap, Pea, Ext, MovemToMemory, MovemFromMemory, MulLong, DivLong, Tst, Tas, Trap, Link, Unlk, Nop, Rtd, Rts, Trapv, Rtr, Jsr, Jmp, Chk, Lea, Addq, Subq, Scc, Dbcc, Bcc, Moveq, Or, Div, Sbcd, Sub, Suba, Subx, Cmp, Cmpa, Eor, Cmpm, And, Mul, Abcd, Exg, Add, Adda, Addx, Shift, ShiftMemory}
 use Rattle.m68_isa.specs.Classes.{in_class, is_source}
 
 -- the mode's three bits and the register's, of which mode 7 makes modes of its own
@@ -81,6 +81,8 @@ has_modes (Nbcd to) = is_in DataAlterable to
 has_modes (Pea from) = is_in Control from
 has_modes (MovemToMemory size mask to) = is_in ControlAlterable to || (mode_of to == 4)
 has_modes (MovemFromMemory size mask from) = is_in Control from || (mode_of from == 3)
+has_modes (MulLong signed wide by high low) = is_in Data by
+has_modes (DivLong signed wide by high low) = is_in Data by
 has_modes (Tst size of) = is_in DataAlterable of
 has_modes (Tas to) = is_in DataAlterable to
 has_modes (Jsr to) = is_in Control to
@@ -105,11 +107,12 @@ has_modes (ShiftMemory op left to) = is_in MemoryAlterable to
 has_modes (ImmediateToCcr op value) = true
 has_modes (Movep size to_memory register base disp) = true
 has_modes (Swap register) = true
-has_modes (Ext size register) = true
+has_modes (Ext from to register) = true
 has_modes (Trap number) = true
-has_modes (Link register disp) = true
+has_modes (Link size register disp) = true
 has_modes (Unlk register) = true
 has_modes Nop = true
+has_modes (Rtd disp) = true
 has_modes Rts = true
 has_modes Trapv = true
 has_modes Rtr = true

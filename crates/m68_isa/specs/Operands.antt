@@ -1,7 +1,7 @@
 -- What the extension words of an operand say
 -- (M68000 Family Programmer's Reference Manual, section 2.2). Words have their numbers in the
 -- instruction, the first word 0; behind the last one stand zeros.
-use Rattle.std.specs.Prelude.{ℕ, ◌+◌, ◌*◌, ◌%◌, ◌==◌, List, Bool, true, if◌then◌else◌, slice_index}
+use Rattle.std.specs.Prelude.{ℕ, ◌+◌, ◌*◌, ◌%◌, ◌^◌, ◌==◌, List, Bool, true, if◌then◌else◌, slice_index}
 use Rattle.mix_bits.specs.Digits.{digit_of}
 use Rattle.mix_bits.specs.Sizes.{sign_extended}
 use Rattle.mix_bits.specs.declared.size.Size.{Size}
@@ -17,13 +17,17 @@ extended_word ws at = sign_extended (slice_index ws at) Two
 abbrev pub long_at : List ℕ → ℕ → ℕ
 long_at ws at = slice_index ws at * 65536 + slice_index ws (at + 1)
 
+-- bits 10 and 9: what the index is multiplied by, as a power of two
+abbrev pub scale_of : ℕ → ℕ
+scale_of w = 2 ^ digit_of w 9 2
+
 -- bit 15 address register, 14 to 12 its number, 11 long, low byte displacement
 abbrev pub index_of : ℕ → Index
-index_of w = record { reg = digit_of w 12 3; address = digit_of w 15 1 == 1; long = digit_of w 11 1 == 1; disp = sign_extended w One }
+index_of w = record { reg = digit_of w 12 3; address = digit_of w 15 1 == 1; long = digit_of w 11 1 == 1; scale = scale_of w; disp = sign_extended w One }
 
--- the scale and the full format, in bits 10 to 8, came with later processors
+-- bit 8 tells the full format, which takes further words and is none of these
 abbrev pub is_index : ℕ → Bool
-is_index w = digit_of w 8 3 == 0
+is_index w = digit_of w 8 1 == 0
 
 abbrev pub immediate_words : Size → ℕ
 immediate_words Zero = 0

@@ -5,7 +5,7 @@ use Rattle.m68_isa.specs.declared.ea.Ea.TheVariants.{Dn, An, Ind, Post, Pre, Dis
 use Rattle.m68_isa.specs.declared.instructions.BitOp.{BitOp}
 use Rattle.m68_isa.specs.declared.instructions.BitOp.TheVariants.{Btst, Bchg, Bclr, Bset}
 use Rattle.m68_isa.specs.declared.instructions.Instr68.{Instr68}
-use Rattle.m68_isa.specs.declared.instructions.Instr68.TheVariants.{Immediate, ImmediateToCcr, BitByRegister, BitByNumber, Movep, Move, Movea, Negx, Clr, Neg, Not, MoveFromSr, MoveToCcr, Nbcd, Swap, Pea, Ext, MovemToMemory, MovemFromMemory, Tst, Tas, Trap, Link, Unlk, Nop, Rts, Trapv, Rtr, Jsr, Jmp, Chk, Lea, Addq, Subq, Scc, Dbcc, Bcc, Moveq, Or, Div, Sbcd, Sub, Suba, Subx, Cmp, Cmpa, Eor, Cmpm, And, Mul, Abcd, Exg, Add, Adda, Addx, Shift, ShiftMemory}
+use Rattle.m68_isa.specs.declared.instructions.Instr68.TheVariants.{Immediate, ImmediateToCcr, BitByRegister, BitByNumber, Movep, Move, Movea, Negx, Clr, Neg, Not, MoveFromSr, MoveToCcr, Nbcd, Swap, Pea, Ext, MovemToMemory, MovemFromMemory, MulLong, DivLong, Tst, Tas, Trap, Link, Unlk, Nop, Rtd, Rts, Trapv, Rtr, Jsr, Jmp, Chk, Lea, Addq, Subq, Scc, Dbcc, Bcc, Moveq, Or, Div, Sbcd, Sub, Suba, Subx, Cmp, Cmpa, Eor, Cmpm, And, Mul, Abcd, Exg, Add, Adda, Addx, Shift, ShiftMemory}
 use Rattle.m68_isa.specs.declared.instructions.Decoded68.{Decoded68}
 use Rattle.m68_isa.specs.declared.instructions.Decoded68.TheVariants.{Op, LineA, LineF, Privileged, Illegal, Short}
 use Rattle.m68_isa.specs.declared.found.Found.{Found}
@@ -101,12 +101,15 @@ HasPlaces (Movep size to_memory register base disp) = Unit {0}
 HasPlaces (Movea size from to) = Unit {0}
 HasPlaces (MoveToCcr from) = Unit {0}
 HasPlaces (Swap register) = Unit {0}
-HasPlaces (Ext size register) = Unit {0}
+HasPlaces (Ext from to register) = Unit {0}
+HasPlaces (MulLong signed wide by high low) = Unit {0}
+HasPlaces (DivLong signed wide by high low) = Unit {0}
 HasPlaces (Tst size of) = Unit {0}
 HasPlaces (Trap number) = Unit {0}
-HasPlaces (Link register disp) = Unit {0}
+HasPlaces (Link size register disp) = Unit {0}
 HasPlaces (Unlk register) = Unit {0}
 HasPlaces Nop = Unit {0}
+HasPlaces (Rtd disp) = Unit {0}
 HasPlaces Rts = Unit {0}
 HasPlaces Trapv = Unit {0}
 HasPlaces Rtr = Unit {0}

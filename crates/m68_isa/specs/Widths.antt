@@ -4,7 +4,7 @@ use Rattle.std.specs.Prelude.{Bool, true, false}
 use Rattle.mix_bits.specs.declared.size.Size.{Size}
 use Rattle.mix_bits.specs.declared.size.Size.TheVariants.{Zero, One, Two, Four}
 use Rattle.m68_isa.specs.declared.instructions.Instr68.{Instr68}
-use Rattle.m68_isa.specs.declared.instructions.Instr68.TheVariants.{Immediate, ImmediateToCcr, BitByRegister, BitByNumber, Movep, Move, Movea, Negx, Clr, Neg, Not, MoveFromSr, MoveToCcr, Nbcd, Swap, Pea, Ext, MovemToMemory, MovemFromMemory, Tst, Tas, Trap, Link, Unlk, Nop, Rts, Trapv, Rtr, Jsr, Jmp, Chk, Lea, Addq, Subq, Scc, Dbcc, Bcc, Moveq, Or, Div, Sbcd, Sub, Suba, Subx, Cmp, Cmpa, Eor, Cmpm, And, Mul, Abcd, Exg, Add, Adda, Addx, Shift, ShiftMemory}
+use Rattle.m68_isa.specs.declared.instructions.Instr68.TheVariants.{Immediate, ImmediateToCcr, BitByRegister, BitByNumber, Movep, Move, Movea, Negx, Clr, Neg, Not, MoveFromSr, MoveToCcr, Nbcd, Swap, Pea, Ext, MovemToMemory, MovemFromMemory, MulLong, DivLong, Tst, Tas, Trap, Link, Unlk, Nop, Rtd, Rts, Trapv, Rtr, Jsr, Jmp, Chk, Lea, Addq, Subq, Scc, Dbcc, Bcc, Moveq, Or, Div, Sbcd, Sub, Suba, Subx, Cmp, Cmpa, Eor, Cmpm, And, Mul, Abcd, Exg, Add, Adda, Addx, Shift, ShiftMemory}
 
 -- a byte, a word or a long
 abbrev pub is_any : Size → Bool
@@ -20,6 +20,13 @@ is_wide One = false
 is_wide Two = true
 is_wide Four = true
 
+-- from a byte to a word or a long, or from a word to a long
+abbrev pub is_extension : Size → Size → Bool
+is_extension One Two = true
+is_extension Two Four = true
+is_extension One Four = true
+is_extension from to = false
+
 -- an instruction without a size has none to choose
 abbrev pub has_size : Instr68 → Bool
 has_size (Immediate op size value to) = is_any size
@@ -30,9 +37,11 @@ has_size (Negx size to) = is_any size
 has_size (Clr size to) = is_any size
 has_size (Neg size to) = is_any size
 has_size (Not size to) = is_any size
-has_size (Ext size register) = is_wide size
+has_size (Ext from to register) = is_extension from to
 has_size (MovemToMemory size mask to) = is_wide size
 has_size (MovemFromMemory size mask from) = is_wide size
+has_size (MulLong signed wide by high low) = true
+has_size (DivLong signed wide by high low) = true
 has_size (Tst size of) = is_any size
 has_size (Addq size number to) = is_any size
 has_size (Subq size number to) = is_any size
@@ -59,9 +68,10 @@ has_size (Swap register) = true
 has_size (Pea from) = true
 has_size (Tas to) = true
 has_size (Trap number) = true
-has_size (Link register disp) = true
+has_size (Link size register disp) = is_wide size
 has_size (Unlk register) = true
 has_size Nop = true
+has_size (Rtd disp) = true
 has_size Rts = true
 has_size Trapv = true
 has_size Rtr = true

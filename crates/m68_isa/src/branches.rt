@@ -9,9 +9,9 @@ ghost use Rattle.m68_isa.specs.Branches.{rows_5, rows_6, rows_7};
 
 use super::classes::{Class, in_class, is_source};
 use super::first::{First, condition_of, low_byte, one_to_eight, size_of};
-use super::found::{Found, alone, pair, with};
+use super::found::{Found, alone, pair, triple, with};
 use super::instructions::Instr68;
-use super::operand::{extended_word, operand_at};
+use super::operand::{extended_word, long_at, operand_at};
 use mix_bits::{Size, sext};
 
 /// Words 0101.
@@ -86,9 +86,13 @@ pub fn branches(f: First, words: &[u16]) -> Found
     ensures places { HasPlacesFound result }
 {
     let condition = condition_of(f);
-    if low_byte(f) == 0 {
+    let byte = low_byte(f);
+    if byte == 0 {
         let disp = extended_word(words, 1);
         pair(Instr68::Bcc { condition, disp })
+    } else if byte == 0xff {
+        let disp = long_at(words, 1);
+        triple(Instr68::Bcc { condition, disp })
     } else {
         let disp = extended_byte(f);
         alone(Instr68::Bcc { condition, disp })

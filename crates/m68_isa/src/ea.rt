@@ -7,6 +7,8 @@ pub struct Index {
     pub address: bool,
     /// The whole register, else its low word, sign extended.
     pub long: bool,
+    /// What it is multiplied by: 1, 2, 4 or 8.
+    pub scale: u32,
     /// The displacement, sign extended.
     pub disp: u32,
 }

@@ -14,7 +14,8 @@ pub enum Found {
         instruction: Instr68,
         /// How many words the row needs.
         used: u32,
-        /// Whether each index word is one of the 68000.
+        /// Whether each index word is of the brief format, and the word that names the registers of a long
+        /// multiplication or division is one.
         good: bool,
     },
     Privileged,
@@ -25,7 +26,7 @@ pub enum Found {
 pub fn alone(instruction: Instr68) -> Found
     ensures value { result ≡ words 1 instruction }
     ensures fields { HasFields instruction → HasFound result }
-    ensures extended { IsExtended instruction → IsExtendedFound result }
+    ensures extended { IsExtended instruction 1 → IsExtendedFound result }
     ensures places { HasPlaces instruction → HasPlacesFound result }
 {
     Found::Made {
@@ -39,7 +40,7 @@ pub fn alone(instruction: Instr68) -> Found
 pub fn pair(instruction: Instr68) -> Found
     ensures value { result ≡ words 2 instruction }
     ensures fields { HasFields instruction → HasFound result }
-    ensures extended { IsExtended instruction → IsExtendedFound result }
+    ensures extended { IsExtended instruction 2 → IsExtendedFound result }
     ensures places { HasPlaces instruction → HasPlacesFound result }
 {
     Found::Made {
@@ -49,11 +50,25 @@ pub fn pair(instruction: Instr68) -> Found
     }
 }
 
+/// An instruction of three words, the last two of which are a long.
+pub fn triple(instruction: Instr68) -> Found
+    ensures value { result ≡ words 3 instruction }
+    ensures fields { HasFields instruction → HasFound result }
+    ensures extended { IsExtended instruction 3 → IsExtendedFound result }
+    ensures places { HasPlaces instruction → HasPlacesFound result }
+{
+    Found::Made {
+        instruction,
+        used: 3,
+        good: true,
+    }
+}
+
 /// An instruction that ends with this operand's words.
 pub fn with(instruction: Instr68, last: Operand) -> Found
     ensures value { result ≡ taken instruction last }
     ensures fields { HasFields instruction → 0 < last.next → last.next ≤ 5 → HasFound result }
-    ensures extended { IsExtended instruction → IsExtendedFound result }
+    ensures extended { IsExtended instruction last.next → IsExtendedFound result }
     ensures places { HasPlaces instruction → HasPlacesFound result }
 {
     Found::Made {

@@ -59,7 +59,7 @@ pub enum Exchange {
     DataAddress,
 }
 
-/// An instruction of the 68000 in user mode, named as in the
+/// An instruction of the 68000 in user mode, or one of the additions of the 68020 that are taken, named as in the
 /// M68000 Family Programmer's Reference Manual, section 4. A register is a number below 8;
 /// which kind it is, the instruction says. Displacements are sign extended.
 #[derive(Clone, Copy, PartialEq)]
@@ -137,9 +137,10 @@ pub enum Instr68 {
     Pea {
         from: Ea,
     },
-    /// ext.w at size Two, from the byte; ext.l at size Four, from the word.
+    /// ext.w from One to Two, ext.l from Two to Four, extb.l from One to Four.
     Ext {
-        size: Size,
+        from: Size,
+        to: Size,
         register: u8,
     },
     /// movem to memory, with the mask as the extension word has it.
@@ -154,6 +155,24 @@ pub enum Instr68 {
         mask: u32,
         from: Ea,
     },
+    /// mulu.l or muls.l by a long. The product's low 32 bits go to the data register `low`, and where it is `wide` its
+    /// high ones to the data register `high`.
+    MulLong {
+        signed: bool,
+        wide: bool,
+        by: Ea,
+        high: u8,
+        low: u8,
+    },
+    /// divu.l or divs.l by a long. The dividend is the data register `low`, or where it is `wide` has its high 32 bits
+    /// in the data register `high`; the quotient goes to `low`, the remainder to `high`.
+    DivLong {
+        signed: bool,
+        wide: bool,
+        by: Ea,
+        high: u8,
+        low: u8,
+    },
     Tst {
         size: Size,
         of: Ea,
@@ -165,7 +184,9 @@ pub enum Instr68 {
     Trap {
         number: u8,
     },
+    /// link with a displacement of a word, at size Two, or of a long, at size Four.
     Link {
+        size: Size,
         register: u8,
         disp: u32,
     },
@@ -173,6 +194,10 @@ pub enum Instr68 {
         register: u8,
     },
     Nop,
+    /// rtd, which adds the displacement to the stack pointer behind the return address.
+    Rtd {
+        disp: u32,
+    },
     Rts,
     Trapv,
     Rtr,
@@ -346,7 +371,7 @@ pub enum Decoded68 {
     LineF,
     /// An instruction of the supervisor.
     Privileged,
-    /// No instruction of the 68000.
+    /// No instruction of the table.
     Illegal,
     /// The first word's row has more words than are given, or none is given.
     Short,

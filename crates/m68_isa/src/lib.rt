@@ -1,4 +1,5 @@
-//! The 68000 as a program sees it: its registers, and its instructions as words.
+//! The 68000 as a program sees it: its registers, and its instructions as words, with the user instructions of the
+//! 68020 that are taken: long branches, extb.l, link.l, rtd, long multiplication and division, scaled index.
 //!
 //! `decode68` gives exactly what the table of `specs/Decode` makes of the words, and no first word is in two rows
 //! of its section.
@@ -18,6 +19,7 @@ mod laws;
 mod miscellaneous;
 mod moves;
 mod operand;
+mod products;
 mod register_longs;
 mod registers;
 mod shifts;

@@ -1,16 +1,17 @@
 ghost use Rattle.std.specs.Prelude.{◌≡◌};
 ghost use Rattle.m68_isa.specs.First.{IsFirst};
-ghost use Rattle.m68_isa.specs.Fields.{HasFound};
-ghost use Rattle.m68_isa.specs.Extended.{IsExtendedFound};
-ghost use Rattle.m68_isa.specs.Places.{HasPlacesFound};
+ghost use Rattle.m68_isa.specs.Fields.{HasFound, HasFields};
+ghost use Rattle.m68_isa.specs.Extended.{IsExtended, IsExtendedFound};
+ghost use Rattle.m68_isa.specs.Places.{HasPlaces, HasPlacesFound};
 ghost use Rattle.m68_isa.specs.Rows.{chosen};
-ghost use Rattle.m68_isa.specs.Miscellaneous.{rows_4_one, rows_4_8, rows_4_test, rows_4_control, rows_4_jump, rows_4_odd};
+ghost use Rattle.m68_isa.specs.Miscellaneous.{extension, rows_4_one, rows_4_8, rows_4_test, rows_4_control, rows_4_jump, rows_4_odd};
 
 use super::classes::{Class, in_class};
 use super::first::{First, long_or_word, size_of};
-use super::found::{Found, alone, pair, with};
+use super::found::{Found, alone, pair, triple, with};
 use super::instructions::Instr68;
-use super::operand::{extended_word, operand_at, word_at};
+use super::operand::{extended_word, long_at, operand_at, word_at};
+use super::products::{division, multiplication};
 use mix_bits::Size;
 
 /// Words 0100 0xx0.
@@ -46,6 +47,23 @@ pub fn one_operand(f: First, words: &[u16]) -> Found
     }
 }
 
+/// ext by bit 6: of a byte to a word, of a word to a long.
+fn extension(f: First) -> Instr68
+    requires { IsFirst f }
+    ensures value { result ≡ extension f }
+    ensures fields { HasFields result }
+    ensures extended { IsExtended result 1 }
+    ensures places { HasPlaces result }
+{
+    let register = f.lower;
+    let (from, to) = if f.size % 2 == 0 {
+        (Size::One, Size::Two)
+    } else {
+        (Size::Two, Size::Four)
+    };
+    Instr68::Ext { from, to, register }
+}
+
 /// Words 0100 1000.
 pub fn registers_and_bytes(f: First, words: &[u16]) -> Found
     requires { IsFirst f }
@@ -61,16 +79,19 @@ pub fn registers_and_bytes(f: First, words: &[u16]) -> Found
     if f.size == 0 && alterable {
         let to = operand_at(words, 1, Size::One, f.mode, f.lower);
         with(Instr68::Nbcd { to: to.ea }, to)
+    } else if f.size == 0 && f.mode == 1 {
+        triple(Instr68::Link {
+            size: Size::Four,
+            register: f.lower,
+            disp: long_at(words, 1),
+        })
     } else if f.size == 1 && f.mode == 0 {
         alone(Instr68::Swap { register: f.lower })
     } else if f.size == 1 && control {
         let from = operand_at(words, 1, Size::Four, f.mode, f.lower);
         with(Instr68::Pea { from: from.ea }, from)
     } else if f.size > 1 && f.mode == 0 {
-        alone(Instr68::Ext {
-            size,
-            register: f.lower,
-        })
+        alone(extension(f))
     } else if f.size > 1 && saved {
         let mask = word_at(words, 1);
         let to = operand_at(words, 2, size, f.mode, f.lower);
@@ -96,6 +117,7 @@ pub fn tests_and_loads(f: First, words: &[u16]) -> Found
     ensures places { HasPlacesFound result }
 {
     let alterable = in_class(Class::DataAlterable, f.mode, f.lower);
+    let data = in_class(Class::Data, f.mode, f.lower);
     let loaded = in_class(Class::Control, f.mode, f.lower) || f.mode == 3;
     if f.upper == 5 && f.size < 3 && alterable {
         let size = size_of(f.size);
@@ -106,6 +128,10 @@ pub fn tests_and_loads(f: First, words: &[u16]) -> Found
         with(Instr68::Tas { to: to.ea }, to)
     } else if f.upper == 5 && f.size == 3 && f.mode == 7 && f.lower == 4 {
         Found::Illegal
+    } else if f.upper == 6 && f.size == 0 && data {
+        multiplication(f, words)
+    } else if f.upper == 6 && f.size == 1 && data {
+        division(f, words)
     } else if f.upper == 6 && f.size > 1 && loaded {
         let size = long_or_word(f.size % 2);
         let mask = word_at(words, 1);
@@ -138,6 +164,7 @@ pub fn control(f: First, words: &[u16]) -> Found
         })
     } else if f.mode == 2 {
         pair(Instr68::Link {
+            size: Size::Two,
             register: f.lower,
             disp: extended_word(words, 1),
         })
@@ -149,6 +176,10 @@ pub fn control(f: First, words: &[u16]) -> Found
         Found::Privileged
     } else if last && f.lower == 1 {
         alone(Instr68::Nop)
+    } else if last && f.lower == 4 {
+        pair(Instr68::Rtd {
+            disp: extended_word(words, 1),
+        })
     } else if last && f.lower == 5 {
         alone(Instr68::Rts)
     } else if last && f.lower == 6 {
@@ -207,6 +238,12 @@ pub fn checks_and_addresses(f: First, words: &[u16]) -> Found
             },
             from,
         )
+    } else if f.upper == 4 && f.size == 3 && f.mode == 0 {
+        alone(Instr68::Ext {
+            from: Size::One,
+            to: Size::Four,
+            register: f.lower,
+        })
     } else {
         Found::Illegal
     }

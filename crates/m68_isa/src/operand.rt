@@ -1,7 +1,7 @@
 ghost use Rattle.std.specs.Prelude.{◌≡◌, ◌+◌, ◌<◌, ◌≤◌, ◌^◌, slice_index, true};
-ghost use Rattle.m68_isa.specs.Operands.{extended_word, long_at, index_of, is_index, immediate_words, immediate_at, operand_at, special_at, plain};
+ghost use Rattle.m68_isa.specs.Operands.{extended_word, long_at, index_of, is_index, scale_of, immediate_words, immediate_at, operand_at, special_at, plain};
 ghost use Rattle.mix_bits.specs.Sizes.{modulus};
-ghost use Rattle.m68_isa.specs.Fields.{HasRegisters};
+ghost use Rattle.m68_isa.specs.Fields.{HasRegisters, IsScale};
 ghost use Rattle.m68_isa.specs.Classes.{up_to, in_class};
 ghost use Rattle.m68_isa.specs.declared.classes.Class.TheVariants.{Control};
 ghost use Rattle.m68_isa.specs.Places.{IsAlterable, IsMemory, IsControl};
@@ -16,7 +16,7 @@ pub struct Operand {
     pub ea: Ea,
     /// The number of the word behind its extension words.
     pub next: u32,
-    /// Whether its index word, if it has one, is one of the 68000.
+    /// Whether its index word, if it has one, is of the brief format.
     pub good: bool,
 }
 
@@ -43,11 +43,24 @@ pub fn extended_word(words: &[u16], at: u32) -> u32
 }
 
 /// The long that begins with this word.
-fn long_at(words: &[u16], at: u32) -> u32
+pub fn long_at(words: &[u16], at: u32) -> u32
     requires { at < 50 }
     ensures { result ≡ long_at words.now at }
 {
     word_at(words, at) * 0x1_0000 + word_at(words, at + 1)
+}
+
+/// What the index is multiplied by.
+fn scale_of(word: u32) -> u32
+    ensures value { result ≡ scale_of word }
+    ensures four { IsScale result }
+{
+    match digit(word, 9, 2) {
+        0 => 1,
+        1 => 2,
+        2 => 4,
+        _ => 8,
+    }
 }
 
 /// The index word's fields.
@@ -56,21 +69,23 @@ fn index_of(word: u32) -> Index
     requires { word < 2 ^ 16 }
     ensures value { result ≡ index_of word }
     ensures register { result.reg < 8 }
+    ensures scale { IsScale result.scale }
     ensures extended { IsByte result.disp }
 {
     Index {
         reg: digit(word, 12, 3) as u8,
         address: digit(word, 15, 1) == 1,
         long: digit(word, 11, 1) == 1,
+        scale: scale_of(word),
         disp: sext(word, Size::One),
     }
 }
 
-/// Whether a word is an index word of the 68000: bits 10 to 8 are zero.
+/// Whether a word is an index word of the brief format: bit 8 is zero.
 fn is_index(word: u32) -> bool
     ensures { result ≡ is_index word }
 {
-    digit(word, 8, 3) == 0
+    digit(word, 8, 1) == 0
 }
 
 /// How many words an immediate has.

@@ -1,5 +1,5 @@
 -- Each operation uses one to five words, and looks at no others.
-use Rattle.std.proofs.Common.{ℕ, ◌≡◌, ◌+◌, ◌%◌, ◌≤◌, ◌==◌, ◌&&◌, nat_lt, true, false, List, slice_index, refl, ap, ◌∙◌, arith}
+use Rattle.std.proofs.Common.{ℕ, ◌≡◌, ◌+◌, ◌%◌, ◌≤◌, ◌==◌, ◌&&◌, nat_lt, Bool, true, false, List, slice_index, refl, ap, ◌∙◌, arith}
 use Rattle.mix_bits.specs.Sizes.{sign_extended}
 use Rattle.mix_bits.specs.declared.size.Size.{Size}
 use Rattle.mix_bits.specs.declared.size.Size.TheVariants.{One, Two, Four}
@@ -8,20 +8,22 @@ use Rattle.m68_isa.specs.declared.instructions.ImmediateOp.{ImmediateOp}
 use Rattle.m68_isa.specs.declared.instructions.ImmediateOp.TheVariants as ImmediateBy
 use Rattle.m68_isa.specs.declared.instructions.Instr68.{Instr68}
 use Rattle.m68_isa.specs.declared.instructions.Instr68.TheVariants as Instr
+use Rattle.m68_isa.specs.declared.operand.Operand.{Operand}
 use Rattle.m68_isa.specs.declared.first.First.{First}
 use Rattle.m68_isa.specs.declared.found.Found.{Found}
 use Rattle.m68_isa.specs.declared.found.Found.TheVariants as Row
 use Rattle.m68_isa.specs.First.{size_of, long_or_word, condition_of, one_to_eight}
-use Rattle.m68_isa.specs.Operands.{operand_at, immediate_words, immediate_at}
+use Rattle.m68_isa.specs.Operands.{operand_at, immediate_words, immediate_at, long_at}
+use Rattle.m68_isa.specs.Products.{by_registers, low_of, high_of, is_signed, is_wide, is_register_word}
 use Rattle.m68_isa.specs.Rows.{words, taken, one}
 use Rattle.m68_isa.specs.Immediates.{immediate_with, logic_op, bit_op}
 use Rattle.m68_isa.specs.Moves.{moved_of, move_mode}
 use Rattle.m68_isa.specs.Shifts.{shift_op}
 use Rattle.m68_ops.specs.declared.op.Op68.{Op68}
-use Rattle.m68_ops.specs.declared.op.Op68.TheVariants.{Ori, Andi, Subi, Addi, Eori, Cmpi, LogicToCcr, BitByNumber, BitByRegister, Movep, MoveByte, MoveWord, MoveLong, MoveaWord, MoveaLong, Negx, Clr, Neg, Not, MoveFromSr, MoveToCcr, Nbcd, Swap, Pea, Ext, MovemToMemory, MovemFromMemory, Tst, Tas, Trap, Link, Unlk, Nop, Rts, Trapv, Rtr, Jsr, Jmp, Chk, Lea, Addq, Subq, Scc, Dbcc, BraByte, BraWord, BsrByte, BsrWord, BccByte, BccWord, Moveq, OrToRegister, OrToMemory, Divu, Divs, Sbcd, SubToRegister, SubToMemory, Suba, Subx, Cmp, Cmpa, Eor, Cmpm, AndToRegister, AndToMemory, Mulu, Muls, Abcd, Exg, AddToRegister, AddToMemory, Adda, Addx, Shift, ShiftMemory, Illegal, Privileged, LineA, LineF}
+use Rattle.m68_ops.specs.declared.op.Op68.TheVariants.{Ori, Andi, Subi, Addi, Eori, Cmpi, LogicToCcr, BitByNumber, BitByRegister, Movep, MoveByte, MoveWord, MoveLong, MoveaWord, MoveaLong, Negx, Clr, Neg, Not, MoveFromSr, MoveToCcr, Nbcd, Swap, Pea, Ext, ExtByte, MovemToMemory, MovemFromMemory, MulLong, DivLong, Tst, Tas, Trap, Link, LinkLong, Unlk, Nop, Rtd, Rts, Trapv, Rtr, Jsr, Jmp, Chk, Lea, Addq, Subq, Scc, Dbcc, BraByte, BraWord, BraLong, BsrByte, BsrWord, BsrLong, BccByte, BccWord, BccLong, Moveq, OrToRegister, OrToMemory, Divu, Divs, Sbcd, SubToRegister, SubToMemory, Suba, Subx, Cmp, Cmpa, Eor, Cmpm, AndToRegister, AndToMemory, Mulu, Muls, Abcd, Exg, AddToRegister, AddToMemory, Adda, Addx, Shift, ShiftMemory, Illegal, Privileged, LineA, LineF}
 use Rattle.m68_ops.specs.Ops.{made}
 use Rattle.m68_ops.specs.Laws.{used_by, HasUsed, AreSame}
-use Rattle.m68_ops.proofs.Words.{operand_near, immediate_same, few_words}
+use Rattle.m68_ops.proofs.Words.{operand_near, immediate_same, few_words, long_same}
 
 -- what is made of some words is made of others that begin with those it uses
 abbrev pub Keeps : List ℕ → List ℕ → Found → Found → Type 0
@@ -29,6 +31,9 @@ Keeps ws us found again = HasUsed found × (AreSame (used_by found) ws us → ag
 
 word_keeps : (make : ℕ → Instr68) (ws us : List ℕ) → Keeps ws us (words 2 (make (slice_index ws 1))) (words 2 (make (slice_index us 1)))
 word_keeps make ws us = ((omega arith, omega arith), λ same. ap (λ v. words 2 (make v)) (same 1 (omega arith)))
+
+long_keeps : (make : ℕ → Instr68) (ws us : List ℕ) → Keeps ws us (words 3 (make (long_at ws 1))) (words 3 (make (long_at us 1)))
+long_keeps make ws us = ((omega arith, omega arith), λ same. ap (λ v. words 3 (make v)) (long_same 1 ws us same))
 
 one_keeps : (make : Ea → Instr68) (s : Size) (f : First) (ws us : List ℕ) → Keeps ws us (one make s f ws) (one make s f us)
 one_keeps make s f ws us =
@@ -47,6 +52,17 @@ behind_keeps make s f ws us =
       (omega arith, omega arith),
       λ same. ap (λ v. let e = operand_at us 2 s f.mode f.lower in taken (make v e.ea) e) (same 1 (omega arith))
           ∙ ap (λ e. taken (make (slice_index ws 1) e.ea) e) (near.2 same),
+    )
+
+-- the word of the registers, then an operand
+registers_keep : (make : Bool → Bool → Ea → ℕ → ℕ → Instr68) (f : First) (ws us : List ℕ) → Keeps ws us (by_registers make f ws) (by_registers make f us)
+registers_keep make f ws us =
+    let near = operand_near ws us 2 Four f.mode f.lower in
+    let from : 2 ≤ (operand_at ws 2 Four f.mode f.lower).next = near.0 in
+    let to : (operand_at ws 2 Four f.mode f.lower).next ≤ 2 + 2 = near.1 in
+    let with : ℕ → Operand → Found = λ w by. Row.Made (make (is_signed w) (is_wide w) by.ea (high_of w) (low_of w)) by.next (is_register_word w && by.good) in (
+      (omega arith, omega arith),
+      λ same. ap (λ w. with w (operand_at us 2 Four f.mode f.lower)) (same 1 (omega arith)) ∙ ap (λ by. with (slice_index ws 1) by) (near.2 same),
     )
 
 immediate_keeps : (op : ImmediateOp) (f : First) (ws us : List ℕ) → Keeps ws us (immediate_with op f ws) (immediate_with op f us)
@@ -103,14 +119,19 @@ keeps Nbcd f ws us = one_keeps (Instr.Nbcd) One f ws us
 keeps Swap f ws us = ((omega arith, omega arith), λ same. refl)
 keeps Pea f ws us = one_keeps (Instr.Pea) Four f ws us
 keeps Ext f ws us = ((omega arith, omega arith), λ same. refl)
+keeps ExtByte f ws us = ((omega arith, omega arith), λ same. refl)
 keeps MovemToMemory f ws us = behind_keeps (Instr.MovemToMemory (long_or_word (f.size % 2))) (long_or_word (f.size % 2)) f ws us
 keeps MovemFromMemory f ws us = behind_keeps (Instr.MovemFromMemory (long_or_word (f.size % 2))) (long_or_word (f.size % 2)) f ws us
+keeps MulLong f ws us = registers_keep Instr.MulLong f ws us
+keeps DivLong f ws us = registers_keep Instr.DivLong f ws us
 keeps Tst f ws us = one_keeps (Instr.Tst (size_of f.size)) (size_of f.size) f ws us
 keeps Tas f ws us = one_keeps (Instr.Tas) One f ws us
 keeps Trap f ws us = ((omega arith, omega arith), λ same. refl)
-keeps Link f ws us = word_keeps (λ v. Instr.Link f.lower (sign_extended v Two)) ws us
+keeps Link f ws us = word_keeps (λ v. Instr.Link Two f.lower (sign_extended v Two)) ws us
+keeps LinkLong f ws us = long_keeps (Instr.Link Four f.lower) ws us
 keeps Unlk f ws us = ((omega arith, omega arith), λ same. refl)
 keeps Nop f ws us = ((omega arith, omega arith), λ same. refl)
+keeps Rtd f ws us = word_keeps (λ v. Instr.Rtd (sign_extended v Two)) ws us
 keeps Rts f ws us = ((omega arith, omega arith), λ same. refl)
 keeps Trapv f ws us = ((omega arith, omega arith), λ same. refl)
 keeps Rtr f ws us = ((omega arith, omega arith), λ same. refl)
@@ -124,10 +145,13 @@ keeps Scc f ws us = one_keeps (Instr.Scc (condition_of f)) One f ws us
 keeps Dbcc f ws us = word_keeps (λ v. Instr.Dbcc (condition_of f) f.lower (sign_extended v Two)) ws us
 keeps BraByte f ws us = ((omega arith, omega arith), λ same. refl)
 keeps BraWord f ws us = word_keeps (λ v. Instr.Bcc 0 (sign_extended v Two)) ws us
+keeps BraLong f ws us = long_keeps (Instr.Bcc 0) ws us
 keeps BsrByte f ws us = ((omega arith, omega arith), λ same. refl)
 keeps BsrWord f ws us = word_keeps (λ v. Instr.Bcc 1 (sign_extended v Two)) ws us
+keeps BsrLong f ws us = long_keeps (Instr.Bcc 1) ws us
 keeps BccByte f ws us = ((omega arith, omega arith), λ same. refl)
 keeps BccWord f ws us = word_keeps (λ v. Instr.Bcc (condition_of f) (sign_extended v Two)) ws us
+keeps BccLong f ws us = long_keeps (Instr.Bcc (condition_of f)) ws us
 keeps Moveq f ws us = ((omega arith, omega arith), λ same. refl)
 keeps OrToRegister f ws us = one_keeps (Instr.Or (size_of f.size) false f.upper) (size_of f.size) f ws us
 keeps OrToMemory f ws us = one_keeps (Instr.Or (size_of f.size) true f.upper) (size_of f.size) f ws us

@@ -1,6 +1,6 @@
 -- What each operation makes of a first word's parts and of the words
 -- (M68000 Family Programmer's Reference Manual, section 8).
-use Rattle.std.specs.Prelude.{ℕ, ◌≡◌, ◌<◌, ◌≤◌, ◌+◌, ◌*◌, ◌%◌, ◌==◌, ◌&&◌, ◌||◌, nat_lt, true, false, List, ◌∷◌, length, slice_index}
+use Rattle.std.specs.Prelude.{ℕ, ◌≡◌, ◌<◌, ◌≤◌, ◌+◌, ◌*◌, ◌%◌, ◌==◌, ◌||◌, nat_lt, true, false, List, ◌∷◌, length, slice_index}
 use Rattle.mix_bits.specs.Sizes.{sign_extended}
 use Rattle.mix_bits.specs.declared.size.Size.TheVariants.{One, Two, Four}
 use Rattle.m68_isa.specs.declared.instructions.ImmediateOp.TheVariants as ImmediateBy
@@ -12,24 +12,28 @@ use Rattle.m68_isa.specs.declared.first.First.{First}
 use Rattle.m68_isa.specs.declared.found.Found.{Found}
 use Rattle.m68_isa.specs.declared.found.Found.TheVariants as Row
 use Rattle.m68_isa.specs.First.{first_of, size_of, long_or_word, low_byte, condition_of, one_to_eight}
-use Rattle.m68_isa.specs.Operands.{extended_word, immediate_at}
+use Rattle.m68_isa.specs.Operands.{extended_word, immediate_at, long_at}
 use Rattle.m68_isa.specs.Rows.{words, one}
 use Rattle.m68_isa.specs.Immediates.{logic_op, immediate_with, bit_by_number, bit_by_register}
 use Rattle.m68_isa.specs.Moves.{moved_of}
 use Rattle.m68_isa.specs.Classes.{in_class}
-use Rattle.m68_isa.specs.Miscellaneous.{sized, masked}
+use Rattle.m68_isa.specs.Miscellaneous.{sized, masked, extension}
+use Rattle.m68_isa.specs.Products.{by_registers}
 use Rattle.m68_isa.specs.Arithmetic.{at_size, at_long_or_word, exchange}
 use Rattle.m68_isa.specs.Shifts.{shift_op, shift_count}
 use Rattle.m68_isa.specs.Decode.{ended, decoded}
 use Rattle.m68_ops.specs.declared.op.Op68.{Op68}
-use Rattle.m68_ops.specs.declared.op.Op68.TheVariants.{Ori, Andi, Subi, Addi, Eori, Cmpi, LogicToCcr, BitByNumber, BitByRegister, Movep, MoveByte, MoveWord, MoveLong, MoveaWord, MoveaLong, Negx, Clr, Neg, Not, MoveFromSr, MoveToCcr, Nbcd, Swap, Pea, Ext, MovemToMemory, MovemFromMemory, Tst, Tas, Trap, Link, Unlk, Nop, Rts, Trapv, Rtr, Jsr, Jmp, Chk, Lea, Addq, Subq, Scc, Dbcc, BraByte, BraWord, BsrByte, BsrWord, BccByte, BccWord, Moveq, OrToRegister, OrToMemory, Divu, Divs, Sbcd, SubToRegister, SubToMemory, Suba, Subx, Cmp, Cmpa, Eor, Cmpm, AndToRegister, AndToMemory, Mulu, Muls, Abcd, Exg, AddToRegister, AddToMemory, Adda, Addx, Shift, ShiftMemory, Illegal, Privileged, LineA, LineF}
+use Rattle.m68_ops.specs.declared.op.Op68.TheVariants.{Ori, Andi, Subi, Addi, Eori, Cmpi, LogicToCcr, BitByNumber, BitByRegister, Movep, MoveByte, MoveWord, MoveLong, MoveaWord, MoveaLong, Negx, Clr, Neg, Not, MoveFromSr, MoveToCcr, Nbcd, Swap, Pea, Ext, ExtByte, MovemToMemory, MovemFromMemory, MulLong, DivLong, Tst, Tas, Trap, Link, LinkLong, Unlk, Nop, Rtd, Rts, Trapv, Rtr, Jsr, Jmp, Chk, Lea, Addq, Subq, Scc, Dbcc, BraByte, BraWord, BraLong, BsrByte, BsrWord, BsrLong, BccByte, BccWord, BccLong, Moveq, OrToRegister, OrToMemory, Divu, Divs, Sbcd, SubToRegister, SubToMemory, Suba, Subx, Cmp, Cmpa, Eor, Cmpm, AndToRegister, AndToMemory, Mulu, Muls, Abcd, Exg, AddToRegister, AddToMemory, Adda, Addx, Shift, ShiftMemory, Illegal, Privileged, LineA, LineF}
 
--- a branch with its displacement in the low byte, or in the word behind
+-- a branch with its displacement in the low byte, in the word behind, or in the long behind
 abbrev pub branch_byte : ℕ → First → Found
 branch_byte condition f = words 1 (Instr.Bcc condition (sign_extended (low_byte f) One))
 
 abbrev pub branch_word : ℕ → List ℕ → Found
 branch_word condition ws = words 2 (Instr.Bcc condition (extended_word ws 1))
+
+abbrev pub branch_long : ℕ → List ℕ → Found
+branch_long condition ws = words 3 (Instr.Bcc condition (long_at ws 1))
 
 -- what an operation makes of the words
 abbrev pub made : Op68 → First → List ℕ → Found
@@ -57,15 +61,20 @@ made MoveToCcr f ws = one Instr.MoveToCcr Two f ws
 made Nbcd f ws = one Instr.Nbcd One f ws
 made Swap f ws = words 1 (Instr.Swap f.lower)
 made Pea f ws = one Instr.Pea Four f ws
-made Ext f ws = words 1 (Instr.Ext (long_or_word (f.size % 2)) f.lower)
+made Ext f ws = words 1 (extension f)
+made ExtByte f ws = words 1 (Instr.Ext One Four f.lower)
 made MovemToMemory f ws = masked Instr.MovemToMemory f ws
 made MovemFromMemory f ws = masked Instr.MovemFromMemory f ws
+made MulLong f ws = by_registers Instr.MulLong f ws
+made DivLong f ws = by_registers Instr.DivLong f ws
 made Tst f ws = sized Instr.Tst f ws
 made Tas f ws = one Instr.Tas One f ws
 made Trap f ws = words 1 (Instr.Trap (f.mode * 8 + f.lower))
-made Link f ws = words 2 (Instr.Link f.lower (extended_word ws 1))
+made Link f ws = words 2 (Instr.Link Two f.lower (extended_word ws 1))
+made LinkLong f ws = words 3 (Instr.Link Four f.lower (long_at ws 1))
 made Unlk f ws = words 1 (Instr.Unlk f.lower)
 made Nop f ws = words 1 Instr.Nop
+made Rtd f ws = words 2 (Instr.Rtd (extended_word ws 1))
 made Rts f ws = words 1 Instr.Rts
 made Trapv f ws = words 1 Instr.Trapv
 made Rtr f ws = words 1 Instr.Rtr
@@ -79,10 +88,13 @@ made Scc f ws = one (Instr.Scc (condition_of f)) One f ws
 made Dbcc f ws = words 2 (Instr.Dbcc (condition_of f) f.lower (extended_word ws 1))
 made BraByte f ws = branch_byte 0 f
 made BraWord f ws = branch_word 0 ws
+made BraLong f ws = branch_long 0 ws
 made BsrByte f ws = branch_byte 1 f
 made BsrWord f ws = branch_word 1 ws
+made BsrLong f ws = branch_long 1 ws
 made BccByte f ws = branch_byte (condition_of f) f
 made BccWord f ws = branch_word (condition_of f) ws
+made BccLong f ws = branch_long (condition_of f) ws
 made Moveq f ws = words 1 (Instr.Moveq (sign_extended (low_byte f) One) f.upper)
 made OrToRegister f ws = at_size (λ s e. Instr.Or s false f.upper e) f ws
 made OrToMemory f ws = at_size (λ s e. Instr.Or s true f.upper e) f ws
@@ -135,4 +147,5 @@ Fits Jmp w = in_class Control (first_of w).mode (first_of w).lower ≡ true
 Fits Lea w = in_class Control (first_of w).mode (first_of w).lower ≡ true
 Fits BccByte w = 2 ≤ condition_of (first_of w)
 Fits BccWord w = 2 ≤ condition_of (first_of w)
+Fits BccLong w = 2 ≤ condition_of (first_of w)
 Fits op w = Unit {0}

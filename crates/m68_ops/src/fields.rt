@@ -1,4 +1,4 @@
-ghost use Rattle.std.specs.Prelude.{◌≡◌, ◌≢◌, ◌<◌, ◌*◌, ◌+◌, ◌%◌, ◌==◌, not, nat_lt};
+ghost use Rattle.std.specs.Prelude.{◌≡◌, ◌≢◌, ◌<◌, ◌*◌, ◌+◌, ◌%◌, ◌==◌, nat_lt};
 ghost use Rattle.mix_bits.specs.Sizes.{sign_extended};
 ghost use Rattle.m68_isa.specs.First.{first_of, size_of, long_or_word, low_byte, condition_of, one_to_eight};
 ghost use Rattle.m68_isa.specs.Immediates.{logic_op, bit_op};
@@ -86,7 +86,7 @@ pub fn size_of(word: u32) -> Size
     }
 }
 
-/// The size of bit 6 in ext, movem and movep: word or long.
+/// The size of bit 6 in movem and movep, and to which one ext extends: word or long.
 #[inline(always)]
 pub fn transfer_size_of(word: u32) -> Size
     ensures is { result ≡ long_or_word ((first_of word).size % 2) }
@@ -116,12 +116,12 @@ pub fn byte_of(word: u32) -> u32
     sext(word % 0x100, Size::One)
 }
 
-/// Whether a branch has its displacement in the low byte: it is not 0.
+/// Bits 7 to 0.
 #[inline(always)]
-pub fn has_byte(word: u32) -> bool
-    ensures { result ≡ not (low_byte (first_of word) == 0) }
+pub fn low_byte_of(word: u32) -> u32
+    ensures { result ≡ low_byte (first_of word) }
 {
-    word % 0x100 != 0
+    word % 0x100
 }
 
 /// The number of addq, subq and of a shift, from 1 to 8, where the field's 0 stands for 8.

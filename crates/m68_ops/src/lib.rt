@@ -13,6 +13,7 @@ mod moves;
 mod op;
 mod places;
 mod read;
+mod registers;
 
 pub use fields::{
     bit_op_of, bit8_of, byte_of, condition_of, exchange_of, is_in_memory, is_left, is_to_memory,
@@ -22,3 +23,4 @@ pub use fields::{
 pub use laws::{op_laws, reading_law};
 pub use op::Op68;
 pub use read::op_of;
+pub use registers::{high_of, is_register_word, is_signed, is_wide, low_of};

@@ -4,7 +4,9 @@ ghost use Rattle.m68_ops.specs.Ops.{Fits, Reads};
 
 use super::fields::{bit8_of, lower_of, mode_of, size_bits_of, upper_of};
 use super::op::Op68;
-use super::places::{is_control, is_control_alterable, is_data, is_data_alterable, is_sized};
+use super::places::{
+    is_control, is_control_alterable, is_control_or_post, is_data, is_data_alterable, is_sized,
+};
 
 /// Words 0100.
 #[inline(always)]
@@ -90,11 +92,15 @@ fn registers_and_bytes(word: u32) -> Op68
     ensures fits { Fits result word }
 {
     match size_bits_of(word) {
-        0 => if is_data_alterable(word) {
-            Op68::Nbcd
-        } else {
-            Op68::Illegal
-        },
+        0 => {
+            if is_data_alterable(word) {
+                Op68::Nbcd
+            } else if mode_of(word) == 1 {
+                Op68::LinkLong
+            } else {
+                Op68::Illegal
+            }
+        }
         1 => {
             if mode_of(word) == 0 {
                 Op68::Swap
@@ -104,15 +110,25 @@ fn registers_and_bytes(word: u32) -> Op68
                 Op68::Illegal
             }
         }
-        _ => {
-            if mode_of(word) == 0 {
-                Op68::Ext
-            } else if is_control_alterable(word) || mode_of(word) == 4 {
-                Op68::MovemToMemory
-            } else {
-                Op68::Illegal
-            }
-        }
+        _ => extensions_and_saves(word),
+    }
+}
+
+/// Words 0100 1000 1.
+fn extensions_and_saves(word: u32) -> Op68
+    requires line { (first_of word).line ≡ 4 }
+    requires even { (first_of word).bit8 ≡ 0 }
+    requires upper { (first_of word).upper ≡ 4 }
+    requires size { 1 < (first_of word).size }
+    ensures reads { Reads result word }
+    ensures fits { Fits result word }
+{
+    if mode_of(word) == 0 {
+        Op68::Ext
+    } else if is_control_alterable(word) || mode_of(word) == 4 {
+        Op68::MovemToMemory
+    } else {
+        Op68::Illegal
     }
 }
 
@@ -141,7 +157,31 @@ fn loads(word: u32) -> Op68
     ensures reads { Reads result word }
     ensures fits { Fits result word }
 {
-    if size_bits_of(word) > 1 && (is_control(word) || mode_of(word) == 3) {
+    match size_bits_of(word) {
+        0 => if is_data(word) {
+            Op68::MulLong
+        } else {
+            Op68::Illegal
+        },
+        1 => if is_data(word) {
+            Op68::DivLong
+        } else {
+            Op68::Illegal
+        },
+        _ => restores(word),
+    }
+}
+
+/// Words 0100 1100 1.
+fn restores(word: u32) -> Op68
+    requires line { (first_of word).line ≡ 4 }
+    requires even { (first_of word).bit8 ≡ 0 }
+    requires upper { (first_of word).upper ≡ 6 }
+    requires size { 1 < (first_of word).size }
+    ensures reads { Reads result word }
+    ensures fits { Fits result word }
+{
+    if is_control_or_post(word) {
         Op68::MovemFromMemory
     } else {
         Op68::Illegal
@@ -184,10 +224,10 @@ fn returns(word: u32) -> Op68
         1 => Op68::Nop,
         2 => Op68::Privileged,
         3 => Op68::Privileged,
+        4 => Op68::Rtd,
         5 => Op68::Rts,
         6 => Op68::Trapv,
-        7 => Op68::Rtr,
-        _ => Op68::Illegal,
+        _ => Op68::Rtr,
     }
 }
 
@@ -223,11 +263,15 @@ fn checks_and_addresses(word: u32) -> Op68
         } else {
             Op68::Illegal
         },
-        3 => if is_control(word) {
-            Op68::Lea
-        } else {
-            Op68::Illegal
-        },
+        3 => {
+            if is_control(word) {
+                Op68::Lea
+            } else if upper_of(word) == 4 && mode_of(word) == 0 {
+                Op68::ExtByte
+            } else {
+                Op68::Illegal
+            }
+        }
         _ => Op68::Illegal,
     }
 }

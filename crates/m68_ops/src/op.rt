@@ -31,15 +31,25 @@ pub enum Op68 {
     Nbcd,
     Swap,
     Pea,
+    /// ext.w or ext.l, by bit 6.
     Ext,
+    /// extb.l.
+    ExtByte,
     MovemToMemory,
     MovemFromMemory,
+    /// mulu.l or muls.l, by the word of the registers.
+    MulLong,
+    /// divu.l or divs.l, by the word of the registers.
+    DivLong,
     Tst,
     Tas,
     Trap,
     Link,
+    /// link with a long.
+    LinkLong,
     Unlk,
     Nop,
+    Rtd,
     Rts,
     Trapv,
     Rtr,
@@ -55,11 +65,15 @@ pub enum Op68 {
     BraByte,
     /// bra with its displacement in the extension word.
     BraWord,
+    /// bra with its displacement in the long behind the word.
+    BraLong,
     BsrByte,
     BsrWord,
+    BsrLong,
     /// bcc at a condition from 2 on.
     BccByte,
     BccWord,
+    BccLong,
     Moveq,
     OrToRegister,
     OrToMemory,
@@ -88,7 +102,7 @@ pub enum Op68 {
     Shift,
     /// The same of a word in memory, by one.
     ShiftMemory,
-    /// No instruction of the 68000.
+    /// No instruction of the table.
     Illegal,
     /// An instruction of the supervisor.
     Privileged,

@@ -84,6 +84,14 @@ pub fn is_control_alterable(word: u32) -> bool
     (place >= 16 && place < 24) || (place >= 40 && place < 58)
 }
 
+/// Whether it is a control place or (An)+.
+#[inline(always)]
+pub fn is_control_or_post(word: u32) -> bool
+    ensures { result ≡ (in_class Control (first_of word).mode (first_of word).lower || ((first_of word).mode == 3)) }
+{
+    is_control(word) || mode_of(word) == 3
+}
+
 /// Whether a byte can be moved from it: any mode but an address register.
 #[inline(always)]
 pub fn is_byte_source(word: u32) -> bool

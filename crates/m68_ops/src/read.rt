@@ -1,9 +1,9 @@
-ghost use Rattle.std.specs.Prelude.{◌≡◌};
-ghost use Rattle.m68_isa.specs.First.{first_of};
+ghost use Rattle.std.specs.Prelude.{◌≡◌, ◌≢◌};
+ghost use Rattle.m68_isa.specs.First.{first_of, low_byte};
 ghost use Rattle.m68_ops.specs.Ops.{Fits, Reads};
 
 use super::arithmetic::{line_8, line_9, line_b, line_c, line_d};
-use super::fields::{bit8_of, condition_of, has_byte, line_of, mode_of, upper_of};
+use super::fields::{bit8_of, condition_of, line_of, low_byte_of, mode_of, upper_of};
 use super::immediates::line_0;
 use super::miscellaneous::line_4;
 use super::moves::{line_1, line_2, line_3};
@@ -65,11 +65,53 @@ fn line_6(word: u32) -> Op68
     ensures reads { Reads result word }
     ensures fits { Fits result word }
 {
-    let byte = has_byte(word);
+    match low_byte_of(word) {
+        0 => branch_by_word(word),
+        0xff => branch_by_long(word),
+        _ => branch_by_byte(word),
+    }
+}
+
+/// A branch with its displacement in the low byte.
+fn branch_by_byte(word: u32) -> Op68
+    requires line { (first_of word).line ≡ 6 }
+    requires some { low_byte (first_of word) ≢ 0 }
+    requires byte { low_byte (first_of word) ≢ 255 }
+    ensures reads { Reads result word }
+    ensures fits { Fits result word }
+{
     match condition_of(word) {
-        0 => if byte { Op68::BraByte } else { Op68::BraWord },
-        1 => if byte { Op68::BsrByte } else { Op68::BsrWord },
-        _ => if byte { Op68::BccByte } else { Op68::BccWord },
+        0 => Op68::BraByte,
+        1 => Op68::BsrByte,
+        _ => Op68::BccByte,
+    }
+}
+
+/// A branch with its displacement in the word behind.
+fn branch_by_word(word: u32) -> Op68
+    requires line { (first_of word).line ≡ 6 }
+    requires none { low_byte (first_of word) ≡ 0 }
+    ensures reads { Reads result word }
+    ensures fits { Fits result word }
+{
+    match condition_of(word) {
+        0 => Op68::BraWord,
+        1 => Op68::BsrWord,
+        _ => Op68::BccWord,
+    }
+}
+
+/// A branch with its displacement in the long behind.
+fn branch_by_long(word: u32) -> Op68
+    requires line { (first_of word).line ≡ 6 }
+    requires mark { low_byte (first_of word) ≡ 255 }
+    ensures reads { Reads result word }
+    ensures fits { Fits result word }
+{
+    match condition_of(word) {
+        0 => Op68::BraLong,
+        1 => Op68::BsrLong,
+        _ => Op68::BccLong,
     }
 }
 

@@ -69,7 +69,8 @@ fn one_operand_and_control_of_line_4(rt: HostRuntime) {
         (
             [0x4886].as_slice(),
             Instr68::Ext {
-                size: Size::Two,
+                from: Size::One,
+                to: Size::Two,
                 register: 6,
             },
         ),
@@ -77,7 +78,8 @@ fn one_operand_and_control_of_line_4(rt: HostRuntime) {
         (
             [0x48C7].as_slice(),
             Instr68::Ext {
-                size: Size::Four,
+                from: Size::Two,
+                to: Size::Four,
                 register: 7,
             },
         ),
@@ -144,6 +146,7 @@ fn one_operand_and_control_of_line_4(rt: HostRuntime) {
         (
             [0x4E56, 0xFFF8].as_slice(),
             Instr68::Link {
+                size: Size::Two,
                 register: 6,
                 disp: 0xFFFF_FFF8,
             },
