@@ -8,10 +8,10 @@
 //! the fault.
 //!
 //! The answers that are stored beside this program were not made by it. GNU as 2.40 assembled the
-//! instructions, and QEMU 7.2 did them, one at a time (as a 68000 and as a 603e in user mode). The lines
-//! of what the manuals leave open, of faults, and of what QEMU does otherwise than the manual says (three
-//! shifts of a word in memory, flags of long immediates from $80000000 on, `link` of A7) are by hand, from
-//! the tables in `docs/`.
+//! instructions, and QEMU 7.2 did them, one at a time (as a 68000, the instructions that came later and
+//! those at odd addresses as a 68020, and as a 603e in user mode). The lines of what the manuals leave open,
+//! of faults, and of what QEMU does otherwise than the manual says (three shifts of a word in memory, flags
+//! of long immediates from $80000000 on, `link` of A7) are by hand, from the tables in `docs/`.
 #![tactic(auto)]
 
 mod area;

@@ -1,4 +1,4 @@
-//! 68000 arithmetic: values and condition codes.
+//! 68K arithmetic: values and condition codes.
 //!
 //! They are those of unbounded integers, cut to their size.
 #![tactic(auto)]
@@ -18,8 +18,8 @@ pub use decimal::{abcd, sbcd};
 pub use laws::overflow_laws;
 pub use logical::logic;
 pub use m68_isa::{LogicOp, ShiftOp};
-pub use products::mul;
-pub use quotients::{Quotient, div};
+pub use products::{Wide, mul, mul_long};
+pub use quotients::{LongQuotient, Quotient, div, div_long};
 pub use shifts::shift;
 pub use sizes::result_flags;
 pub use sums::{Out, add, addx, cmp, sub, subx};

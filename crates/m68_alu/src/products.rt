@@ -1,20 +1,29 @@
 // Products.
-ghost use Rattle.std.specs.Prelude.{◌≡◌, ◌*ℤ◌, FitsSigned};
+ghost use Rattle.std.specs.Prelude.{◌≡◌, ◌*ℤ◌, false, FitsSigned};
 ghost use Rattle.std.specs.Int.{w64};
 ghost use Rattle.mix_bits.specs.Sizes.{signed_of};
-ghost use Rattle.mix_bits.specs.declared.size.Size.TheVariants.{Two};
-ghost use Rattle.m68_alu.specs.Products.{multiplied, product as product_lem};
+ghost use Rattle.m68_alu.specs.Products.{flags_of_bits, long_multiplied, long_product, low_bits, multiplied, product as product_lem};
 
-use super::sizes::{result_flags, signed};
+use super::sizes::{leaves, result_flags, signed};
 use super::sums::Out;
 use m68_isa::Ccr;
 use mix_bits::{Size, trunc};
 
-/// MULS and MULU: the long product of two words, with its flags.
+/// The two halves of a result of 64 bits, or a quotient and its remainder, and the condition codes.
+#[derive(Clone, Copy, Debug, PartialEq, Eq)]
+pub struct Wide {
+    /// The low half, or the quotient.
+    pub low: u32,
+    /// The high half, or the remainder.
+    pub high: u32,
+    pub ccr: Ccr,
+}
+
+/// MULS.W and MULU.W: the long product of two words, with its flags.
 pub fn mul(is_signed: bool, a: u32, b: u32, old: Ccr) -> Out
     ensures { result ≡ multiplied is_signed a b old }
 {
-    let value = product(is_signed, a, b);
+    let value = word_product(is_signed, a, b);
     Out {
         value,
         ccr: result_flags(Size::Four, value, old),
@@ -22,11 +31,11 @@ pub fn mul(is_signed: bool, a: u32, b: u32, old: Ccr) -> Out
 }
 
 /// The product of two words.
-fn product(is_signed: bool, a: u32, b: u32) -> u32
-    ensures { result ≡ product_lem is_signed a b }
+fn word_product(is_signed: bool, a: u32, b: u32) -> u32
+    ensures { result ≡ low_bits 32 (product_lem is_signed 16 a b) }
 {
     if is_signed {
-        signed_product(a, b)
+        signed_product(Size::Two, a, b)
             .rem_euclid(0x1_0000_0000)
             .unsigned_abs() as u32
     } else {
@@ -34,10 +43,62 @@ fn product(is_signed: bool, a: u32, b: u32) -> u32
     }
 }
 
-/// The product of two signed words.
-fn signed_product(a: u32, b: u32) -> i64
-    ensures value { result ≡ signed_of a Two *ℤ signed_of b Two }
+/// MULS.L and MULU.L: the product of two longs in two halves. Where it is to be wide, the flags tell of all its
+/// 64 bits, and V is clear; else they tell of the low half, and V of a product that leaves it.
+pub fn mul_long(is_signed: bool, wide: bool, a: u32, b: u32, old: Ccr) -> Wide
+    ensures { result ≡ long_multiplied is_signed wide a b old }
+{
+    if is_signed {
+        let product = signed_product(Size::Four, a, b);
+        halves(
+            product.cast_unsigned(),
+            wide,
+            leaves(Size::Four, product),
+            old,
+        )
+    } else {
+        let product = u64::from(a) * u64::from(b);
+        halves(product, wide, product >= 0x1_0000_0000, old)
+    }
+}
+
+/// The two halves of a product, and its flags.
+fn halves(product: u64, wide: bool, leaves: bool, old: Ccr) -> Wide
+    ensures { result ≡ long_product wide leaves product old }
+{
+    let low = (product % 0x1_0000_0000) as u32;
+    let ccr = if wide {
+        wide_flags(product, old)
+    } else {
+        Ccr {
+            v: leaves,
+            ..result_flags(Size::Four, low, old)
+        }
+    };
+    Wide {
+        low,
+        high: (product / 0x1_0000_0000) as u32,
+        ccr,
+    }
+}
+
+/// The condition codes of 64 bits: N and Z by all of them, V and C cleared, X as it was.
+fn wide_flags(value: u64, old: Ccr) -> Ccr
+    ensures { result ≡ flags_of_bits 64 value false old }
+{
+    Ccr {
+        x: old.x,
+        n: value >= 0x8000_0000_0000_0000,
+        z: value == 0,
+        v: false,
+        c: false,
+    }
+}
+
+/// The product of two signed values.
+fn signed_product(s: Size, a: u32, b: u32) -> i64
+    ensures value { result ≡ signed_of a s *ℤ signed_of b s }
     ensures fits { FitsSigned w64 result }
 {
-    signed(Size::Two, a) * signed(Size::Two, b)
+    signed(s, a) * signed(s, b)
 }

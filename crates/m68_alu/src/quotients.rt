@@ -1,16 +1,17 @@
 // Quotients.
-ghost use Rattle.std.specs.Prelude.{◌≡◌, ◌≢◌, ◌<◌, ◌^◌, ◌≤ℤ◌, pos, neg_ℤ, int_div, int_rem, FitsSigned};
+ghost use Rattle.std.specs.Prelude.{◌≡◌, ◌≢◌, ◌<◌, ◌^◌, ◌≤ℤ◌, pos, neg_ℤ, int_div, int_rem, true, false, FitsSigned};
 ghost use Rattle.std.specs.Int.{w64};
 ghost use Rattle.mix_bits.specs.Sizes.{signed_of, truncated};
 ghost use Rattle.mix_bits.specs.declared.size.Size.TheVariants.{Two, Four};
-ghost use Rattle.m68_alu.specs.Products.{divided, overflowed, packed as packed_lem, signed_quotient as signed_quotient_lem, unsigned_quotient as unsigned_quotient_lem, word_of as word_of_lem};
+ghost use Rattle.m68_alu.specs.Products.{divided, integer, long_divided, low_bits, overflowed, packed as packed_lem, paired as paired_lem, quotient_in};
 
+use super::products::Wide;
 use super::sizes::{leaves, result_flags, signed};
 use super::sums::Out;
 use m68_isa::Ccr;
 use mix_bits::{Size, trunc};
 
-/// What a division gives.
+/// What a division by a word gives.
 #[derive(Clone, Copy, Debug, PartialEq, Eq)]
 pub enum Quotient {
     /// The divisor is 0.
@@ -21,7 +22,18 @@ pub enum Quotient {
     Done(Out),
 }
 
-/// DIVS and DIVU: the long `a` by the word `b`.
+/// What a division by a long gives.
+#[derive(Clone, Copy, Debug, PartialEq, Eq)]
+pub enum LongQuotient {
+    /// The divisor is 0.
+    ByZero,
+    /// The quotient is no long; these are the condition codes.
+    Overflow(Ccr),
+    /// The quotient low, the remainder high.
+    Done(Wide),
+}
+
+/// DIVS.W and DIVU.W: the long `a` by the word `b`.
 pub fn div(is_signed: bool, a: u32, b: u32, old: Ccr) -> Quotient
     ensures { result ≡ divided is_signed a b old }
 {
@@ -38,7 +50,7 @@ pub fn div(is_signed: bool, a: u32, b: u32, old: Ccr) -> Quotient
 fn unsigned_quotient(a: u32, b: u32, old: Ccr) -> Quotient
     requires some { b ≢ 0 }
     requires word { b < 2 ^ 16 }
-    ensures { result ≡ unsigned_quotient_lem a b old }
+    ensures { result ≡ quotient_in false 16 (pos a) (pos b) (Quotient.Overflow (overflowed old)) (packed_lem old) }
 {
     let quotient = a / b;
     if quotient >= 0x1_0000 {
@@ -51,46 +63,84 @@ fn unsigned_quotient(a: u32, b: u32, old: Ccr) -> Quotient
 /// The quotient of signed numbers.
 fn signed_quotient(a: u32, b: u32, old: Ccr) -> Quotient
     requires { truncated b Two ≢ 0 }
-    ensures { result ≡ signed_quotient_lem (signed_of a Four) (signed_of b Two) old }
+    ensures { result ≡ quotient_in true 16 (signed_of a Four) (signed_of b Two) (Quotient.Overflow (overflowed old)) (packed_lem old) }
 {
-    let quotient = truncated_quotient(a, b);
+    let dividend = signed(Size::Four, a);
+    let divisor = divisor(Size::Two, b);
+    let quotient = divide(dividend, divisor);
     if leaves(Size::Two, quotient) {
         Quotient::Overflow(overflow_flags(old))
     } else {
-        pack(word(quotient), word(remainder(a, b)), old)
+        pack(word(quotient), word(rest(dividend, divisor)), old)
     }
 }
 
-/// The quotient, rounded toward zero.
-fn truncated_quotient(a: u32, b: u32) -> i64
-    requires { truncated b Two ≢ 0 }
-    ensures value { result ≡ int_div (signed_of a Four) (signed_of b Two) }
-    ensures fits { FitsSigned w64 result }
+/// DIVS.L and DIVU.L: 64 bits, given as two longs, by a long.
+pub fn div_long(is_signed: bool, high: u32, low: u32, by: u32, old: Ccr) -> LongQuotient
+    ensures { result ≡ long_divided is_signed high low by old }
 {
-    divide(signed(Size::Four, a), divisor(b))
+    let dividend = u64::from(high) * 0x1_0000_0000 + u64::from(low);
+    if by == 0 {
+        LongQuotient::ByZero
+    } else if is_signed {
+        signed_long_quotient(signed_dividend(dividend), by, old)
+    } else {
+        unsigned_long_quotient(dividend, by, old)
+    }
 }
 
-/// The remainder, with the dividend's sign.
-fn remainder(a: u32, b: u32) -> i64
-    requires { truncated b Two ≢ 0 }
-    ensures value { result ≡ int_rem (signed_of a Four) (signed_of b Two) }
+/// The signed number that 64 bits are.
+fn signed_dividend(dividend: u64) -> i64
+    ensures value { result ≡ integer true 64 dividend }
     ensures fits { FitsSigned w64 result }
 {
-    rest(signed(Size::Four, a), divisor(b))
+    dividend.cast_signed()
+}
+
+/// The quotient of unsigned numbers.
+fn unsigned_long_quotient(a: u64, b: u32, old: Ccr) -> LongQuotient
+    requires { b ≢ 0 }
+    ensures { result ≡ quotient_in false 32 (pos a) (pos b) (LongQuotient.Overflow (overflowed old)) (paired_lem old) }
+{
+    let divisor = u64::from(b);
+    let quotient = a / divisor;
+    if quotient >= 0x1_0000_0000 {
+        LongQuotient::Overflow(overflow_flags(old))
+    } else {
+        pair(quotient as u32, (a % divisor) as u32, old)
+    }
+}
+
+/// The quotient of signed numbers. The least dividend gives no long by any divisor.
+fn signed_long_quotient(a: i64, b: u32, old: Ccr) -> LongQuotient
+    requires { b ≢ 0 }
+    ensures { result ≡ quotient_in true 32 a (signed_of b Four) (LongQuotient.Overflow (overflowed old)) (paired_lem old) }
+{
+    let divisor = divisor(Size::Four, b);
+    if a == i64::MIN {
+        return LongQuotient::Overflow(overflow_flags(old));
+    }
+    let quotient = divide(a, divisor);
+    if leaves(Size::Four, quotient) {
+        LongQuotient::Overflow(overflow_flags(old))
+    } else {
+        pair(long(quotient), long(rest(a, divisor)), old)
+    }
 }
 
 /// A divisor that is not 0.
-fn divisor(b: u32) -> i64
-    requires { truncated b Two ≢ 0 }
-    ensures value { result ≡ signed_of b Two }
+fn divisor(s: Size, b: u32) -> i64
+    requires { truncated b s ≢ 0 }
+    ensures value { result ≡ signed_of b s }
     ensures some { result ≢ pos 0 }
     ensures fits { FitsSigned w64 result }
 {
-    signed(Size::Two, b)
+    signed(s, b)
 }
 
+/// The quotient, rounded toward zero.
 fn divide(x: i64, y: i64) -> i64
-    requires low { neg_ℤ (pos 2147483648) ≤ℤ x }
+    requires low { neg_ℤ (pos 9223372036854775807) ≤ℤ x }
     requires some { y ≢ pos 0 }
     ensures value { result ≡ int_div x y }
     ensures fits { FitsSigned w64 result }
@@ -98,8 +148,9 @@ fn divide(x: i64, y: i64) -> i64
     x / y
 }
 
+/// The remainder, with the dividend's sign.
 fn rest(x: i64, y: i64) -> i64
-    requires low { neg_ℤ (pos 2147483648) ≤ℤ x }
+    requires low { neg_ℤ (pos 9223372036854775807) ≤ℤ x }
     requires some { y ≢ pos 0 }
     ensures value { result ≡ int_rem x y }
     ensures fits { FitsSigned w64 result }
@@ -109,17 +160,24 @@ fn rest(x: i64, y: i64) -> i64
 
 /// The low word of a number.
 fn word(z: i64) -> u32
-    ensures value { result ≡ word_of_lem z }
+    ensures value { result ≡ low_bits 16 z }
     ensures below { result < 2 ^ 16 }
 {
     z.rem_euclid(0x1_0000).unsigned_abs() as u32
+}
+
+/// The low long of a number.
+fn long(z: i64) -> u32
+    ensures { result ≡ low_bits 32 z }
+{
+    z.rem_euclid(0x1_0000_0000).unsigned_abs() as u32
 }
 
 /// A quotient and a remainder in one long, with the flags of the quotient.
 fn pack(quotient: u32, remainder: u32, old: Ccr) -> Quotient
     requires quotient { quotient < 2 ^ 16 }
     requires remainder { remainder < 2 ^ 16 }
-    ensures { result ≡ packed_lem quotient remainder old }
+    ensures { result ≡ packed_lem old quotient remainder }
 {
     Quotient::Done(Out {
         value: remainder * 0x1_0000 + quotient,
@@ -127,7 +185,18 @@ fn pack(quotient: u32, remainder: u32, old: Ccr) -> Quotient
     })
 }
 
-/// The condition codes where the quotient is no word.
+/// A quotient and a remainder of a long each, with the flags of the quotient.
+fn pair(quotient: u32, remainder: u32, old: Ccr) -> LongQuotient
+    ensures { result ≡ paired_lem old quotient remainder }
+{
+    LongQuotient::Done(Wide {
+        low: quotient,
+        high: remainder,
+        ccr: result_flags(Size::Four, quotient, old),
+    })
+}
+
+/// The condition codes where the quotient leaves its size.
 fn overflow_flags(old: Ccr) -> Ccr
     ensures { result ≡ overflowed old }
 {

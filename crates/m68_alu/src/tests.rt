@@ -1,5 +1,6 @@
 use crate::{
-    LogicOp, Out, Quotient, ShiftOp, abcd, add, addx, cmp, div, logic, mul, sbcd, shift, sub, subx,
+    LogicOp, LongQuotient, Out, Quotient, ShiftOp, Wide, abcd, add, addx, cmp, div, div_long,
+    logic, mul, mul_long, sbcd, shift, sub, subx,
 };
 use m68_isa::Ccr;
 use mix_bits::Size;
@@ -8,6 +9,15 @@ use mix_bits::Size;
 fn out(value: u32, flags: u32) -> Out {
     Out {
         value,
+        ccr: Ccr::from_bits(flags),
+    }
+}
+
+/// A pair of longs with its flags as the bits X N Z V C.
+fn wide(high: u32, low: u32, flags: u32) -> Wide {
+    Wide {
+        low,
+        high,
         ccr: Ccr::from_bits(flags),
     }
 }
@@ -239,4 +249,116 @@ fn products_and_quotients(rt: HostRuntime) {
         Quotient::Overflow(Ccr::from_bits(0b11110))
     );
     assert_eq!(rt; div(false, 5, 0x1_0000, none()), Quotient::ByZero);
+}
+
+#[test]
+fn long_products(rt: HostRuntime) {
+    let all = Ccr::from_bits(0b11111);
+    let rows = [
+        // signed, wide, the factors, the condition codes before, what comes of it
+        (
+            false,
+            false,
+            0xFFFF_FFFF,
+            2,
+            none(),
+            wide(1, 0xFFFF_FFFE, 0b01010),
+        ),
+        (
+            true,
+            false,
+            0xFFFF_FFFF,
+            2,
+            all,
+            wide(0xFFFF_FFFF, 0xFFFF_FFFE, 0b11000),
+        ),
+        (
+            true,
+            false,
+            0x1_0000,
+            0x8000,
+            none(),
+            wide(0, 0x8000_0000, 0b01010),
+        ),
+        (
+            false,
+            false,
+            0x1_0000,
+            0x1_0000,
+            none(),
+            wide(1, 0, 0b00110),
+        ),
+        (false, true, 0x1_0000, 0x1_0000, none(), wide(1, 0, 0b00000)),
+        (
+            true,
+            true,
+            0x8000_0000,
+            0x8000_0000,
+            all,
+            wide(0x4000_0000, 0, 0b10000),
+        ),
+        (
+            false,
+            true,
+            0xFFFF_FFFF,
+            0xFFFF_FFFF,
+            none(),
+            wide(0xFFFF_FFFE, 1, 0b01000),
+        ),
+        (
+            true,
+            true,
+            0xFFFF_FFFF,
+            1,
+            none(),
+            wide(0xFFFF_FFFF, 0xFFFF_FFFF, 0b01000),
+        ),
+        (true, true, 0, 5, all, wide(0, 0, 0b10100)),
+    ];
+    for (is_signed, is_wide, a, b, old, wanted) in rows {
+        assert_eq!(rt; mul_long(is_signed, is_wide, a, b, old), wanted);
+    }
+}
+
+#[test]
+fn long_quotients(rt: HostRuntime) {
+    let rows = [
+        // signed, the dividend's longs, the divisor, the remainder, the quotient, the condition codes
+        (false, 0, 100, 7, wide(2, 14, 0b00000)),
+        (
+            true,
+            0xFFFF_FFFF,
+            0xFFFF_FF9C,
+            7,
+            wide(0xFFFF_FFFE, 0xFFFF_FFF2, 0b01000),
+        ),
+        (true, 0, 100, 0xFFFF_FFF9, wide(2, 0xFFFF_FFF2, 0b01000)),
+        (
+            true,
+            0xFFFF_FFFF,
+            0x8000_0000,
+            1,
+            wide(0, 0x8000_0000, 0b01000),
+        ),
+        (
+            false,
+            0xFFFF_FFFE,
+            0xFFFF_FFFF,
+            0xFFFF_FFFF,
+            wide(0xFFFF_FFFE, 0xFFFF_FFFF, 0b01000),
+        ),
+        (false, 0, 6, 7, wide(6, 0, 0b00100)),
+    ];
+    for (is_signed, high, low, by, wanted) in rows {
+        assert_eq!(rt;
+            div_long(is_signed, high, low, by, none()),
+            LongQuotient::Done(wanted)
+        );
+    }
+    let old = Ccr::from_bits(0b11101);
+    let left = LongQuotient::Overflow(Ccr::from_bits(0b11110));
+    assert_eq!(rt; div_long(true, 0, 0x8000_0000, 1, old), left);
+    assert_eq!(rt; div_long(true, 0x8000_0000, 0, 0xFFFF_FFFF, old), left);
+    assert_eq!(rt; div_long(false, 1, 0, 1, old), left);
+    assert_eq!(rt; div_long(true, 0, 5, 0, old), LongQuotient::ByZero);
 }

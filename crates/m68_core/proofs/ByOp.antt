@@ -11,7 +11,7 @@ use Rattle.m68_isa.specs.declared.found.Found.TheVariants.{Made, Privileged as N
 use Rattle.m68_isa.specs.First.{first_of}
 use Rattle.m68_isa.specs.Decode.{ended, decoded}
 use Rattle.m68_ops.specs.declared.op.Op68.{Op68}
-use Rattle.m68_ops.specs.declared.op.Op68.TheVariants.{Ori, Andi, Subi, Addi, Eori, Cmpi, LogicToCcr, BitByNumber, BitByRegister, Movep, MoveByte, MoveWord, MoveLong, MoveaWord, MoveaLong, Negx, Clr, Neg, Not, MoveFromSr, MoveToCcr, Nbcd, Swap, Pea, Ext, MovemToMemory, MovemFromMemory, Tst, Tas, Trap, Link, Unlk, Nop, Rts, Trapv, Rtr, Jsr, Jmp, Chk, Lea, Addq, Subq, Scc, Dbcc, BraByte, BraWord, BsrByte, BsrWord, BccByte, BccWord, Moveq, OrToRegister, OrToMemory, Divu, Divs, Sbcd, SubToRegister, SubToMemory, Suba, Subx, Cmp, Cmpa, Eor, Cmpm, AndToRegister, AndToMemory, Mulu, Muls, Abcd, Exg, AddToRegister, AddToMemory, Adda, Addx, Shift, ShiftMemory, Illegal, Privileged, LineA, LineF}
+use Rattle.m68_ops.specs.declared.op.Op68.TheVariants.{Ori, Andi, Subi, Addi, Eori, Cmpi, LogicToCcr, BitByNumber, BitByRegister, Movep, MoveByte, MoveWord, MoveLong, MoveaWord, MoveaLong, Negx, Clr, Neg, Not, MoveFromSr, MoveToCcr, Nbcd, Swap, Pea, Ext, ExtByte, MovemToMemory, MovemFromMemory, MulLong, DivLong, Tst, Tas, Trap, Link, LinkLong, Unlk, Nop, Rtd, Rts, Trapv, Rtr, Jsr, Jmp, Chk, Lea, Addq, Subq, Scc, Dbcc, BraByte, BraWord, BraLong, BsrByte, BsrWord, BsrLong, BccByte, BccWord, BccLong, Moveq, OrToRegister, OrToMemory, Divu, Divs, Sbcd, SubToRegister, SubToMemory, Suba, Subx, Cmp, Cmpa, Eor, Cmpm, AndToRegister, AndToMemory, Mulu, Muls, Abcd, Exg, AddToRegister, AddToMemory, Adda, Addx, Shift, ShiftMemory, Illegal, Privileged, LineA, LineF}
 use Rattle.m68_ops.specs.Ops.{made, read, Reads}
 use Rattle.m68_ops.specs.Laws.{OpLaws, whole}
 use Rattle.big_memory.specs.Memory.{Memory}
@@ -59,14 +59,19 @@ read-runs laws r m w Nbcd first there = made-runs r m (words_at m r.pc) w (made 
 read-runs laws r m w Swap first there = made-runs r m (words_at m r.pc) w (made Swap (first_of w) (words_at m r.pc)) first (laws.none_missing Swap (first_of w) (words_at m r.pc) there)
 read-runs laws r m w Pea first there = made-runs r m (words_at m r.pc) w (made Pea (first_of w) (words_at m r.pc)) first (laws.none_missing Pea (first_of w) (words_at m r.pc) there)
 read-runs laws r m w Ext first there = made-runs r m (words_at m r.pc) w (made Ext (first_of w) (words_at m r.pc)) first (laws.none_missing Ext (first_of w) (words_at m r.pc) there)
+read-runs laws r m w ExtByte first there = made-runs r m (words_at m r.pc) w (made ExtByte (first_of w) (words_at m r.pc)) first (laws.none_missing ExtByte (first_of w) (words_at m r.pc) there)
 read-runs laws r m w MovemToMemory first there = made-runs r m (words_at m r.pc) w (made MovemToMemory (first_of w) (words_at m r.pc)) first (laws.none_missing MovemToMemory (first_of w) (words_at m r.pc) there)
 read-runs laws r m w MovemFromMemory first there = made-runs r m (words_at m r.pc) w (made MovemFromMemory (first_of w) (words_at m r.pc)) first (laws.none_missing MovemFromMemory (first_of w) (words_at m r.pc) there)
+read-runs laws r m w MulLong first there = made-runs r m (words_at m r.pc) w (made MulLong (first_of w) (words_at m r.pc)) first (laws.none_missing MulLong (first_of w) (words_at m r.pc) there)
+read-runs laws r m w DivLong first there = made-runs r m (words_at m r.pc) w (made DivLong (first_of w) (words_at m r.pc)) first (laws.none_missing DivLong (first_of w) (words_at m r.pc) there)
 read-runs laws r m w Tst first there = made-runs r m (words_at m r.pc) w (made Tst (first_of w) (words_at m r.pc)) first (laws.none_missing Tst (first_of w) (words_at m r.pc) there)
 read-runs laws r m w Tas first there = made-runs r m (words_at m r.pc) w (made Tas (first_of w) (words_at m r.pc)) first (laws.none_missing Tas (first_of w) (words_at m r.pc) there)
 read-runs laws r m w Trap first there = made-runs r m (words_at m r.pc) w (made Trap (first_of w) (words_at m r.pc)) first (laws.none_missing Trap (first_of w) (words_at m r.pc) there)
 read-runs laws r m w Link first there = made-runs r m (words_at m r.pc) w (made Link (first_of w) (words_at m r.pc)) first (laws.none_missing Link (first_of w) (words_at m r.pc) there)
+read-runs laws r m w LinkLong first there = made-runs r m (words_at m r.pc) w (made LinkLong (first_of w) (words_at m r.pc)) first (laws.none_missing LinkLong (first_of w) (words_at m r.pc) there)
 read-runs laws r m w Unlk first there = made-runs r m (words_at m r.pc) w (made Unlk (first_of w) (words_at m r.pc)) first (laws.none_missing Unlk (first_of w) (words_at m r.pc) there)
 read-runs laws r m w Nop first there = made-runs r m (words_at m r.pc) w (made Nop (first_of w) (words_at m r.pc)) first (laws.none_missing Nop (first_of w) (words_at m r.pc) there)
+read-runs laws r m w Rtd first there = made-runs r m (words_at m r.pc) w (made Rtd (first_of w) (words_at m r.pc)) first (laws.none_missing Rtd (first_of w) (words_at m r.pc) there)
 read-runs laws r m w Rts first there = made-runs r m (words_at m r.pc) w (made Rts (first_of w) (words_at m r.pc)) first (laws.none_missing Rts (first_of w) (words_at m r.pc) there)
 read-runs laws r m w Trapv first there = made-runs r m (words_at m r.pc) w (made Trapv (first_of w) (words_at m r.pc)) first (laws.none_missing Trapv (first_of w) (words_at m r.pc) there)
 read-runs laws r m w Rtr first there = made-runs r m (words_at m r.pc) w (made Rtr (first_of w) (words_at m r.pc)) first (laws.none_missing Rtr (first_of w) (words_at m r.pc) there)
@@ -80,10 +85,13 @@ read-runs laws r m w Scc first there = made-runs r m (words_at m r.pc) w (made S
 read-runs laws r m w Dbcc first there = made-runs r m (words_at m r.pc) w (made Dbcc (first_of w) (words_at m r.pc)) first (laws.none_missing Dbcc (first_of w) (words_at m r.pc) there)
 read-runs laws r m w BraByte first there = made-runs r m (words_at m r.pc) w (made BraByte (first_of w) (words_at m r.pc)) first (laws.none_missing BraByte (first_of w) (words_at m r.pc) there)
 read-runs laws r m w BraWord first there = made-runs r m (words_at m r.pc) w (made BraWord (first_of w) (words_at m r.pc)) first (laws.none_missing BraWord (first_of w) (words_at m r.pc) there)
+read-runs laws r m w BraLong first there = made-runs r m (words_at m r.pc) w (made BraLong (first_of w) (words_at m r.pc)) first (laws.none_missing BraLong (first_of w) (words_at m r.pc) there)
 read-runs laws r m w BsrByte first there = made-runs r m (words_at m r.pc) w (made BsrByte (first_of w) (words_at m r.pc)) first (laws.none_missing BsrByte (first_of w) (words_at m r.pc) there)
 read-runs laws r m w BsrWord first there = made-runs r m (words_at m r.pc) w (made BsrWord (first_of w) (words_at m r.pc)) first (laws.none_missing BsrWord (first_of w) (words_at m r.pc) there)
+read-runs laws r m w BsrLong first there = made-runs r m (words_at m r.pc) w (made BsrLong (first_of w) (words_at m r.pc)) first (laws.none_missing BsrLong (first_of w) (words_at m r.pc) there)
 read-runs laws r m w BccByte first there = made-runs r m (words_at m r.pc) w (made BccByte (first_of w) (words_at m r.pc)) first (laws.none_missing BccByte (first_of w) (words_at m r.pc) there)
 read-runs laws r m w BccWord first there = made-runs r m (words_at m r.pc) w (made BccWord (first_of w) (words_at m r.pc)) first (laws.none_missing BccWord (first_of w) (words_at m r.pc) there)
+read-runs laws r m w BccLong first there = made-runs r m (words_at m r.pc) w (made BccLong (first_of w) (words_at m r.pc)) first (laws.none_missing BccLong (first_of w) (words_at m r.pc) there)
 read-runs laws r m w Moveq first there = made-runs r m (words_at m r.pc) w (made Moveq (first_of w) (words_at m r.pc)) first (laws.none_missing Moveq (first_of w) (words_at m r.pc) there)
 read-runs laws r m w OrToRegister first there = made-runs r m (words_at m r.pc) w (made OrToRegister (first_of w) (words_at m r.pc)) first (laws.none_missing OrToRegister (first_of w) (words_at m r.pc) there)
 read-runs laws r m w OrToMemory first there = made-runs r m (words_at m r.pc) w (made OrToMemory (first_of w) (words_at m r.pc)) first (laws.none_missing OrToMemory (first_of w) (words_at m r.pc) there)

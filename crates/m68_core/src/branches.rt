@@ -1,5 +1,6 @@
 // Branches, whose displacements count from the address behind the first word.
-ghost use Rattle.std.specs.Prelude.{◌≡◌, ◌<◌};
+ghost use Rattle.std.specs.Prelude.{◌≡◌, ◌*◌, ◌<◌, ◌≤◌};
+ghost use Rattle.mix_bits.specs.Addresses.{onward as onward_of};
 ghost use Rattle.big_memory.specs.Steps.{Does};
 ghost use Rattle.m68_effects.specs.Control.{called, counted as counted_of};
 ghost use Rattle.m68_effects.specs.Parts.{after};
@@ -8,7 +9,7 @@ ghost use Rattle.m68_isa.specs.Targets.{branch_target as target_of};
 ghost use Rattle.m68_ops.specs.Ops.{Fits};
 
 use big_memory::{Did, Ram};
-use m68_ea::{extended_word, go_on, push};
+use m68_ea::{extended_word, go_on, long_at, push};
 use m68_isa::{Regs68, branch_target, holds};
 use m68_ops::{Op68, byte_of, condition_of, lower_of};
 use mix_bits::{Fault, Size, onward, with_low};
@@ -29,13 +30,20 @@ pub fn do_bra_word(regs: &mut Regs68, ram: &Ram, fault: &mut Fault, word: u32) -
     branch(regs, extended_word(ram, regs.pc, 1))
 }
 
+/// bra, its displacement in the long behind the word.
+#[inline(never)]
+pub fn do_bra_long(regs: &mut Regs68, ram: &Ram, fault: &mut Fault, word: u32) -> Did
+    ensures { Does (by_op Op68.BraLong regs.old ram.now word) result fault.new regs.old regs.new ram.now ram.now }
+{
+    branch(regs, long_at(ram, regs.pc, 1))
+}
+
 /// bsr, its displacement in the low byte of the word.
 #[inline(never)]
 pub fn do_bsr_byte(regs: &mut Regs68, ram: &mut Ram, fault: &mut Fault, word: u32) -> Did
     ensures { Does (by_op Op68.BsrByte regs.old ram.old word) result fault.new regs.old regs.new ram.old ram.new }
 {
-    let target = branch_target(regs.pc, byte_of(word));
-    call(regs, ram, fault, onward(regs.pc, 2), target)
+    call_by(regs, ram, fault, byte_of(word), 1)
 }
 
 /// bsr, its displacement in the extension word.
@@ -43,8 +51,17 @@ pub fn do_bsr_byte(regs: &mut Regs68, ram: &mut Ram, fault: &mut Fault, word: u3
 pub fn do_bsr_word(regs: &mut Regs68, ram: &mut Ram, fault: &mut Fault, word: u32) -> Did
     ensures { Does (by_op Op68.BsrWord regs.old ram.old word) result fault.new regs.old regs.new ram.old ram.new }
 {
-    let target = branch_target(regs.pc, extended_word(ram, regs.pc, 1));
-    call(regs, ram, fault, onward(regs.pc, 4), target)
+    let displacement = extended_word(ram, regs.pc, 1);
+    call_by(regs, ram, fault, displacement, 2)
+}
+
+/// bsr, its displacement in the long behind the word.
+#[inline(never)]
+pub fn do_bsr_long(regs: &mut Regs68, ram: &mut Ram, fault: &mut Fault, word: u32) -> Did
+    ensures { Does (by_op Op68.BsrLong regs.old ram.old word) result fault.new regs.old regs.new ram.old ram.new }
+{
+    let displacement = long_at(ram, regs.pc, 1);
+    call_by(regs, ram, fault, displacement, 3)
 }
 
 /// bcc, its displacement in the low byte of the word.
@@ -70,6 +87,19 @@ pub fn do_bcc_word(regs: &mut Regs68, ram: &Ram, fault: &mut Fault, word: u32) -
         branch(regs, extended_word(ram, regs.pc, 1))
     } else {
         go_on(regs, 2)
+    }
+}
+
+/// bcc, its displacement in the long behind the word.
+#[inline(never)]
+pub fn do_bcc_long(regs: &mut Regs68, ram: &Ram, fault: &mut Fault, word: u32) -> Did
+    requires { Fits Op68.BccLong word }
+    ensures { Does (by_op Op68.BccLong regs.old ram.now word) result fault.new regs.old regs.new ram.now ram.now }
+{
+    if holds(condition_of(word), regs.ccr) {
+        branch(regs, long_at(ram, regs.pc, 1))
+    } else {
+        go_on(regs, 3)
     }
 }
 
@@ -109,6 +139,22 @@ fn branch(regs: &mut Regs68, displacement: u32) -> Did
 {
     regs.pc = branch_target(regs.pc, displacement);
     Did::Next
+}
+
+/// Calls what stands where a displacement tells, by an instruction of so many words.
+#[inline(always)]
+fn call_by(
+    regs: &mut Regs68,
+    ram: &mut Ram,
+    fault: &mut Fault,
+    displacement: u32,
+    words: u32,
+) -> Did
+    requires { words ≤ 5 }
+    ensures { Does (after (called regs.old ram.old (onward_of regs.old.pc (2 * words)) (target_of regs.old.pc displacement))) result fault.new regs.old regs.new ram.old ram.new }
+{
+    let target = branch_target(regs.pc, displacement);
+    call(regs, ram, fault, onward(regs.pc, 2 * words), target)
 }
 
 /// Pushes the address of the next instruction, and lets the program go on elsewhere.

@@ -4,15 +4,17 @@ ghost use Rattle.m68_effects.specs.Ops.{by_op};
 ghost use Rattle.m68_ops.specs.Ops.{Fits};
 
 use super::branches::{
-    do_bcc_byte, do_bcc_word, do_bra_byte, do_bra_word, do_bsr_byte, do_bsr_word, do_dbcc,
+    do_bcc_byte, do_bcc_long, do_bcc_word, do_bra_byte, do_bra_long, do_bra_word, do_bsr_byte,
+    do_bsr_long, do_bsr_word, do_dbcc,
 };
-use super::jumps::{do_jmp, do_jsr, do_rtr, do_rts};
+use super::jumps::{do_jmp, do_jsr, do_rtd, do_rtr, do_rts};
 use super::traps::{do_illegal, do_line_a, do_line_f, do_nop, do_privileged, do_trap, do_trapv};
 use big_memory::{Did, Ram};
 use m68_arithmetic::{
     do_abcd, do_add_to_memory, do_add_to_register, do_adda, do_addi, do_addq, do_addx, do_chk,
-    do_cmp, do_cmpa, do_cmpi, do_cmpm, do_divs, do_divu, do_muls, do_mulu, do_nbcd, do_neg,
-    do_negx, do_sbcd, do_sub_to_memory, do_sub_to_register, do_suba, do_subi, do_subq, do_subx,
+    do_cmp, do_cmpa, do_cmpi, do_cmpm, do_div_long, do_divs, do_divu, do_mul_long, do_muls,
+    do_mulu, do_nbcd, do_neg, do_negx, do_sbcd, do_sub_to_memory, do_sub_to_register, do_suba,
+    do_subi, do_subq, do_subx,
 };
 use m68_isa::Regs68;
 use m68_logic::{
@@ -20,9 +22,10 @@ use m68_logic::{
     do_eori, do_not, do_or_to_memory, do_or_to_register, do_ori, do_shift, do_shift_memory,
 };
 use m68_movement::{
-    do_clr, do_exg, do_ext, do_lea, do_link, do_logic_to_ccr, do_move_byte, do_move_from_sr,
-    do_move_long, do_move_to_ccr, do_move_word, do_movea_long, do_movea_word, do_movem_from_memory,
-    do_movem_to_memory, do_movep, do_moveq, do_pea, do_scc, do_swap, do_tas, do_tst, do_unlk,
+    do_clr, do_exg, do_ext, do_ext_byte, do_lea, do_link, do_link_long, do_logic_to_ccr,
+    do_move_byte, do_move_from_sr, do_move_long, do_move_to_ccr, do_move_word, do_movea_long,
+    do_movea_word, do_movem_from_memory, do_movem_to_memory, do_movep, do_moveq, do_pea, do_scc,
+    do_swap, do_tas, do_tst, do_unlk,
 };
 use m68_ops::Op68;
 use mix_bits::Fault;
@@ -59,14 +62,19 @@ pub fn run_op(regs: &mut Regs68, ram: &mut Ram, fault: &mut Fault, word: u32, op
         Op68::Swap => do_swap(regs, ram, fault, word),
         Op68::Pea => do_pea(regs, ram, fault, word),
         Op68::Ext => do_ext(regs, ram, fault, word),
+        Op68::ExtByte => do_ext_byte(regs, ram, fault, word),
         Op68::MovemToMemory => do_movem_to_memory(regs, ram, fault, word),
         Op68::MovemFromMemory => do_movem_from_memory(regs, ram, fault, word),
+        Op68::MulLong => do_mul_long(regs, ram, fault, word),
+        Op68::DivLong => do_div_long(regs, ram, fault, word),
         Op68::Tst => do_tst(regs, ram, fault, word),
         Op68::Tas => do_tas(regs, ram, fault, word),
         Op68::Trap => do_trap(regs, ram, fault, word),
         Op68::Link => do_link(regs, ram, fault, word),
+        Op68::LinkLong => do_link_long(regs, ram, fault, word),
         Op68::Unlk => do_unlk(regs, ram, fault, word),
         Op68::Nop => do_nop(regs, ram, fault, word),
+        Op68::Rtd => do_rtd(regs, ram, fault, word),
         Op68::Rts => do_rts(regs, ram, fault, word),
         Op68::Trapv => do_trapv(regs, ram, fault, word),
         Op68::Rtr => do_rtr(regs, ram, fault, word),
@@ -80,10 +88,13 @@ pub fn run_op(regs: &mut Regs68, ram: &mut Ram, fault: &mut Fault, word: u32, op
         Op68::Dbcc => do_dbcc(regs, ram, fault, word),
         Op68::BraByte => do_bra_byte(regs, ram, fault, word),
         Op68::BraWord => do_bra_word(regs, ram, fault, word),
+        Op68::BraLong => do_bra_long(regs, ram, fault, word),
         Op68::BsrByte => do_bsr_byte(regs, ram, fault, word),
         Op68::BsrWord => do_bsr_word(regs, ram, fault, word),
+        Op68::BsrLong => do_bsr_long(regs, ram, fault, word),
         Op68::BccByte => do_bcc_byte(regs, ram, fault, word),
         Op68::BccWord => do_bcc_word(regs, ram, fault, word),
+        Op68::BccLong => do_bcc_long(regs, ram, fault, word),
         Op68::Moveq => do_moveq(regs, ram, fault, word),
         Op68::OrToRegister => do_or_to_register(regs, ram, fault, word),
         Op68::OrToMemory => do_or_to_memory(regs, ram, fault, word),

@@ -5,7 +5,7 @@ ghost use Rattle.m68_ops.specs.Ops.{Fits};
 
 use super::branches::call;
 use big_memory::{Did, Ram};
-use m68_ea::{control, pop};
+use m68_ea::{control, extended_word, pop};
 use m68_isa::{Ccr, Regs68};
 use m68_ops::{Op68, lower_of, mode_of};
 use mix_bits::{Fault, Size, onward};
@@ -47,6 +47,20 @@ pub fn do_rts(regs: &mut Regs68, ram: &Ram, fault: &mut Fault, word: u32) -> Did
     let Some(target) = pop(regs, ram, fault, Size::Four) else {
         return Did::Stop;
     };
+    regs.pc = target;
+    Did::Next
+}
+
+/// rtd: the same, and a displacement onto the stack pointer behind it.
+#[inline(never)]
+pub fn do_rtd(regs: &mut Regs68, ram: &Ram, fault: &mut Fault, word: u32) -> Did
+    ensures { Does (by_op Op68.Rtd regs.old ram.now word) result fault.new regs.old regs.new ram.now ram.now }
+{
+    let displacement = extended_word(ram, regs.pc, 1);
+    let Some(target) = pop(regs, ram, fault, Size::Four) else {
+        return Did::Stop;
+    };
+    regs.a[7] = onward(regs.a[7], displacement);
     regs.pc = target;
     Did::Next
 }

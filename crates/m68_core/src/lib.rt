@@ -1,4 +1,4 @@
-//! A step of 68K code: every user-mode instruction of the 68000 over guarded memory
+//! A step of 68K code: every user-mode instruction of the 68000, and some of the 68020, over guarded memory
 //! (M68000 Family Programmer's Reference Manual, section 4). Program control stands here; the other
 //! instructions in the crates below.
 //!

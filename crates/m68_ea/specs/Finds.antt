@@ -11,20 +11,16 @@ use Rattle.big_memory.specs.Memory.{Memory}
 use Rattle.mix_bits.specs.Faults.{fault_at}
 use Rattle.big_memory.specs.Stores.{OnlyFree}
 use Rattle.m68_ea.specs.declared.operands.Target.{Target}
-use Rattle.m68_ea.specs.declared.places.Bad.{Bad}
+use Rattle.big_memory.specs.declared.refusals.Access.{Access}
 use Rattle.m68_ea.specs.declared.places.Place68.{Place68}
 use Rattle.m68_ea.specs.declared.places.Place68.TheVariants.{Mem}
 use Rattle.m68_ea.specs.Places.{HasRegister, address_of, indexed, placed, with_address}
 use Rattle.m68_ea.specs.Operands.{sourced, value_at, unless_illegal, written_at}
 
--- a value that is written into memory, or at a place; or nothing is changed
-abbrev pub WritesIn : Result Memory Bad → Result (Unit {0}) Bad → Memory → Memory → Type 0
-WritesIn all (Ok done) m n = (all ≡ Ok n) × OnlyFree m n
-WritesIn all (Err bad) m n = (all ≡ Err bad) × (n ≡ m)
-
-abbrev pub Writes : Result (Regs68 × Memory) Bad → Result (Unit {0}) Bad → Regs68 → Memory → Regs68 → Memory → Type 0
+-- a value that is written at a place; or nothing is changed
+abbrev pub Writes : Result (Regs68 × Memory) Access → Result (Unit {0}) Access → Regs68 → Memory → Regs68 → Memory → Type 0
 Writes all (Ok done) r m q n = (all ≡ Ok (q, n)) × OnlyFree m n
-Writes all (Err bad) r m q n = (all ≡ Err bad) × (q ≡ r) × (n ≡ m)
+Writes all (Err access) r m q n = (all ≡ Err access) × (q ≡ r) × (n ≡ m)
 
 -- a value, or the fault in the cell
 abbrev pub Gives : {T : Type 0} → Result T Fault → Option T → Fault → Type 0

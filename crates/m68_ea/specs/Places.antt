@@ -1,6 +1,6 @@
 -- The addressing modes: where an operand stands, and how its registers change
 -- (M68000 Family Programmer's Reference Manual, section 2.2). Sums of addresses wrap.
-use Rattle.std.specs.Prelude.{ℕ, ◌+◌, ◌-◌, ◌%◌, ◌^◌, ◌<◌, ◌==◌, if◌then◌else◌, slice_index, slice_set}
+use Rattle.std.specs.Prelude.{ℕ, ◌+◌, ◌-◌, ◌*◌, ◌%◌, ◌^◌, ◌<◌, ◌==◌, if◌then◌else◌, slice_index, slice_set}
 use Rattle.mix_bits.specs.declared.size.Size.{Size}
 use Rattle.mix_bits.specs.declared.size.Size.TheVariants.{Zero, One, Two, Four}
 use Rattle.mix_bits.specs.Sizes.{sign_extended}
@@ -37,9 +37,9 @@ index_register r i = if i.address then slice_index r.a i.reg else slice_index r.
 abbrev pub index_value : Regs68 → Index → ℕ
 index_value r i = if i.long then index_register r i else sign_extended (index_register r i) Two
 
--- a base, the index word's displacement and its register
+-- a base, the index word's displacement, and what its register adds so many times
 abbrev pub indexed : Regs68 → ℕ → Index → ℕ
-indexed r base i = onward (onward base i.disp) (index_value r i)
+indexed r base i = onward (onward base i.disp) (index_value r i * i.scale)
 
 -- the place of an operand, and the registers once it is found; `pc` is the address of the first word,
 -- and modes with the program counter count from their extension word, so many bytes behind it

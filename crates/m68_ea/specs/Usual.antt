@@ -11,7 +11,7 @@ use Rattle.big_memory.specs.Steps.{After}
 use Rattle.big_memory.specs.Steps.After.{Goes}
 use Rattle.m68_ea.specs.declared.usual.Usual.{Usual}
 use Rattle.m68_ea.specs.declared.places.Place68.TheVariants.{Mem}
-use Rattle.m68_ea.specs.declared.places.Bad.{Bad}
+use Rattle.big_memory.specs.declared.refusals.Access.{Access}
 use Rattle.m68_ea.specs.Finds.{KeepsControl, KeepsOthers}
 use Rattle.m68_ea.specs.Operands.{sourced, put_into, value_at}
 use Rattle.m68_ea.specs.Places.{placed, with_address}
@@ -36,7 +36,7 @@ pub record FindsUsual (r : Regs68) (m : Memory) (s : Size) (e : Operand) (n : �
   pub value : value_at (with_address r n found.after) m (Mem found.at) s ≡ Ok v
 
 -- a value that is stored at an address; or that is refused, and nothing is changed
-abbrev pub Pokes : Result Memory Bad → Bool → Memory → Memory → Type 0
+abbrev pub Pokes : Result Memory Access → Bool → Memory → Memory → Type 0
 Pokes all true m n = (all ≡ Ok n) × OnlyFree m n
 Pokes all false m n = (is_ok all ≡ false) × (n ≡ m)
 

@@ -1,57 +1,31 @@
 ghost use Rattle.std.specs.Prelude.{◌≡◌};
 ghost use Rattle.big_memory.specs.Faults.{fault_of};
-ghost use Rattle.m68_ea.specs.Accesses.{fault_of_bad, is_odd as is_odd_of, read_at as read_at_of, read_in as read_in_of, write_at as write_at_of, written_in};
-ghost use Rattle.m68_ea.specs.Finds.{Gives, Stored, Writes, WritesIn};
+ghost use Rattle.m68_ea.specs.Accesses.{read_at as read_at_of, write_at as write_at_of};
+ghost use Rattle.m68_ea.specs.Finds.{Gives, Stored, Writes};
 ghost use Rattle.m68_ea.specs.Operands.{loaded_at, stored_at};
 ghost use Rattle.m68_ea.specs.Places.{HasRegister, IsWritable};
 
-use super::places::{Bad, Place68};
+use super::places::Place68;
 use big_memory::{Access, Ram};
 use m68_isa::Regs68;
-use mix_bits::{Fault, FaultKind, Size, sext, trunc, with_low};
-
-/// Whether an access of this size may not be at this address.
-#[inline(always)]
-pub fn is_odd(a: u32, size: Size) -> bool
-    ensures { result ≡ is_odd_of a size }
-{
-    match size {
-        Size::Zero => false,
-        Size::One => false,
-        Size::Two => a % 2 == 1,
-        Size::Four => a % 2 == 1,
-    }
-}
+use mix_bits::{Fault, Size, sext, trunc, with_low};
 
 /// The value at a place, cut to the size.
-pub fn read_at(regs: &Regs68, ram: &Ram, p: Place68, s: Size) -> Result<u32, Bad>
+pub fn read_at(regs: &Regs68, ram: &Ram, p: Place68, s: Size) -> Result<u32, Access>
     requires { HasRegister p }
     ensures { result ≡ read_at_of regs.now ram.now p s }
 {
     match p {
         Place68::Dn(n) => Ok(trunc(regs.d[n as usize], s)),
         Place68::An(n) => Ok(trunc(regs.a[n as usize], s)),
-        Place68::Mem(a) => read_in(ram, a, s),
+        Place68::Mem(a) => ram.load(a, s),
         Place68::Imm(value) => Ok(trunc(value, s)),
-    }
-}
-
-/// The value at an address.
-fn read_in(ram: &Ram, a: u32, s: Size) -> Result<u32, Bad>
-    ensures { result ≡ read_in_of ram.now a s }
-{
-    if is_odd(a, s) {
-        return Err(Bad::Odd(a));
-    }
-    match ram.load(a, s) {
-        Ok(value) => Ok(value),
-        Err(access) => Err(Bad::Access(access)),
     }
 }
 
 /// Writes a value at a place: the low bytes of a data register, all of an address register, into which
 /// a word goes with its sign. A refusal changes nothing.
-pub fn write_at(regs: &mut Regs68, ram: &mut Ram, p: Place68, s: Size, v: u32) -> Result<(), Bad>
+pub fn write_at(regs: &mut Regs68, ram: &mut Ram, p: Place68, s: Size, v: u32) -> Result<(), Access>
     requires register { HasRegister p }
     requires writable { IsWritable p }
     ensures { Writes (write_at_of regs.old ram.old p s v) result regs.old ram.old regs.new ram.new }
@@ -65,21 +39,8 @@ pub fn write_at(regs: &mut Regs68, ram: &mut Ram, p: Place68, s: Size, v: u32) -
             regs.a[n as usize] = sext(v, s);
             Ok(())
         }
-        Place68::Mem(a) => write_in(ram, a, s, v),
+        Place68::Mem(a) => ram.store_value(a, s, v),
         Place68::Imm(_) => Ok(()),
-    }
-}
-
-/// Stores a value at an address.
-fn write_in(ram: &mut Ram, a: u32, s: Size, v: u32) -> Result<(), Bad>
-    ensures { WritesIn (written_in ram.old a s v) result ram.old ram.new }
-{
-    if is_odd(a, s) {
-        return Err(Bad::Odd(a));
-    }
-    match ram.store_value(a, s, v) {
-        Ok(()) => Ok(()),
-        Err(access) => Err(Bad::Access(access)),
     }
 }
 
@@ -88,10 +49,6 @@ fn write_in(ram: &mut Ram, a: u32, s: Size, v: u32) -> Result<(), Bad>
 pub fn load(ram: &Ram, fault: &mut Fault, pc: u32, a: u32, size: Size) -> Option<u32>
     ensures { Gives (loaded_at pc ram.now a size) result fault.new }
 {
-    if is_odd(a, size) {
-        refuse_odd(fault, pc, a);
-        return None;
-    }
     match ram.load(a, size) {
         Ok(value) => Some(value),
         Err(access) => {
@@ -107,10 +64,6 @@ pub fn load(ram: &Ram, fault: &mut Fault, pc: u32, a: u32, size: Size) -> Option
 pub fn store(ram: &mut Ram, fault: &mut Fault, pc: u32, a: u32, size: Size, value: u32) -> bool
     ensures { Stored (stored_at pc ram.old a size value) result fault.new ram.old ram.new }
 {
-    if is_odd(a, size) {
-        refuse_odd(fault, pc, a);
-        return false;
-    }
     match ram.store_value(a, size, value) {
         Ok(()) => true,
         Err(access) => {
@@ -118,15 +71,6 @@ pub fn store(ram: &mut Ram, fault: &mut Fault, pc: u32, a: u32, size: Size, valu
             false
         }
     }
-}
-
-/// The fault of an access at an odd address.
-#[cold]
-#[inline(never)]
-fn refuse_odd(fault: &mut Fault, pc: u32, a: u32)
-    ensures { fault.new ≡ fault_of_bad pc (Bad.Odd a) }
-{
-    *fault = Fault::at(pc, FaultKind::Odd, a);
 }
 
 /// The fault of an access that memory refuses.

@@ -1,4 +1,4 @@
-//! Operands of 68000 instructions: the addressing modes, and reading and writing what they name.
+//! Operands of 68K instructions: the addressing modes, and reading and writing what they name.
 //!
 //! [`place`], [`read_at`] and [`write_at`] work on a decoded operand. The others find, read and write the
 //! operands of an instruction's words, each word as it is used, or one address. What is refused has changed
@@ -17,9 +17,11 @@ mod words;
 pub use accesses::{load, read_at, store, write_at};
 pub use laws::tried_laws;
 pub use operands::{Target, control, find, put, source, value};
-pub use places::{Bad, Place68, backward, place};
+pub use places::{Place68, backward, place};
 pub use stack::{pop, push, push_onto};
 pub use usual::{
     Usual, find_usual, is_below_stack, put_usual, usual_or_immediate, usual_source, usual_write,
 };
-pub use words::{extended_word, go_on, immediate_at, immediate_words, is_second_good, word_at};
+pub use words::{
+    extended_word, go_on, immediate_at, immediate_words, is_second_good, long_at, word_at,
+};

@@ -302,7 +302,7 @@ fn index_address(
     }
 }
 
-/// The fault of an instruction whose index word is one of later processors.
+/// The fault of an instruction whose index word is of the full format.
 #[cold]
 #[inline(never)]
 fn refuse_word(fault: &mut Fault, pc: u32, word: u32)

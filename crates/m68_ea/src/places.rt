@@ -2,7 +2,6 @@ ghost use Rattle.std.specs.Prelude.{◌≡◌, ◌<◌};
 ghost use Rattle.m68_isa.specs.Fields.{HasRegisters};
 ghost use Rattle.m68_ea.specs.Places.{backward as backward_of, index_register as index_register_of, index_value as index_value_of, indexed as indexed_of, placed, step_of};
 
-use big_memory::Access;
 use m68_isa::{Ea, Index, Regs68};
 use mix_bits::{Size, sext};
 
@@ -17,15 +16,6 @@ pub enum Place68 {
     Mem(u32),
     /// An immediate value, which can't be written.
     Imm(u32),
-}
-
-/// Why a place can't be read or written.
-#[derive(Clone, Copy)]
-pub enum Bad {
-    /// A word or a long at this odd address.
-    Odd(u32),
-    /// Memory refuses the access.
-    Access(Access),
 }
 
 /// The address `n` bytes before `a`; differences of addresses wrap.
@@ -87,7 +77,7 @@ pub fn indexed(regs: &Regs68, base: u32, index: Index) -> u32
     ensures { result ≡ indexed_of regs.now base index }
 {
     base.wrapping_add(index.disp)
-        .wrapping_add(index_value(regs, index))
+        .wrapping_add(index_value(regs, index).wrapping_mul(index.scale))
 }
 
 /// An index register, or its low word with its sign.

@@ -1,16 +1,15 @@
 // Operands in registers, immediate ones, and in memory by the usual modes: (An), (An)+, -(An) and (d16,An).
 // What is refused, or stands elsewhere, changes nothing here and is left to the calls for operands of any mode.
 ghost use Rattle.std.specs.Prelude.{◌≡◌, ◌+◌, ◌<◌, ◌≤◌, ◌==◌, nat_le, ◌&&◌, ◌||◌, IsTrue, IfSome, IfNone, MatchOption, None, Ok, OnSome, is_ok, true, false, slice_index};
-ghost use Rattle.big_memory.specs.Memory.{floor_of, refusal};
+ghost use Rattle.big_memory.specs.Memory.{floor_of, loaded, refusal};
+ghost use Rattle.big_memory.specs.Stores.{stored_value};
 ghost use Rattle.m68_isa.specs.Operands.{operand_at};
-ghost use Rattle.m68_ea.specs.Accesses.{read_in, written_in};
 ghost use Rattle.m68_ea.specs.Operands.{sourced, written_at};
 ghost use Rattle.m68_ea.specs.Places.{with_address};
 ghost use Rattle.m68_ea.specs.Usual.{FindsUsual, IsLeft, IsUsual, Pokes, PutsUsual, TakesUsual, WritesUsual, is_usual};
 ghost use Rattle.m68_ea.specs.Words.{words_at};
 ghost use Rattle.m68_ea.specs.declared.places.Place68.TheVariants.{Mem};
 
-use super::accesses::is_odd;
 use super::places::{backward, step};
 use super::words::{extended_word, immediate_at, immediate_words};
 use big_memory::{GATE_PAGE_END, Ram, memory_laws};
@@ -77,21 +76,17 @@ fn place_usual(
 /// The value at an address, where it can be read.
 #[inline(always)]
 fn peek(ram: &Ram, a: u32, size: Size) -> Option<u32>
-    ensures { MatchOption result (is_ok (read_in ram.now a size) ≡ false) (λ value. read_in ram.now a size ≡ Ok value) }
+    ensures { MatchOption result (is_ok (loaded ram.now a size) ≡ false) (λ value. loaded ram.now a size ≡ Ok value) }
 {
-    if is_odd(a, size) {
-        None
-    } else {
-        ram.load(a, size).ok()
-    }
+    ram.load(a, size).ok()
 }
 
 /// Stores a value at an address where that can be done, and tells whether it did.
 #[inline(always)]
 fn poke(ram: &mut Ram, a: u32, size: Size, value: u32) -> bool
-    ensures { Pokes (written_in ram.old a size value) result ram.old ram.new }
+    ensures { Pokes (stored_value ram.old a size value) result ram.old ram.new }
 {
-    !is_odd(a, size) && ram.store_value(a, size, value).is_ok()
+    ram.store_value(a, size, value).is_ok()
 }
 
 /// Whether `n` bytes lie between the gate page and the stack, where every store is done.

@@ -83,12 +83,12 @@ pub fn immediate_words(size: Size) -> u32
     }
 }
 
-/// Whether a word is an index word of the 68000: the scale and the full format came later.
+/// Whether a word is an index word of the brief format.
 #[inline(always)]
 pub fn is_index(word: u32) -> bool
     ensures { result ≡ is_index_word word }
 {
-    word / 0x100 % 8 == 0
+    word / 0x100 % 2 == 0
 }
 
 /// The fields of an index word.
@@ -102,11 +102,12 @@ pub fn index_of(word: u32) -> Index
         reg: (word / 0x1000 % 8) as u8,
         address: word / 0x8000 % 2 == 1,
         long: word / 0x800 % 2 == 1,
+        scale: 1 << (word / 0x200 % 4),
         disp: sext(word, Size::One),
     }
 }
 
-/// Whether the index word of a second operand, if it has one, is one of the 68000. The first operand's
+/// Whether the index word of a second operand, if it has one, is of the brief format. The first operand's
 /// words begin with word 1 of the instruction, and the second one's stand behind them.
 #[inline(always)]
 pub fn is_second_good(
@@ -136,7 +137,7 @@ pub fn is_second_good(
     }
 }
 
-/// Whether an operand's index word, if it has one, is one of the 68000. Its extension words begin with
+/// Whether an operand's index word, if it has one, is of the brief format. Its extension words begin with
 /// word `at`.
 #[inline(always)]
 fn is_good(ram: &Ram, pc: u32, at: u32, mode: u32, lower: usize) -> bool

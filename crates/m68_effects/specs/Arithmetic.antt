@@ -1,8 +1,8 @@
 -- Integer arithmetic (M68000 Family Programmer's Reference Manual, section 4: ADD, ADDA, ADDI, ADDQ, ADDX,
--- SUB, SUBA, SUBI, SUBQ, SUBX, CMP, CMPA, CMPI, CMPM, NEG, NEGX, EXT, MULS, MULU, DIVS, DIVU, CHK, TST, TAS).
-use Rattle.std.specs.Prelude.{ℕ, ◌||◌, bit_or, pos, int_lt, Bool, false, if◌then◌else◌, slice_index, Err}
+-- SUB, SUBA, SUBI, SUBQ, SUBX, CMP, CMPA, CMPI, CMPM, NEG, NEGX, EXT, EXTB, MULS, MULU, DIVS, DIVU, CHK, TST, TAS).
+use Rattle.std.specs.Prelude.{ℕ, ◌||◌, ◌&&◌, bit_or, pos, int_lt, Bool, true, false, if◌then◌else◌, slice_index, Err}
 use Rattle.mix_bits.specs.declared.size.Size.{Size}
-use Rattle.mix_bits.specs.declared.size.Size.TheVariants.{Zero, One, Two, Four}
+use Rattle.mix_bits.specs.declared.size.Size.TheVariants.{One, Two, Four}
 use Rattle.mix_bits.specs.Sizes.{signed_of, sign_extended, truncated}
 use Rattle.mix_bits.specs.Results.{◌>>=◌}
 use Rattle.m68_isa.specs.declared.registers.Ccr.{Ccr}
@@ -12,9 +12,12 @@ use Rattle.m68_isa.specs.declared.ea.Ea.TheVariants.{An, Post}
 use Rattle.m68_alu.specs.declared.sums.Out.{Out}
 use Rattle.m68_alu.specs.declared.quotients.Quotient.{Quotient}
 use Rattle.m68_alu.specs.declared.quotients.Quotient.TheVariants.{ByZero, Overflow, Done}
-use Rattle.m68_alu.specs.Sizes.{result_flags}
+use Rattle.m68_alu.specs.declared.quotients.LongQuotient.{LongQuotient}
+use Rattle.m68_alu.specs.declared.quotients.LongQuotient.TheVariants.{ByZero as LongByZero, Overflow as LongOverflow, Done as LongDone}
+use Rattle.m68_alu.specs.declared.products.Wide.{Wide}
+use Rattle.m68_alu.specs.Sizes.{is_negative, result_flags}
 use Rattle.m68_alu.specs.Sums.{sum, sum_with_x, difference, difference_with_x, compared}
-use Rattle.m68_alu.specs.Products.{multiplied, divided}
+use Rattle.m68_alu.specs.Products.{multiplied, divided, long_multiplied, long_divided}
 use Rattle.big_memory.specs.Memory.{Memory}
 use Rattle.m68_ea.specs.Places.{backward, with_data, with_address}
 use Rattle.m68_ea.specs.Operands.{sourced}
@@ -98,32 +101,26 @@ cmpm r m next size from to =
     sourced q m size (Post to) >>= λ (t, d).
     goes_on next (with_ccr t (comparison size r.ccr d s)) m
 
--- EXT: a byte to a word, or a word to a long
-abbrev pub half_of : Size → Size
-half_of Zero = Zero
-half_of One = One
-half_of Two = One
-half_of Four = Two
+-- EXT, EXTB: a byte to a word, a word to a long, or a byte to a long
+abbrev pub extension : Size → Size → Ccr → ℕ → Out
+extension from to old v =
+    let extended = truncated (sign_extended v from) to in
+    record { value = extended; ccr = result_flags to extended old }
 
-abbrev pub extension : Size → Ccr → ℕ → Out
-extension size old v =
-    let extended = truncated (sign_extended v (half_of size)) size in
-    record { value = extended; ccr = result_flags size extended old }
-
-abbrev pub ext : Regs68 → Memory → ℕ → Size → ℕ → Effect
-ext r m next size n = goes_on next (with_result r n size (extension size r.ccr (slice_index r.d n))) m
+abbrev pub ext : Regs68 → Memory → ℕ → Size → Size → ℕ → Effect
+ext r m next from to n = goes_on next (with_result r n to (extension from to r.ccr (slice_index r.d n))) m
 
 -- a whole data register and the condition codes take a result
 abbrev pub with_long : Regs68 → ℕ → Out → Regs68
 with_long r n out = with_ccr (with_data r n out.value) out.ccr
 
--- MULS, MULU: source * Dn → Dn, words to a long
+-- MULS.W, MULU.W: source * Dn → Dn, words to a long
 abbrev pub mul : Regs68 → Memory → ℕ → Bool → Ea → ℕ → Effect
 mul r m next signed by n =
     sourced r m Two by >>= λ (q, s).
     goes_on next (with_long q n (multiplied signed (slice_index q.d n) s r.ccr)) m
 
--- DIVS, DIVU: Dn / source → Dn, a long by a word; by zero is vector 5, and Dn stays where the quotient is no word
+-- DIVS.W, DIVU.W: Dn / source → Dn, a long by a word; by zero is vector 5, and Dn stays where the quotient is no word
 abbrev pub quotient_into : Regs68 → Memory → ℕ → ℕ → Quotient → Effect
 quotient_into q m next n ByZero = Err (vector q 5)
 quotient_into q m next n (Overflow ccr) = goes_on next (with_ccr q ccr) m
@@ -133,6 +130,41 @@ abbrev pub div : Regs68 → Memory → ℕ → Bool → Ea → ℕ → Effect
 div r m next signed by n =
     sourced r m Two by >>= λ (q, s).
     quotient_into q m next n (divided signed (slice_index q.d n) s r.ccr)
+
+-- two data registers and the condition codes take a result, its high part first: one register for both ends with
+-- the low part
+abbrev pub with_pair : Regs68 → ℕ → ℕ → Wide → Regs68
+with_pair r high low out = with_ccr (with_data (with_data r high out.high) low out.low) out.ccr
+
+-- MULS.L, MULU.L: source * Dl → Dl, or all 64 bits → Dh and Dl
+abbrev pub product_into : Regs68 → Bool → ℕ → ℕ → Wide → Regs68
+product_into r true high low out = with_pair r high low out
+product_into r false high low out = with_ccr (with_data r low out.low) out.ccr
+
+abbrev pub mul_long : Regs68 → Memory → ℕ → Bool → Bool → Ea → ℕ → ℕ → Effect
+mul_long r m next signed wide by high low =
+    sourced r m Four by >>= λ (q, s).
+    goes_on next (product_into q wide high low (long_multiplied signed wide (slice_index q.d low) s r.ccr)) m
+
+-- DIVS.L, DIVU.L: Dl, or the 64 bits of Dh and Dl, / source → remainder in Dh, quotient in Dl; by zero is vector 5,
+-- and both stay where the quotient is no long
+abbrev pub long_quotient_into : Regs68 → Memory → ℕ → ℕ → ℕ → LongQuotient → Effect
+long_quotient_into q m next high low LongByZero = Err (vector q 5)
+long_quotient_into q m next high low (LongOverflow ccr) = goes_on next (with_ccr q ccr) m
+long_quotient_into q m next high low (LongDone out) = goes_on next (with_pair q high low out) m
+
+-- the high long of a dividend that is not wide: the sign of the low one, or zeros
+abbrev pub above : Bool → ℕ → ℕ
+above signed low = if signed && is_negative Four low then 0xFFFFFFFF else 0
+
+abbrev pub dividend_high : Bool → Bool → ℕ → ℕ → ℕ
+dividend_high signed wide high low = if wide then high else above signed low
+
+abbrev pub div_long : Regs68 → Memory → ℕ → Bool → Bool → Ea → ℕ → ℕ → Effect
+div_long r m next signed wide by high low =
+    sourced r m Four by >>= λ (q, s).
+    long_quotient_into q m next high low
+    (long_divided signed (dividend_high signed wide (slice_index q.d high) (slice_index q.d low)) (slice_index q.d low) s r.ccr)
 
 -- CHK: vector 6 where the word in Dn is negative or greater than the bound; that Z, V and C are cleared
 -- and N stays is this project's own

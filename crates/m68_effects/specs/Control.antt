@@ -1,5 +1,5 @@
 -- Program control (M68000 Family Programmer's Reference Manual, section 4: Bcc, BRA, BSR, DBcc, Scc, JMP, JSR,
--- NOP, RTR, RTS, TRAP, TRAPV).
+-- NOP, RTD, RTR, RTS, TRAP, TRAPV).
 use Rattle.std.specs.Prelude.{ℕ, ◌+◌, ◌%◌, ◌==◌, if◌then◌else◌, slice_index, Err}
 use Rattle.mix_bits.specs.declared.size.Size.TheVariants.{One, Two, Four}
 use Rattle.mix_bits.specs.Results.{◌>>=◌}
@@ -9,7 +9,8 @@ use Rattle.m68_isa.specs.Targets.{branch_target}
 use Rattle.m68_isa.specs.declared.registers.Regs68.{Regs68}
 use Rattle.m68_isa.specs.declared.ea.Ea.{Ea}
 use Rattle.big_memory.specs.Memory.{Memory}
-use Rattle.m68_ea.specs.Places.{address_of}
+use Rattle.mix_bits.specs.Addresses.{onward}
+use Rattle.m68_ea.specs.Places.{address_of, with_address}
 use Rattle.m68_ea.specs.Operands.{put_into}
 use Rattle.m68_effects.specs.Parts.{Effect, goes_on, vector, with_ccr, with_low_data, pushed, popped}
 
@@ -57,6 +58,12 @@ abbrev pub rts : Regs68 → Memory → Effect
 rts r m =
     popped r m Four >>= λ (q, target).
     goes_on target q m
+
+-- RTD: (SP) → PC; SP + 4 + displacement → SP
+abbrev pub rtd : Regs68 → Memory → ℕ → Effect
+rtd r m disp =
+    popped r m Four >>= λ (q, target).
+    goes_on target (with_address q 7 (onward (slice_index q.a 7) disp)) m
 
 -- RTR: (SP) → CCR; SP + 2 → SP; (SP) → PC; SP + 4 → SP
 abbrev pub rtr : Regs68 → Memory → Effect

@@ -78,7 +78,7 @@ pea r m next from =
     pushed r m (address_of r from) >>= λ (q, n).
     goes_on next q n
 
--- LINK: SP - 4 → SP; An → (SP); SP → An; SP + displacement → SP
+-- LINK: SP - 4 → SP; An → (SP); SP → An; SP + displacement → SP, by a word or a long
 abbrev pub link : Regs68 → Memory → ℕ → ℕ → ℕ → Effect
 link r m next n disp =
     let q = (placed r (Pre 7) Four).0 in

@@ -1,4 +1,4 @@
-//! What each instruction of the 68000 does, as definitions, and the parts of it that the bodies of many
+//! What each 68K instruction does, as definitions, and the parts of it that the bodies of many
 //! instructions share: an operation on two numbers, an operand that it changes, and a data register that
 //! takes its result.
 #![tactic(auto)]

@@ -1,4 +1,4 @@
-//! The 68000's instructions on bits: AND, OR, EOR and NOT, shifts and rotates, and single bits (M68000 Family
+//! The 68K instructions on bits: AND, OR, EOR and NOT, shifts and rotates, and single bits (M68000 Family
 //! Programmer's Reference Manual, section 4). Each call does one step of its instruction, whose first word
 //! stands at `regs.pc`: it goes on, or it leaves a fault in the cell and has changed nothing else.
 #![tactic(auto)]

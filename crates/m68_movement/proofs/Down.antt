@@ -1,5 +1,5 @@
 -- Stores downwards that nothing refuses.
-use Rattle.std.proofs.Common.{◌≡◌, ℕ, suc, ◌+◌, ◌-◌, ◌*◌, ◌%◌, ◌^◌, ◌<◌, ◌≤◌, false, true, None, List, [], ◌∷◌, Ok, refl, arith}
+use Rattle.std.proofs.Common.{◌≡◌, ℕ, suc, ◌+◌, ◌-◌, ◌*◌, ◌^◌, ◌<◌, ◌≤◌, true, None, List, [], ◌∷◌, Ok, refl, arith}
 use Rattle.mix_bits.specs.declared.size.Size.{Size}
 use Rattle.mix_bits.specs.declared.size.Size.TheVariants.{Zero, One, Two, Four}
 use Rattle.mix_bits.specs.declared.fault.Fault.{Fault}
@@ -7,16 +7,9 @@ use Rattle.mix_bits.specs.Sizes.{bytes_of}
 use Rattle.big_memory.specs.Laws.{PassesWithin}
 use Rattle.big_memory.specs.Memory.{Memory, IsRam, refusal, stored}
 use Rattle.big_memory.specs.Stores.{OnlyFree}
-use Rattle.m68_ea.specs.Accesses.{is_odd}
 use Rattle.m68_ea.specs.Places.{backward}
 use Rattle.m68_effects.specs.Multiple.{stored_down}
 use Rattle.m68_movement.specs.Along.{CanStore}
-
-pub even_not_odd : (a : ℕ) (s : Size) → a % 2 ≡ 0 → is_odd a s ≡ false
-even_not_odd a Zero even = refl
-even_not_odd a One even = refl
-even_not_odd a Two even = rw even refl
-even_not_odd a Four even = rw even refl
 
 pub most_bytes : (s : Size) → bytes_of s ≤ 4
 most_bytes Zero = omega arith

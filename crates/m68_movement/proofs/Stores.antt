@@ -4,18 +4,15 @@ use Rattle.std.specs.Result.{IsOk}
 use Rattle.mix_bits.specs.declared.size.Size.{Size}
 use Rattle.mix_bits.specs.declared.size.Size.TheVariants.{Zero, One, Two, Four}
 use Rattle.mix_bits.specs.declared.fault.Fault.{Fault}
-use Rattle.mix_bits.specs.declared.fault.FaultKind.TheVariants.{Odd}
 use Rattle.mix_bits.specs.Sizes.{bytes_of}
 use Rattle.mix_bits.specs.Addresses.{onward}
 use Rattle.mix_bits.specs.Results.{◌>>=◌}
 use Rattle.byteorder.specs.Endian.{big_bytes}
 use Rattle.big_memory.specs.declared.refusals.Access.{Access}
-use Rattle.mix_bits.specs.Faults.{fault_at}
 use Rattle.big_memory.specs.Faults.{fault_of}
 use Rattle.big_memory.specs.Laws.{FreeJoins, FreeKeepsRam, FreeKeepsRefusals, StoresAreFree}
 use Rattle.big_memory.specs.Memory.{Memory, IsRam, refusal, stored}
 use Rattle.big_memory.specs.Stores.{stored_value}
-use Rattle.m68_ea.specs.Accesses.{is_odd}
 use Rattle.m68_ea.specs.Places.{backward}
 use Rattle.m68_ea.specs.Operands.{stored_at}
 use Rattle.m68_effects.specs.Multiple.{stored_along, stored_down}
@@ -31,25 +28,21 @@ size-bytes One v = refl
 size-bytes Two v = refl
 size-bytes Four v = refl
 
--- an odd address
-pub odd_refused : (pc : ℕ) (m : Memory) (a : ℕ) (s : Size) (cell : Fault) → is_odd a s ≡ true → cell ≡ fault_at pc Odd a → CanStore pc m a s false cell
-odd_refused pc m a s cell odd is = λ n v free. rw (odd, is) refl
-
 -- memory refuses it
 pub access_refused : (pc : ℕ) (m : Memory) (a : ℕ) (s : Size) (e : Access) (cell : Fault) → FreeKeepsRefusals
-    → is_odd a s ≡ false → refusal m a (bytes_of s) ≡ Some e → cell ≡ fault_of pc e → CanStore pc m a s false cell
+    → refusal m a (bytes_of s) ≡ Some e → cell ≡ fault_of pc e → CanStore pc m a s false cell
 unfolding stored_value
-access_refused pc m a s e cell keeps even refused is =
-    λ n v free. let same : refusal n a (bytes_of s) ≡ Some e = keeps m n a (bytes_of s) free ∙ refused in rw (even, same, is) refl
+access_refused pc m a s e cell keeps refused is =
+    λ n v free. let same : refusal n a (bytes_of s) ≡ Some e = keeps m n a (bytes_of s) free ∙ refused in rw (same, is) refl
 
 -- it is done
 pub can_store : (pc : ℕ) (m : Memory) (a : ℕ) (s : Size) (cell : Fault) → FreeKeepsRefusals → FreeKeepsRam → FreeJoins → StoresAreFree → IsRam m
-    → is_odd a s ≡ false → refusal m a (bytes_of s) ≡ None → CanStore pc m a s true cell
+    → refusal m a (bytes_of s) ≡ None → CanStore pc m a s true cell
 unfolding stored_value
-can_store pc m a s cell keeps rams joins stores ram even none =
+can_store pc m a s cell keeps rams joins stores ram none =
     λ n v free.
     let same : refusal n a (bytes_of s) ≡ None = keeps m n a (bytes_of s) free ∙ none in (
-      rw (even, same) refl,
+      rw same refl,
       joins m n (stored n a s v) free (stores n a (bytes_of s) (big_bytes (bytes_of s) v) (size-bytes s v) (rams m n ram free) same),
     )
 

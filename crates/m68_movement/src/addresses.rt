@@ -1,10 +1,15 @@
 // Addresses into registers and onto the stack, and the frames of procedures.
+ghost use Rattle.std.specs.Prelude.{◌*◌, ◌≤◌};
+ghost use Rattle.mix_bits.specs.Addresses.{onward as onward_of};
+ghost use Rattle.m68_isa.specs.First.{first_of};
 ghost use Rattle.big_memory.specs.Steps.{Does};
+ghost use Rattle.m68_effects.specs.Movement.{link as link_of};
 ghost use Rattle.m68_effects.specs.Ops.{by_op};
+ghost use Rattle.m68_effects.specs.Parts.{after};
 ghost use Rattle.m68_ops.specs.Ops.{Fits};
 
 use big_memory::{Did, Ram};
-use m68_ea::{backward, control, extended_word, go_on, pop, push, store};
+use m68_ea::{backward, control, extended_word, go_on, long_at, pop, push, store};
 use m68_isa::Regs68;
 use m68_ops::{Op68, lower_of, mode_of, upper_of};
 use mix_bits::{Fault, Size, onward};
@@ -42,14 +47,39 @@ pub fn do_pea(regs: &mut Regs68, ram: &mut Ram, fault: &mut Fault, word: u32) ->
     }
 }
 
-/// link: an address register onto the stack, then the stack pointer into it, and a displacement onto the
-/// stack pointer. Of A7 the value below the stack is pushed.
+/// link, its displacement in the extension word.
 #[inline(never)]
 pub fn do_link(regs: &mut Regs68, ram: &mut Ram, fault: &mut Fault, word: u32) -> Did
     ensures { Does (by_op Op68.Link regs.old ram.old word) result fault.new regs.old regs.new ram.old ram.new }
 {
-    let register = lower_of(word);
     let displacement = extended_word(ram, regs.pc, 1);
+    link(regs, ram, fault, word, displacement, 2)
+}
+
+/// link, its displacement in the long behind the word.
+#[inline(never)]
+pub fn do_link_long(regs: &mut Regs68, ram: &mut Ram, fault: &mut Fault, word: u32) -> Did
+    ensures { Does (by_op Op68.LinkLong regs.old ram.old word) result fault.new regs.old regs.new ram.old ram.new }
+{
+    let displacement = long_at(ram, regs.pc, 1);
+    link(regs, ram, fault, word, displacement, 3)
+}
+
+/// An address register onto the stack, then the stack pointer into it, and a displacement onto the stack
+/// pointer, by an instruction of so many words. Of A7 the value below the stack is pushed.
+#[inline(always)]
+fn link(
+    regs: &mut Regs68,
+    ram: &mut Ram,
+    fault: &mut Fault,
+    word: u32,
+    displacement: u32,
+    words: u32,
+) -> Did
+    requires { words ≤ 5 }
+    ensures { Does (after (link_of regs.old ram.old (onward_of regs.old.pc (2 * words)) (first_of word).lower displacement)) result fault.new regs.old regs.new ram.old ram.new }
+{
+    let register = lower_of(word);
     let before = regs.a[7];
     let frame = backward(before, 4);
     regs.a[7] = frame;
@@ -59,7 +89,7 @@ pub fn do_link(regs: &mut Regs68, ram: &mut Ram, fault: &mut Fault, word: u32) -
     }
     regs.a[register] = frame;
     regs.a[7] = onward(frame, displacement);
-    go_on(regs, 2)
+    go_on(regs, words)
 }
 
 /// unlk: the stack pointer from an address register, which takes the long that is popped.

@@ -3,14 +3,13 @@ ghost use Rattle.std.specs.Prelude.{◌≡◌, ◌≢◌, Ok};
 ghost use Rattle.std.specs.Result.{IsOk};
 ghost use Rattle.mix_bits.specs.declared.size.Size.TheVariants.{Zero};
 ghost use Rattle.big_memory.specs.Stores.{OnlyFree};
-ghost use Rattle.m68_ea.specs.Accesses.{is_odd as is_odd_of};
 ghost use Rattle.m68_ea.specs.Finds.{Stored};
 ghost use Rattle.m68_effects.specs.Multiple.{stored_along, stored_down};
 ghost use Rattle.m68_movement.specs.Along.{CanStore, CanStoreAll};
 
 use big_memory::{Ram, memory_laws};
 use m68_ea::{backward, store};
-use mix_bits::{Fault, FaultKind, Size, onward};
+use mix_bits::{Fault, Size, onward};
 
 /// Stores values one after another, each `step` bytes behind the one before, for the instruction at `pc`,
 /// and tells whether it did: all of them, or none where one can't be stored.
@@ -101,10 +100,6 @@ fn can_store(ram: &Ram, fault: &mut Fault, pc: u32, a: u32, size: Size) -> bool
 {
     memory_laws();
     ram.meets_invariant();
-    if is_odd(a, size) {
-        *fault = Fault::at(pc, FaultKind::Odd, a);
-        return false;
-    }
     match ram.probe(a, size.bytes()) {
         Ok(()) => true,
         Err(access) => {
@@ -112,11 +107,4 @@ fn can_store(ram: &Ram, fault: &mut Fault, pc: u32, a: u32, size: Size) -> bool
             false
         }
     }
-}
-
-/// Whether an access of this size may not be at this address.
-fn is_odd(a: u32, size: Size) -> bool
-    ensures { result ≡ is_odd_of a size }
-{
-    size.bytes() > 1 && a % 2 == 1
 }

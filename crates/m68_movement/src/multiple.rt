@@ -1,8 +1,7 @@
 // movem: several registers to memory or from it.
-ghost use Rattle.std.specs.Prelude.{◌≡◌, ◌≢◌, ◌-◌, ◌*◌, ◌%◌, ◌<◌, ◌≤◌, IsTrue, None, Ok, length, true, map, if◌then◌else◌};
+ghost use Rattle.std.specs.Prelude.{◌≡◌, ◌≢◌, ◌-◌, ◌*◌, ◌<◌, ◌≤◌, IsTrue, None, Ok, length, true, map, if◌then◌else◌};
 ghost use Rattle.mix_bits.specs.Addresses.{onward as onward_of};
 ghost use Rattle.mix_bits.specs.declared.size.Size.TheVariants.{Zero};
-ghost use Rattle.mix_bits.specs.Sizes.{bytes_of};
 ghost use Rattle.big_memory.specs.Memory.{in_memory, refusal};
 ghost use Rattle.big_memory.specs.Steps.{Does};
 ghost use Rattle.big_memory.specs.Stores.{OnlyFree};
@@ -87,22 +86,19 @@ fn store_open(regs: &Regs68, ram: &mut Ram, size: Size, mask: u32, base: u32) ->
     }
 }
 
-/// Whether sixteen longs can be stored from an even address on.
+/// Whether sixteen longs can be stored from an address on.
 #[inline(always)]
 fn is_open(ram: &Ram, a: u32) -> bool
-    ensures even { IsTrue result → a % 2 ≡ 0 }
-    ensures passes { IsTrue result → refusal ram.now a 64 ≡ None }
+    ensures { IsTrue result → refusal ram.now a 64 ≡ None }
 {
-    a % 2 == 0 && (is_below_stack(ram, a, SIXTEEN_LONGS) || ram.probe(a, SIXTEEN_LONGS).is_ok())
+    is_below_stack(ram, a, SIXTEEN_LONGS) || ram.probe(a, SIXTEEN_LONGS).is_ok()
 }
 
 /// Stores the registers of a mask downwards from an address, none of which is refused, and tells where the
 /// last one stands.
 #[inline(always)]
 fn put_down(regs: &Regs68, ram: &mut Ram, size: Size, mask: u32, base: u32) -> u32
-    requires size { bytes_of size % 2 ≡ 0 }
     requires some { size ≢ Zero }
-    requires even { base % 2 ≡ 0 }
     requires from { 64 ≤ base }
     requires open { refusal ram.old (base - 64) 64 ≡ None }
     ensures is { stored_down regs.now.pc ram.old base size (map (λ k. register_of regs.now (15 - k)) (listed mask)) ≡ Ok ram.new }
@@ -198,7 +194,7 @@ fn load_all(
 ) -> Option<u32>
     ensures { Loads regs.old ram.now a size mask result fault.new regs.new }
 {
-    if a % 2 == 1 || !ram.has(a, SIXTEEN_LONGS) {
+    if !ram.has(a, SIXTEEN_LONGS) {
         return load_along(regs, ram, fault, a, size, mask);
     }
     match size {
@@ -209,13 +205,11 @@ fn load_all(
     }
 }
 
-/// Loads the registers of a mask from an even address on, from which sixteen longs lie in memory, and tells
+/// Loads the registers of a mask from an address on, from which sixteen longs lie in memory, and tells
 /// how many.
 #[inline(always)]
 fn take_all(regs: &mut Regs68, ram: &Ram, a: u32, size: Size, mask: u32) -> u32
-    requires size { bytes_of size % 2 ≡ 0 }
-    requires even { a % 2 ≡ 0 }
-    requires within { in_memory ram.now a 64 ≡ true }
+    requires { in_memory ram.now a 64 ≡ true }
     ensures is { loaded_along regs.old.pc regs.old ram.now a size (listed mask) ≡ Ok regs.new }
     ensures count { result ≡ length (listed mask) }
     ensures most { result ≤ 16 }

@@ -1,9 +1,9 @@
 // Instructions on registers alone.
-ghost use Rattle.std.specs.Prelude.{◌≡◌, ◌<◌, ◌*◌};
+ghost use Rattle.std.specs.Prelude.{◌≡◌};
+ghost use Rattle.m68_isa.specs.First.{first_of};
 ghost use Rattle.m68_isa.specs.declared.instructions.Instr68.TheVariants.{Ext};
 ghost use Rattle.m68_isa.specs.Rows.{words};
 ghost use Rattle.big_memory.specs.Steps.{Does};
-ghost use Rattle.m68_effects.specs.Arithmetic.{half_of as half_of_size};
 ghost use Rattle.m68_effects.specs.Movement.{halves_swapped};
 ghost use Rattle.m68_effects.specs.Ops.{by_op, runs_made};
 
@@ -76,33 +76,28 @@ pub fn do_ext(regs: &mut Regs68, ram: &Ram, fault: &mut Fault, word: u32) -> Did
     ensures { Does (by_op Op68.Ext regs.old ram.now word) result fault.new regs.old regs.new ram.now ram.now }
 {
     if size_bits_of(word) % 2 == 0 {
-        extend(regs, ram, fault, word, Size::Two, lower_of(word))
+        extend(regs, ram, fault, word, Size::One, Size::Two)
     } else {
-        extend(regs, ram, fault, word, Size::Four, lower_of(word))
+        extend(regs, ram, fault, word, Size::Two, Size::Four)
     }
 }
 
-/// The sign of a data register's low half of this size through all of the size.
-#[inline(always)]
-fn extend(regs: &mut Regs68, ram: &Ram, fault: &mut Fault, word: u32, size: Size, n: usize) -> Did
-    requires { n < 8 }
-    ensures { Does (runs_made regs.old ram.now word (words 1 (Ext size n))) result fault.new regs.old regs.new ram.now ram.now }
+/// extb: the sign of a byte through a long.
+#[inline(never)]
+pub fn do_ext_byte(regs: &mut Regs68, ram: &Ram, fault: &mut Fault, word: u32) -> Did
+    ensures { Does (by_op Op68.ExtByte regs.old ram.now word) result fault.new regs.old regs.new ram.now ram.now }
 {
-    let value = trunc(sext(regs.d[n], half_of(size)), size);
-    regs.d[n] = with_low(regs.d[n], value, size);
-    regs.ccr = result_flags(size, value, regs.ccr);
+    extend(regs, ram, fault, word, Size::One, Size::Four)
+}
+
+/// The sign of a data register's low bytes of one size through those of another one.
+#[inline(always)]
+fn extend(regs: &mut Regs68, ram: &Ram, fault: &mut Fault, word: u32, from: Size, to: Size) -> Did
+    ensures { Does (runs_made regs.old ram.now word (words 1 (Ext from to (first_of word).lower))) result fault.new regs.old regs.new ram.now ram.now }
+{
+    let register = lower_of(word);
+    let value = trunc(sext(regs.d[register], from), to);
+    regs.d[register] = with_low(regs.d[register], value, to);
+    regs.ccr = result_flags(to, value, regs.ccr);
     go_on(regs, 1)
-}
-
-/// The size that is half as large; a byte has no half.
-#[inline(always)]
-fn half_of(size: Size) -> Size
-    ensures { result ≡ half_of_size size }
-{
-    match size {
-        Size::Zero => Size::Zero,
-        Size::One => Size::One,
-        Size::Two => Size::One,
-        Size::Four => Size::Two,
-    }
 }

@@ -1,18 +1,15 @@
-use Rattle.std.proofs.Common.{◌≡◌, None, Some, sym, ◌∙◌}
+use Rattle.std.proofs.Common.{◌≡◌, None, Some}
 use Rattle.big_memory.specs.Memory.{refusal}
-use Rattle.m68_movement.proofs.Stores.{access_refused, can_store, odd_refused, probe_err, probe_ok}
+use Rattle.m68_movement.proofs.Stores.{access_refused, can_store, probe_err, probe_ok}
 use Rattle.m68_movement.proofs.along.can_store.Goals as goal
-
-pub returns-then-is_odd : goal.returns-then-is_odd
-returns-then-is_odd c = odd_refused _ _ _ _ _ (sym c.is_odd.ensures ∙ c.if-is_odd.true) c.at.ensures
 
 pub returns-in-Ok : goal.returns-in-Ok
 returns-in-Ok c =
     let none : refusal c.args.ram.now c.args.a c.bytes.result ≡ None = probe_ok _ c.probe.result c.probe.ensures c.in-Ok.is in
     can_store _ _ _ _ c.args.fault.now c.memory_laws.ensures.refusals c.memory_laws.ensures.ram c.memory_laws.ensures.joins c.memory_laws.ensures.stores c.meets_invariant.ensures
-    (sym c.is_odd.ensures ∙ c.if-is_odd.false) (rw c.bytes.ensures at none)
+    (rw c.bytes.ensures at none)
 
 pub returns-in-Err : goal.returns-in-Err
 returns-in-Err c =
     let some : refusal c.args.ram.now c.args.a c.bytes.result ≡ Some c.in-Err.access = probe_err _ c.probe.result _ c.probe.ensures c.in-Err.is in
-    access_refused _ _ _ _ _ _ c.memory_laws.ensures.refusals (sym c.is_odd.ensures ∙ c.if-is_odd.false) (rw c.bytes.ensures at some) c.fault.ensures
+    access_refused _ _ _ _ _ _ c.memory_laws.ensures.refusals (rw c.bytes.ensures at some) c.fault.ensures

@@ -1,9 +1,9 @@
-use Rattle.std.proofs.Common.{◌≡◌, ◌≤◌, ◌<◌, ◌+◌, ◌-◌, ◌%◌, ◌∙◌, ap, arith, false, filter, length, refl, suc, true}
+use Rattle.std.proofs.Common.{◌≡◌, ◌≤◌, ◌<◌, ◌+◌, ◌-◌, ◌∙◌, ap, arith, false, filter, length, refl, suc, true}
 use Rattle.std.specs.List.{range_with_len}
 use Rattle.mix_bits.specs.Addresses.{onward}
 use Rattle.mix_bits.specs.Sizes.{bytes_of}
 use Rattle.m68_effects.specs.Multiple.{listed, loaded_along}
-use Rattle.m68_movement.proofs.Down.{even_not_odd, most_bytes}
+use Rattle.m68_movement.proofs.Down.{most_bytes}
 use Rattle.m68_movement.proofs.Up.{is_loaded, not_refused, onward_within, small_end, there_above}
 use Rattle.m68_movement.proofs.Masks.{all_listed, has, has_bit, lacks_bit, left_has, left_lacks, none_loaded, one_loaded, same_pc}
 use Rattle.m68_movement.proofs.multiple.take_all.Goals as goal
@@ -16,7 +16,6 @@ loop-k-init c =
       omega (arith, all),
       omega arith,
       refl,
-      c.requires.even,
       omega arith,
       omega arith,
     )
@@ -24,7 +23,7 @@ loop-k-init c =
 pub unreachable-requires : goal.unreachable-requires
 unreachable-requires c =
     absurd (not_refused c.args.ram.now c.loop-k.at c.args.size _
-    (there_above c.args.ram.now c.args.a c.loop-k.at c.loop-k.k (bytes_of c.args.size) c.memory_laws.ensures.inside c.requires.within c.loop-k.invariant.5 c.loop-k.invariant.6 (omega arith) (most_bytes c.args.size))
+    (there_above c.args.ram.now c.args.a c.loop-k.at c.loop-k.k (bytes_of c.args.size) c.memory_laws.ensures.inside c.requires c.loop-k.invariant.4 c.loop-k.invariant.5 (omega arith) (most_bytes c.args.size))
     c.in_default.ensures.is)
 
 pub loop-k-preserved : goal.loop-k-preserved
@@ -36,20 +35,18 @@ loop-k-preserved c =
           let is : has c.args.mask c.loop-k.k ≡ true = has_bit c.args.mask c.loop-k.k c.digit.result c.digit.ensures (omega arith) in
           let left = left_has c.args.mask c.loop-k.k below is in
           let few : bytes_of c.args.size ≤ 4 = most_bytes c.args.size in
-          let end : c.args.a + 64 ≤ 16777216 = small_end c.args.ram.now c.args.a c.meets_invariant.ensures.most c.requires.within in
-          let next : onward c.loop-k.at (bytes_of c.args.size) ≡ c.loop-k.at + bytes_of c.args.size = onward_within _ _ (omega (arith, few, end, below, c.loop-k.invariant.6)) in
-          let even : (c.loop-k.at + bytes_of c.args.size) % 2 ≡ 0 = omega (arith, c.loop-k.invariant.4, c.requires.size) in
+          let end : c.args.a + 64 ≤ 16777216 = small_end c.args.ram.now c.args.a c.meets_invariant.ensures.most c.requires in
+          let next : onward c.loop-k.at (bytes_of c.args.size) ≡ c.loop-k.at + bytes_of c.args.size = onward_within _ _ (omega (arith, few, end, below, c.loop-k.invariant.5)) in
           let long : length (filter (has c.args.mask) (range_with_len c.loop-k.k (16 - c.loop-k.k))) ≡ suc (length rest) = ap length left in (
             c.loop-k.invariant.0
                 ∙ ap (λ ks. loaded_along c.args.regs.now.pc c.loop-k.regs c.args.ram.now c.loop-k.at c.args.size ks) left
-                ∙ one_loaded _ _ _ _ _ _ _ _ (is_loaded c.args.regs.now.pc c.args.ram.now c.loop-k.at c.args.size _ (even_not_odd _ _ c.loop-k.invariant.4) w.in-Ok.ensures.is)
+                ∙ one_loaded _ _ _ _ _ _ _ _ (is_loaded c.args.regs.now.pc c.args.ram.now c.loop-k.at c.args.size _ w.in-Ok.ensures.is)
                 ∙ rw (w.regs-is, w.set_register.ensures, w.sext.ensures, w.at-is, w.onward-at.ensures, w.bytes.ensures) refl,
             omega (arith, c.loop-k.invariant.1, long, w.count-is),
             omega (arith, c.loop-k.invariant.2, w.count-is),
             rw (w.regs-is, w.set_register.ensures) (same_pc c.loop-k.regs c.loop-k.k w.sext.result ∙ c.loop-k.invariant.3),
-            rw (w.at-is, w.onward-at.ensures, w.bytes.ensures, next) even,
-            rw (w.at-is, w.onward-at.ensures, w.bytes.ensures, next) (omega (arith, c.loop-k.invariant.5)),
-            rw (w.at-is, w.onward-at.ensures, w.bytes.ensures, next) (omega (arith, few, c.loop-k.invariant.6)),
+            rw (w.at-is, w.onward-at.ensures, w.bytes.ensures, next) (omega (arith, c.loop-k.invariant.4)),
+            rw (w.at-is, w.onward-at.ensures, w.bytes.ensures, next) (omega (arith, few, c.loop-k.invariant.5)),
           )
       | else-digit-eq1 w ↦
           let is : has c.args.mask c.loop-k.k ≡ false = lacks_bit c.args.mask c.loop-k.k c.digit.result c.digit.ensures (λ e. w.if-digit-eq1.false e) in
@@ -62,8 +59,7 @@ loop-k-preserved c =
             omega (arith, c.loop-k.invariant.2),
             c.loop-k.invariant.3,
             c.loop-k.invariant.4,
-            c.loop-k.invariant.5,
-            omega (arith, c.loop-k.invariant.6),
+            omega (arith, c.loop-k.invariant.5),
           )
     ]
 
