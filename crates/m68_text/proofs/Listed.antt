@@ -7,12 +7,12 @@ use Rattle.m68_isa.specs.declared.instructions.ImmediateOp.TheVariants.{Ori, And
 use Rattle.m68_isa.specs.declared.instructions.LogicOp.TheVariants.{And as LogicAnd, Or as LogicOr, Eor as LogicEor}
 use Rattle.m68_isa.specs.declared.instructions.ShiftOp.TheVariants.{As, Ls, Rox, Ro}
 use Rattle.m68_isa.specs.declared.instructions.Instr68.{Instr68}
-use Rattle.m68_isa.specs.declared.instructions.Instr68.TheVariants.{Immediate, ImmediateToCcr, BitByRegister, BitByNumber, Movep, Move, Movea, Negx, Clr, Neg, Not, MoveFromSr, MoveToCcr, Nbcd, Swap, Pea, Ext, MovemToMemory, MovemFromMemory, Tst, Tas, Trap, Link, Unlk, Nop, Rts, Trapv, Rtr, Jsr, Jmp, Chk, Lea, Addq, Subq, Scc, Dbcc, Bcc, Moveq, Or, Div, Sbcd, Sub, Suba, Subx, Cmp, Cmpa, Eor, Cmpm, And, Mul, Abcd, Exg, Add, Adda, Addx, Shift, ShiftMemory}
-use Rattle.m68_isa.specs.Widths.{has_size, is_any, is_wide}
-use Rattle.m68_text.specs.Names.{suffix, condition_name, branch_name, branch_suffix, name}
+use Rattle.m68_isa.specs.declared.instructions.Instr68.TheVariants.{Immediate, ImmediateToCcr, BitByRegister, BitByNumber, Movep, Move, Movea, Negx, Clr, Neg, Not, MoveFromSr, MoveToCcr, Nbcd, Swap, Pea, Ext, MovemToMemory, MovemFromMemory, MulLong, DivLong, Tst, Tas, Trap, Link, Unlk, Nop, Rtd, Rts, Trapv, Rtr, Jsr, Jmp, Chk, Lea, Addq, Subq, Scc, Dbcc, Bcc, Moveq, Or, Div, Sbcd, Sub, Suba, Subx, Cmp, Cmpa, Eor, Cmpm, And, Mul, Abcd, Exg, Add, Adda, Addx, Shift, ShiftMemory}
+use Rattle.m68_isa.specs.Widths.{has_size, is_any, is_wide, is_extension}
+use Rattle.m68_text.specs.Names.{suffix, condition_name, branch_name, branch_suffix, extension_name, link_name, name}
 use Rattle.m68_text.specs.Listed.{stems, wide_stems, plain_names, tested, conditions, names, is_name}
 
-pub all_names : length names ≡ 211
+pub all_names : length names ≡ 234
 unfolding names stems wide_stems plain_names tested conditions
 all_names = refl
 
@@ -45,15 +45,23 @@ at_wide P One two four is = cc
 at_wide P Two two four is = two
 at_wide P Four two four is = four
 
+at_extension : (P : Size → Size → Bool) (from to : Size) → P One Two ≡ true → P Two Four ≡ true → P One Four ≡ true → is_extension from to ≡ true → P from to ≡ true
+at_extension P One Two word long byte is = word
+at_extension P Two Four word long byte is = long
+at_extension P One Four word long byte is = byte
+at_extension P from to word long byte is = cc
+
 branch : (c used : ℕ) → is_name (branch_name c ++ branch_suffix used) ≡ true
 unfolding names stems wide_stems plain_names tested conditions
 branch c used =
     let at : List ℕ → Bool = λ end. is_name (branch_name c ++ end) in
     let with_end : (end : List ℕ) → is_name (codes "bra" ++ end) ≡ true → is_name (codes "bsr" ++ end) ≡ true → ((n0 : (c == 0) ≡ false) → (c == 1) ≡ false → is_name ((codes "b" ++ condition_name c) ++ end) ≡ true) → is_name (branch_name c ++ end) ≡ true =
     λ end bra bsr rest. chosen (λ n. is_name (n ++ end)) (c == 0) (codes "bra") _ bra (λ n0. chosen (λ n. is_name (n ++ end)) (c == 1) (codes "bsr") _ bsr (λ n1. rest n0 n1)) in
-    chosen at (used == 1) (codes ".b") (codes ".w")
+    chosen at (used == 1) (codes ".b") (if used == 2 then codes ".w" else codes ".l")
     (with_end (codes ".b") refl refl (λ n0 n1. at_tested (λ n. is_name ((codes "b" ++ n) ++ codes ".b")) c n0 n1 refl refl refl refl refl refl refl refl refl refl refl refl refl refl))
-    (λ _. with_end (codes ".w") refl refl (λ n0 n1. at_tested (λ n. is_name ((codes "b" ++ n) ++ codes ".w")) c n0 n1 refl refl refl refl refl refl refl refl refl refl refl refl refl refl))
+    (λ _. chosen at (used == 2) (codes ".w") (codes ".l")
+    (with_end (codes ".w") refl refl (λ n0 n1. at_tested (λ n. is_name ((codes "b" ++ n) ++ codes ".w")) c n0 n1 refl refl refl refl refl refl refl refl refl refl refl refl refl refl))
+    (λ _. with_end (codes ".l") refl refl (λ n0 n1. at_tested (λ n. is_name ((codes "b" ++ n) ++ codes ".l")) c n0 n1 refl refl refl refl refl refl refl refl refl refl refl refl refl refl)))
 
 pub listed : (i : Instr68) (used : ℕ) → has_size i ≡ true → is_name (name i used) ≡ true
 unfolding names stems wide_stems plain_names tested conditions
@@ -86,15 +94,20 @@ listed (MoveToCcr from) used h = refl
 listed (Nbcd to) used h = refl
 listed (Swap register) used h = refl
 listed (Pea from) used h = refl
-listed (Ext size register) used h = at_wide (λ s. is_name (codes "ext" ++ suffix s)) size refl refl h
+listed (Ext from to register) used h = at_extension (λ s t. is_name (extension_name s t)) from to refl refl refl h
 listed (MovemToMemory size mask to) used h = at_wide (λ s. is_name (codes "movem" ++ suffix s)) size refl refl h
 listed (MovemFromMemory size mask from) used h = at_wide (λ s. is_name (codes "movem" ++ suffix s)) size refl refl h
+listed (MulLong true wide by high low) used h = refl
+listed (MulLong false wide by high low) used h = refl
+listed (DivLong true wide by high low) used h = refl
+listed (DivLong false wide by high low) used h = refl
 listed (Tst size of) used h = at_any (λ s. is_name (codes "tst" ++ suffix s)) size refl refl refl h
 listed (Tas to) used h = refl
 listed (Trap number) used h = refl
-listed (Link register disp) used h = refl
+listed (Link size register disp) used h = at_wide (λ s. is_name (link_name s)) size refl refl h
 listed (Unlk register) used h = refl
 listed Nop used h = refl
+listed (Rtd disp) used h = refl
 listed Rts used h = refl
 listed Trapv used h = refl
 listed Rtr used h = refl

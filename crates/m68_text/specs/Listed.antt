@@ -17,13 +17,13 @@ unfoldable pub wide_stems : List (List ℕ)
 wide_stems =
     codes "movep" ∷ codes "movea" ∷ codes "ext" ∷ codes "movem" ∷ codes "suba" ∷ codes "cmpa" ∷ codes "adda" ∷ []
 
--- the names without a size
+-- the names without a size, or with one of their own
 unfoldable pub plain_names : List (List ℕ)
 plain_names =
     codes "ori" ∷ codes "andi" ∷ codes "eori" ∷ codes "btst" ∷ codes "bchg" ∷ codes "bclr" ∷ codes "bset" ∷ codes "move"
-    ∷ codes "nbcd" ∷ codes "swap" ∷ codes "pea" ∷ codes "tas" ∷ codes "trap" ∷ codes "link" ∷ codes "unlk" ∷ codes "nop"
-    ∷ codes "rts" ∷ codes "trapv" ∷ codes "rtr" ∷ codes "jsr" ∷ codes "jmp" ∷ codes "chk" ∷ codes "lea" ∷ codes "moveq"
-    ∷ codes "divs" ∷ codes "divu" ∷ codes "sbcd" ∷ codes "muls" ∷ codes "mulu" ∷ codes "abcd" ∷ codes "exg" ∷ codes "asl"
+    ∷ codes "nbcd" ∷ codes "swap" ∷ codes "extb.l" ∷ codes "pea" ∷ codes "tas" ∷ codes "trap" ∷ codes "link" ∷ codes "link.l" ∷ codes "unlk" ∷ codes "nop"
+    ∷ codes "rtd" ∷ codes "rts" ∷ codes "trapv" ∷ codes "rtr" ∷ codes "jsr" ∷ codes "jmp" ∷ codes "chk" ∷ codes "lea" ∷ codes "moveq"
+    ∷ codes "divs" ∷ codes "divu" ∷ codes "divs.l" ∷ codes "divu.l" ∷ codes "sbcd" ∷ codes "muls" ∷ codes "mulu" ∷ codes "muls.l" ∷ codes "mulu.l" ∷ codes "abcd" ∷ codes "exg" ∷ codes "asl"
     ∷ codes "asr" ∷ codes "lsl" ∷ codes "lsr" ∷ codes "roxl" ∷ codes "roxr" ∷ codes "rol" ∷ codes "ror" ∷ []
 
 -- all conditions, and those that a branch tests
@@ -43,7 +43,7 @@ names =
     each_with stems (map suffix (One ∷ Two ∷ Four ∷ []))
     ++ (each_with wide_stems (map suffix (Two ∷ Four ∷ []))
     ++ (each_with (codes "s" ∷ codes "db" ∷ []) conditions
-    ++ (each_with (codes "bra" ∷ codes "bsr" ∷ map (λ c. codes "b" ++ c) tested) (codes ".b" ∷ codes ".w" ∷ [])
+    ++ (each_with (codes "bra" ∷ codes "bsr" ∷ map (λ c. codes "b" ++ c) tested) (codes ".b" ∷ codes ".w" ∷ codes ".l" ∷ [])
     ++ (plain_names ++ (codes "dc.w" ∷ [])))))
 
 abbrev pub is_name : List ℕ → Bool

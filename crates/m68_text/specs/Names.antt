@@ -12,7 +12,7 @@ use Rattle.m68_isa.specs.declared.instructions.LogicOp.TheVariants.{And as Logic
 use Rattle.m68_isa.specs.declared.instructions.ShiftOp.{ShiftOp}
 use Rattle.m68_isa.specs.declared.instructions.ShiftOp.TheVariants.{As, Ls, Rox, Ro}
 use Rattle.m68_isa.specs.declared.instructions.Instr68.{Instr68}
-use Rattle.m68_isa.specs.declared.instructions.Instr68.TheVariants.{Immediate, ImmediateToCcr, BitByRegister, BitByNumber, Movep, Move, Movea, Negx, Clr, Neg, Not, MoveFromSr, MoveToCcr, Nbcd, Swap, Pea, Ext, MovemToMemory, MovemFromMemory, Tst, Tas, Trap, Link, Unlk, Nop, Rts, Trapv, Rtr, Jsr, Jmp, Chk, Lea, Addq, Subq, Scc, Dbcc, Bcc, Moveq, Or, Div, Sbcd, Sub, Suba, Subx, Cmp, Cmpa, Eor, Cmpm, And, Mul, Abcd, Exg, Add, Adda, Addx, Shift, ShiftMemory}
+use Rattle.m68_isa.specs.declared.instructions.Instr68.TheVariants.{Immediate, ImmediateToCcr, BitByRegister, BitByNumber, Movep, Move, Movea, Negx, Clr, Neg, Not, MoveFromSr, MoveToCcr, Nbcd, Swap, Pea, Ext, MovemToMemory, MovemFromMemory, MulLong, DivLong, Tst, Tas, Trap, Link, Unlk, Nop, Rtd, Rts, Trapv, Rtr, Jsr, Jmp, Chk, Lea, Addq, Subq, Scc, Dbcc, Bcc, Moveq, Or, Div, Sbcd, Sub, Suba, Subx, Cmp, Cmpa, Eor, Cmpm, And, Mul, Abcd, Exg, Add, Adda, Addx, Shift, ShiftMemory}
 
 -- none where there is no value
 abbrev pub suffix : Size → List ℕ
@@ -73,9 +73,19 @@ shift_name op left = shift_kind op ++ (if left then codes "l" else codes "r")
 abbrev pub branch_name : ℕ → List ℕ
 branch_name c = if c == 0 then codes "bra" else if c == 1 then codes "bsr" else codes "b" ++ condition_name c
 
--- whether the displacement is in the first word or in one of its own
+-- whether the displacement is in the first word, in one of its own, or in two
 abbrev pub branch_suffix : ℕ → List ℕ
-branch_suffix used = if used == 1 then codes ".b" else codes ".w"
+branch_suffix used = if used == 1 then codes ".b" else if used == 2 then codes ".w" else codes ".l"
+
+-- to a word or to a long, or past a word to a long
+abbrev pub extension_name : Size → Size → List ℕ
+extension_name One Four = codes "extb.l"
+extension_name from to = codes "ext" ++ suffix to
+
+-- a displacement of a word is not marked
+abbrev pub link_name : Size → List ℕ
+link_name Four = codes "link.l"
+link_name _ = codes "link"
 
 -- the name of an instruction of so many words
 abbrev pub name : Instr68 → ℕ → List ℕ
@@ -95,15 +105,18 @@ name (MoveToCcr from) used = codes "move"
 name (Nbcd to) used = codes "nbcd"
 name (Swap register) used = codes "swap"
 name (Pea from) used = codes "pea"
-name (Ext size register) used = codes "ext" ++ suffix size
+name (Ext from to register) used = extension_name from to
 name (MovemToMemory size mask to) used = codes "movem" ++ suffix size
 name (MovemFromMemory size mask from) used = codes "movem" ++ suffix size
+name (MulLong signed wide by high low) used = if signed then codes "muls.l" else codes "mulu.l"
+name (DivLong signed wide by high low) used = if signed then codes "divs.l" else codes "divu.l"
 name (Tst size of) used = codes "tst" ++ suffix size
 name (Tas to) used = codes "tas"
 name (Trap number) used = codes "trap"
-name (Link register disp) used = codes "link"
+name (Link size register disp) used = link_name size
 name (Unlk register) used = codes "unlk"
 name Nop used = codes "nop"
+name (Rtd disp) used = codes "rtd"
 name Rts used = codes "rts"
 name Trapv used = codes "trapv"
 name Rtr used = codes "rtr"

@@ -1,6 +1,6 @@
 -- The kinds of operands, each with its text, and the operands of each instruction, the source
 -- first (M68000 Family Programmer's Reference Manual, sections 2 and 4).
-use Rattle.std.specs.Prelude.{ℕ, List, [], ◌∷◌, ◌++◌, codes, decimal, map, slice_index, Bool, if◌then◌else◌}
+use Rattle.std.specs.Prelude.{ℕ, List, [], ◌∷◌, ◌++◌, ◌==◌, codes, decimal, map, slice_index, Bool, if◌then◌else◌}
 use Rattle.std.specs.List.{join_with_byte}
 use Rattle.mix_bits.specs.Text.{hexadecimal}
 use Rattle.mix_bits.specs.declared.size.Size.{Size}
@@ -13,13 +13,13 @@ use Rattle.m68_isa.specs.declared.instructions.ShiftCount.TheVariants.{Number as
 use Rattle.m68_isa.specs.declared.instructions.Exchange.{Exchange}
 use Rattle.m68_isa.specs.declared.instructions.Exchange.TheVariants.{Data as ExchangeData, Address as ExchangeAddress, DataAddress}
 use Rattle.m68_isa.specs.declared.instructions.Instr68.{Instr68}
-use Rattle.m68_isa.specs.declared.instructions.Instr68.TheVariants.{Immediate, ImmediateToCcr, BitByRegister, BitByNumber, Movep, Move, Movea, Negx, Clr, Neg, Not, MoveFromSr, MoveToCcr, Nbcd, Swap, Pea, Ext, MovemToMemory, MovemFromMemory, Tst, Tas, Trap, Link, Unlk, Nop, Rts, Trapv, Rtr, Jsr, Jmp, Chk, Lea, Addq, Subq, Scc, Dbcc, Bcc, Moveq, Or, Div, Sbcd, Sub, Suba, Subx, Cmp, Cmpa, Eor, Cmpm, And, Mul, Abcd, Exg, Add, Adda, Addx, Shift, ShiftMemory}
+use Rattle.m68_isa.specs.declared.instructions.Instr68.TheVariants.{Immediate, ImmediateToCcr, BitByRegister, BitByNumber, Movep, Move, Movea, Negx, Clr, Neg, Not, MoveFromSr, MoveToCcr, Nbcd, Swap, Pea, Ext, MovemToMemory, MovemFromMemory, MulLong, DivLong, Tst, Tas, Trap, Link, Unlk, Nop, Rtd, Rts, Trapv, Rtr, Jsr, Jmp, Chk, Lea, Addq, Subq, Scc, Dbcc, Bcc, Moveq, Or, Div, Sbcd, Sub, Suba, Subx, Cmp, Cmpa, Eor, Cmpm, And, Mul, Abcd, Exg, Add, Adda, Addx, Shift, ShiftMemory}
 use Rattle.m68_isa.specs.Operands.{long_at}
 use Rattle.m68_isa.specs.Targets.{branch_target}
 use Rattle.m68_text.specs.declared.operand.Operand.{Operand}
 use Rattle.m68_text.specs.declared.operand.Operands.{Operands}
-use Rattle.m68_text.specs.declared.operand.Operands.TheVariants.{None as NoOperand, One as OneOperand, Two as TwoOperands}
-use Rattle.m68_text.specs.declared.operand.Operand.TheVariants.{Data, Address, Indirect, PostIncrement, PreDecrement, Displaced, Indexed, ShortAddress, LongAddress, PcDisplaced, PcIndexed, Byte, Word, Long, Number, ConditionCodes, StatusRegister, Target}
+use Rattle.m68_text.specs.declared.operand.Operands.TheVariants.{None as NoOperand, One as OneOperand, Two as TwoOperands, Three as ThreeOperands}
+use Rattle.m68_text.specs.declared.operand.Operand.TheVariants.{Data, Pair, Address, Indirect, PostIncrement, PreDecrement, Displaced, Indexed, ShortAddress, LongAddress, PcDisplaced, PcIndexed, Byte, Word, Long, Number, ConditionCodes, StatusRegister, Target}
 
 abbrev pub data_register : ℕ → List ℕ
 data_register n = codes "d" ++ decimal n
@@ -34,12 +34,17 @@ indirect n = codes "(" ++ address_register n ++ codes ")"
 abbrev pub hex : ℕ → ℕ → List ℕ
 hex digits v = codes "$" ++ hexadecimal digits v
 
--- the index register, and how much of it counts
+-- what the index is multiplied by, if by more than 1
+abbrev pub scale_text : ℕ → List ℕ
+scale_text scale = if scale == 1 then codes "" else if scale == 2 then codes "*2" else if scale == 4 then codes "*4" else codes "*8"
+
+-- the index register, how much of it counts, and its scale
 abbrev pub index_text : Index → List ℕ
-index_text i = (if i.address then address_register i.reg else data_register i.reg) ++ (if i.long then codes ".l" else codes ".w")
+index_text i = (if i.address then address_register i.reg else data_register i.reg) ++ (if i.long then codes ".l" else codes ".w") ++ scale_text i.scale
 
 abbrev pub operand_text : Operand → List ℕ
 operand_text (Data n) = data_register n
+operand_text (Pair high low) = data_register high ++ codes ":" ++ data_register low
 operand_text (Address n) = address_register n
 operand_text (Indirect n) = indirect n
 operand_text (PostIncrement n) = indirect n ++ codes "+"
@@ -58,11 +63,12 @@ operand_text ConditionCodes = codes "ccr"
 operand_text StatusRegister = codes "sr"
 operand_text (Target a) = hex 8 a
 
--- the operands that an instruction has, at most two
+-- the operands that an instruction has, at most three
 abbrev pub listed : Operands → List Operand
 listed NoOperand = []
 listed (OneOperand o) = o ∷ []
 listed (TwoOperands o p) = o ∷ p ∷ []
+listed (ThreeOperands o p q) = o ∷ p ∷ q ∷ []
 
 -- with commas between them
 abbrev pub joined : List Operand → List ℕ
@@ -106,11 +112,25 @@ exchanged ExchangeData upper lower = Data upper ∷ Data lower ∷ []
 exchanged ExchangeAddress upper lower = Address upper ∷ Address lower ∷ []
 exchanged DataAddress upper lower = Data upper ∷ Address lower ∷ []
 
+-- the source of a long multiplication or division, then the register of the high 32 bits or of the remainder before
+-- that of the low ones: the two hold one number of 64 bits, or one each. An immediate stands behind the word of the
+-- registers
+abbrev pub with_registers : Bool → ℕ → ℕ → List ℕ → Ea → List Operand
+with_registers wide high low ws by =
+    let source = place Four ws 2 by in
+    if wide then source ∷ Pair high low ∷ [] else source ∷ Data high ∷ Data low ∷ []
+
+-- a displacement that stands alone, of a word or of a long
+abbrev pub displacement : Size → ℕ → Operand
+displacement Four v = Long v
+displacement _ v = Word v
+
 abbrev pub counted : ShiftCount → Operand
 counted (CountNumber n) = Number n
 counted (CountRegister n) = Data n
 
--- the operands of an instruction with these words at an address; an immediate begins with word 1
+-- the operands of an instruction with these words at an address; an immediate begins with word 1, unless
+-- that is the word of the registers
 abbrev pub operands : Instr68 → List ℕ → ℕ → List Operand
 operands (Immediate op size value to) ws at = immediate size ws 1 ∷ place size ws 1 to ∷ []
 operands (ImmediateToCcr op value) ws at = immediate One ws 1 ∷ ConditionCodes ∷ []
@@ -128,15 +148,18 @@ operands (MoveToCcr from) ws at = place Two ws 1 from ∷ ConditionCodes ∷ []
 operands (Nbcd to) ws at = place One ws 1 to ∷ []
 operands (Swap register) ws at = Data register ∷ []
 operands (Pea from) ws at = place Four ws 1 from ∷ []
-operands (Ext size register) ws at = Data register ∷ []
+operands (Ext from to register) ws at = Data register ∷ []
 operands (MovemToMemory size mask to) ws at = Word mask ∷ place size ws 1 to ∷ []
 operands (MovemFromMemory size mask from) ws at = place size ws 1 from ∷ Word mask ∷ []
+operands (MulLong signed wide by high low) ws at = with_registers wide high low ws by
+operands (DivLong signed wide by high low) ws at = with_registers wide high low ws by
 operands (Tst size of) ws at = place size ws 1 of ∷ []
 operands (Tas to) ws at = place One ws 1 to ∷ []
 operands (Trap number) ws at = Number number ∷ []
-operands (Link register disp) ws at = Address register ∷ Word disp ∷ []
+operands (Link size register disp) ws at = Address register ∷ displacement size disp ∷ []
 operands (Unlk register) ws at = Address register ∷ []
 operands Nop ws at = []
+operands (Rtd disp) ws at = Word disp ∷ []
 operands Rts ws at = []
 operands Trapv ws at = []
 operands Rtr ws at = []

@@ -6,7 +6,7 @@ use m68_isa::table_laws;
 
 /// What holds of the names of all instructions. It does nothing: the clauses are its point.
 pub fn text_laws()
-    ensures count { length names ≡ 211 }
+    ensures count { length names ≡ 234 }
     ensures names { NamesAreListed }
 {
     table_laws();

@@ -1,7 +1,7 @@
-//! The text of 68000 instructions.
+//! The text of 68K instructions.
 //!
 //! `text68` writes exactly the text of the definitions, so no append to a line is refused. An instruction's name
-//! is one of a list (`specs/Listed`), and its operands are a list of at most two.
+//! is one of a list (`specs/Listed`), and its operands are a list of at most three.
 #![tactic(auto)]
 
 mod append;

@@ -1,5 +1,5 @@
 ghost use Rattle.std.specs.Prelude.{◌≡◌, ◌+◌, ◌≤◌, ◌++◌, codes, length};
-ghost use Rattle.m68_text.specs.Names.{bit_name as bit_name_of, branch_name as branch_name_of, branch_suffix as branch_suffix_of, condition_name as condition_name_of, immediate_name as immediate_name_of, logic_name as logic_name_of, name, shift_name as shift_name_of, suffix as suffix_of};
+ghost use Rattle.m68_text.specs.Names.{bit_name as bit_name_of, branch_name as branch_name_of, branch_suffix as branch_suffix_of, extension_name as extension_name_of, link_name as link_name_of, condition_name as condition_name_of, immediate_name as immediate_name_of, logic_name as logic_name_of, name, shift_name as shift_name_of, suffix as suffix_of};
 
 use m68_isa::{BitOp, ImmediateOp, Instr68, LogicOp, ShiftOp};
 use mix_bits::Size;
@@ -148,7 +148,11 @@ fn branch_suffix(used: u32) -> &'static str
     ensures text { result.now ≡ branch_suffix_of used }
     ensures short { length result.now ≤ 2 }
 {
-    if used == 1 { ".b" } else { ".w" }
+    match used {
+        1 => ".b",
+        2 => ".w",
+        _ => ".l",
+    }
 }
 
 /// The name of a branch of so many words.
@@ -176,6 +180,27 @@ fn branch_name(condition: u8, used: u32) -> Name
     }
 }
 
+/// The name of an extension of a sign.
+fn extension_name(from: Size, to: Size) -> Name
+    ensures text { result.stem.now ++ (result.condition.now ++ result.suffix.now) ≡ extension_name_of from to }
+    ensures short { length result.stem.now + length result.condition.now + length result.suffix.now ≤ 6 }
+{
+    match (from, to) {
+        (Size::One, Size::Four) => plain("extb.l"),
+        _ => sized("ext", to),
+    }
+}
+
+fn link_name(size: Size) -> Name
+    ensures text { result.stem.now ++ (result.condition.now ++ result.suffix.now) ≡ link_name_of size }
+    ensures short { length result.stem.now + length result.condition.now + length result.suffix.now ≤ 6 }
+{
+    match size {
+        Size::Four => plain("link.l"),
+        _ => plain("link"),
+    }
+}
+
 /// The name of an instruction of so many words.
 pub fn name_of(i: Instr68, used: u32) -> Name
     ensures text { result.stem.now ++ (result.condition.now ++ result.suffix.now) ≡ name i used }
@@ -198,15 +223,18 @@ pub fn name_of(i: Instr68, used: u32) -> Name
         Instr68::Nbcd { .. } => plain("nbcd"),
         Instr68::Swap { .. } => plain("swap"),
         Instr68::Pea { .. } => plain("pea"),
-        Instr68::Ext { size, .. } => sized("ext", size),
+        Instr68::Ext { from, to, .. } => extension_name(from, to),
         Instr68::MovemToMemory { size, .. } => sized("movem", size),
         Instr68::MovemFromMemory { size, .. } => sized("movem", size),
+        Instr68::MulLong { signed, .. } => plain(if signed { "muls.l" } else { "mulu.l" }),
+        Instr68::DivLong { signed, .. } => plain(if signed { "divs.l" } else { "divu.l" }),
         Instr68::Tst { size, .. } => sized("tst", size),
         Instr68::Tas { .. } => plain("tas"),
         Instr68::Trap { .. } => plain("trap"),
-        Instr68::Link { .. } => plain("link"),
+        Instr68::Link { size, .. } => link_name(size),
         Instr68::Unlk { .. } => plain("unlk"),
         Instr68::Nop => plain("nop"),
+        Instr68::Rtd { .. } => plain("rtd"),
         Instr68::Rts => plain("rts"),
         Instr68::Trapv => plain("trapv"),
         Instr68::Rtr => plain("rtr"),

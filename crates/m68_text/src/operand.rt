@@ -1,5 +1,5 @@
 ghost use Rattle.std.specs.Prelude.{◌≡◌, ◌+◌, ◌≤◌, ◌⊎◌, ◌++◌, codes, length};
-ghost use Rattle.m68_text.specs.Operands.{address_register, data_register, hex, index_text, indirect, listed, operand_text, operands_text};
+ghost use Rattle.m68_text.specs.Operands.{address_register, data_register, hex, index_text, indirect, listed, operand_text, operands_text, scale_text as scale_text_of};
 
 use super::append::{add_hex, add_number};
 use m68_isa::Index;
@@ -11,6 +11,8 @@ use mix_bits::Line;
 pub enum Operand {
     /// A data register.
     Data(u8),
+    /// Two data registers that hold one number, the register of its high 32 bits first.
+    Pair(u8, u8),
     /// An address register.
     Address(u8),
     /// Memory at an address register.
@@ -53,6 +55,7 @@ pub enum Operands {
     None,
     One(Operand),
     Two(Operand, Operand),
+    Three(Operand, Operand, Operand),
 }
 
 fn add_data_register(line: &mut Line, n: u8)
@@ -84,11 +87,24 @@ fn add_indirect(line: &mut Line, n: u8)
     line.add(")");
 }
 
-/// Appends an index register, with how much of it counts.
+/// What an index is multiplied by, if by more than 1.
+fn scale_text(scale: u32) -> &'static str
+    ensures text { result.now ≡ scale_text_of scale }
+    ensures short { length result.now ≤ 2 }
+{
+    match scale {
+        1 => "",
+        2 => "*2",
+        4 => "*4",
+        _ => "*8",
+    }
+}
+
+/// Appends an index register, with how much of it counts and its scale.
 fn add_index(line: &mut Line, index: Index)
-    requires { length line.old + 6 ≤ 160 }
+    requires { length line.old + 8 ≤ 160 }
     ensures text { line.new ≡ line.old ++ index_text index }
-    ensures grows { length line.new ≤ length line.old + 6 }
+    ensures grows { length line.new ≤ length line.old + 8 }
 {
     if index.address {
         add_address_register(line, index.reg);
@@ -96,6 +112,18 @@ fn add_index(line: &mut Line, index: Index)
         add_data_register(line, index.reg);
     }
     line.add(if index.long { ".l" } else { ".w" });
+    line.add(scale_text(index.scale));
+}
+
+/// Appends two data registers that hold one number.
+fn add_pair(line: &mut Line, high: u8, low: u8)
+    requires { length line.old + 9 ≤ 160 }
+    ensures text { line.new ≡ line.old ++ (data_register high ++ (codes ":" ++ data_register low)) }
+    ensures grows { length line.new ≤ length line.old + 9 }
+{
+    add_data_register(line, high);
+    line.add(":");
+    add_data_register(line, low);
 }
 
 /// Appends an absolute address of 4 or 8 digits, with its size.
@@ -123,9 +151,9 @@ fn add_immediate(line: &mut Line, value: u32, digits: u32)
 
 /// Appends a base in `(` with its displacement before it, and an index behind it.
 fn add_indexed(line: &mut Line, n: u8, index: Index)
-    requires { length line.old + 16 ≤ 160 }
+    requires { length line.old + 18 ≤ 160 }
     ensures text { line.new ≡ line.old ++ (hex 2 index.disp ++ (codes "(" ++ (address_register n ++ (codes "," ++ (index_text index ++ codes ")"))))) }
-    ensures grows { length line.new ≤ length line.old + 16 }
+    ensures grows { length line.new ≤ length line.old + 18 }
 {
     add_hex(line, index.disp, 2);
     line.add("(");
@@ -136,12 +164,13 @@ fn add_indexed(line: &mut Line, n: u8, index: Index)
 }
 
 fn add_operand(line: &mut Line, operand: Operand)
-    requires { length line.old + 16 ≤ 160 }
+    requires { length line.old + 18 ≤ 160 }
     ensures text { line.new ≡ line.old ++ operand_text operand }
-    ensures grows { length line.new ≤ length line.old + 16 }
+    ensures grows { length line.new ≤ length line.old + 18 }
 {
     match operand {
         Operand::Data(n) => add_data_register(line, n),
+        Operand::Pair(high, low) => add_pair(line, high, low),
         Operand::Address(n) => add_address_register(line, n),
         Operand::Indirect(n) => add_indirect(line, n),
         Operand::PostIncrement(n) => {
@@ -182,11 +211,11 @@ fn add_operand(line: &mut Line, operand: Operand)
     }
 }
 
-/// Appends a space and the operands with a comma between two.
+/// Appends a space and the operands with commas between them.
 pub fn add_operands(line: &mut Line, operands: Operands)
     requires { length line.old ≤ 8 }
     ensures text { line.new ≡ line.old ++ operands_text (listed operands) }
-    ensures grows { length line.new ≤ length line.old + 34 }
+    ensures grows { length line.new ≤ length line.old + 57 }
 {
     match operands {
         Operands::None => {}
@@ -199,6 +228,14 @@ pub fn add_operands(line: &mut Line, operands: Operands)
             add_operand(line, first);
             line.add(",");
             add_operand(line, second);
+        }
+        Operands::Three(first, second, third) => {
+            line.add(" ");
+            add_operand(line, first);
+            line.add(",");
+            add_operand(line, second);
+            line.add(",");
+            add_operand(line, third);
         }
     }
 }

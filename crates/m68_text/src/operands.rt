@@ -1,12 +1,12 @@
 ghost use Rattle.std.specs.Prelude.{◌≡◌, ◌<◌, ◌^◌, slice_index};
-ghost use Rattle.m68_text.specs.Operands.{counted as counted_of, directed as directed_of, exchanged as exchanged_of, immediate as immediate_of, listed, operands, paired as paired_of, place as place_of};
+ghost use Rattle.m68_text.specs.Operands.{counted as counted_of, directed as directed_of, exchanged as exchanged_of, immediate as immediate_of, listed, operands, paired as paired_of, displacement as displacement_of, place as place_of, with_registers as with_registers_of};
 
 use super::operand::Operand::{
     self, Address, Byte, ConditionCodes, Data, Displaced, Indexed, Indirect, Long, LongAddress,
-    Number, PcDisplaced, PcIndexed, PostIncrement, PreDecrement, ShortAddress, StatusRegister,
-    Target, Word,
+    Number, Pair, PcDisplaced, PcIndexed, PostIncrement, PreDecrement, ShortAddress,
+    StatusRegister, Target, Word,
 };
-use super::operand::Operands::{self, One, Two};
+use super::operand::Operands::{self, One, Three, Two};
 use m68_isa::{Ea, Exchange, Instr68, ShiftCount, branch_target};
 use mix_bits::Size;
 
@@ -87,6 +87,29 @@ fn exchanged(kind: Exchange, upper: u8, lower: u8) -> Operands
     }
 }
 
+/// The source of a long multiplication or division, then its registers, the high one first. An immediate stands
+/// behind the word of the registers.
+fn with_registers(wide: bool, high: u8, low: u8, words: &[u16], by: Ea) -> Operands
+    ensures { listed result ≡ with_registers_of wide high low words.now by }
+{
+    let source = place(Size::Four, words, 2, by);
+    if wide {
+        Two(source, Pair(high, low))
+    } else {
+        Three(source, Data(high), Data(low))
+    }
+}
+
+/// A displacement that stands alone, of a word or of a long.
+fn displacement(size: Size, value: u32) -> Operand
+    ensures { result ≡ displacement_of size value }
+{
+    match size {
+        Size::Four => Long(value),
+        _ => Word(value),
+    }
+}
+
 /// How far a register is shifted.
 fn counted(count: ShiftCount) -> Operand
     ensures { result ≡ counted_of count }
@@ -97,7 +120,8 @@ fn counted(count: ShiftCount) -> Operand
     }
 }
 
-/// The operands of an instruction with these words at an address, the source first. An immediate begins with word 1.
+/// The operands of an instruction with these words at an address, the source first. An immediate begins with word 1,
+/// unless that is the word of the registers.
 pub fn operands68(i: Instr68, words: &[u16], at: u32) -> Operands
     ensures { listed result ≡ operands i words.now at }
 {
@@ -142,12 +166,31 @@ pub fn operands68(i: Instr68, words: &[u16], at: u32) -> Operands
             place(size, words, 1, from),
             Word(mask),
         ),
+        Instr68::MulLong {
+            wide,
+            by,
+            high,
+            low,
+            ..
+        } => with_registers(wide, high, low, words, by),
+        Instr68::DivLong {
+            wide,
+            by,
+            high,
+            low,
+            ..
+        } => with_registers(wide, high, low, words, by),
         Instr68::Tst { size, of } => One(place(size, words, 1, of)),
         Instr68::Tas { to } => One(place(Size::One, words, 1, to)),
         Instr68::Trap { number } => One(Number(number)),
-        Instr68::Link { register, disp } => Two(Address(register), Word(disp)),
+        Instr68::Link {
+            size,
+            register,
+            disp,
+        } => Two(Address(register), displacement(size, disp)),
         Instr68::Unlk { register } => One(Address(register)),
         Instr68::Nop => Operands::None,
+        Instr68::Rtd { disp } => One(Word(disp)),
         Instr68::Rts => Operands::None,
         Instr68::Trapv => Operands::None,
         Instr68::Rtr => Operands::None,

@@ -17,7 +17,7 @@ pub fn text68(d: &Decoded68, words: &[u16], at: u32, line: &mut Line)
     requires whole { d.now ≢ Short }
     requires empty { line.old ≡ [] }
     ensures text { line.new ≡ text_of d.now words.now at }
-    ensures short { length line.new ≤ 42 }
+    ensures short { length line.new ≤ 65 }
 {
     match *d {
         Decoded68::Op(i, used) => {
