@@ -25,6 +25,7 @@ pub fn set_names(kind: Kind) -> &'static str
         Kind::M68ToPpc => "68k ppc",
         Kind::PpcToM68 => "ppc 68k",
         Kind::PpcToPpc => "ppc ppc",
+        Kind::M68ToM68 => "68k 68k",
     }
 }
 

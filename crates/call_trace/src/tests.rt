@@ -85,6 +85,13 @@ fn calls_between_the_sets(rt: HostRuntime) -> Result<(), Fail> {
         &call(Kind::PpcToM68, 0x31, 0, 0x1_0020),
         &[],
         "call ppc 68k 00010020 00000031",
+    )?;
+    calls(
+        &rt,
+        rt.alloc(),
+        &call(Kind::M68ToM68, 0xF1, 0, 0x1_0040),
+        &[5],
+        "call 68k 68k 00010040 000000F1 00000005",
     )
 }
 

@@ -1,7 +1,7 @@
 // Runs that are cut and continued.
 
 use crate::bench::{CALM, Left, Outside, innermost, leave, run_on, same, start, waiting};
-use crate::images::{INPUT_68K, INPUT_PPC, MIXED_CALLS, SAMPLE};
+use crate::images::{CFM_ALONE, CFM_BETWEEN, INPUT_68K, INPUT_PPC, MIXED_CALLS, SAMPLE};
 use crate::text::count_lines;
 use mix_bits::{Fault, FaultKind, Isa};
 use mix_engine::Stop;
@@ -74,12 +74,16 @@ fn a_run_that_is_cut_goes_on_as_if_it_were_not(rt: HostRuntime) -> Result<(), Fa
     let alloc = rt.alloc();
     cut_each(&rt, alloc, Isa::M68, INPUT_68K, LETTERS)?;
     cut_each(&rt, alloc, Isa::Ppc, INPUT_PPC, LETTERS)?;
-    cut_each(&rt, alloc, Isa::M68, MIXED_CALLS, b"")
+    cut_each(&rt, alloc, Isa::M68, MIXED_CALLS, b"")?;
+    for change in [CFM_BETWEEN, CFM_ALONE] {
+        cut_each(&rt, alloc, Isa::M68, &sample_to(alloc, 3, change)?, b"")?;
+    }
+    Ok(())
 }
 
-/// The sample calls one routine, and so on to this depth.
-fn sample_to(alloc: Global, deep: u32) -> Result<String, Fail> {
-    Ok(format!(in alloc; "{SAMPLE} @A {deep:08X}")?)
+/// The sample, with a change, calls one routine, and so on to this depth.
+fn sample_to(alloc: Global, deep: u32, change: &str) -> Result<String, Fail> {
+    Ok(format!(in alloc; "{SAMPLE} @A {deep:08X} {change}")?)
 }
 
 /// How many lines of a trace are calls, and how many returns.
@@ -97,15 +101,24 @@ fn calls_go_to_the_most_frames(rt: HostRuntime) -> Result<(), Fail> {
         also: 0,
     });
     let rows = [
-        (2, 33, Stop::Limit, (2, 2)),
-        (2, 34, Stop::Exit(2), (2, 2)),
-        (256, 3462, Stop::Limit, (256, 256)),
-        (256, 3463, Stop::Exit(256), (256, 256)),
-        (257, 2180, Stop::Limit, (256, 0)),
-        (257, 2181, full, (256, 0)),
+        (2, "", 33, Stop::Limit, (2, 2)),
+        (2, "", 34, Stop::Exit(2), (2, 2)),
+        (256, "", 3462, Stop::Limit, (256, 256)),
+        (256, "", 3463, Stop::Exit(256), (256, 256)),
+        (257, "", 2180, Stop::Limit, (256, 0)),
+        (257, "", 2181, full, (256, 0)),
+        (256, CFM_BETWEEN, 3462, Stop::Limit, (256, 256)),
+        (256, CFM_BETWEEN, 3463, Stop::Exit(256), (256, 256)),
+        (257, CFM_BETWEEN, 2181, full, (256, 0)),
+        (2, CFM_ALONE, 26, Stop::Limit, (2, 2)),
+        (2, CFM_ALONE, 27, Stop::Exit(2), (2, 2)),
+        (256, CFM_ALONE, 2566, Stop::Limit, (256, 256)),
+        (256, CFM_ALONE, 2567, Stop::Exit(256), (256, 256)),
+        (257, CFM_ALONE, 1540, Stop::Limit, (256, 0)),
+        (257, CFM_ALONE, 1541, full, (256, 0)),
     ];
-    for (deep, steps, wanted, lines) in rows {
-        let mut m = start(alloc, Isa::M68, 1024, &sample_to(alloc, deep)?)?;
+    for (deep, change, steps, wanted, lines) in rows {
+        let mut m = start(alloc, Isa::M68, 1024, &sample_to(alloc, deep, change)?)?;
         let mut around = Outside::new(alloc, b"", CALM)?;
         let stop = run_on(&mut m, &mut around, steps);
         assert_eq!(rt; stop, wanted, "depth {deep}, steps {steps}");
@@ -121,7 +134,7 @@ fn calls_go_to_the_most_frames(rt: HostRuntime) -> Result<(), Fail> {
 #[test]
 fn as_many_callers_wait_as_calls_have_not_returned(rt: HostRuntime) -> Result<(), Fail> {
     let alloc = rt.alloc();
-    let text = sample_to(alloc, 256)?;
+    let text = sample_to(alloc, 256, "")?;
     let mut uncut = start(alloc, Isa::M68, 1024, &text)?;
     let mut around = Outside::new(alloc, b"", CALM)?;
     let end = run_on(&mut uncut, &mut around, ALL);

@@ -36,9 +36,12 @@ const DESCRIPTOR: &str = "
 00010068 00000000
 ";
 
+/// What makes of it the descriptor of CFM-68K code at that place.
+const CFM: &str = "@50 0010";
+
 /// 68K code that sets all bits in ranges, then mends its return address, and returns.
 const M68_FILLS: &str = "
-@40 2C7C0001 018070FF 205E225E B3C86708 20C0B3C8 66FA60F0 2EBC0000 10084E75
+2C7C0001 018070FF 205E225E B3C86708 20C0B3C8 66FA60F0 2EBC0000 10084E75
 ";
 
 /// PowerPC code that sets all bits in ranges, and returns.
@@ -184,8 +187,16 @@ fn callers_wait_while_callees_write_all_that_they_may(rt: HostRuntime) -> Result
     waits(
         &rt,
         alloc,
+        Isa::M68,
+        &format!(in alloc; "{M68_CALLER} {DESCRIPTOR} {CFM} @68 {M68_FILLS} {AROUND_M68}")?,
+        m68_file(0x1_FFF8),
+        m68_file(0x1_FFFC),
+    )?;
+    waits(
+        &rt,
+        alloc,
         Isa::Ppc,
-        &format!(in alloc; "{PPC_CALLER} {M68_FILLS} {AROUND_PPC}")?,
+        &format!(in alloc; "{PPC_CALLER} @40 {M68_FILLS} {AROUND_PPC}")?,
         ppc_file(),
         ppc_file(),
     )?;

@@ -11,6 +11,16 @@ pub const SAMPLE: &str = "
 80010008 7C0803A6 4E800020
 ";
 
+/// What makes the 68K routine of the sample CFM-68K code, which the PowerPC routine calls by its descriptor.
+pub const CFM_BETWEEN: &str = "
+@CE 0100
+@100 AAFE0700 00000000 00000000 000000F1 00100000 00010120 00000000 00000000
+00010020 00054321
+";
+
+/// What makes the 68K routine of the sample CFM-68K code which calls itself.
+pub const CFM_ALONE: &str = "@90 0010 @A0 00010020 00054321";
+
 /// 68K code that sorts 32 words with sign, and puts them in hexadecimal.
 pub const SORT_68K: &str = "
 41FA006A 70013200 D2413430 10004A41 6710B470 10FE6C0A 31B010FE 10005541

@@ -34,9 +34,9 @@ enters-by laws b set active around c sp bytes room whole sp_is bytes_are room_is
 
 -- once all that the caller passes was read, or was refused
 pub passes-by : AreLaws → (b : Body) (set : Isa) (active : Active) (around : Around) (c : Crossing) (range : ℕ × ℕ) (r : Result Passage Access) → IsWhole b set
-    → r ≡ passed b.ram active c → enters_in (flat b active around) c (Ok range) ≡ enters_with (flat b active around) c range r
+    → r ≡ passed b.ram b.a5 active c → enters_in (flat b active around) c (Ok range) ≡ enters_with (flat b active around) c range r
 passes-by laws b set active around c range r whole is =
-    ap (enters_with (flat b active around) c range) (ap (λ m. passed m active c) (seen-is laws b set whole) ∙ sym is)
+    ap (enters_with (flat b active around) c range) (ap (λ m. passed m b.a5 active c) (seen-is laws b set whole) ∙ sym is)
 
 -- the bytes of a callee's stack, by its set and whether it gets a selector
 pub bytes-are : (set : Isa) (bytes : ℕ) (c : Crossing) (passes : Bool) → set ≡ callee_isa c.kind → passes ≡ is_some (passed_selector c) → bytes ≡ below set c.sig passes

@@ -20,7 +20,7 @@ use Rattle.toolbox.specs.Calls.{KeepsBounds}
 use Rattle.toolbox.specs.Effects.{Around}
 use Rattle.mode_switch.specs.Callee.{below, fresh, return_sp, stack_of}
 use Rattle.mode_switch.specs.Passed.{Passage}
-use Rattle.mode_switch.specs.Wanted.{Crossing, or_zero, passed_selector}
+use Rattle.mode_switch.specs.Wanted.{Crossing, address_of, or_zero, passed_selector}
 use Rattle.std.specs.Prelude.{is_some}
 use Rattle.mixed_machine.specs.declared.body.Body.{Body}
 use Rattle.mixed_machine.specs.State.{State}
@@ -180,7 +180,7 @@ pub entered-now : AreLaws → AreCallLaws → (b mid new : Body) (set : Isa) (fi
     → HasChain b → IsPlace b.ram (callers_of b) c.kind range.0 range.1 → bytes ≤ range.0
     → bytes ≡ below (callee_isa c.kind) c.sig (is_some (passed_selector c)) → length p.args ≡ length c.sig.params
     → record_of held ≡ suspended c range p
-    → file ≡ fresh (callee_isa c.kind) c.sig (passed_selector c) p.args b.a5 (range.0 - bytes) p.entry → isa_of file ≡ callee_isa c.kind
+    → file ≡ fresh (callee_isa c.kind) c.sig (passed_selector c) p.args (range.0 - bytes) p.entry → isa_of file ≡ callee_isa c.kind
     → IsReady b mid set c.kind range.0 range.1 (range.0 - bytes) (stack_of (callee_isa c.kind) c.sig (passed_selector c) p.args)
     → IsSuspended mid new held → IsEntered b new file c range p
 entered-now laws more b mid new set file c range p held bytes chain place least bytes_are count same file_is set_is ready suspension =
@@ -206,16 +206,17 @@ entered-now laws more b mid new set file c range p held bytes chain place least 
           ∙ (ap (λ a. put a zs (put sp stack (memory_of b))) (sym ends)
           ∙ (sym (more.put_joins sp stack zs (memory_of b) within)
           ∙ ap (λ a. put a (stack ++ zs) (memory_of b)) (sym sp_is)))));
-      file_is = file_is ∙ ap (λ a. fresh callee c.sig (passed_selector c) p.args b.a5 a p.entry) (sym sp_is);
+      file_is = file_is ∙ ap (λ a. fresh callee c.sig (passed_selector c) p.args a p.entry) (sym sp_is);
       rest = suspension.rest ∙ ap (λ (x : Body). record x { ram = new.ram; top = new.top }) ready.rest;
     }
 
 -- what a frame keeps of a call
-pub held-is : (c : Crossing) (range : ℕ × ℕ) (p : Passage) (bytes selector want depth : ℕ) → bytes ≡ below (callee_isa c.kind) c.sig (is_some (passed_selector c))
-    → selector ≡ or_zero c.selector → want ≡ return_sp (callee_isa c.kind) c.sig (passed_selector c) (range.0 - bytes)
-    → record_of (record { kind = c.kind; caller = p.caller; info = c.info; selector = selector; target = c.target; lo = range.0; hi = range.1; want_sp = want; depth = depth }) ≡ suspended c range p
-held-is c range p bytes selector want depth bytes_are selector_is want_is =
-    ap (λ v. record (suspended c range p) { selector = v; want = want }) selector_is
+pub held-is : (c : Crossing) (range : ℕ × ℕ) (p : Passage) (bytes selector target want depth : ℕ) → bytes ≡ below (callee_isa c.kind) c.sig (is_some (passed_selector c))
+    → selector ≡ or_zero c.selector → target ≡ address_of c.target → want ≡ return_sp (callee_isa c.kind) c.sig (passed_selector c) (range.0 - bytes)
+    → record_of (record { kind = c.kind; caller = p.caller; info = c.info; selector = selector; target = target; lo = range.0; hi = range.1; want_sp = want; depth = depth }) ≡ suspended c range p
+held-is c range p bytes selector target want depth bytes_are selector_is target_is want_is =
+    ap (λ v. record (suspended c range p) { selector = v; target = target; want = want }) selector_is
+    ∙ ap (λ a. record (suspended c range p) { target = a; want = want }) target_is
     ∙ ap (λ w. record (suspended c range p) { want = w }) (want_is ∙ ap (λ n. return_sp (callee_isa c.kind) c.sig (passed_selector c) (range.0 - n)) bytes_are)
 
 -- the state in which a callee starts
@@ -223,4 +224,4 @@ pub entered-is : (b new : Body) (before file : Active) (c : Crossing) (range : �
     → flat new file around ≡ entered (flat b before around) c range p
 entered-is b new before file c range p around all =
     let s : State = flat b before around in
-    state-is b new before file (started s c range p) around (entered s c range p).memory (entered s c range p).callers all.rest all.memory all.callers all.file_is
+    state-is b new before file (started c range p) around (entered s c range p).memory (entered s c range p).callers all.rest all.memory all.callers all.file_is

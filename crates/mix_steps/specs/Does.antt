@@ -1,5 +1,4 @@
 -- Steps that touch neither the input nor the devices nor the output.
-use Rattle.std.specs.Prelude.{ℕ}
 use Rattle.mix_bits.specs.declared.fault.Fault.{Fault as AFault}
 use Rattle.mix_io.specs.Streams.{Output}
 use Rattle.switch_frame.specs.declared.active.Active.{Active}

@@ -43,5 +43,5 @@ pub record IsEntered (b new : Body) (file : Active) (c : Crossing) (range : ℕ 
   pub whole : IsWhole new (isa_of file)
   pub callers : callers_of new ≡ suspended c range p ∷ callers_of b
   pub memory : memory_of new ≡ put (sp_in c range) (stack_of (callee_isa c.kind) c.sig (passed_selector c) p.args ++ zeros (range.1 - range.0)) (memory_of b)
-  pub file_is : file ≡ fresh (callee_isa c.kind) c.sig (passed_selector c) p.args b.a5 (sp_in c range) p.entry
+  pub file_is : file ≡ fresh (callee_isa c.kind) c.sig (passed_selector c) p.args (sp_in c range) p.entry
   pub rest : new ≡ record b { ram = new.ram; top = new.top }

@@ -1,4 +1,4 @@
-// A call from one set into the other, or from PowerPC code by CallUniversalProc.
+// A call of PowerPC or CFM-68K code from 68K code, or a call from PowerPC code by CallUniversalProc.
 ghost use Rattle.std.specs.Prelude.{◌≡◌, ◌+◌, ◌≤◌, length, is_some, Ok};
 ghost use Rattle.mix_bits.specs.declared.fault.Fault.{Fault as AFault};
 ghost use Rattle.big_memory.specs.Memory.{floor_of};
@@ -72,7 +72,7 @@ fn enter<T: Sink>(
     call_laws();
     let below = below(call.kind.callee(), &call.sig, passes_selector(call));
     match room(&body.ram, body.top, active.sp(), call.kind, below) {
-        Ok(range) => match pass(&body.ram, active, call) {
+        Ok(range) => match pass(&body.ram, body.a5, active, call) {
             Ok(passed) => enter_with(body, active, call, range, below, &passed, trace),
             Err(access) => refuse(active, access, fault),
         },
@@ -153,7 +153,7 @@ fn hold(body: &Body, active: &Active, call: &Call, range: (u32, u32), below: u32
         caller: *active,
         info: call.info,
         selector: kept_selector(call),
-        target: call.target,
+        target: call.target.address(),
         lo: range.0,
         hi: range.1,
         want_sp: wanted_sp(call, range.0 - below),

@@ -35,7 +35,7 @@ pub fn prepare(
     requires count { passed.now.args.count ≡ call.now.sig.count }
     requires values { length (args_of passed.now) ≡ length (crossing call.now).sig.params }
     requires selector { is_some call.now.selector ≡ is_dispatched call.now.sig.conv }
-    ensures file { active.new ≡ fresh (callee_isa call.now.kind) (crossing call.now).sig (passed_selector (crossing call.now)) (args_of passed.now) body.old.a5 (range.0 - below) passed.now.entry }
+    ensures file { active.new ≡ fresh (callee_isa call.now.kind) (crossing call.now).sig (passed_selector (crossing call.now)) (args_of passed.now) (range.0 - below) passed.now.entry }
     ensures set { isa_of active.new ≡ callee_isa call.now.kind }
     ensures ready { IsReady body.old body.new (caller_isa call.now.kind) call.now.kind range.0 range.1 (range.0 - below)
         (stack_of (callee_isa call.now.kind) (crossing call.now).sig (passed_selector (crossing call.now)) (args_of passed.now)) }
@@ -47,7 +47,6 @@ pub fn prepare(
         call,
         &passed.args,
         range.0,
-        body.a5,
         &passed.entry,
         active,
     );

@@ -59,7 +59,7 @@ with-kind s c range (Ok p) =
 with-kind s c range (Err e) = tt
 
 in-kind : (s : State) (c : Crossing) (room : Result (ℕ × ℕ) Full) → IsKind s (enters_in s c room)
-in-kind s c (Ok range) = with-kind s c range (passed (seen s) s.active c)
+in-kind s c (Ok range) = with-kind s c range (passed (seen s) s.a5 s.active c)
 in-kind s c (Err full) = full-kind s c full
 
 enters-kind : (s : State) (c : Crossing) → IsKind s (enters s c)

@@ -1,4 +1,4 @@
--- Crossings: code of one set calls code of another, or PowerPC code calls by CallUniversalProc. The caller is suspended
+-- Crossings: 68K code calls PowerPC or CFM-68K code, or PowerPC code calls by CallUniversalProc. The caller is suspended
 -- in a switch frame, and the callee starts with a fresh register file
 -- (Inside Macintosh: PowerPC System Software, chapter 2; the order of the tests is this project's own).
 use Rattle.std.specs.Prelude.{ℕ, ◌-◌, ◌∷◌, ◌++◌, is_some, Result, Ok, Err}
@@ -14,7 +14,7 @@ use Rattle.switch_frame.specs.Files.{at_pc, sp_of}
 use Rattle.switch_frame.specs.Records.{Record}
 use Rattle.switch_frame.specs.Chain.{most_frames, zeros}
 use Rattle.switch_frame.specs.Calls.{room_of}
-use Rattle.mode_switch.specs.Wanted.{Crossing, Want, passed_selector, or_zero}
+use Rattle.mode_switch.specs.Wanted.{Crossing, Want, address_of, passed_selector, or_zero}
 use Rattle.mode_switch.specs.Wanted.Want.{Calls, Jumps, Refuses}
 use Rattle.mode_switch.specs.Passed.{Passage, passed}
 use Rattle.mode_switch.specs.Callee.{below, callee_sp, stack_of, fresh, return_sp}
@@ -35,15 +35,15 @@ suspended c range p =
       caller = p.caller;
       info = c.info;
       selector = or_zero c.selector;
-      target = c.target;
+      target = address_of c.target;
       lo = range.0;
       hi = range.1;
       want = return_sp (callee_isa c.kind) c.sig (passed_selector c) (sp_in c range);
     }
 
 -- the callee's registers
-abbrev pub started : State → Crossing → ℕ × ℕ → Passage → Active
-started s c range p = fresh (callee_isa c.kind) c.sig (passed_selector c) p.args s.a5 (sp_in c range) p.entry
+abbrev pub started : Crossing → ℕ × ℕ → Passage → Active
+started c range p = fresh (callee_isa c.kind) c.sig (passed_selector c) p.args (sp_in c range) p.entry
 
 -- the state in which the callee starts: its stack ends where the frame begins, and in the memory beside the frames
 -- the frame's range is 0
@@ -51,7 +51,7 @@ abbrev pub entered : State → Crossing → ℕ × ℕ → Passage → State
 entered s c range p =
     record s {
       memory = put (sp_in c range) (stack_of (callee_isa c.kind) c.sig (passed_selector c) p.args ++ zeros (range.1 - range.0)) s.memory;
-      active = started s c range p;
+      active = started c range p;
       callers = suspended c range p ∷ s.callers;
     }
 
@@ -68,7 +68,7 @@ full_fault s (Stack sp) = faults s StackFull sp (floor_of (seen s))
 
 -- once there is room for the frame
 abbrev pub enters_in : State → Crossing → Result (ℕ × ℕ) Full → Next
-enters_in s c (Ok range) = enters_with s c range (passed (seen s) s.active c)
+enters_in s c (Ok range) = enters_with s c range (passed (seen s) s.a5 s.active c)
 enters_in s c (Err full) = full_fault s full
 
 unfoldable pub enters : State → Crossing → Next

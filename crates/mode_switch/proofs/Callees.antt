@@ -15,8 +15,8 @@ fills-stack set_m68 sig selector values count = stacks_68k.length-stack sig sele
 fills-stack set_ppc sig selector values count = frames_ppc.length-stack sig selector values count
 
 pub of-set : IsOfItsSet
-of-set set_m68 sig selector values a5 sp entry = refl
-of-set set_ppc sig selector values a5 sp entry = refl
+of-set set_m68 sig selector values sp entry = refl
+of-set set_ppc sig selector values sp entry = refl
 
 few : (words : List ℕ) → length (take 8 words) ≤ 8
 few words = grind (arith, places)
@@ -28,5 +28,5 @@ top-ppc words sp code toc =
     get_or-set_other (set gpr 1 sp) 2 1 toc 0 (λ e. omega (arith, e)) ∙ get_or-set_same gpr 1 sp 0 (omega (arith, long))
 
 pub begins-at_stack : BeginsAtItsStack
-begins-at_stack set_m68 sig selector values a5 sp entry = begins-at-stack sig selector values a5 sp entry.code
-begins-at_stack set_ppc sig selector values a5 sp entry = top-ppc (callee_words sig selector values) sp entry.code entry.toc
+begins-at_stack set_m68 sig selector values sp entry = begins-at-stack sig selector values entry.globals sp entry.code
+begins-at_stack set_ppc sig selector values sp entry = top-ppc (callee_words sig selector values) sp entry.code entry.globals

@@ -1,5 +1,5 @@
 -- What every wanted call meets.
-use Rattle.std.proofs.Common.{◌≡◌, ℕ, ◌≤◌, ◌==◌, Bool, true, false, if◌then◌else◌, List, [], ◌∷◌, length, slice_index, Option, Some, None, is_some, Result, Ok, Err, arith, ap, ◌∙◌, refl}
+use Rattle.std.proofs.Common.{◌≡◌, ℕ, ◌≤◌, ◌==◌, Bool, true, false, if◌then◌else◌, List, [], ◌∷◌, length, Option, Some, None, is_some, Result, Ok, Err, arith, ap, ◌∙◌, refl}
 use Rattle.std.specs.List.{Contains}
 use Rattle.std.proofs.lemmas.List.Elements.{All-contains_itself, All-head}
 use Rattle.mix_bits.specs.Results.{◌>>=◌}
@@ -22,10 +22,10 @@ use Rattle.m68_isa.specs.declared.registers.Regs68.{Regs68}
 use Rattle.ppc_isa.specs.declared.registers.RegsPpc.{RegsPpc}
 use Rattle.args_m68.specs.Gather.{selector_in as selector_in_68k}
 use Rattle.args_ppc.specs.Words.{selector_in as selector_in_ppc}
-use Rattle.switch_frame.specs.declared.kind.Kind.{Kind}
-use Rattle.switch_frame.specs.declared.kind.Kind.TheVariants.{M68ToPpc}
-use Rattle.switch_frame.specs.Sets.{caller_isa}
-use Rattle.mode_switch.specs.Wanted.{Want, Means, call_of_record, described, even_sp, goes_by, kind_into, loaded_or_fault, matched, raw_call, raw_signature, selector_68k, selector_ppc, settled, taken, takes_68k, takes_by, takes_ppc, wants_68k, wants_desc_ppc, wants_ppc, wants_raw, wants_word}
+use Rattle.switch_frame.specs.Sets.{caller_isa, kind_of}
+use Rattle.mode_switch.specs.declared.wanted.Target.{Target}
+use Rattle.mode_switch.specs.declared.wanted.Target.TheVariants.{Code, Vector}
+use Rattle.mode_switch.specs.Wanted.{Want, Means, call_of_record, described, goes_by, loaded_or_fault, matched, raw_call, raw_signature, selector_68k, selector_ppc, settled, taken, takes_68k, takes_by, takes_ppc, target_of, wants_68k, wants_desc_ppc, wants_ppc, wants_raw, wants_word}
 use Rattle.mode_switch.specs.Laws.{MeansWhatItWants}
 use Rattle.mode_switch.specs.Wanted.Want.{Calls}
 
@@ -54,36 +54,40 @@ some_if true v = refl
 some_if false v = refl
 
 -- the call of a record of a descriptor
-means-record : (set : Isa) (m : Memory) (a : ℕ) (records : List Routine) (first rec : Routine) (kind : Kind) (selector : Option ℕ)
-    → caller_isa kind ≡ set → desc_of m a ≡ Ok records → Contains records first → is_some selector ≡ is_dispatched first.sig.conv → choice records set selector ≡ Some rec
-    → Means set (Calls (call_of_record kind rec selector))
-means-record set m a records first rec kind selector caller read among some chosen =
+caller-of : (set isa : Isa) → caller_isa (kind_of set isa) ≡ set
+caller-of set_m68 set_m68 = refl
+caller-of set_m68 set_ppc = refl
+caller-of set_ppc set_m68 = refl
+caller-of set_ppc set_ppc = refl
+
+means-record : (set : Isa) (m : Memory) (a : ℕ) (records : List Routine) (first rec : Routine) (selector : Option ℕ)
+    → desc_of m a ≡ Ok records → Contains records first → is_some selector ≡ is_dispatched first.sig.conv → choice records set selector ≡ Some rec
+    → Means set (Calls (call_of_record set rec selector))
+means-record set m a records first rec selector read among some chosen =
     let also : Contains records rec = takes-record records set selector rec chosen in
     let like = records-alike m a records first rec read among also in
-    record { caller = caller; signature = infos-signed m a records rec read also; selector = some ∙ ap is_dispatched like.conv }
+    record { caller = caller-of set rec.isa; signature = infos-signed m a records rec read also; selector = some ∙ ap is_dispatched like.conv }
 
 -- 68K code
-means-goes : (m : Memory) (a : ℕ) (records : List Routine) (first rec : Routine) (selector : Option ℕ) (isa : Isa)
+means-goes : (m : Memory) (a : ℕ) (records : List Routine) (first rec : Routine) (selector : Option ℕ) (target : Target)
     → desc_of m a ≡ Ok records → Contains records first → is_some selector ≡ is_dispatched first.sig.conv → choice records set_m68 selector ≡ Some rec
-    → Means set_m68 (goes_by isa rec selector)
-means-goes m a records first rec selector set_m68 read among some chosen = refl
-means-goes m a records first rec selector set_ppc read among some chosen =
-    means-record set_m68 m a records first rec M68ToPpc selector refl read among some chosen
+    → Means set_m68 (goes_by target rec selector)
+means-goes m a records first rec selector (Code address) read among some chosen = refl
+means-goes m a records first rec selector (Vector address) read among some chosen =
+    means-record set_m68 m a records first rec selector read among some chosen
 
 means-takes_68k : (m : Memory) (r : Regs68) (records : List Routine) → desc_of m r.pc ≡ Ok records → Means set_m68 (settled (takes_68k m r records))
 means-takes_68k m r [] read = let few : 1 ≤ length {A = Routine} [] = (holds-records m r.pc [] read).0 in absurd (omega arith)
 means-takes_68k m r (first ∷ rest) read =
     let records = first ∷ rest in
     let among : Contains records first = All-head (Contains records) first rest (All-contains_itself records) in
-    means_after set_m68 (even_sp r.pc (slice_index r.a 7))
-    (λ even. loaded_or_fault r.pc (selector_68k first.sig r m) >>= λ selector. taken r.pc selector (choice records set_m68 selector) >>= λ rec. Ok (goes_by rec.isa rec selector))
-    (λ even even_is. means_after set_m68 (loaded_or_fault r.pc (selector_68k first.sig r m))
-    (λ selector. taken r.pc selector (choice records set_m68 selector) >>= λ rec. Ok (goes_by rec.isa rec selector))
+    means_after set_m68 (loaded_or_fault r.pc (selector_68k first.sig r m))
+    (λ selector. taken r.pc selector (choice records set_m68 selector) >>= λ rec. Ok (goes_by (target_of rec) rec selector))
     (λ selector selector_is. means_after set_m68 (taken r.pc selector (choice records set_m68 selector))
-    (λ rec. Ok (goes_by rec.isa rec selector))
-    (λ taker taker_is. means-goes m r.pc records first taker selector taker.isa read among
+    (λ rec. Ok (goes_by (target_of rec) rec selector))
+    (λ taker taker_is. means-goes m r.pc records first taker selector (target_of taker) read among
     (some_68k r.pc (is_dispatched first.sig.conv) (selector_in_68k first.sig r m) selector selector_is)
-    (taken_is r.pc selector (choice records set_m68 selector) taker taker_is))))
+    (taken_is r.pc selector (choice records set_m68 selector) taker taker_is)))
 
 means-described_68k : (m : Memory) (r : Regs68) (d : Result (List Routine) BadDesc) → desc_of m r.pc ≡ d → Means set_m68 (settled (described r.pc r.pc d >>= λ records. takes_68k m r records))
 means-described_68k m r (Ok records) read = means-takes_68k m r records read
@@ -93,18 +97,14 @@ pub meant-68k : (m : Memory) (r : Regs68) → Means set_m68 (wants_68k m r)
 meant-68k m r = means-described_68k m r (desc_of m r.pc) refl
 
 -- PowerPC code
-caller_into : (isa : Isa) → caller_isa (kind_into isa) ≡ set_ppc
-caller_into set_m68 = refl
-caller_into set_ppc = refl
-
 means-takes_by : (m : Memory) (r : RegsPpc) (pointer info : ℕ) (records : List Routine) (first : Routine) (selector : Option ℕ)
     → desc_of m pointer ≡ Ok records → Contains records first → is_some selector ≡ is_dispatched first.sig.conv
     → Means set_ppc (settled (takes_by r info records selector))
 means-takes_by m r pointer info records first selector read among some =
     means_after set_ppc (taken r.pc selector (choice records set_ppc selector))
-    (λ rec. matched r.pc info rec.info >>= λ same. Ok (Calls (call_of_record (kind_into rec.isa) rec selector)))
-    (λ taker taker_is. means_after set_ppc (matched r.pc info taker.info) (λ same. Ok (Calls (call_of_record (kind_into taker.isa) taker selector)))
-    (λ same same_is. means-record set_ppc m pointer records first taker (kind_into taker.isa) selector (caller_into taker.isa) read among some
+    (λ rec. matched r.pc info rec.info >>= λ same. Ok (Calls (call_of_record set_ppc rec selector)))
+    (λ taker taker_is. means_after set_ppc (matched r.pc info taker.info) (λ same. Ok (Calls (call_of_record set_ppc taker selector)))
+    (λ same same_is. means-record set_ppc m pointer records first taker selector read among some
     (taken_is r.pc selector (choice records set_ppc selector) taker taker_is)))
 
 means-takes_ppc : (m : Memory) (r : RegsPpc) (pointer info : ℕ) (records : List Routine) → desc_of m pointer ≡ Ok records → Means set_ppc (settled (takes_ppc r info records))

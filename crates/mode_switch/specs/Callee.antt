@@ -29,10 +29,10 @@ stack_of set_ppc sig selector values = frame_of (callee_words sig selector value
 abbrev pub delivered : Isa → Signature → Option ℕ → List ℕ → ℕ → Memory → Memory
 delivered set sig selector values lo m = with_bytes (callee_sp set sig selector lo) (stack_of set sig selector values) m
 
--- its registers
-abbrev pub fresh : Isa → Signature → Option ℕ → List ℕ → ℕ → ℕ → Entry → Active
-fresh set_m68 sig selector values a5 sp entry = M68 (registers_68k sig selector values a5 sp entry.code)
-fresh set_ppc sig selector values a5 sp entry = Ppc (registers_ppc sig selector values sp entry.code entry.toc)
+-- its registers: the address of its data is in A5, or, as its TOC, in r2
+abbrev pub fresh : Isa → Signature → Option ℕ → List ℕ → ℕ → Entry → Active
+fresh set_m68 sig selector values sp entry = M68 (registers_68k sig selector values entry.globals sp entry.code)
+fresh set_ppc sig selector values sp entry = Ppc (registers_ppc sig selector values sp entry.code entry.globals)
 
 -- the stack pointer at which it is expected to return, from the one that it was given
 abbrev pub return_sp : Isa → Signature → Option ℕ → ℕ → ℕ

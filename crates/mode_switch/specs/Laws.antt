@@ -1,5 +1,5 @@
 -- Laws of mode switches.
-use Rattle.std.specs.Prelude.{◌≡◌, ℕ, is_some, List, length, slice_index, Option}
+use Rattle.std.specs.Prelude.{◌≡◌, ℕ, is_some, List, length, Option}
 use Rattle.mix_bits.specs.declared.isa.Isa.{Isa}
 use Rattle.mix_bits.specs.declared.isa.Isa.TheVariants.{M68 as set_m68, Ppc as set_ppc}
 use Rattle.big_memory.specs.Memory.{Memory}
@@ -27,10 +27,10 @@ FillsItsStack =
 -- its registers are of its set, with the stack pointer that it was given
 abbrev pub IsOfItsSet : Type 0
 IsOfItsSet =
-    (set : Isa) (sig : Signature) (selector : Option ℕ) (values : List ℕ) (a5 sp : ℕ) (entry : Entry)
-    → isa_of (fresh set sig selector values a5 sp entry) ≡ set
+    (set : Isa) (sig : Signature) (selector : Option ℕ) (values : List ℕ) (sp : ℕ) (entry : Entry)
+    → isa_of (fresh set sig selector values sp entry) ≡ set
 
 abbrev pub BeginsAtItsStack : Type 0
 BeginsAtItsStack =
-    (set : Isa) (sig : Signature) (selector : Option ℕ) (values : List ℕ) (a5 sp : ℕ) (entry : Entry)
-    → sp_of (fresh set sig selector values a5 sp entry) ≡ sp
+    (set : Isa) (sig : Signature) (selector : Option ℕ) (values : List ℕ) (sp : ℕ) (entry : Entry)
+    → sp_of (fresh set sig selector values sp entry) ≡ sp

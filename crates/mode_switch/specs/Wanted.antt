@@ -1,9 +1,9 @@
 -- What code wants when it switches modes: 68K code by a routine descriptor at its pc, PowerPC code by the host function
 -- CallUniversalProc (Inside Macintosh: PowerPC System Software, chapter 2; the order of the tests is this project's own).
-use Rattle.std.specs.Prelude.{◌≡◌, ℕ, ◌%◌, ◌==◌, Bool, not, ◌&&◌, if◌then◌else◌, List, [], ◌∷◌, slice_index, Option, Some, None, is_some, Result, Ok, Err}
+use Rattle.std.specs.Prelude.{◌≡◌, ℕ, ◌==◌, Bool, true, false, not, ◌&&◌, if◌then◌else◌, List, [], ◌∷◌, Option, Some, None, is_some, Result, Ok, Err}
 use Rattle.mix_bits.specs.Results.{◌>>=◌}
 use Rattle.mix_bits.specs.declared.fault.Fault.{Fault}
-use Rattle.mix_bits.specs.declared.fault.FaultKind.TheVariants.{Odd, BadDesc as IsBadDesc, Info as IsInfo, Mismatch, NoRecord}
+use Rattle.mix_bits.specs.declared.fault.FaultKind.TheVariants.{BadDesc as IsBadDesc, Info as IsInfo, Mismatch, NoRecord}
 use Rattle.mix_bits.specs.declared.isa.Isa.{Isa}
 use Rattle.mix_bits.specs.declared.isa.Isa.TheVariants.{M68 as set_m68, Ppc as set_ppc}
 use Rattle.mix_bits.specs.declared.size.Size.TheVariants.{Two}
@@ -25,19 +25,35 @@ use Rattle.ppc_isa.specs.declared.registers.RegsPpc.{RegsPpc}
 use Rattle.args_m68.specs.Gather.{selector_in as selector_in_68k}
 use Rattle.args_ppc.specs.Words.{selector_in as selector_in_ppc}
 use Rattle.switch_frame.specs.declared.kind.Kind.{Kind}
-use Rattle.switch_frame.specs.declared.kind.Kind.TheVariants.{M68ToPpc, PpcToM68, PpcToPpc}
-use Rattle.switch_frame.specs.Sets.{caller_isa}
+use Rattle.switch_frame.specs.declared.kind.Kind.TheVariants.{PpcToM68}
+use Rattle.switch_frame.specs.Sets.{caller_isa, kind_of}
+use Rattle.mode_switch.specs.declared.wanted.Target.{Target}
+use Rattle.mode_switch.specs.declared.wanted.Target.TheVariants.{Code, Vector}
 
--- a call from one instruction set into another one, or from PowerPC code: the selector is cut to its size, and there is
--- one where the convention is dispatched; `passes` says whether the callee gets it; the target is 68K code, or the
--- transition vector of PowerPC code
+-- a call that suspends its caller: the selector is cut to its size, and there is one where the convention is dispatched;
+-- `passes` says whether the callee gets it
 pub record Crossing : Type 0 where
   pub kind : Kind
   pub info : ℕ
   pub sig : Signature
   pub selector : Option ℕ
   pub passes : Bool
-  pub target : ℕ
+  pub target : Target
+
+-- the address of a target
+abbrev pub address_of : Target → ℕ
+address_of (Code address) = address
+address_of (Vector address) = address
+
+-- the target of a routine: code where it is 68K code, and else a vector of two longs, the code and its TOC (PowerPC) or
+-- its A5 (CFM-68K)
+abbrev pub target_by : Isa → Bool → ℕ → Target
+target_by set_m68 false address = Code address
+target_by set_m68 true address = Vector address
+target_by set_ppc cfm address = Vector address
+
+abbrev pub target_of : Routine → Target
+target_of rec = target_by rec.isa rec.cfm rec.target
 
 -- the selector that the callee gets
 abbrev pub passed_selector : Crossing → Option ℕ
@@ -92,33 +108,29 @@ abbrev pub taken : ℕ → Option ℕ → Option Routine → Result Routine Faul
 taken pc selector (Some rec) = Ok rec
 taken pc selector None = Err (fault_at pc NoRecord (or_zero selector))
 
--- the call of a record
-abbrev pub call_of_record : Kind → Routine → Option ℕ → Crossing
-call_of_record kind rec selector = record {
-  kind = kind;
+-- the call of a record by code of a set
+abbrev pub call_of_record : Isa → Routine → Option ℕ → Crossing
+call_of_record caller rec selector = record {
+  kind = kind_of caller rec.isa;
   info = rec.info;
   sig = rec.sig;
   selector = selector;
   passes = is_dispatched rec.sig.conv && not (has_flag rec.flags 8);
-  target = rec.target;
+  target = target_of rec;
 }
 
 -- 68K code
 
-abbrev pub even_sp : ℕ → ℕ → Result (Unit {0}) Fault
-even_sp pc sp = if sp % 2 == 1 then Err (fault_at pc Odd sp) else Ok tt
-
--- a record of 68K code is gone on with, without a call
-abbrev pub goes_by : Isa → Routine → Option ℕ → Want
-goes_by set_m68 rec selector = Jumps rec.target
-goes_by set_ppc rec selector = Calls (call_of_record M68ToPpc rec selector)
+-- code of its own set is gone on with, without a call; what has a vector is called
+abbrev pub goes_by : Target → Routine → Option ℕ → Want
+goes_by (Code address) rec selector = Jumps address
+goes_by (Vector address) rec selector = Calls (call_of_record set_m68 rec selector)
 
 abbrev pub takes_68k : Memory → Regs68 → List Routine → Result Want Fault
 takes_68k m r records =
-    even_sp r.pc (slice_index r.a 7) >>= λ even.
     loaded_or_fault r.pc (selector_among_68k records r m) >>= λ selector.
     taken r.pc selector (choice records set_m68 selector) >>= λ rec.
-    Ok (goes_by rec.isa rec selector)
+    Ok (goes_by (target_of rec) rec selector)
 
 -- the descriptor stands at pc
 abbrev pub wants_desc_68k : Memory → Regs68 → Result Want Fault
@@ -136,7 +148,7 @@ raw_signature pc info (Err bad) = Err (record { kind = IsInfo; pc = pc; detail =
 
 abbrev pub raw_call : RegsPpc → ℕ → ℕ → Signature → Crossing
 raw_call r pointer info sig =
-    record { kind = PpcToM68; info = info; sig = sig; selector = selector_ppc sig r; passes = is_dispatched sig.conv; target = pointer }
+    record { kind = PpcToM68; info = info; sig = sig; selector = selector_ppc sig r; passes = is_dispatched sig.conv; target = Code pointer }
 
 abbrev pub wants_raw : RegsPpc → ℕ → ℕ → Result Want Fault
 wants_raw r pointer info = raw_signature r.pc info (signature_of info) >>= λ sig. Ok (Calls (raw_call r pointer info sig))
@@ -145,15 +157,11 @@ wants_raw r pointer info = raw_signature r.pc info (signature_of info) >>= λ si
 abbrev pub matched : ℕ → ℕ → ℕ → Result (Unit {0}) Fault
 matched pc info found = if info == found then Ok tt else Err (record { kind = Mismatch; pc = pc; detail = info; also = found })
 
-abbrev pub kind_into : Isa → Kind
-kind_into set_m68 = PpcToM68
-kind_into set_ppc = PpcToPpc
-
 abbrev pub takes_by : RegsPpc → ℕ → List Routine → Option ℕ → Result Want Fault
 takes_by r info records selector =
     taken r.pc selector (choice records set_ppc selector) >>= λ rec.
     matched r.pc info rec.info >>= λ same.
-    Ok (Calls (call_of_record (kind_into rec.isa) rec selector))
+    Ok (Calls (call_of_record set_ppc rec selector))
 
 abbrev pub takes_ppc : RegsPpc → ℕ → List Routine → Result Want Fault
 takes_ppc r info records = takes_by r info records (selector_among_ppc records r)

@@ -36,14 +36,12 @@ fn passed_selector(call: &Call) -> Option<u32>
     if call.passes { call.selector } else { None }
 }
 
-/// Gives a callee its stack, which ends at `lo`, and its registers; 68K code finds `a5` in A5. No byte
-/// beside its stack changes.
+/// Gives a callee its stack, which ends at `lo`, and its registers. No byte beside its stack changes.
 pub fn deliver(
     ram: &mut Ram,
     call: &Call,
     args: &Words,
     lo: u32,
-    a5: u32,
     entry: &Entry,
     active: &mut Active,
 )
@@ -52,21 +50,36 @@ pub fn deliver(
     requires room { below_lem (callee_isa call.now.kind) (signature call.now.sig) (is_some (passed_selector_lem (crossing call.now))) ≤ lo }
     requires inside { lo ≤ length ram.old.bytes }
     ensures memory { ram.new ≡ delivered (callee_isa call.now.kind) (signature call.now.sig) (passed_selector_lem (crossing call.now)) (words_of args.now) lo ram.old }
-    ensures registers { active.new ≡ fresh (callee_isa call.now.kind) (signature call.now.sig) (passed_selector_lem (crossing call.now)) (words_of args.now) a5
+    ensures registers { active.new ≡ fresh (callee_isa call.now.kind) (signature call.now.sig) (passed_selector_lem (crossing call.now)) (words_of args.now)
         (callee_sp (callee_isa call.now.kind) (signature call.now.sig) (passed_selector_lem (crossing call.now)) lo) entry.now }
     ensures set { isa_of active.new ≡ callee_isa call.now.kind }
 {
     let selector = passed_selector(call);
     match call.kind.callee() {
         Isa::M68 => {
-            *active = Active::M68(deliver68(&call.sig, args, selector, lo, a5, entry.code, ram));
+            *active = Active::M68(deliver68(
+                &call.sig,
+                args,
+                selector,
+                lo,
+                entry.globals,
+                entry.code,
+                ram,
+            ));
         }
         Isa::Ppc => {
             *active = Active::Ppc(RegsPpc::cleared());
             let values = &args.value[..args.count as usize];
             if let Active::Ppc(regs) = active {
                 start_ppc(
-                    &call.sig, values, selector, lo, entry.code, entry.toc, ram, regs,
+                    &call.sig,
+                    values,
+                    selector,
+                    lo,
+                    entry.code,
+                    entry.globals,
+                    ram,
+                    regs,
                 );
             }
         }

@@ -1,23 +1,22 @@
 // What 68K code wants.
-ghost use Rattle.std.specs.Prelude.{◌≡◌, ◌+◌, ◌≤◌, length, slice_index, Ok};
+ghost use Rattle.std.specs.Prelude.{◌≡◌, ◌+◌, ◌≤◌, length, Ok};
 ghost use Rattle.proc_info.specs.Views.{signature};
 ghost use Rattle.routine_desc.specs.Read.{Counts};
 ghost use Rattle.routine_desc.specs.Views.{routine, routines};
 ghost use Rattle.mode_switch.specs.Views.{told, wanted_of};
-ghost use Rattle.mode_switch.specs.Wanted.{Means, even_sp as even_sp_lem, goes_by as goes_by_lem, loaded_or_fault, selector_68k as selector_68k_lem, selector_among_68k, settled, takes_68k as takes_68k_lem, wants_desc_68k, wants_68k as wants_68k_lem};
+ghost use Rattle.mode_switch.specs.Wanted.{Means, goes_by as goes_by_lem, loaded_or_fault, selector_68k as selector_68k_lem, selector_among_68k, settled, takes_68k as takes_68k_lem, target_of as target_of_lem, wants_desc_68k, wants_68k as wants_68k_lem};
 
-use crate::Wanted;
-use crate::records::{FEW, bad_desc, call_of, settle, taken};
+use crate::records::{FEW, bad_desc, call_of, settle, taken, target_of};
+use crate::{Target, Wanted};
 use args_m68::select68;
 use big_memory::Ram;
 use m68_isa::Regs68;
-use mix_bits::{Fault, FaultKind, Isa};
+use mix_bits::{Fault, Isa};
 use proc_info::Sig;
 use routine_desc::{Rec, choose_among, count_records, read_all};
-use switch_frame::Kind;
 
 /// What 68K code wants at a routine descriptor at its pc, with the return address at A7. Refusals come in
-/// this order: the descriptor's, an odd A7, the selector's bytes, no record.
+/// this order: the descriptor's, the selector's bytes, no record.
 pub fn wants_68k(ram: &Ram, regs: &Regs68) -> Wanted
     ensures exact { wanted_of result ≡ wants_68k_lem ram.now regs.now }
     ensures meant { Means Isa.M68 (wanted_of result) }
@@ -80,22 +79,9 @@ fn wants_in(ram: &Ram, regs: &Regs68, records: &mut [Rec]) -> Wanted
 fn takes(ram: &Ram, regs: &Regs68, records: &[Rec]) -> Result<Wanted, Fault>
     ensures { told result ≡ takes_68k_lem ram.now regs.now (routines records.now) }
 {
-    even_sp(regs)?;
     let selector = selector_among(ram, regs, records)?;
     let rec = taken(regs.pc, selector, choose_among(records, Isa::M68, selector))?;
     Ok(goes_by(rec, selector))
-}
-
-/// An odd A7 is refused.
-fn even_sp(regs: &Regs68) -> Result<(), Fault>
-    ensures { result ≡ even_sp_lem regs.now.pc (slice_index regs.now.a 7) }
-{
-    let sp = regs.a[7];
-    if sp % 2 == 1 {
-        Err(Fault::at(regs.pc, FaultKind::Odd, sp))
-    } else {
-        Ok(())
-    }
 }
 
 /// The selector of a call by these records: the first one tells whether there is one.
@@ -122,12 +108,12 @@ fn selector(ram: &Ram, regs: &Regs68, sig: &Sig) -> Result<Option<u32>, Fault>
     }
 }
 
-/// A record of 68K code is gone on with, and one of PowerPC code is called.
+/// Code of its own set is gone on with, and what has a vector is called.
 fn goes_by(rec: &Rec, selector: Option<u32>) -> Wanted
-    ensures { wanted_of result ≡ goes_by_lem rec.now.isa (routine rec.now) selector }
+    ensures { wanted_of result ≡ goes_by_lem (target_of_lem (routine rec.now)) (routine rec.now) selector }
 {
-    match rec.isa {
-        Isa::M68 => Wanted::Jumps(rec.target),
-        Isa::Ppc => Wanted::Calls(call_of(Kind::M68ToPpc, rec, selector)),
+    match target_of(rec) {
+        Target::Code(address) => Wanted::Jumps(address),
+        Target::Vector(_) => Wanted::Calls(call_of(Isa::M68, rec, selector)),
     }
 }

@@ -7,10 +7,10 @@ ghost use Rattle.routine_desc.specs.Views.{routines};
 ghost use Rattle.mix_bits.specs.declared.size.Size.TheVariants.{Two};
 ghost use Rattle.big_memory.specs.Memory.{loaded};
 ghost use Rattle.mode_switch.specs.Views.{signed_kept, told, wanted_of};
-ghost use Rattle.mode_switch.specs.Wanted.{Means, kind_into as kind_into_lem, matched as matched_lem, raw_signature as raw_signature_lem, selector_among_ppc, selector_ppc as selector_ppc_lem, settled, takes_ppc as takes_ppc_lem, wants_desc_ppc, wants_ppc as wants_ppc_lem, wants_raw as wants_raw_lem, wants_word as wants_word_lem};
+ghost use Rattle.mode_switch.specs.Wanted.{Means, matched as matched_lem, raw_signature as raw_signature_lem, selector_among_ppc, selector_ppc as selector_ppc_lem, settled, takes_ppc as takes_ppc_lem, wants_desc_ppc, wants_ppc as wants_ppc_lem, wants_raw as wants_raw_lem, wants_word as wants_word_lem};
 
 use crate::records::{FEW, bad_desc, call_of, settle, taken};
-use crate::{Call, Wanted};
+use crate::{Call, Target, Wanted};
 use args_ppc::select_ppc;
 use big_memory::Ram;
 use mix_bits::{Fault, FaultKind, Isa};
@@ -56,7 +56,7 @@ fn wants_raw(regs: &RegsPpc, pointer: u32, info: u32) -> Result<Wanted, Fault>
         sig,
         selector: selector(regs, &sig),
         passes: sig.conv.is_dispatched(),
-        target: pointer,
+        target: Target::Code(pointer),
     }))
 }
 
@@ -133,7 +133,7 @@ fn takes(regs: &RegsPpc, info: u32, records: &[Rec]) -> Result<Wanted, Fault>
     let selector = selector_among(regs, records);
     let rec = taken(regs.pc, selector, choose_among(records, Isa::Ppc, selector))?;
     matched(regs.pc, info, rec.info)?;
-    Ok(Wanted::Calls(call_of(kind_into(rec.isa), rec, selector)))
+    Ok(Wanted::Calls(call_of(Isa::Ppc, rec, selector)))
 }
 
 /// The selector of a call by these records: the first one tells whether there is one.
@@ -170,15 +170,5 @@ fn matched(pc: u32, info: u32, found: u32) -> Result<(), Fault>
             detail: info,
             also: found,
         })
-    }
-}
-
-/// The kind of a call from PowerPC code into a set.
-fn kind_into(callee: Isa) -> Kind
-    ensures { result ≡ kind_into_lem callee }
-{
-    match callee {
-        Isa::M68 => Kind::PpcToM68,
-        Isa::Ppc => Kind::PpcToPpc,
     }
 }

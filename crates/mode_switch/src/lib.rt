@@ -21,4 +21,4 @@ pub use code_ppc::wants_ppc;
 pub use laws::switch_laws;
 pub use passed::{Entry, Passed, pass};
 pub use returned::give_back;
-pub use wanted::{Call, Wanted};
+pub use wanted::{Call, Target, Wanted};

@@ -4,10 +4,10 @@ ghost use Rattle.proc_info.specs.Codes.{is_dispatched};
 ghost use Rattle.routine_desc.specs.Layout.{has_flag};
 ghost use Rattle.routine_desc.specs.Views.{picked, routine};
 ghost use Rattle.mode_switch.specs.Views.{crossing, taken_record, told, wanted_of};
-ghost use Rattle.mode_switch.specs.Wanted.{bad_desc as bad_desc_lem, call_of_record, settled, taken as taken_lem};
+ghost use Rattle.mode_switch.specs.Wanted.{bad_desc as bad_desc_lem, call_of_record, settled, taken as taken_lem, target_of as target_of_lem};
 
-use crate::{Call, Wanted};
-use mix_bits::{Fault, FaultKind};
+use crate::{Call, Target, Wanted};
+use mix_bits::{Fault, FaultKind, Isa};
 use proc_info::Conv;
 use routine_desc::{BadDesc, Rec, RoutineFlags};
 use switch_frame::Kind;
@@ -48,17 +48,28 @@ pub fn taken<'a>(pc: u32, selector: Option<u32>, chosen: Option<&'a Rec>) -> Res
     }
 }
 
-/// The call of a record.
-pub fn call_of(kind: Kind, rec: &Rec, selector: Option<u32>) -> Call
-    ensures { crossing result ≡ call_of_record kind (routine rec.now) selector }
+/// The target of a record.
+pub fn target_of(rec: &Rec) -> Target
+    ensures { result ≡ target_of_lem (routine rec.now) }
+{
+    match (rec.isa, rec.cfm) {
+        (Isa::M68, false) => Target::Code(rec.target),
+        (Isa::M68, true) => Target::Vector(rec.target),
+        (Isa::Ppc, _) => Target::Vector(rec.target),
+    }
+}
+
+/// The call of a record by code of a set.
+pub fn call_of(caller: Isa, rec: &Rec, selector: Option<u32>) -> Call
+    ensures { crossing result ≡ call_of_record caller (routine rec.now) selector }
 {
     Call {
-        kind,
+        kind: Kind::of(caller, rec.isa),
         info: rec.info,
         sig: rec.sig,
         selector,
         passes: passes(rec.sig.conv, rec.flags),
-        target: rec.target,
+        target: target_of(rec),
     }
 }
 

@@ -1,5 +1,5 @@
 -- A descriptor that was built is read back.
-use Rattle.std.proofs.Common.{◌≡◌, ℕ, ◌+◌, ◌*◌, ◌^◌, ◌<◌, ◌≤◌, true, List, [], ◌++◌, length, drop, Option, Some, None, Result, Ok, Err, IfOk, IfSome, arith, ap, ◌∙◌, refl}
+use Rattle.std.proofs.Common.{◌≡◌, ℕ, ◌+◌, ◌*◌, ◌^◌, ◌<◌, ◌≤◌, true, false, List, [], ◌++◌, length, drop, Option, Some, None, is_none, IsSome, Result, Ok, Err, IfOk, IfSome, arith, ap, ◌∙◌, refl}
 use Rattle.std.proofs.lemmas.Bool.Decides.{nat_tests}
 use Rattle.std.proofs.lemmas.List.{same_lists, places}
 use Rattle.byteorder.specs.Endian.{big_number}
@@ -8,7 +8,7 @@ use Rattle.big_memory.specs.Memory.{Memory, in_memory, with_bytes}
 use Rattle.big_memory.specs.Numbers.{number_at}
 use Rattle.big_memory.proofs.Lists.{drop-put, length-put}
 use Rattle.proc_info.specs.Signature.{Signature, signature_of}
-use Rattle.routine_desc.specs.Layout.{Routine, bad_header}
+use Rattle.routine_desc.specs.Layout.{Routine, bad_header, code_at}
 use Rattle.routine_desc.specs.Read.{read_record, first_records, unless_broken, body_of, desc_of, if_alike, all_alike}
 use Rattle.routine_desc.specs.Build.{IsPut, header_bytes, record_bytes, image, asked_record, asked, ReadsBack}
 use Rattle.routine_desc.proofs.RecordLemmas.{records-none, records-more}
@@ -21,19 +21,29 @@ pub number-in : (m : Memory) (p q k n : ℕ) (ys : List ℕ) → q ≡ p + k →
 number-in m p q k n ys place here =
     ap (λ q. number_at q n m.bytes) place ∙ ap (big_number n) (drop-drop p k m.bytes ∙ ap (drop k) here)
 
-pub record-back : (m : Memory) (a p info isa proc : ℕ) (signature : Signature) (rest : List ℕ) → p + 20 ≤ length m.bytes → drop p m.bytes ≡ record_bytes info isa proc ++ rest → info < 2 ^ 32 → isa ≤ 1 → proc < 2 ^ 32 → signature_of info ≡ Ok signature → read_record m a p ≡ Ok (asked_record info signature isa proc)
+-- an ISA code is a byte
+code-small : (code : ℕ) → IsSome (code_at code) → code < 256
+code-small code some = grind (arith, nat_tests)
+
+some-there : {A : Type 0} (o : Option A) → IsSome o → is_none o ≡ false
+some-there None some = absurd (cc)
+some-there (Some x) some = refl
+
+pub record-back : (m : Memory) (a p info isa proc : ℕ) (signature : Signature) (rest : List ℕ) → p + 20 ≤ length m.bytes → drop p m.bytes ≡ record_bytes info isa proc ++ rest → info < 2 ^ 32 → IsSome (code_at isa) → proc < 2 ^ 32 → signature_of info ≡ Ok signature → read_record m a p ≡ Ok (asked_record info signature isa proc)
 unfolding read_record
 record-back m a p info isa proc signature rest within here info-fits isa-fits proc-fits signed =
     let ys = record_bytes info isa proc ++ rest in
     let there : in_memory m p 20 ≡ true = grind (arith, nat_tests) in
     let word : number_at p 4 m.bytes ≡ info = number-in m p p 0 4 ys (omega arith) here ∙ omega arith in
     let zero-byte : number_at (p + 4) 1 m.bytes ≡ 0 = number-in m p (p + 4) 4 1 ys refl here in
+    let small : isa < 256 = code-small isa isa-fits in
     let code : number_at (p + 5) 1 m.bytes ≡ isa = number-in m p (p + 5) 5 1 ys refl here ∙ omega arith in
+    let known : is_none (code_at (number_at (p + 5) 1 m.bytes)) ≡ false = ap (λ k. is_none (code_at k)) code ∙ some-there (code_at isa) isa-fits in
     let flags : number_at (p + 6) 2 m.bytes ≡ 0 = number-in m p (p + 6) 6 2 ys refl here in
     let target : number_at (p + 8) 4 m.bytes ≡ proc = number-in m p (p + 8) 8 4 ys refl here ∙ omega arith in
     let zero-long : number_at (p + 12) 4 m.bytes ≡ 0 = number-in m p (p + 12) 12 4 ys refl here in
     let selector : number_at (p + 16) 4 m.bytes ≡ 0 = number-in m p (p + 16) 16 4 ys refl here in
-    grind (arith, nat_tests, there, word, zero-byte, code, flags, target, zero-long, selector, signed)
+    grind (arith, nat_tests, there, word, zero-byte, code, flags, target, zero-long, selector, signed, known)
 
 -- a header
 header-back : (m : Memory) (a last : ℕ) (rest : List ℕ) → a + 12 ≤ length m.bytes → drop a m.bytes ≡ header_bytes last ++ rest → last < 64 → bad_header m a ≡ None
@@ -58,7 +68,7 @@ desc-back m a last rest records within here few all alike =
     ∙ ap (λ x. x >>= if_alike) all ∙ like
 
 -- the record at a place after the descriptor's beginning
-next-back : (m : Memory) (a k info isa proc : ℕ) (signature : Signature) (ys rest : List ℕ) → a + 12 + 20 * k + 20 ≤ length m.bytes → drop a m.bytes ≡ ys → drop (12 + 20 * k) ys ≡ record_bytes info isa proc ++ rest → info < 2 ^ 32 → isa ≤ 1 → proc < 2 ^ 32 → signature_of info ≡ Ok signature → read_record m a (a + 12 + 20 * k) ≡ Ok (asked_record info signature isa proc)
+next-back : (m : Memory) (a k info isa proc : ℕ) (signature : Signature) (ys rest : List ℕ) → a + 12 + 20 * k + 20 ≤ length m.bytes → drop a m.bytes ≡ ys → drop (12 + 20 * k) ys ≡ record_bytes info isa proc ++ rest → info < 2 ^ 32 → IsSome (code_at isa) → proc < 2 ^ 32 → signature_of info ≡ Ok signature → read_record m a (a + 12 + 20 * k) ≡ Ok (asked_record info signature isa proc)
 next-back m a k info isa proc signature ys rest within here behind info-fits isa-fits proc-fits signed =
     let place : a + 12 + 20 * k ≡ a + (12 + 20 * k) = omega arith in
     let there : drop (a + 12 + 20 * k) m.bytes ≡ record_bytes info isa proc ++ rest =
@@ -73,17 +83,17 @@ longer : (m : Memory) (a : ℕ) (ys : List ℕ) → a + length ys ≤ length m.b
 longer m a ys within = rw (length-put a ys m.bytes within) within
 
 -- a descriptor of one record
-one-back : (m : Memory) (a info isa proc : ℕ) (signature : Signature) (rest : List ℕ) → a + 32 ≤ length m.bytes → drop a m.bytes ≡ image info None isa proc ++ rest → info < 2 ^ 32 → isa ≤ 1 → proc < 2 ^ 32 → signature_of info ≡ Ok signature → desc_of m a ≡ Ok (asked info signature None isa proc)
+one-back : (m : Memory) (a info isa proc : ℕ) (signature : Signature) (rest : List ℕ) → a + 32 ≤ length m.bytes → drop a m.bytes ≡ image info None isa proc ++ rest → info < 2 ^ 32 → IsSome (code_at isa) → proc < 2 ^ 32 → signature_of info ≡ Ok signature → desc_of m a ≡ Ok (asked info signature None isa proc)
 one-back m a info isa proc signature rest within here info-fits isa-fits proc-fits signed =
     let ys = image info None isa proc ++ rest in
     let only = next-back m a 0 info isa proc signature ys rest (omega arith) here refl info-fits isa-fits proc-fits signed in
     desc-back m a 0 (record_bytes info isa proc ++ rest) _ (omega arith) here (omega arith) (records-more m a 0 [] _ (records-none m a []) only) refl
 
 -- a descriptor of two records
-two-back : (m : Memory) (a info m68k isa proc : ℕ) (signature : Signature) (rest : List ℕ) → a + 52 ≤ length m.bytes → drop a m.bytes ≡ image info (Some m68k) isa proc ++ rest → info < 2 ^ 32 → m68k < 2 ^ 32 → isa ≤ 1 → proc < 2 ^ 32 → signature_of info ≡ Ok signature → desc_of m a ≡ Ok (asked info signature (Some m68k) isa proc)
+two-back : (m : Memory) (a info m68k isa proc : ℕ) (signature : Signature) (rest : List ℕ) → a + 52 ≤ length m.bytes → drop a m.bytes ≡ image info (Some m68k) isa proc ++ rest → info < 2 ^ 32 → m68k < 2 ^ 32 → IsSome (code_at isa) → proc < 2 ^ 32 → signature_of info ≡ Ok signature → desc_of m a ≡ Ok (asked info signature (Some m68k) isa proc)
 two-back m a info m68k isa proc signature rest within here info-fits code-fits isa-fits proc-fits signed =
     let ys = image info (Some m68k) isa proc ++ rest in
-    let first = next-back m a 0 info 0 m68k signature ys (record_bytes info isa proc ++ rest) (omega arith) here refl info-fits (omega arith) code-fits signed in
+    let first = next-back m a 0 info 0 m68k signature ys (record_bytes info isa proc ++ rest) (omega arith) here refl info-fits refl code-fits signed in
     let second = next-back m a 1 info isa proc signature ys rest (omega arith) here refl info-fits isa-fits proc-fits signed in
     let one = records-more m a 0 [] _ (records-none m a []) first in
     let two = records-more m a 1 _ _ one second in

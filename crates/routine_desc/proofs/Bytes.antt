@@ -1,5 +1,5 @@
 -- A descriptor is read from its bytes alone.
-use Rattle.std.proofs.Common.{◌≡◌, ℕ, zero, suc, ◌+◌, ◌-◌, ◌*◌, ◌^◌, ◌<◌, ◌≤◌, nat_lt, Bool, true, false, not, ◌==◌, ◌&&◌, if◌then◌else◌, List, [], ◌∷◌, ◌++◌, length, take, drop, get_or, Option, Some, None, Result, Ok, Err, arith, ap, sym, ◌∙◌, refl}
+use Rattle.std.proofs.Common.{◌≡◌, ℕ, zero, suc, ◌+◌, ◌-◌, ◌*◌, ◌^◌, ◌<◌, ◌≤◌, nat_lt, Bool, true, false, not, ◌==◌, ◌&&◌, if◌then◌else◌, List, [], ◌∷◌, ◌++◌, length, take, drop, get_or, Option, Some, None, is_none, Result, Ok, Err, arith, ap, sym, ◌∙◌, refl}
 use Rattle.std.proofs.lemmas.Bool.Decides.{nat_tests}
 use Rattle.std.proofs.lemmas.List.{places}
 use Rattle.byteorder.specs.Endian.{big_from}
@@ -10,7 +10,7 @@ use Rattle.big_memory.specs.Numbers.{number_at}
 use Rattle.proc_info.specs.Signature.{signature_of}
 use Rattle.routine_desc.specs.declared.record.BadDesc.{BadDesc}
 use Rattle.routine_desc.specs.declared.record.BadDesc.TheVariants.{Access, Magic, Version, Reserved, Count, Isa, Flags, Mixed}
-use Rattle.routine_desc.specs.Layout.{Routine, are_good_flags, bad_header, bad_record, isa_of, record_at, target_of}
+use Rattle.routine_desc.specs.Layout.{Routine, are_good_flags, bad_header, bad_record, code_at, is_cfm, isa_of, record_at, target_of}
 use Rattle.routine_desc.specs.Read.{body_of, first_records, if_alike, if_signed, read_record, unless_broken}
 use Rattle.routine_desc.specs.Laws.{ReadsItsBytes}
 use Rattle.routine_desc.proofs.Chains.{none_broken}
@@ -46,10 +46,10 @@ parsed : ℕ → Bool → ℕ → ℕ → ℕ → ℕ → ℕ → ℕ → ℕ �
 parsed a inside info zero-byte code flags proc zero-long selector =
     unless_broken (if not inside then Some Access
     else (if not ((zero-byte == 0) && (zero-long == 0)) then Some Reserved
-    else (if nat_lt 1 code then Some Isa
+    else (if is_none (code_at code) then Some Isa
     else (if not (are_good_flags flags) then Some Flags
     else None))))
-    (if_signed (λ sig. record { info = info; sig = sig; isa = isa_of code; flags = flags; target = target_of a flags proc; selector = selector }) (signature_of info))
+    (if_signed (λ sig. record { info = info; sig = sig; isa = isa_of code; flags = flags; target = target_of a flags proc; selector = selector; cfm = is_cfm code }) (signature_of info))
 
 record-parsed : (m : Memory) (a p : ℕ) → read_record m a p ≡ parsed a (in_memory m p 20) (number_at p 4 m.bytes) (number_at (p + 4) 1 m.bytes) (number_at (p + 5) 1 m.bytes) (number_at (p + 6) 2 m.bytes) (number_at (p + 8) 4 m.bytes) (number_at (p + 12) 4 m.bytes) (number_at (p + 16) 4 m.bytes)
 unfolding read_record parsed
@@ -137,7 +137,7 @@ unfolding read_record
 record-inside m a p r h =
     let good = none_broken (bad_record m p) (if_signed (record_at m a p) (signature_of (number_at p 4 m.bytes))) r h in
     let inside : in_memory m p 20 ≡ true =
-    few_inside (in_memory m p 20) ((number_at (p + 4) 1 m.bytes == 0) && (number_at (p + 12) 4 m.bytes == 0)) (nat_lt 1 (number_at (p + 5) 1 m.bytes)) (are_good_flags (number_at (p + 6) 2 m.bytes)) good in
+    few_inside (in_memory m p 20) ((number_at (p + 4) 1 m.bytes == 0) && (number_at (p + 12) 4 m.bytes == 0)) (is_none (code_at (number_at (p + 5) 1 m.bytes))) (are_good_flags (number_at (p + 6) 2 m.bytes)) good in
     grind (arith, nat_tests)
 
 first-inside : (m : Memory) (a k : ℕ) (rs : List Routine) → first_records m a (suc k) ≡ Ok rs → a + (12 + 20 * suc k) ≤ length m.bytes

@@ -1,6 +1,6 @@
 -- The layout of a routine descriptor, as this project takes it
 -- (Inside Macintosh: PowerPC System Software, chapter 2).
-use Rattle.std.specs.Prelude.{ℕ, ◌+◌, ◌/◌, ◌%◌, ◌^◌, ◌==◌, nat_lt, Bool, not, ◌&&◌, ◌||◌, if◌then◌else◌, Option, Some, None}
+use Rattle.std.specs.Prelude.{ℕ, ◌+◌, ◌/◌, ◌%◌, ◌^◌, ◌==◌, nat_lt, Bool, true, false, not, ◌&&◌, ◌||◌, if◌then◌else◌, Option, Some, None, is_none, unwrap_or}
 use Rattle.mix_bits.specs.declared.isa.Isa.{Isa}
 use Rattle.mix_bits.specs.declared.isa.Isa.TheVariants.{M68, Ppc}
 use Rattle.big_memory.specs.Memory.{Memory, in_memory}
@@ -35,17 +35,26 @@ bad_header m a =
     else (if nat_lt 63 (number_at (a + 10) 2 m.bytes) then Some Count
     else None))))
 
+-- an ISA code: the set of a routine's code, and whether that is 68K code of the Code Fragment Manager (CFM-68K), which
+-- has its own A5
+abbrev pub code_at : ℕ → Option (Isa × Bool)
+code_at code = if code == 0 then Some (M68, false) else (if code == 1 then Some (Ppc, false) else (if code == 16 then Some (M68, true) else None))
+
+-- the same of a record that is read, whose code is one of these; for other codes any set does
+abbrev pub isa_of : ℕ → Isa
+isa_of code = (unwrap_or (code_at code) (M68, false)).0
+
+abbrev pub is_cfm : ℕ → Bool
+is_cfm code = (unwrap_or (code_at code) (M68, false)).1
+
 -- the first rule that a record breaks, but for the signature of its procInfo
 abbrev pub bad_record : Memory → ℕ → Option BadDesc
 bad_record m p =
     if not (in_memory m p 20) then Some Access
     else (if not ((number_at (p + 4) 1 m.bytes == 0) && (number_at (p + 12) 4 m.bytes == 0)) then Some Reserved
-    else (if nat_lt 1 (number_at (p + 5) 1 m.bytes) then Some BadIsa
+    else (if is_none (code_at (number_at (p + 5) 1 m.bytes)) then Some BadIsa
     else (if not (are_good_flags (number_at (p + 6) 2 m.bytes)) then Some Flags
     else None)))
-
-abbrev pub isa_of : ℕ → Isa
-isa_of code = if code == 0 then M68 else Ppc
 
 -- a relative target is counted from the descriptor's first byte
 abbrev pub target_of : ℕ → ℕ → ℕ → ℕ
@@ -59,10 +68,11 @@ pub record Routine : Type 0 where
   pub flags : ℕ
   pub target : ℕ
   pub selector : ℕ
+  pub cfm : Bool
 
 -- what stands where no record was read
 abbrev pub no_routine : Routine
-no_routine = record { info = 0; sig = no_parameters; isa = M68; flags = 0; target = 0; selector = 0 }
+no_routine = record { info = 0; sig = no_parameters; isa = M68; flags = 0; target = 0; selector = 0; cfm = false }
 
 -- the record at p of the descriptor at a, whose procInfo has this signature
 abbrev pub record_at : Memory → ℕ → ℕ → Signature → Routine
@@ -73,4 +83,5 @@ record_at m a p sig = record {
   flags = number_at (p + 6) 2 m.bytes;
   target = target_of a (number_at (p + 6) 2 m.bytes) (number_at (p + 8) 4 m.bytes);
   selector = number_at (p + 16) 4 m.bytes;
+  cfm = is_cfm (number_at (p + 5) 1 m.bytes);
 }

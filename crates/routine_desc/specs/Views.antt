@@ -8,7 +8,7 @@ use Rattle.routine_desc.specs.Layout.{Routine}
 
 abbrev pub routine : Rec → Routine
 routine rec =
-    record { info = rec.info; sig = signature rec.sig; isa = rec.isa; flags = rec.flags; target = rec.target; selector = rec.selector }
+    record { info = rec.info; sig = signature rec.sig; isa = rec.isa; flags = rec.flags; target = rec.target; selector = rec.selector; cfm = rec.cfm }
 
 abbrev pub routines : List Rec → List Routine
 routines recs = map routine recs

@@ -11,8 +11,8 @@ type Image = ArrayVec<u8, 52>;
 
 /// Writes a descriptor of one record with this procInfo, ISA code and procDescriptor at `a`, or, where
 /// `m68k` is some, of that 68K code's record and then this one. All flags are 0. It is refused as a
-/// store of its 32 or 52 bytes would be. Where procInfo has a signature and the ISA code is 0 or 1,
-/// `read_desc` gives these records back.
+/// store of its 32 or 52 bytes would be. Where procInfo has a signature and the ISA code is 0, 1 or
+/// $10, `read_desc` gives these records back.
 pub fn build(
     ram: &mut Ram,
     a: u32,

@@ -1,9 +1,9 @@
 // Reading a descriptor.
-ghost use Rattle.std.specs.Prelude.{◌≡◌, ◌≤◌, ◌+◌, length, IfNone, IfOk};
+ghost use Rattle.std.specs.Prelude.{◌≡◌, ◌≤◌, ◌+◌, length, IfNone, IfOk, IsSome};
 ghost use Rattle.std.specs.List.{list_all};
 ghost use Rattle.mix_bits.specs.Sizes.{bytes_of};
 ghost use Rattle.big_memory.specs.Numbers.{number_at};
-ghost use Rattle.routine_desc.specs.Layout.{are_good_flags, bad_header, bad_record, isa_of, record_at, target_of};
+ghost use Rattle.routine_desc.specs.Layout.{are_good_flags, bad_header, bad_record, code_at, record_at, target_of};
 ghost use Rattle.proc_info.specs.Codes.{conv_at};
 ghost use Rattle.proc_info.specs.Views.{signature};
 ghost use Rattle.routine_desc.specs.Views.{answered, routine, routines};
@@ -112,13 +112,14 @@ fn broken_header(ram: &Ram, a: u32) -> Option<BadDesc>
 fn broken_record(ram: &Ram, p: u32) -> Option<BadDesc>
     ensures value { result ≡ bad_record ram.now p }
     ensures within { IfNone result (p + 20 ≤ length ram.now.bytes) }
+    ensures code { IfNone result (IsSome (code_at (number_at (p + 5) 1 ram.now.bytes))) }
 {
     ram.meets_invariant();
     if !ram.has(p, RECORD_BYTES) {
         Some(BadDesc::Access)
     } else if number(ram, p + 4, Size::One) != 0 || number(ram, p + 12, Size::Four) != 0 {
         Some(BadDesc::Reserved)
-    } else if number(ram, p + 5, Size::One) > 1 {
+    } else if code_of(number(ram, p + 5, Size::One)).is_none() {
         Some(BadDesc::Isa)
     } else if !have_meaning(number(ram, p + 6, Size::Two)) {
         Some(BadDesc::Flags)
@@ -143,26 +144,34 @@ fn read_record(ram: &Ram, a: u32, p: u32) -> Result<Rec, BadDesc>
 
 /// The record at `p` of the descriptor at `a`, with the signature of its procInfo.
 fn record(ram: &Ram, a: u32, p: u32, sig: &Sig) -> Rec
-    requires { p + 20 ≤ length ram.now.bytes }
+    requires within { p + 20 ≤ length ram.now.bytes }
+    requires code { IsSome (code_at (number_at (p + 5) 1 ram.now.bytes)) }
     ensures { routine result ≡ record_at ram.now a p (signature sig.now) }
 {
     ram.meets_invariant();
+    let (isa, cfm) = code_of(number(ram, p + 5, Size::One)).unwrap();
     let flags = number(ram, p + 6, Size::Two);
     Rec {
         info: number(ram, p, Size::Four),
         sig: *sig,
-        isa: isa(number(ram, p + 5, Size::One)),
+        isa,
         flags,
         target: target(a, flags, number(ram, p + 8, Size::Four)),
         selector: number(ram, p + 16, Size::Four),
+        cfm,
     }
 }
 
-/// The set of an ISA code.
-fn isa(code: u32) -> Isa
-    ensures { result ≡ isa_of code }
+/// The set of an ISA code's routine, and whether it is CFM-68K code.
+fn code_of(code: u32) -> Option<(Isa, bool)>
+    ensures { result ≡ code_at code }
 {
-    if code == 0 { Isa::M68 } else { Isa::Ppc }
+    match code {
+        0 => Some((Isa::M68, false)),
+        1 => Some((Isa::Ppc, false)),
+        0x10 => Some((Isa::M68, true)),
+        _ => None,
+    }
 }
 
 /// The target: procDescriptor, or its distance from the descriptor.

@@ -21,9 +21,12 @@ pub struct Rec {
     pub isa: Isa,
     /// The routine flags, as `RoutineFlags` names them.
     pub flags: u32,
-    /// The address of 68K code, or of the transition vector of PowerPC code.
+    /// The address of 68K code, or, for PowerPC and CFM-68K code, of a vector of two longs: the code, and
+    /// its TOC or A5.
     pub target: u32,
     pub selector: u32,
+    /// Whether it is CFM-68K code: 68K code whose target is a vector.
+    pub cfm: bool,
 }
 
 impl Rec {
@@ -43,6 +46,7 @@ impl Rec {
             flags: 0,
             target: 0,
             selector: 0,
+            cfm: false,
         }
     }
 }
@@ -68,7 +72,7 @@ pub enum BadDesc {
     Reserved,
     /// There are more than 64 records.
     Count,
-    /// A record's set is neither 68K nor PowerPC.
+    /// A record's ISA code is not that of 68K, PowerPC or CFM-68K code.
     Isa,
     /// A record needs preparing, holds an index or has a flag that there is none of.
     Flags,

@@ -22,6 +22,7 @@ fn rec(info: u32, isa: Isa, flags: u32, target: u32, selector: u32) -> Rec {
         flags,
         target,
         selector,
+        cfm: false,
     }
 }
 
@@ -59,6 +60,7 @@ fn fields_are_tested_in_their_order(rt: HostRuntime) -> Result<(), Fail> {
         (16, 1, BadDesc::Reserved),
         (27, 1, BadDesc::Reserved),
         (17, 2, BadDesc::Isa),
+        (17, 0x11, BadDesc::Isa),
         (19, 2, BadDesc::Flags),
         (19, 0x20, BadDesc::Flags),
         (18, 1, BadDesc::Flags),
@@ -118,6 +120,7 @@ fn descriptors_are_built_and_read_back(rt: HostRuntime) -> Result<(), Fail> {
         Ok(desc) => {
             assert_eq!(rt; desc.count, 1);
             assert_eq!(rt; fields(&desc.recs[0]), (0x31, Isa::Ppc, 0, 0x1_0040, 0));
+            assert!(rt; !desc.recs[0].cfm);
         }
         Err(_) => assert!(rt; false),
     }
@@ -130,6 +133,14 @@ fn descriptors_are_built_and_read_back(rt: HostRuntime) -> Result<(), Fail> {
             assert_eq!(rt; desc.count, 2);
             assert_eq!(rt; fields(&desc.recs[0]), (0x31, Isa::M68, 0, 0x1_0058, 0));
             assert_eq!(rt; fields(&desc.recs[1]), (0x31, Isa::Ppc, 0, 0x1_0060, 0));
+        }
+        Err(_) => assert!(rt; false),
+    }
+    assert_eq!(rt; build(&mut ram, AT, 0x31, None, 0x10, 0x1_0040), Ok(()));
+    match read_desc(&ram, AT) {
+        Ok(desc) => {
+            assert_eq!(rt; fields(&desc.recs[0]), (0x31, Isa::M68, 0, 0x1_0040, 0));
+            assert!(rt; desc.recs[0].cfm);
         }
         Err(_) => assert!(rt; false),
     }
@@ -167,12 +178,25 @@ const NEW: u32 = 3;
 
 const OTHER: u32 = 4;
 
+const CFM: u32 = 5;
+
+const NATIVE_CFM: u32 = 6;
+
+/// A record of CFM-68K code.
+fn cfm_rec(flags: u32, target: u32) -> Rec {
+    let mut rec = rec(0xB9, Isa::M68, flags, target, 7);
+    rec.cfm = true;
+    rec
+}
+
 /// The record with this target.
 fn rec_at(target: u32) -> Rec {
     match target {
         OLD => rec(0xB9, Isa::M68, 0, OLD, 7),
         NATIVE => rec(0xB9, Isa::M68, 4, NATIVE, 7),
         NEW => rec(0xB9, Isa::Ppc, 0, NEW, 7),
+        CFM => cfm_rec(0, CFM),
+        NATIVE_CFM => cfm_rec(4, NATIVE_CFM),
         _ => rec(0xB9, Isa::M68, 0x10, OTHER, 9),
     }
 }
@@ -200,6 +224,13 @@ fn the_choice_among_records(rt: HostRuntime) {
         ([NEW, OLD], Isa::Ppc, None, Some(NEW)),
         ([NEW, OLD], Isa::M68, None, Some(OLD)),
         ([OLD, NEW], Isa::Ppc, Some(8), None),
+        ([CFM, NEW], Isa::M68, None, Some(CFM)),
+        ([NEW, CFM], Isa::M68, None, Some(CFM)),
+        ([CFM, OLD], Isa::M68, None, Some(CFM)),
+        ([OLD, CFM], Isa::M68, None, Some(OLD)),
+        ([CFM, NEW], Isa::Ppc, None, Some(NEW)),
+        ([NATIVE_CFM, NEW], Isa::M68, None, Some(NEW)),
+        ([NEW, NATIVE_CFM], Isa::M68, None, Some(NATIVE_CFM)),
     ];
     for ([first, second], caller, selector, wanted) in rows {
         let mut recs = [Rec::empty(); 64];

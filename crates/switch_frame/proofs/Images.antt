@@ -1,5 +1,5 @@
 -- What stands in a frame, read by its layout, is the record.
-use Rattle.std.proofs.Common.{◌≡◌, ℕ, ◌+◌, ◌*◌, ◌/◌, ◌%◌, ◌^◌, ◌<◌, ◌≤◌, ◌==◌, Bool, true, false, lit<, lit≤, List, [], ◌∷◌, ◌++◌, length, get_or, arith, ap, ◌∙◌, refl}
+use Rattle.std.proofs.Common.{◌≡◌, ℕ, ◌+◌, ◌*◌, ◌/◌, ◌%◌, ◌^◌, ◌<◌, ◌≤◌, ◌==◌, Bool, true, false, lit<, lit≤, List, [], ◌∷◌, ◌++◌, length, get_or, Some, unwrap_or, arith, ap, ◌∙◌, refl}
 use Rattle.std.specs.Int.{from_bool}
 use Rattle.std.proofs.lemmas.List.{append_assoc, length-append}
 use Rattle.m68_isa.specs.declared.registers.Ccr.{Ccr}
@@ -12,9 +12,9 @@ use Rattle.big_memory.specs.Lists.{part}
 use Rattle.switch_frame.specs.declared.active.Active.{Active}
 use Rattle.switch_frame.specs.declared.active.Active.TheVariants.{M68, Ppc}
 use Rattle.switch_frame.specs.declared.kind.Kind.{Kind}
-use Rattle.switch_frame.specs.declared.kind.Kind.TheVariants.{M68ToPpc, PpcToM68, PpcToPpc}
+use Rattle.switch_frame.specs.declared.kind.Kind.TheVariants.{M68ToPpc, PpcToM68, PpcToPpc, M68ToM68}
 use Rattle.big_memory.specs.Numbers.{long_at, longs_at, bytes_of_longs}
-use Rattle.switch_frame.specs.Sets.{caller_isa, kind_code, kind_at, frame_size}
+use Rattle.switch_frame.specs.Sets.{caller_isa, kind_code, kind_at, kind_told, frame_size}
 use Rattle.switch_frame.specs.Records.{Record, fill_of, head_of, isa_of, longs_of_file, longs_of, image, m68_at, ppc_at, file_at, record_at}
 use Rattle.switch_frame.specs.Chain.{AreM68, ArePpc, IsFile}
 use Rattle.big_memory.proofs.Numbers.{length_of_bytes, long_of_part, longs_of_part}
@@ -68,15 +68,17 @@ pub ccr-small : (c : Ccr) → ccr_bits c < 2 ^ 32
 ccr-small c =
     let a = bit-small c.x in let b = bit-small c.n in let d = bit-small c.z in let f = bit-small c.v in let g = bit-small c.c in omega arith
 
-pub kind-back : (kind : Kind) → kind_at (kind_code kind) ≡ kind
+pub kind-back : (kind : Kind) → kind_at (kind_code kind) ≡ Some kind
 kind-back M68ToPpc = refl
 kind-back PpcToM68 = refl
 kind-back PpcToPpc = refl
+kind-back M68ToM68 = refl
 
 pub kind-small : (kind : Kind) → kind_code kind < 2 ^ 32
 kind-small M68ToPpc = lit< tt
 kind-small PpcToM68 = lit< tt
 kind-small PpcToPpc = lit< tt
+kind-small M68ToM68 = lit< tt
 
 -- the longs of a register file, with others behind them
 pub m68-longs : (file : Regs68) (behind : List ℕ) → longs_of_m68 file ++ behind ≡ file.d ++ (file.a ++ (file.pc ∷ ccr_bits file.ccr ∷ behind))
@@ -145,8 +147,8 @@ image-back bytes n r outer depth piece ok set o d i s t h w =
     let at : (k c : ℕ) → c ≡ r.lo + 4 * k → k < 8 → get_or longs k 0 < 2 ^ 32 → long_at c bytes ≡ get_or longs k 0
     = λ k c here small fits. ap (λ b. long_at b bytes) here ∙ long_of_part r.lo n longs bytes k piece (omega arith) fits in
     let kind : long_at (r.lo + 4) bytes ≡ kind_code r.kind = at 1 (r.lo + 4) (omega arith) (lit< tt) (kind-small r.kind) in
-    let kind_is : kind_at (long_at (r.lo + 4) bytes) ≡ r.kind = ap kind_at kind ∙ kind-back r.kind in
-    let file : file_at (caller_isa (kind_at (long_at (r.lo + 4) bytes))) (r.lo + 32) bytes ≡ r.caller
+    let kind_is : kind_told (long_at (r.lo + 4) bytes) ≡ r.kind = ap kind_told kind ∙ ap (λ k. unwrap_or k M68ToPpc) (kind-back r.kind) in
+    let file : file_at (caller_isa (kind_told (long_at (r.lo + 4) bytes))) (r.lo + 32) bytes ≡ r.caller
     = ap (λ k. file_at (caller_isa k) (r.lo + 32) bytes) kind_is ∙ ap (λ isa. file_at isa (r.lo + 32) bytes) set ∙ file-back r.lo n (r.lo + 32) head r.caller bytes piece refl ok in
     record {
       record_is = record-same _ r kind_is file (at 2 (r.lo + 8) (omega arith) (lit< tt) i) (at 3 (r.lo + 12) (omega arith) (lit< tt) s) (at 4 (r.lo + 16) (omega arith) (lit< tt) t)

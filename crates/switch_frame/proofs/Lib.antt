@@ -8,4 +8,8 @@ pub mod Ranges
 pub mod Places
 pub mod Marked
 pub mod Turns
+pub mod Walks
+pub mod Again
+pub mod Found
+pub mod Guarding
 pub mod Gates

@@ -1,5 +1,5 @@
 -- What a push and a pop do to a chain, and what is read of its innermost frame.
-use Rattle.std.proofs.Common.{◌≡◌, ℕ, suc, ◌+◌, ◌-◌, ◌*◌, ◌/◌, ◌%◌, ◌<◌, ◌≤◌, ◌==◌, nat_lt, Bool, true, false, not, ◌&&◌, ◌||◌, List, [], ◌∷◌, length, drop, get_or, replicate, cond, Some, arith, ap, sym, subst, ◌∙◌, refl}
+use Rattle.std.proofs.Common.{◌≡◌, ℕ, suc, ◌+◌, ◌-◌, ◌*◌, ◌/◌, ◌%◌, ◌<◌, ◌≤◌, ◌==◌, nat_lt, Bool, true, false, not, ◌&&◌, ◌||◌, IsSome, List, [], ◌∷◌, length, drop, get_or, replicate, cond, Some, arith, ap, sym, subst, ◌∙◌, refl}
 use Rattle.std.proofs.lemmas.Bool.Decides.{nat_tests}
 use Rattle.mix_bits.specs.declared.isa.Isa.{Isa}
 use Rattle.mix_bits.specs.declared.isa.Isa.TheVariants.{M68, Ppc}
@@ -8,20 +8,21 @@ use Rattle.big_memory.specs.Memory.{Memory, IsRam, floor_of, with_bytes, with_ma
 use Rattle.big_memory.proofs.Lists.{length-put, part-put_same, put-put_same}
 use Rattle.proc_info.specs.Signature.{has_signature}
 use Rattle.switch_frame.specs.declared.held.Held.{Held}
+use Rattle.switch_frame.specs.declared.kind.Kind.{Kind}
 use Rattle.big_memory.specs.Numbers.{long_at}
-use Rattle.switch_frame.specs.Sets.{caller_isa, frame_size, kind_at}
+use Rattle.switch_frame.specs.Sets.{caller_isa, frame_size, kind_code, kind_at, kind_told}
 use Rattle.switch_frame.specs.Records.{Record, isa_of, image, record_at, record_of, held_of}
 use Rattle.switch_frame.specs.Chain.{Apart, Fits, Frames, IsFrameRange, IsHeld, IsInside, Links, Chain, outer_of, records, depth_at, covered, in_range, cleared, zeros, most_frames}
 use Rattle.switch_frame.specs.Calls.{IsPlace, IsCalled, IsInnermost, innermost, is_crossed}
 use Rattle.big_memory.proofs.Rams.{bytes_keep_ram}
 use Rattle.switch_frame.proofs.Pieces.{length-zeros}
-use Rattle.switch_frame.proofs.Images.{IsReadAt}
+use Rattle.switch_frame.proofs.Images.{IsReadAt, kind-back}
 use Rattle.switch_frame.proofs.Linked.{IsLen, IsRange, Above, apart-above, first-back, depth-back, frames-above, frames-kept, len-ram, length-cleared, length-image_fits, range-fits, reads_back}
 use Rattle.switch_frame.proofs.Beside.{cleared-put}
 use Rattle.switch_frame.proofs.Marked.{fits_is_range, mark_at, marks_kept, range-moves}
 use Rattle.switch_frame.proofs.Places.{called-inside}
 
-cond-true : (b x : Bool) → cond b true x ≡ (b || x)
+pub cond-true : (b x : Bool) → cond b true x ≡ (b || x)
 cond-true true x = refl
 cond-true false x = refl
 
@@ -156,11 +157,15 @@ push-is m new top outer depth rs r chain few fits first last e =
 pub record IsLive (m : Memory) (top : ℕ) (rs : List Record) : Type 0 where
   pub is : innermost rs ≡ Some (held_of (record_at top m.bytes) (long_at (top + 28) m.bytes))
   pub head : top + 112 ≤ length m.bytes
-  pub whole : top + frame_size (caller_isa (kind_at (long_at (top + 4) m.bytes))) ≤ length m.bytes
-  pub hi : long_at (top + 20) m.bytes ≡ top + frame_size (caller_isa (kind_at (long_at (top + 4) m.bytes)))
+  pub kind : IsSome (kind_at (long_at (top + 4) m.bytes))
+  pub whole : top + frame_size (caller_isa (kind_told (long_at (top + 4) m.bytes))) ≤ length m.bytes
+  pub hi : long_at (top + 20) m.bytes ≡ top + frame_size (caller_isa (kind_told (long_at (top + 4) m.bytes)))
   pub aligned : top % 16 ≡ 0
   pub stack : floor_of m ≤ top
   pub depth : long_at (top + 28) m.bytes ≡ length rs
+
+told : (kind : Kind) (code : ℕ) → code ≡ kind_code kind → IsSome (kind_at code)
+told kind code e = subst (λ k. IsSome k) (sym (ap kind_at e ∙ kind-back kind)) refl
 
 pub live-is : (m : Memory) (top : ℕ) (rs : List Record) → Links m top rs → 0 < top → IsLive m top rs
 live-is m top [] links live = absurd (omega (arith, links.first))
@@ -169,12 +174,13 @@ live-is m top (r ∷ rs) links live =
     let fits : Fits (length m.bytes) r rs = links.frames.1 in
     let range : IsRange (length m.bytes) r = range-fits (length m.bytes) r rs ok fits in
     let back : IsReadAt m.bytes r (outer_of rs) (suc (length rs)) = first-back (length m.bytes) m.bytes r rs ok (omega (arith, links.few)) links.frames in
-    let kind : kind_at (long_at (r.lo + 4) m.bytes) ≡ r.kind = ap (λ x. x.kind) back.record_is in
+    let kind : kind_told (long_at (r.lo + 4) m.bytes) ≡ r.kind = ap (λ x. x.kind) back.record_is in
     let hi : long_at (r.lo + 20) m.bytes ≡ r.hi = ap (λ x. x.hi) back.record_is in
-    let size : frame_size (caller_isa (kind_at (long_at (r.lo + 4) m.bytes))) ≡ frame_size (isa_of r.caller) = ap (λ k. frame_size (caller_isa k)) kind ∙ ap frame_size fits.alone.kind in
+    let size : frame_size (caller_isa (kind_told (long_at (r.lo + 4) m.bytes))) ≡ frame_size (isa_of r.caller) = ap (λ k. frame_size (caller_isa k)) kind ∙ ap frame_size fits.alone.kind in
     let here : IsLive m r.lo (r ∷ rs) = record {
       is = ap Some (sym (ap (λ x. held_of x (long_at (r.lo + 28) m.bytes)) back.record_is ∙ ap (λ d. held_of r d) back.depth_is));
       head = omega (arith, range.some, range.end);
+      kind = told r.kind (long_at (r.lo + 4) m.bytes) back.kind_is;
       whole = omega (arith, size, fits.alone.size, range.end);
       hi = omega (arith, hi, size, fits.alone.size);
       aligned = fits.alone.aligned;

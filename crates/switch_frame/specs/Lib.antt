@@ -10,3 +10,4 @@ pub mod Laws
 pub mod FrameLaws
 pub mod RangeLaws
 pub mod GateLaws
+pub mod Checks

@@ -12,7 +12,7 @@ use Rattle.switch_frame.specs.declared.active.Active.{Active}
 use Rattle.switch_frame.specs.declared.active.Active.TheVariants.{M68, Ppc}
 use Rattle.switch_frame.specs.declared.kind.Kind.{Kind}
 use Rattle.switch_frame.specs.declared.held.Held.{Held}
-use Rattle.switch_frame.specs.Sets.{caller_isa, kind_code, kind_at}
+use Rattle.switch_frame.specs.Sets.{caller_isa, kind_code, kind_told}
 
 -- a suspended caller: its registers, what it called, where its frame lies, and the stack pointer at which the
 -- callee is expected to return
@@ -80,8 +80,8 @@ file_at set_ppc a bytes = Ppc (ppc_at a bytes)
 abbrev pub record_at : ℕ → List ℕ → Record
 record_at lo bytes =
     record {
-      kind = kind_at (long_at (lo + 4) bytes);
-      caller = file_at (caller_isa (kind_at (long_at (lo + 4) bytes))) (lo + 32) bytes;
+      kind = kind_told (long_at (lo + 4) bytes);
+      caller = file_at (caller_isa (kind_told (long_at (lo + 4) bytes))) (lo + 32) bytes;
       info = long_at (lo + 8) bytes;
       selector = long_at (lo + 12) bytes;
       target = long_at (lo + 16) bytes;

@@ -1,5 +1,5 @@
 // The chain of frames: its innermost frame is pushed, read and popped.
-ghost use Rattle.std.specs.Prelude.{◌≡◌, ◌+◌, ◌-◌, ◌<◌, ◌≤◌, ◌↔◌, ◌∷◌, length, drop, true, false, IsNone};
+ghost use Rattle.std.specs.Prelude.{◌≡◌, ◌+◌, ◌-◌, ◌<◌, ◌≤◌, ◌↔◌, ◌∷◌, length, drop, true, false, IsNone, IsSome};
 ghost use Rattle.big_memory.specs.Lists.{put};
 ghost use Rattle.big_memory.specs.Memory.{IsRam, with_bytes};
 ghost use Rattle.proc_info.specs.Signature.{has_signature};
@@ -7,7 +7,7 @@ ghost use Rattle.switch_frame.specs.Calls.{IsCalled, IsInnermost, IsPlace, inner
 ghost use Rattle.switch_frame.specs.Chain.{Chain, IsFrameRange, IsHeld, Links, cleared, outer_of, records, zeros};
 ghost use Rattle.big_memory.specs.Numbers.{long_at};
 ghost use Rattle.switch_frame.specs.Records.{held_of, image, isa_of, record_at, record_of};
-ghost use Rattle.switch_frame.specs.Sets.{caller_isa, frame_size, kind_at};
+ghost use Rattle.switch_frame.specs.Sets.{caller_isa, frame_size, kind_at, kind_told};
 
 use crate::files::{read_file, write_file};
 use crate::{Held, Kind};
@@ -118,14 +118,15 @@ fn clear(ram: &mut Ram, lo: u32, hi: u32)
 #[inline(always)]
 fn read_held(ram: &Ram, lo: u32) -> Held
     requires ram { IsRam ram.now }
-    requires within { lo + frame_size (caller_isa (kind_at (long_at (lo + 4) ram.now.bytes))) ≤ length ram.now.bytes }
+    requires kind { IsSome (kind_at (long_at (lo + 4) ram.now.bytes)) }
+    requires within { lo + frame_size (caller_isa (kind_told (long_at (lo + 4) ram.now.bytes))) ≤ length ram.now.bytes }
     requires head { lo + 32 ≤ length ram.now.bytes }
     ensures { result ≡ held_of (record_at lo ram.now.bytes) (long_at (lo + 28) ram.now.bytes) }
 {
     let mut head = [0; 8];
     ram.read_longs(lo, &mut head);
     let [_outer, code, info, selector, target, hi, want_sp, depth] = head;
-    let kind = Kind::of_code(code);
+    let kind = Kind::of_code(code).unwrap();
     Held {
         kind,
         caller: read_file(ram, lo + 32, kind.caller()),

@@ -10,7 +10,7 @@ pub struct Held {
     pub info: u32,
     /// The selector of a dispatched call, else 0.
     pub selector: u32,
-    /// The callee's code, or its transition vector.
+    /// The callee's code, or the vector of PowerPC and CFM-68K code.
     pub target: u32,
     /// Where the frame begins.
     pub lo: u32,

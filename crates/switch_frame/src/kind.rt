@@ -1,5 +1,5 @@
 ghost use Rattle.std.specs.Prelude.{◌≡◌};
-ghost use Rattle.switch_frame.specs.Sets.{callee_isa, caller_isa, frame_size, kind_at, kind_code};
+ghost use Rattle.switch_frame.specs.Sets.{callee_isa, caller_isa, frame_size, kind_at, kind_code, kind_of};
 
 use mix_bits::Isa;
 
@@ -9,6 +9,7 @@ pub enum Kind {
     M68ToPpc,
     PpcToM68,
     PpcToPpc,
+    M68ToM68,
 }
 
 impl Kind {
@@ -17,7 +18,7 @@ impl Kind {
         ensures { result ≡ caller_isa self }
     {
         match self {
-            Kind::M68ToPpc => Isa::M68,
+            Kind::M68ToPpc | Kind::M68ToM68 => Isa::M68,
             Kind::PpcToM68 | Kind::PpcToPpc => Isa::Ppc,
         }
     }
@@ -27,8 +28,36 @@ impl Kind {
         ensures { result ≡ callee_isa self }
     {
         match self {
-            Kind::PpcToM68 => Isa::M68,
+            Kind::PpcToM68 | Kind::M68ToM68 => Isa::M68,
             Kind::M68ToPpc | Kind::PpcToPpc => Isa::Ppc,
+        }
+    }
+
+    /// The kind of a call from one instruction set into another.
+    pub fn of(caller: Isa, callee: Isa) -> Kind
+        ensures { result ≡ kind_of caller callee }
+    {
+        match caller {
+            Isa::M68 => Kind::from_m68(callee),
+            Isa::Ppc => Kind::from_ppc(callee),
+        }
+    }
+
+    fn from_m68(callee: Isa) -> Kind
+        ensures { result ≡ kind_of (Isa.M68) callee }
+    {
+        match callee {
+            Isa::M68 => Kind::M68ToM68,
+            Isa::Ppc => Kind::M68ToPpc,
+        }
+    }
+
+    fn from_ppc(callee: Isa) -> Kind
+        ensures { result ≡ kind_of (Isa.Ppc) callee }
+    {
+        match callee {
+            Isa::M68 => Kind::PpcToM68,
+            Isa::Ppc => Kind::PpcToPpc,
         }
     }
 
@@ -40,17 +69,20 @@ impl Kind {
             Kind::M68ToPpc => 1,
             Kind::PpcToM68 => 2,
             Kind::PpcToPpc => 3,
+            Kind::M68ToM68 => 4,
         }
     }
 
-    /// The kind that a number stands for in a frame.
-    pub(crate) fn of_code(code: u32) -> Kind
+    /// The kind that a number stands for in a frame, if it stands for one.
+    pub fn of_code(code: u32) -> Option<Kind>
         ensures { result ≡ kind_at code }
     {
         match code {
-            1 => Kind::M68ToPpc,
-            2 => Kind::PpcToM68,
-            _ => Kind::PpcToPpc,
+            1 => Some(Kind::M68ToPpc),
+            2 => Some(Kind::PpcToM68),
+            3 => Some(Kind::PpcToPpc),
+            4 => Some(Kind::M68ToM68),
+            _ => None,
         }
     }
 }

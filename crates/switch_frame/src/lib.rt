@@ -10,6 +10,7 @@ mod active;
 mod files;
 mod frames;
 mod full;
+mod gate;
 mod held;
 mod kind;
 mod laws;
@@ -17,12 +18,15 @@ mod program;
 mod rooms;
 #[cfg(test)]
 mod tests;
+mod whole;
 
 pub use active::Active;
 pub use frames::{depth, give_up, outer_lo, pop, push, top};
 pub use full::Full;
+pub use gate::check_gate;
 pub use held::Held;
 pub use kind::Kind;
 pub use laws::{chain_laws, frame_laws, gate_laws, range_laws};
 pub use program::{Program, start_sp_of};
 pub use rooms::{MOST_FRAMES, room};
+pub use whole::{check, guard_frames};

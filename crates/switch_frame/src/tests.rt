@@ -140,8 +140,8 @@ fn lies(held: &Held, lo: u32, hi: u32, depth: u32) -> bool {
     held.lo == lo && held.hi == hi && held.depth == depth
 }
 
-/// Whether the frame at `innermost` and the two outside it hold these callers.
-fn reads(rt: &impl Abort, ram: &Ram, innermost: u32, callers: [&Held; 3])
+/// Whether the frame at `innermost` and the three outside it hold these callers.
+fn reads(rt: &impl Abort, ram: &Ram, innermost: u32, callers: [&Held; 4])
     requires { Links ram.now innermost (records ram.now.bytes innermost) }
 {
     let mut lo = innermost;
@@ -190,13 +190,22 @@ fn a_frame_of_each_kind_is_read_and_popped(rt: HostRuntime) -> Result<(), Fail> 
     )?;
     assert!(rt; lies(&first, 0xF_FF70, 0xF_FFE0, 1));
     assert!(rt; lies(&second, 0xF_FE70, 0xF_FF30, 2));
+    let fourth = suspend(
+        &mut ram,
+        &mut innermost,
+        0xF_FD70,
+        Kind::M68ToM68,
+        m68_caller(),
+    )?;
     assert!(rt; lies(&third, 0xF_FD70, 0xF_FE30, 3));
-    reads(&rt, &ram, innermost, [&third, &second, &first]);
+    assert!(rt; lies(&fourth, 0xF_FD00, 0xF_FD70, 4));
+    reads(&rt, &ram, innermost, [&fourth, &third, &second, &first]);
+    pops(&rt, &mut ram, &mut innermost, &fourth);
     pops(&rt, &mut ram, &mut innermost, &third);
     pops(&rt, &mut ram, &mut innermost, &second);
     pops(&rt, &mut ram, &mut innermost, &first);
     assert!(rt; innermost == 0);
-    assert!(rt; holds(&ram, 0xF_FD70, &[0; 156]));
+    assert!(rt; holds(&ram, 0xF_FD00, &[0; 184]));
     Ok(())
 }
 
@@ -272,10 +281,26 @@ fn a_frame_has_its_fields_where_the_layout_says(rt: HostRuntime) -> Result<(), F
         Kind::PpcToM68,
         ppc_caller(),
     )?;
+    suspend(
+        &mut ram,
+        &mut innermost,
+        0xF_FE70,
+        Kind::M68ToM68,
+        m68_caller(),
+    )?;
     let (head, tail) = ppc_frame();
     assert!(rt; holds(&ram, 0xF_FF70, &m68_frame()));
     assert!(rt; holds(&ram, 0xF_FE70, &head));
     assert!(rt; holds(&ram, 0xF_FF0C, &tail));
+    assert!(rt;
+        holds(
+            &ram,
+            0xF_FE00,
+            &[
+                0xF_FE70, 4, 0x3B0, 0x0A0B, 0x1_0040, 0xF_FE70, 0xF_FF30, 3, 0xD0
+            ]
+        )
+    );
     Ok(())
 }
 
@@ -299,10 +324,12 @@ fn a_kind_names_the_sets_of_caller_and_callee(rt: HostRuntime) -> Result<(), Fai
         (Kind::M68ToPpc, Isa::M68, Isa::Ppc),
         (Kind::PpcToM68, Isa::Ppc, Isa::M68),
         (Kind::PpcToPpc, Isa::Ppc, Isa::Ppc),
+        (Kind::M68ToM68, Isa::M68, Isa::M68),
     ];
     for (kind, caller, callee) in kinds {
         assert_eq!(rt; kind.caller(), caller);
         assert_eq!(rt; kind.callee(), callee);
+        assert_eq!(rt; Kind::of(caller, callee), kind);
     }
     Ok(())
 }

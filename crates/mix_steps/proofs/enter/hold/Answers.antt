@@ -21,7 +21,7 @@ returns-clause-held c passed =
     let size : c.args.range.1 ≡ c.args.range.0 + frame_size (caller_isa c.args.call.now.kind) = c.requires.place.size in
     let most : length c.args.body.now.ram.bytes ≤ 16777216 = ram.most in
     let near : c.args.range.0 - c.args.below ≤ 2 ^ 31 = omega (arith, end, size, most) in
-    held-is (crossing c.args.call.now) c.args.range (passage c.args.active.now passed) c.args.below c.kept_selector.result c.wanted_sp.result (c.depth.result + 1) c.requires.below c.kept_selector.ensures (c.wanted_sp.ensures.exact near)
+    held-is (crossing c.args.call.now) c.args.range (passage c.args.active.now passed) c.args.below c.kept_selector.result c.address.result c.wanted_sp.result (c.depth.result + 1) c.requires.below c.kept_selector.ensures c.address.ensures (c.wanted_sp.ensures.exact near)
 
 pub returns-clause-depth : goal.returns-clause-depth
 returns-clause-depth c = ap (λ n. n + 1) (c.depth.ensures ∙ ap length (sym (callers-are c.args.body.now)))

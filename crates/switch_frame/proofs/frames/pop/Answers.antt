@@ -6,6 +6,10 @@ pub read_held-held-requires-clause-within : goal.read_held-held-requires-clause-
 read_held-held-requires-clause-within c =
     (live-is c.args.ram.now c.args.top.now (records c.args.ram.now.bytes c.args.top.now) c.requires.chain.links c.requires.live).whole
 
+pub read_held-held-requires-clause-kind : goal.read_held-held-requires-clause-kind
+read_held-held-requires-clause-kind c =
+    (live-is c.args.ram.now c.args.top.now (records c.args.ram.now.bytes c.args.top.now) c.requires.chain.links c.requires.live).kind
+
 pub give_up-requires-clause-innermost : goal.give_up-requires-clause-innermost
 give_up-requires-clause-innermost c =
     innermost-is (records c.args.ram.now.bytes c.args.top.now) c.read_held-held.result
