@@ -8,7 +8,7 @@ use Rattle.mix_bits.specs.declared.size.Size.TheVariants.{One, Four}
 use Rattle.byteorder.specs.Endian.{big_bytes}
 use Rattle.big_memory.specs.declared.refusals.Access.{Access}
 use Rattle.big_memory.specs.Memory.{Memory, IsRam, loaded, refusal, stored}
-use Rattle.big_memory.specs.Stores.{OnlyFree, Stores, stored_value, stored_unless}
+use Rattle.big_memory.specs.Stores.{OnlyFree, stored_value, stored_unless}
 use Rattle.big_memory.proofs.Free.{free_joins, free_ram, free_refusals, nothing_free, stores_free}
 use Rattle.ppc_effects.specs.Strings.{in_order, load_byte, load_word, store_byte, string_byte, with_string_byte}
 use Rattle.ppc_storage.specs.Tested.{BytesOpen, BytesThere, WordsThere}
@@ -83,32 +83,29 @@ value-refused : (m : Memory) (a v : ℕ) (e : Access) → refusal m a 1 ≡ Some
 unfolding stored_value
 value-refused m a v e refused = ap (λ reason. stored_unless reason (stored m a One v)) refused
 
--- a byte more, stored by a call
-pub stored-more : (m left new : Memory) (at s : ℕ) (gpr : List ℕ) (n k a b : ℕ) (result : Result (Unit {0}) Access) → BytesOpen m at n → k < n → a ≡ onward at k → b ≡ string_byte gpr s k
-    → Stored m at s gpr k left → Stores result (stored_value left a One b) left new → Stored m at s gpr (k + 1) new
-stored-more m left new at s gpr n k a b (Ok done) may below place byte before all = record {
-  is = order-next (store_byte gpr s at) m left k before.is ∙ sym (ap (λ x. stored_value left x One (string_byte gpr s k)) place) ∙ sym (ap (λ v. stored_value left a One v) byte) ∙ all.0;
-  free = free_joins m left new before.free all.1;
-}
-stored-more m left new at s gpr n k a b (Err e) may below place byte before all =
-    let none : refusal left a 1 ≡ None = ap (λ x. refusal left x 1) place ∙ free_refusals m left (onward at k) 1 before.free ∙ may k below in
-    let done : stored_value left a One b ≡ Ok (stored left a One b) = value-done left a b none in
-    let refused : stored_value left a One b ≡ Err e = all.0 in
-    absurd cc
+-- a byte of an open range, after bytes were stored there
+pub byte-open : (m left : Memory) (at n k a : ℕ) → BytesOpen m at n → k < n → a ≡ onward at k → OnlyFree m left → refusal left a 1 ≡ None
+byte-open m left at n k a may below place free = ap (λ x. refusal left x 1) place ∙ free_refusals m left (onward at k) 1 free ∙ may k below
+
+-- a byte more
+pub stored-more : (m left : Memory) (at s : ℕ) (gpr : List ℕ) (k : ℕ) → IsRam m → refusal left (onward at k) 1 ≡ None
+    → Stored m at s gpr k left → Stored m at s gpr (k + 1) (stored left (onward at k) One (string_byte gpr s k))
+stored-more m left at s gpr k ram none before =
+    let byte : ℕ = string_byte gpr s k in
+    let new : Memory = stored left (onward at k) One byte in
+    record {
+      is = order-next (store_byte gpr s at) m left k before.is ∙ value-done left (onward at k) byte none;
+      free = free_joins m left new before.free (stores_free left (onward at k) 1 (big_bytes 1 byte) refl (free_ram m left ram before.free) none);
+    }
 
 pub bytes-stored : (m : Memory) (at s : ℕ) (gpr : List ℕ) (n : ℕ) → IsRam m → BytesOpen m at n → (left : Memory) × Stored m at s gpr n left
 bytes-stored m at s gpr zero ram may = (m, stored-none m at s gpr)
 bytes-stored m at s gpr (suc k) ram may =
     let before : (left : Memory) × Stored m at s gpr k left = bytes-stored m at s gpr k ram (λ j below. may j (omega (arith, below))) in
-    let none : refusal before.0 (onward at k) 1 ≡ None = free_refusals m before.0 (onward at k) 1 before.1.free ∙ may k (omega arith) in
-    let byte : ℕ = string_byte gpr s k in
-    let more : Memory = stored before.0 (onward at k) One byte in (
-      more,
-      record {
-        is = order-suc (store_byte gpr s at) m before.0 k before.1.is ∙ value-done before.0 (onward at k) byte none;
-        free = free_joins m before.0 more before.1.free (stores_free before.0 (onward at k) 1 (big_bytes 1 byte) refl (free_ram m before.0 ram before.1.free) none);
-      },
-    )
+    let none : refusal before.0 (onward at k) 1 ≡ None = byte-open m before.0 at (suc k) k (onward at k) may (omega arith) refl before.1.free in
+    let same : k + 1 ≡ suc k = omega arith in
+    let more : Memory = stored before.0 (onward at k) One (string_byte gpr s k) in
+    (more, subst (λ n. Stored m at s gpr n more) same (stored-more m before.0 at s gpr k ram none before.1))
 
 pub store-refused : (m : Memory) (at s : ℕ) (gpr : List ℕ) (n : ℕ) (e : Access) → IsRam m → (k : ℕ) × (k < n) × (BytesOpen m at k) × (refusal m (onward at k) 1 ≡ Some e) → in_order (store_byte gpr s at) m n ≡ Err e
 store-refused m at s gpr n e ram first =

@@ -1,5 +1,6 @@
 // Strings.
 ghost use Rattle.std.specs.Prelude.{◌≡◌, ◌+◌, ◌-◌, ◌*◌, ◌/◌, ◌%◌, ◌^◌, ◌<◌, Ok};
+ghost use Rattle.big_memory.specs.Memory.{IsRam};
 ghost use Rattle.big_memory.specs.Steps.{Does};
 ghost use Rattle.ppc_isa.specs.Fields.{fields_of};
 ghost use Rattle.ppc_effects.specs.Effects.{runs};
@@ -9,7 +10,7 @@ ghost use Rattle.ppc_isa.specs.declared.instruction.InstrPpc.TheVariants.{LoadSt
 ghost use Rattle.ppc_storage.specs.Tested.{BytesOpen, BytesTested, BytesThere, OpenTested};
 
 use big_memory::{Access, Did, Ram, refuse, stop};
-use mix_bits::{Fault, FaultKind, digit, onward, with_digit};
+use mix_bits::{Fault, FaultKind, Size, digit, onward, with_digit};
 use ppc_alu::xer_string_length;
 use ppc_effects::{advance, base, index_address};
 use ppc_isa::{RegsPpc, is_filled};
@@ -133,6 +134,10 @@ fn store_string(
 fn test_bytes(ram: &Ram, at: u32, length: u32) -> Result<(), Access>
     ensures { BytesTested ram.now at length result }
 {
+    ram.meets_invariant();
+    if length > 0 && ram.has(at, length) {
+        return Ok(());
+    }
     for k in 0..length {
         ram.load_byte(onward(at, k))?;
     }
@@ -143,6 +148,10 @@ fn test_bytes(ram: &Ram, at: u32, length: u32) -> Result<(), Access>
 fn test_open(ram: &Ram, at: u32, length: u32) -> Result<(), Access>
     ensures { OpenTested ram.now at length result }
 {
+    ram.meets_invariant();
+    if let Ok(()) = ram.probe(at, length) {
+        return Ok(());
+    }
     for k in 0..length {
         ram.probe(onward(at, k), 1)?;
     }
@@ -167,12 +176,13 @@ fn load_bytes(ram: &Ram, at: u32, first: usize, length: u32, gpr: &mut [u32; 32]
 fn store_bytes(ram: &mut Ram, at: u32, first: usize, length: u32, gpr: &[u32; 32])
     requires register { first < 32 }
     requires short { length < 128 }
+    requires ram { IsRam ram.old }
     requires stores { BytesOpen ram.old at length }
     ensures is { in_order (store_byte gpr.now first at) ram.old length ≡ Ok ram.new }
     ensures free { OnlyFree ram.old ram.new }
 {
     for k in 0..length {
-        let _ = ram.store_byte(onward(at, k), string_byte(gpr, first, k));
+        ram.put(onward(at, k), Size::One, string_byte(gpr, first, k));
     }
 }
 

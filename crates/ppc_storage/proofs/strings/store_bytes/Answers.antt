@@ -1,14 +1,28 @@
-use Rattle.std.proofs.Common.{◌≡◌, arith, subst}
-use Rattle.ppc_storage.proofs.Order.{Stored, stored-more, stored-none}
+use Rattle.std.proofs.Common.{◌≡◌, ◌+◌, ◌∙◌, arith, subst, sym, ap, None, refl}
+use Rattle.mix_bits.specs.Addresses.{onward}
+use Rattle.mix_bits.specs.declared.size.Size.TheVariants.{One}
+use Rattle.big_memory.specs.Memory.{refusal, stored}
+use Rattle.ppc_effects.specs.Strings.{string_byte}
+use Rattle.ppc_storage.proofs.Order.{Stored, byte-open, stored-more, stored-none}
 use Rattle.ppc_storage.proofs.strings.store_bytes.Goals as goal
 
 pub loop-k-init : goal.loop-k-init
 loop-k-init c = stored-none c.args.ram.now c.args.at c.args.first c.args.gpr.now
 
+pub put-requires : goal.put-requires
+put-requires c = byte-open c.args.ram.now c.loop-k.ram c.args.at c.args.length c.loop-k.k c.onward.result c.requires.stores c.loop-k-test.true c.onward.ensures c.loop-k.invariant.free
+
 pub loop-k-preserved : goal.loop-k-preserved
 loop-k-preserved c =
-    stored-more c.args.ram.now c.loop-k.ram c.store_byte.new.self c.args.at c.args.first c.args.gpr.now c.args.length c.loop-k.k c.onward.result c.string_byte.result
-    c.store_byte.result c.requires.stores c.loop-k-test.true c.onward.ensures c.string_byte.ensures c.loop-k.invariant c.store_byte.ensures
+    let m = c.args.ram.now in
+    let left = c.loop-k.ram in
+    let at = c.args.at in
+    let gpr = c.args.gpr.now in
+    let k = c.loop-k.k in
+    let none : refusal left (onward at k) 1 ≡ None = byte-open m left at c.args.length k (onward at k) c.requires.stores c.loop-k-test.true refl c.loop-k.invariant.free in
+    let is : c.put.new.self ≡ stored left (onward at k) One (string_byte gpr c.args.first k) =
+    c.put.ensures ∙ ap (λ a. stored left a One c.string_byte.result) c.onward.ensures ∙ ap (λ v. stored left (onward at k) One v) c.string_byte.ensures in
+    subst (λ n. Stored m at c.args.first gpr (k + 1) n) (sym is) (stored-more m left at c.args.first gpr k c.requires.ram none c.loop-k.invariant)
 
 pub returns : goal.returns
 returns c =
