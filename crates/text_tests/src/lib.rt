@@ -1,6 +1,8 @@
-//! Tests of the texts of instructions.
+//! Tests of the texts of instructions, and of lines that are assembled.
 #![tactic(auto)]
 
+#[cfg(test)]
+mod assembler;
 #[cfg(test)]
 mod m68;
 #[cfg(test)]

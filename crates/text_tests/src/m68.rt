@@ -1,6 +1,7 @@
-// Texts of 68K words, which GNU as 2.40 (-m68000) makes of the same line, but for its spelling of
-// numbers and of targets, for immediate words whose high byte is not 0, and for words that are no
-// instruction.
+// Texts of 68K words, which GNU as 2.40 (-m68000, and -m68020 for the additions) makes of the same line, but for its
+// spelling of numbers, of targets and of the two registers of a long product, for immediate words whose high byte is
+// not 0, and for words that are no instruction. Each text is assembled back.
+use asm_m68::assemble68;
 use m68_isa::{Decoded68, decode68};
 use m68_text::text68;
 use mix_bits::Line;
@@ -23,6 +24,15 @@ fn compare<R: Abort>(rt: &R, rows: &[Row]) {
     for (words, at, text) in rows {
         let line = line_of(words, *at);
         assert_eq!(rt; line.bytes(), text.as_bytes(), "{text}");
+        assert!(rt; begins_with(words, text, *at), "{text}");
+    }
+}
+
+/// Whether a line gives the first of the words.
+fn begins_with(words: &[u16], text: &str, at: u32) -> bool {
+    match assemble68(text.as_bytes(), at) {
+        Ok(code) => words.starts_with(&code.words[..code.count as usize]),
+        Err(_) => false,
     }
 }
 
@@ -180,7 +190,7 @@ fn one_operand(rt: HostRuntime) {
 
 #[test]
 fn branches(rt: HostRuntime) {
-    let rows: [Row; 19] = [
+    let rows: [Row; 23] = [
         (&[0x60FE], 0x10000, "bra.b $00010000"),
         (&[0x607E], 0x10000, "bra.b $00010080"),
         (&[0x6000, 0xFFFE], 0x10000, "bra.w $00010000"),
@@ -199,7 +209,62 @@ fn branches(rt: HostRuntime) {
         (&[0x607E], 0xFFFF_FFFE, "bra.b $0000007E"),
         (&[0x6400, 0x7FFE], 0xFFFF_FFFE, "bcc.w $00007FFE"),
         (&[0x6001], 0x10000, "bra.b $00010003"),
-        (&[0x60FF], 0x10000, "bra.b $00010001"),
+        (&[0x61FD], 0x10000, "bsr.b $0000FFFF"),
+        (&[0x60FF, 0x1234, 0x5676], 0x10000, "bra.l $12355678"),
+        (&[0x61FF, 0xFFFF, 0xFFF8], 0x10000, "bsr.l $0000FFFA"),
+        (&[0x66FF, 0x8000, 0x0000], 0x10000, "bne.l $80010002"),
+        (&[0x6EFF, 0x0000, 0x0000], 0xFFFF_FFFE, "bgt.l $00000000"),
+    ];
+    compare(&rt, &rows);
+}
+
+#[test]
+fn additions(rt: HostRuntime) {
+    let rows: [Row; 24] = [
+        (&[0x49C0], 0x0, "extb.l d0"),
+        (&[0x49C7], 0x0, "extb.l d7"),
+        (&[0x480E, 0xFFFF, 0xFFFC], 0x0, "link.l a6,#$FFFFFFFC"),
+        (&[0x480A, 0x1234, 0x5678], 0x0, "link.l a2,#$12345678"),
+        (&[0x4E74, 0x0008], 0x0, "rtd #$0008"),
+        (&[0x4E74, 0x8000], 0x0, "rtd #$8000"),
+        (&[0x4C01, 0x2800], 0x0, "muls.l d1,d0,d2"),
+        (&[0x4C00, 0x2C01], 0x0, "muls.l d0,d1:d2"),
+        (&[0x4C00, 0x2801], 0x0, "muls.l d0,d1,d2"),
+        (
+            &[0x4C39, 0x3000, 0x0000, 0x8000],
+            0x0,
+            "mulu.l $00008000.l,d0,d3",
+        ),
+        (
+            &[0x4C3C, 0x0401, 0x0001, 0x0000],
+            0x0,
+            "mulu.l #$00010000,d1:d0",
+        ),
+        (&[0x4C18, 0x6C07], 0x0, "muls.l (a0)+,d7:d6"),
+        (
+            &[0x4C3B, 0x0800, 0x1408],
+            0x0,
+            "muls.l $08(pc,d1.w*4),d0,d0",
+        ),
+        (&[0x4C47, 0x0000], 0x0, "divu.l d7,d0,d0"),
+        (&[0x4C41, 0x3C02], 0x0, "divs.l d1,d2:d3"),
+        (&[0x4C6E, 0x5804, 0xFFFC], 0x0, "divs.l $FFFC(a6),d4,d5"),
+        (&[0x4C67, 0x1001], 0x0, "divu.l -(a7),d1,d1"),
+        (&[0x4C78, 0x7406, 0x1234], 0x0, "divu.l $1234.w,d6:d7"),
+        (
+            &[0x4C7C, 0x0800, 0xFFFF, 0xFFF9],
+            0x0,
+            "divs.l #$FFFFFFF9,d0,d0",
+        ),
+        (&[0x2030, 0x14FC], 0x0, "move.l $FC(a0,d1.w*4),d0"),
+        (
+            &[0x37B1, 0xAA02, 0x4604],
+            0x0,
+            "move.w $02(a1,a2.l*2),$04(a3,d4.w*8)",
+        ),
+        (&[0x41FB, 0xFE7F], 0x0, "lea $7F(pc,a7.l*8),a0"),
+        (&[0x4236, 0x7A00], 0x0, "clr.b $00(a6,d7.l*2)"),
+        (&[0x4EF0, 0x1000], 0x0, "jmp $00(a0,d1.w)"),
     ];
     compare(&rt, &rows);
 }
@@ -289,7 +354,7 @@ fn words_that_are_printed_whole(rt: HostRuntime) {
 
 #[test]
 fn words_that_are_no_instruction(rt: HostRuntime) {
-    let rows: [Row; 8] = [
+    let rows: [Row; 11] = [
         (&[0xAA80], 0x0, "dc.w $AA80"),
         (&[0xF0FF], 0x0, "dc.w $F0FF"),
         (&[0x4AFC], 0x0, "dc.w $4AFC"),
@@ -302,6 +367,9 @@ fn words_that_are_no_instruction(rt: HostRuntime) {
             "ori #$0100,ccr",
         ),
         (&[0x4848], 0x0, "dc.w $4848"),
+        (&[0x4C00, 0x8000], 0x0, "dc.w $4C00"),
+        (&[0x4C7C, 0x0008, 0x0000, 0x0007], 0x0, "dc.w $4C7C"),
+        (&[0x4C30, 0x0000, 0x0100], 0x0, "dc.w $4C30"),
     ];
     compare(&rt, &rows);
 }
@@ -327,6 +395,6 @@ fn every_first_word_has_a_line(rt: HostRuntime) {
         }
         sum = summed(sum, line.bytes());
     }
-    assert_eq!(rt; instructions, 45740);
-    assert_eq!(rt; sum, 0x19A8_A346);
+    assert_eq!(rt; instructions, 45863);
+    assert_eq!(rt; sum, 0x1257_62FE);
 }

@@ -1,0 +1,4 @@
+pub mod Complete
+pub mod Printed
+pub mod Prefix
+pub mod TakenBack

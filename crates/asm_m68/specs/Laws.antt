@@ -1,0 +1,27 @@
+-- Laws of texts and names.
+use Rattle.std.specs.Prelude.{ℕ, ◌≡◌, ◌^◌, ◌<◌, List, length, true}
+use Rattle.m68_isa.specs.declared.instructions.Decoded68.TheVariants.{Op}
+use Rattle.m68_isa.specs.declared.instructions.Instr68.{Instr68}
+use Rattle.m68_isa.specs.Decode.{decoded}
+use Rattle.m68_text.specs.Listed.{is_name}
+use Rattle.m68_text.specs.Text.{text_of}
+use Rattle.m68_spelling.specs.Laws.{AreWords}
+use Rattle.m68_spelling.specs.Lines.{name_of}
+use Rattle.asm_m68.specs.Assembly.{is_exact}
+
+-- words of one instruction, or one word that is none
+abbrev pub AreExact : List ℕ → Type 0
+AreExact ws = AreWords ws × (is_exact (decoded ws) (length ws) ≡ true)
+
+-- two instructions with the same text at the same address have the same words
+abbrev pub TextsDiffer : Type 0
+TextsDiffer = (at : ℕ) (vs ws : List ℕ) (i j : Instr68) → at < 2 ^ 32 → AreWords vs → AreWords ws → decoded vs ≡ Op i (length vs) → decoded ws ≡ Op j (length ws) → text_of (decoded vs) vs at ≡ text_of (decoded ws) ws at → vs ≡ ws
+
+-- the name of some text
+pub record IsPrinted (n : List ℕ) : Type 0 where
+  pub words : List ℕ
+  pub are : AreExact words
+  pub named : name_of (text_of (decoded words) words 0) ≡ n
+
+abbrev pub NamesArePrinted : Type 0
+NamesArePrinted = (n : List ℕ) → is_name n ≡ true → IsPrinted n

@@ -1,0 +1,5 @@
+pub mod Code
+pub mod Reading
+pub mod Lines
+pub mod Spelling
+pub mod Laws
