@@ -1,0 +1,5 @@
+//! Tests of images: each refusal with its number, and a machine that is restored and saved again.
+#![tactic(auto)]
+
+#[cfg(test)]
+mod images;

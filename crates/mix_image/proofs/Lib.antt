@@ -1,0 +1,9 @@
+pub mod Binds
+pub mod Placing
+pub mod Pagings
+pub mod Filling
+pub mod Heading
+pub mod Tails
+pub mod Spelled
+pub mod Finishing
+pub mod Saving

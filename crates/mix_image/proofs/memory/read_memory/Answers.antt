@@ -1,0 +1,31 @@
+use Rattle.std.proofs.Common.{◌≡◌, ◌+◌, ◌<◌, inr, arith, sym, subst}
+use Rattle.std.specs.Prelude.{option_copied}
+use Rattle.std.proofs.lemmas.Result.{err_from_is_err_and}
+use Rattle.mix_image.proofs.Filling.{IsReadTo, read-all, read-extra, read-more, read-none, read-stops}
+use Rattle.mix_image.proofs.memory.read_memory.Goals as goal
+
+pub pages-init : goal.pages-init
+pages-init c = read-none c.args.bytes.now c.args.at c.args.kib c.in_ok-ram.ram c.requires.place c.in_ok-ram.ensures.zeros
+
+pub returns-in_err-page : goal.returns-in_err-page
+returns-in_err-page c =
+    let p = err_from_is_err_and c.from_residual-in_err-page.result c.from_residual-in_err-page.ensures.1 in
+    let less : c.pages.k < c.args.kib = omega arith in
+    rw (p.1, p.2) (inr (read-stops c.args.bytes.now c.args.at c.args.kib c.pages.k c.pages.end c.pages.ram c.in_err-page.field-0.0 c.pages.invariant less c.in_err-page.ensures.exact))
+
+pub pages-preserved : goal.pages-preserved
+pages-preserved c =
+    let less : c.pages.k < c.args.kib = omega arith in
+    subst (λ n. IsReadTo c.args.bytes.now c.args.at c.args.kib (c.pages.k + 1) (c.pages.end + n) c.put_page.new.ram) (sym c.page_size-end.ensures)
+    (read-more c.args.bytes.now c.args.at c.args.kib c.pages.k c.pages.end c.pages.ram c.put_page.new.ram (option_copied c.in_ok-page.page) c.pages.invariant less
+    c.in_ok-page.ensures.exact c.in_ok-page.ensures.len c.in_ok-page.ensures.within c.put_page.ensures)
+
+pub returns-then-end-bytes : goal.returns-then-end-bytes
+returns-then-end-bytes c =
+    let last : c.pages.k ≡ c.args.kib = omega arith in
+    inr (read-extra c.args.bytes.now c.args.at c.args.kib c.pages.end c.pages.ram (subst (λ k. IsReadTo c.args.bytes.now c.args.at c.args.kib k c.pages.end c.pages.ram) last c.pages.invariant) c.if-end-bytes.true)
+
+pub returns-else-end-bytes : goal.returns-else-end-bytes
+returns-else-end-bytes c =
+    let last : c.pages.k ≡ c.args.kib = omega arith in
+    read-all c.args.bytes.now c.args.at c.args.kib c.pages.end c.pages.ram (subst (λ k. IsReadTo c.args.bytes.now c.args.at c.args.kib k c.pages.end c.pages.ram) last c.pages.invariant) c.if-end-bytes.false

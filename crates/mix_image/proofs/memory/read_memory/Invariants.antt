@@ -1,0 +1,5 @@
+use Rattle.mix_image.proofs.Filling.{IsReadTo}
+use Rattle.mix_image.proofs.memory.read_memory.Given as goal
+
+abbrev pub invariant-pages : goal.invariant-pages
+invariant-pages l = IsReadTo l.bytes l.at l.kib l.k l.end l.ram

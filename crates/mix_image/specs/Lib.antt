@@ -1,0 +1,5 @@
+pub mod Spelling
+pub mod Heads
+pub mod Fields
+pub mod Restoring
+pub mod Laws
