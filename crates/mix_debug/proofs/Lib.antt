@@ -1,0 +1,11 @@
+pub mod Differ
+pub mod Trips
+pub mod Scanning
+pub mod Narrowing
+pub mod Spelling
+pub mod Stepping
+pub mod Guarding
+pub mod Blocks
+pub mod Keeping
+pub mod Undoing
+pub mod Telling

@@ -1,0 +1,19 @@
+use Rattle.std.proofs.Common.{◌≡◌, ◌∙◌, true, sym, subst, ap, length}
+use Rattle.mix_debug.specs.Pasts.{entries_in}
+use Rattle.mix_debug.specs.Machines.{earlier}
+use Rattle.mix_debug.specs.Trails.{TakesBack, Trail}
+use Rattle.mix_debug.proofs.Keeping.{length-earlier, takes-back, takes-none}
+use Rattle.mix_debug.proofs.debug.Debug.back.Goals as goal
+
+pub returns-then-len-eq0-clause-back : goal.returns-then-len-eq0-clause-back
+returns-then-len-eq0-clause-back c =
+    let none : length c.args.self.now.kept ≡ 0 =
+    sym (ap (λ (t : Trail). length t.kept) c.self.view_is) ∙ length-earlier c.self.inside.machine (entries_in c.self.inside.history.past) ∙ sym c.len.ensures ∙ c.if-len-eq0.true in
+    takes-none c.args.self.now.kept c.args.self.now none
+
+pub returns-clause-back : goal.returns-clause-back
+returns-clause-back c =
+    let new : Trail = record { machine = c.undo.new.machine; kept = earlier c.undo.new.machine (entries_in c.undo.new.self.past); breaks = c.self.inside.breaks.items } in
+    let step = c.undo.ensures.before in
+    subst (λ (t : Trail). TakesBack true t.kept t new) c.self.view_is
+    (takes-back c.self.inside.machine c.undo.new.machine step.0 (entries_in c.self.inside.history.past) (entries_in c.undo.new.self.past) c.self.inside.breaks.items step.1 step.2)

@@ -1,0 +1,45 @@
+-- What is kept beside a machine.
+use Rattle.std.specs.Prelude.{◌≡◌, ℕ, ◌≤◌, Bool, true, false, List, ◌∷◌, length, All, vec_capacity}
+use Rattle.switch_frame.specs.declared.active.Active.{Active}
+use Rattle.switch_frame.specs.Records.{isa_of}
+use Rattle.host_heap.specs.declared.block.Block.{Block}
+use Rattle.host_heap.specs.Sound.{IsSound as IsSoundHeap}
+use Rattle.mix_engine.specs.declared.machine.Machine.{Machine}
+use Rattle.mix_debug.specs.declared.history.History.{History}
+use Rattle.mix_debug.specs.Runs.{olds_of, runs_from}
+use Rattle.mix_debug.specs.Entries.{Entry, IsEntry, block_between, frame_between}
+use Rattle.mix_debug.specs.Pasts.{IsPast, entries_in}
+use Rattle.mix_debug.specs.Machines.{IsSound, cost_between, earlier, fitting}
+
+-- what is kept of a step that led from registers, frames, bytes and blocks to a machine
+unfoldable pub entry_of : Active → ℕ → List ℕ → List Block → Machine → Entry
+entry_of file top bytes blocks new =
+    record {
+      head = record {
+        file = file;
+        top = top;
+        frame = frame_between top new.body.top (isa_of file) (isa_of new.active);
+        block = block_between blocks new.body.heap.blocks;
+        runs = length (runs_from 0 bytes new.body.ram.bytes);
+        olds = length (olds_of (runs_from 0 bytes new.body.ram.bytes));
+      };
+      runs = runs_from 0 bytes new.body.ram.bytes;
+    }
+
+-- all that is kept beside a whole machine fits it, and each machine before a step that is kept is whole
+pub record IsHistory (m : Machine) (h : History) : Type 0 where
+  pub whole : IsSound m
+  pub copied : h.copy.items ≡ m.body.ram.bytes
+  pub blocks : h.blocks.items ≡ m.body.heap.blocks
+  pub heap : IsSoundHeap m.body.heap
+  pub room : 4096 ≤ vec_capacity h.blocks
+  pub past : IsPast h.past
+  pub entries : All (IsEntry (length m.body.ram.bytes)) (entries_in h.past)
+  pub wholes : All (λ k. IsSound k.machine) (earlier m (entries_in h.past))
+
+-- a step from one machine to another is kept beside them, with as many earlier ones as there is room for; one that is not
+-- done changes nothing
+abbrev pub KeepsBeside : Bool → Machine → Machine → History → History → Type 0
+KeepsBeside true old new before after =
+    earlier new (entries_in after.past) ≡ fitting 1048576 (record { machine = old; cost = cost_between old new } ∷ earlier old (entries_in before.past))
+KeepsBeside false old new before after = (new ≡ old) × (after ≡ before)

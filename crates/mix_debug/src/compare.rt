@@ -1,0 +1,127 @@
+// What a step changed, found beside a copy of what stood before it.
+ghost use Rattle.std.specs.Prelude.{◌≡◌, ◌+◌, ◌≤◌, length};
+ghost use Rattle.std.specs.Bool.{OnTrue};
+ghost use Rattle.switch_frame.specs.Sets.{frame_size as frame_size_of};
+ghost use Rattle.big_memory.specs.Lists.{part};
+ghost use Rattle.mix_debug.specs.Runs.{Covers};
+ghost use Rattle.mix_debug.specs.Entries.{block_between, first_other, frame_between};
+
+use crate::head::{BlockChange, FrameChange};
+use host_heap::Block;
+use mix_bits::Isa;
+
+/// How many bytes are compared at once.
+const PIECE: usize = 1024;
+
+/// A range of bytes outside which none has changed.
+#[derive(Clone, Copy)]
+pub struct Range {
+    pub low: usize,
+    pub high: usize,
+}
+
+/// The range without the pieces at both ends in which no byte has changed.
+pub fn narrowed(old: &[u8], new: &[u8], range: Range) -> Range
+    requires { Covers range.low range.high old.now new.now }
+    ensures { Covers result.low result.high old.now new.now }
+{
+    let low = skip_front(old, new, range);
+    let high = skip_back(old, new, Range { low, ..range });
+    Range { low, high }
+}
+
+/// Where the first piece begins that has changed.
+fn skip_front(old: &[u8], new: &[u8], range: Range) -> usize
+    requires { Covers range.low range.high old.now new.now }
+    ensures { Covers result range.high old.now new.now }
+{
+    let mut low = range.low;
+    'front: while PIECE <= range.high - low && is_same(old, new, low) {
+        low += PIECE;
+    }
+    low
+}
+
+/// Where the last piece ends that has changed.
+fn skip_back(old: &[u8], new: &[u8], range: Range) -> usize
+    requires { Covers range.low range.high old.now new.now }
+    ensures { Covers range.low result old.now new.now }
+{
+    let mut high = range.high;
+    'back: while PIECE <= high - range.low && is_same(old, new, high - PIECE) {
+        high -= PIECE;
+    }
+    high
+}
+
+/// Whether the piece at an address is the same in both lists.
+fn is_same(old: &[u8], new: &[u8], at: usize) -> bool
+    requires old_long { at + PIECE ≤ length old.now }
+    requires new_long { at + PIECE ≤ length new.now }
+    ensures { OnTrue result (part at PIECE old.now ≡ part at PIECE new.now) }
+{
+    &old[at..at + PIECE] == &new[at..at + PIECE]
+}
+
+/// What a step did to the frames, from where the innermost one began before and after it, and from the
+/// sets that were active.
+pub fn frame_between(old: u32, new: u32, old_set: Isa, new_set: Isa) -> FrameChange
+    requires old_small { old ≤ 16777216 }
+    requires new_small { new ≤ 16777216 }
+    ensures { result ≡ frame_between old new old_set new_set }
+{
+    if new == old {
+        FrameChange::Stays
+    } else if new != 0 && (old == 0 || new < old) {
+        FrameChange::Made {
+            lo: new,
+            hi: new + frame_size(old_set),
+        }
+    } else {
+        FrameChange::GivenUp {
+            lo: old,
+            hi: old + frame_size(new_set),
+        }
+    }
+}
+
+/// How many bytes the frame of a caller of this set has.
+fn frame_size(caller: Isa) -> u32
+    ensures size { result ≡ frame_size_of caller }
+    ensures most { result ≤ 192 }
+{
+    match caller {
+        Isa::M68 => 112,
+        Isa::Ppc => 192,
+    }
+}
+
+/// What a step did to the blocks of the heap.
+pub fn block_between(old: &[Block], new: &[Block]) -> BlockChange
+    ensures { result ≡ block_between old.now new.now }
+{
+    if new.len() == old.len() {
+        BlockChange::Stays
+    } else if old.len() < new.len() {
+        first_other(new, old).map_or(BlockChange::Stays, BlockChange::Made)
+    } else {
+        first_other(old, new).map_or(BlockChange::Stays, BlockChange::Freed)
+    }
+}
+
+/// The first block that does not begin at the same address as the one at its place in another list.
+fn first_other(blocks: &[Block], others: &[Block]) -> Option<Block>
+    ensures { result ≡ first_other blocks.now others.now }
+{
+    let mut at = 0;
+    'same: while at < blocks.len() {
+        if others.len() <= at {
+            return Some(blocks[at]);
+        }
+        if blocks[at].address != others[at].address {
+            return Some(blocks[at]);
+        }
+        at += 1;
+    }
+    None
+}

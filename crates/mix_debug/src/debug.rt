@@ -1,0 +1,193 @@
+ghost use Rattle.std.specs.Prelude.{◌≡◌, ◌==◌, ◌&&◌, not, nat_lt, [], ◌∷◌, ◌++◌, filter, if◌then◌else◌, IfOk, length};
+ghost use Rattle.std.specs.List.{list_any};
+ghost use Rattle.switch_frame.specs.Records.{isa_of};
+ghost use Rattle.dev_rack.specs.Accounts.{Accounts};
+ghost use Rattle.toolbox.specs.Calls.{outside as outside_of};
+ghost use Rattle.mixed_machine.specs.Counts.{Blames};
+ghost use Rattle.mixed_machine.specs.Machine.{IsWhole};
+ghost use Rattle.mixed_machine.specs.Outside.{at};
+ghost use Rattle.mixed_machine.specs.Runs.{Runs};
+ghost use Rattle.mix_io.specs.Counts.{HasCause};
+ghost use Rattle.mix_io.specs.Streams.{output};
+ghost use Rattle.mix_io.specs.Told.{Puts};
+ghost use Rattle.mix_engine.specs.Turns.{counts};
+ghost use Rattle.mix_debug.specs.Crawl.{crawl_of};
+ghost use Rattle.mix_debug.specs.Histories.{IsHistory, KeepsBeside};
+ghost use Rattle.mix_debug.specs.Trails.{Keeps, TakesBack, Trail, is_done as is_done_by, step_of as step_by, stop_of};
+
+use crate::crawl::put_crawl;
+use crate::history::History;
+use crate::step::{Step, is_done, step_of};
+use arrayvec::ArrayVec;
+use dev_rack::Devices;
+use mix_bits::NoMemory;
+use mix_engine::{Machine, Stop, run};
+use mix_io::{Failed, Sink, Source};
+use std::alloc::Global;
+use std::marker::Model;
+
+/// At most so many addresses are set to stop at.
+pub const MOST_BREAKS: usize = 64;
+
+/// A machine that is stepped forward and back.
+///
+/// It keeps what the last steps changed: for each step 98 bytes, or 174 where PowerPC code did it, and for
+/// each run of bytes that it changed an address, a length and the old bytes, 1048576 bytes in all.
+#[derive(Drop)]
+pub struct Debug {
+    machine: Machine,
+    history: History,
+    breaks: ArrayVec<u32, MOST_BREAKS>,
+}
+
+impl Model for Debug {
+    ghost use Rattle.mix_debug.specs.Trails.{Trail};
+    ghost use Rattle.mix_debug.specs.Pasts.{entries_in};
+    ghost use Rattle.mix_debug.specs.Machines.{earlier};
+    ghost use Rattle.mix_debug.specs.Histories.{IsHistory};
+
+    ghost Value = { Trail };
+
+    ghost view = { λ d. record { machine = d.machine; kept = earlier d.machine (entries_in d.history.past); breaks = d.breaks.items } };
+
+    ghost invariant = { λ d. IsHistory d.machine d.history };
+}
+
+impl Debug {
+    /// A machine before its first step. All memory is taken here: a second RAM, and the room for the history.
+    /// Where there is none, the machine is dropped.
+    pub fn new(alloc: Global, machine: Machine) -> Result<Debug, NoMemory>
+        requires { IsWhole machine.body (isa_of machine.active) }
+        ensures { IfOk result (λ d. d ≡ record { machine = machine; kept = []; breaks = [] }) }
+    {
+        let history = History::new(alloc, &machine)?;
+        Ok(Debug {
+            machine,
+            history,
+            breaks: ArrayVec::new(),
+        })
+    }
+
+    /// The machine as it is now.
+    pub fn machine(&self) -> &Machine
+        ensures machine { result.now ≡ self.now.machine }
+        ensures whole { IsWhole self.now.machine.body (isa_of self.now.machine.active) }
+    {
+        let _history = &self.history;
+        &self.machine
+    }
+
+    /// Runs one step, and keeps what it changed, if it is done.
+    pub fn forward<I: Source, O: Sink, T: Sink, D: Devices>(
+        &mut self,
+        input: &mut I,
+        out: &mut O,
+        trace: &mut T,
+        rack: &mut D,
+    ) -> Step
+        ensures whole { IsWhole self.new.machine.body (isa_of self.new.machine.active) }
+        ensures run { Runs 1
+            (at self.old.machine.body self.old.machine.active (outside_of (I.left input.old) (I.faults input.old) (D.state rack.old) (O.held out.old) (O.faults out.old)) (output (T.held trace.old) (T.faults trace.old)))
+            (at self.new.machine.body self.new.machine.active (outside_of (I.left input.new) (I.faults input.new) (D.state rack.new) (O.held out.new) (O.faults out.new)) (output (T.held trace.new) (T.faults trace.new))) (stop_of result) }
+        ensures answer { result ≡ step_by (stop_of result) }
+        ensures blames { Blames (stop_of result) (counts (I.faults input.old) (O.faults out.old) (T.faults trace.old)) (counts (I.faults input.new) (O.faults out.new) (T.faults trace.new)) }
+        ensures devices { Accounts (D.state rack.old) (D.state rack.new) }
+        ensures keeps { Keeps (is_done_by (stop_of result)) self.old self.new }
+        ensures breaks { self.new.breaks ≡ self.old.breaks }
+    {
+        let stop = advance(
+            &mut self.machine,
+            &mut self.history,
+            input,
+            out,
+            trace,
+            rack,
+        );
+        step_of(stop)
+    }
+
+    /// Takes the newest step back that is kept, and says whether there was one.
+    ///
+    /// What was read, put, traced or asked stays so.
+    pub fn back(&mut self) -> bool
+        ensures back { TakesBack result self.old.kept self.old self.new }
+        ensures whole { IsWhole self.new.machine.body (isa_of self.new.machine.active) }
+    {
+        if self.history.len() == 0 {
+            return false;
+        }
+        self.history.undo(&mut self.machine);
+        true
+    }
+
+    /// How many steps can be taken back.
+    pub fn kept(&self) -> u32
+        ensures { result ≡ length self.now.kept }
+    {
+        self.history.len()
+    }
+
+    /// Sets an address to stop at. It is false, and all stays as it is, where it is set already, or where 64 are.
+    pub fn set_break(&mut self, a: u32) -> bool
+        ensures exact { result ≡ (not (list_any (λ b. b == a) self.old.breaks) && nat_lt (length self.old.breaks) 64) }
+        ensures after { self.new ≡ record self.old { breaks = (if result then self.old.breaks ++ a ∷ [] else self.old.breaks) } }
+    {
+        !self.is_break(a) && self.breaks.try_push(a).is_ok()
+    }
+
+    /// Clears it again. It is false where it is not set.
+    pub fn clear_break(&mut self, a: u32) -> bool
+        ensures exact { result ≡ list_any (λ b. b == a) self.old.breaks }
+        ensures after { self.new ≡ record self.old { breaks = filter (λ b. not (b == a)) self.old.breaks } }
+    {
+        let found = self.is_break(a);
+        self.breaks.retain(|b| *b != a);
+        found
+    }
+
+    /// Whether an address is set to stop at.
+    pub fn is_break(&self, a: u32) -> bool
+        ensures { result ≡ list_any (λ b. b == a) self.now.breaks }
+    {
+        self.breaks.iter().any(|b| *b == a)
+    }
+
+    /// Puts a line for the running code, `0 SET PC`, and one for each suspended caller from the innermost
+    /// outward, `K SET PC TARGET PROCINFO`, with what it called.
+    pub fn crawl<T: Sink>(&self, trace: &mut T) -> Result<(), Failed>
+        ensures text { Puts (T.held trace.old) (T.held trace.new) (crawl_of self.now.machine) result }
+        ensures cause { HasCause (T.faults trace.old) (T.faults trace.new) result }
+    {
+        let _history = &self.history;
+        put_crawl(&self.machine, trace)
+    }
+}
+
+/// Runs one step of a machine, and keeps what it changed beside it, if it is done.
+fn advance<I: Source, O: Sink, T: Sink, D: Devices>(
+    machine: &mut Machine,
+    history: &mut History,
+    input: &mut I,
+    out: &mut O,
+    trace: &mut T,
+    rack: &mut D,
+) -> Stop
+    requires { IsHistory machine.old history.old }
+    ensures whole { IsWhole machine.new.body (isa_of machine.new.active) }
+    ensures history { IsHistory machine.new history.new }
+    ensures run { Runs 1
+        (at machine.old.body machine.old.active (outside_of (I.left input.old) (I.faults input.old) (D.state rack.old) (O.held out.old) (O.faults out.old)) (output (T.held trace.old) (T.faults trace.old)))
+        (at machine.new.body machine.new.active (outside_of (I.left input.new) (I.faults input.new) (D.state rack.new) (O.held out.new) (O.faults out.new)) (output (T.held trace.new) (T.faults trace.new))) result }
+    ensures blames { Blames result (counts (I.faults input.old) (O.faults out.old) (T.faults trace.old)) (counts (I.faults input.new) (O.faults out.new) (T.faults trace.new)) }
+    ensures devices { Accounts (D.state rack.old) (D.state rack.new) }
+    ensures keeps { KeepsBeside (is_done_by result) machine.old machine.new history.old history.new }
+{
+    let file = machine.active;
+    let top = machine.body.top;
+    let stop = run(machine, input, out, trace, rack, 1);
+    if !is_done(stop) {
+        return stop;
+    }
+    history.keep(machine, file, top);
+    stop
+}
