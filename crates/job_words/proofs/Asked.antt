@@ -3,28 +3,33 @@ use Rattle.std.proofs.Common.{◌≡◌, ℕ, ◌+◌, ◌<◌, inl, inr, zero, 
 use Rattle.std.specs.Prelude.{◌↔◌}
 use Rattle.std.specs.Option.{option_and_then, option_map, ok_or, unwrap_or, IsSome, IfNone, MatchOption}
 use Rattle.std.specs.Result.{MatchResult}
-use Rattle.std.proofs.lemmas.List.{append-nil, append_assoc, length-append, length_push, length-take, get_or-take, take-take, take_at, take_all}
+use Rattle.std.proofs.lemmas.List.{append-nil, append_assoc, get_or-replicate, length-append, length_push, length-take, get_or-take, take-take, take_at, take_all}
 use Rattle.std.proofs.lemmas.Bool.{cases_lt}
 use Rattle.mix_bits.specs.Results.{◌>>=◌}
-use Rattle.mix_bits.specs.declared.isa.Isa.TheVariants.{M68, Ppc}
-use Rattle.job_words.specs.Settings.{verb_of, key_in, setting_of}
-use Rattle.job_words.specs.Drafts.{nothing, main_in, main_file, has_program, made}
+use Rattle.mix_bits.specs.declared.isa.Isa.{Isa}
+use Rattle.job_words.specs.Settings.{verb_of, key_in, keys, setting_of, setting, file, numbered}
+use Rattle.job_words.specs.Drafts.{given, given_at, index_of, job_by, job_of, main_in, main_file, has_program, made, named_at, nothing, number, number_of, place, set, set_of, usual_set}
 use Rattle.job_words.specs.Jobs.{place_of}
 use Rattle.job_words.specs.Words.{bad_at, with_word, draft_of, command_by, command_of}
 use Rattle.job_words.specs.Asks.{word_at, Sets, IsSet, AreRead, IsSetOr, usual_main, AsksJob, Asks, CanBegin, IsFirstBad}
 use Rattle.job_words.specs.Laws.{CommandIsAsked, RefusalIsFirst}
-use Rattle.job_words.proofs.Held.{file_in, IsThe, Holds, GoesOn, word-next}
+use Rattle.job_words.proofs.Keys.{IsAmong, index-small, sets-known}
+use Rattle.job_words.proofs.Held.{Holds, GoesOn, word-next}
 use Rattle.job_words.specs.declared.job.BadWord.{BadWord}
 use Rattle.job_words.specs.declared.job.Command.{Command}
-use Rattle.job_words.specs.declared.job.Command.TheVariants.{Run, List as Listing, Sample}
+use Rattle.job_words.specs.declared.job.Command.TheVariants.{Run, List as Listing, Sample, Assemble}
 use Rattle.job_words.specs.declared.job.Job.{Job}
 use Rattle.job_words.specs.declared.job.Key.{Key}
-use Rattle.job_words.specs.declared.job.Key.TheVariants.{Flat, Rsrc, Pef}
+use Rattle.job_words.specs.declared.job.Key.TheVariants.{Flat, Rsrc, Pef, Text}
 use Rattle.job_words.specs.declared.draft.Draft.{Draft}
 use Rattle.job_words.specs.declared.setting.Setting.{Setting}
-use Rattle.job_words.specs.declared.setting.Setting.TheVariants.{File, Main, Ram, Steps, At, Count, Calls, Depth}
+use Rattle.job_words.specs.declared.draft.Given.{Given}
+use Rattle.job_words.specs.declared.setting.Name.{Name}
+use Rattle.job_words.specs.declared.setting.Name.TheVariants.{File, Main, Ram, Steps, At, Count, Calls, Depth, CodeSet}
+use Rattle.job_words.specs.declared.setting.Value.{Value}
+use Rattle.job_words.specs.declared.setting.Value.TheVariants.{Named, Set, Number}
 use Rattle.job_words.specs.declared.setting.Verb.{Verb}
-use Rattle.job_words.specs.declared.setting.Verb.TheVariants.{ToRun, ToList, ToSample}
+use Rattle.job_words.specs.declared.setting.Verb.TheVariants.{ToRun, ToList, ToSample, ToAssemble}
 
 -- the words before a place are all that can be read
 pub record Stops (verb : Verb) (words : List (List ℕ)) (place : ℕ) : Type 0 where
@@ -58,12 +63,12 @@ walk : (verb : Verb) (rest done : List (List ℕ)) (d : Draft) → Holds verb do
 walk verb [] done d held = subst (λ words. Holds verb words d) (sym (append-nil done)) held
 walk verb (word ∷ rest) done d held = walk-on verb done rest word d (with_word verb (length done) word d) held (word-next verb done word d held) (λ e on. walk verb rest (done ++ word ∷ []) e on)
 
--- no word behind the command's is none that sets
-none-set : {A : Type 0} (verb : Verb) (command : List ℕ) (sets : A → Setting) → IsThe None (λ x. IsSet verb (command ∷ []) (sets x))
-none-set {A} verb command sets = record { holds = λ x same. cc; found = λ x set. absurd (omega (arith, set.1.behind, set.1.inside)) }
+none-some : {A : Type 0} {x : A} → None ≡ Some x → ⊥
+none-some {A} {x} same = cc
 
-no-file : (verb : Verb) (command : List ℕ) (key : Key) → IsThe None (λ p. Sets verb (command ∷ []) p (File key))
-no-file verb command key = record { holds = λ p same. cc; found = λ p set. absurd (omega (arith, set.behind, set.inside)) }
+-- no word behind the command's is none that sets
+none-given : (name : Name) → given nothing name ≡ None
+none-given name = get_or-replicate 12 (index_of name) None None (index-small name)
 
 begins : (verb : Verb) (command : List ℕ) → verb_of command ≡ Some verb → Holds verb (command ∷ []) nothing
 begins verb command named = record {
@@ -74,15 +79,55 @@ begins verb command named = record {
     once = λ i j behind less inside same. omega arith;
     alone = λ flat key other. absurd (omega (arith, flat.1.behind, flat.1.inside));
   };
-  alone = record { only = λ key p q flat other. cc };
-  files = λ key. elim key as (λ key. IsThe (file_in nothing.files key) (λ p. Sets verb (command ∷ []) p (File key))) [ Flat ↦ no-file verb command Flat | Rsrc ↦ no-file verb command Rsrc | Pef ↦ no-file verb command Pef ];
-  main = none-set verb command Main;
-  kib = none-set verb command Ram;
-  steps = none-set verb command Steps;
-  at = none-set verb command At;
-  count = none-set verb command Count;
-  calls = none-set verb command Calls;
-  depth = none-set verb command Depth;
+  long = refl;
+  each = λ name p value. (λ is. absurd (none-some (sym (none-given name) ∙ is)), λ set. absurd (omega (arith, set.behind, set.inside)));
+}
+
+-- a value, if any, is the one of which P holds
+pub record IsThe {A : Type 0} (value : Option A) (P : A → Type 0) : Type 0 where
+  pub holds : (x : A) → value ≡ Some x → P x
+  pub found : (x : A) → P x → value ≡ Some x
+
+-- what is given for a key, where its value is of one kind
+of-kind : {A : Type 0} (kind : ℕ → Value → Option A) (o : Option Given) (x : A) → option_and_then (λ g. kind g.place g.value) o ≡ Some x → (g : Given) × (o ≡ Some (given_at g.place g.value)) × (kind g.place g.value ≡ Some x)
+of-kind {A} kind None x is = cc
+of-kind {A} kind (Some g) x is = (g, refl, is)
+
+named-is : (p x : ℕ) (v : Value) → named_at p v ≡ Some x → (p ≡ x) × (v ≡ Named)
+named-is p x Named is = (cc, refl)
+named-is p x v is = cc
+
+number-is : (x : ℕ) (v : Value) → number_of v ≡ Some x → v ≡ Number x
+number-is x (Number n) is = cc
+number-is x v is = cc
+
+set-is : (x : Isa) (v : Value) → set_of v ≡ Some x → v ≡ Set x
+set-is x (Set s) is = cc
+set-is x v is = cc
+
+the-place : (verb : Verb) (words : List (List ℕ)) (d : Draft) (key : Key) → Holds verb words d → IsThe (place d key) (λ p. Sets verb words p (file key))
+the-place verb words d key held = record {
+  holds = λ p same.
+      let g = of-kind named_at (given d (File key)) p same in
+      let is : (g.0.place ≡ p) × (g.0.value ≡ Named) = named-is g.0.place p g.0.value g.2 in
+      (held.each (File key) p Named).0 (g.1 ∙ ap (λ x. Some (given_at x g.0.value)) is.0 ∙ ap (λ v. Some (given_at p v)) is.1);
+  found = λ p set. ap (option_and_then (λ g. named_at g.place g.value)) ((held.each (File key) p Named).1 set);
+}
+
+the-number : (verb : Verb) (words : List (List ℕ)) (d : Draft) (name : Name) → Holds verb words d → IsThe (number d name) (λ n. IsSet verb words (numbered name n))
+the-number verb words d name held = record {
+  holds = λ n same.
+      let g = of-kind (λ p v. number_of v) (given d name) n same in
+      (g.0.place, (held.each name g.0.place (Number n)).0 (g.1 ∙ ap (λ v. Some (given_at g.0.place v)) (number-is n g.0.value g.2)));
+  found = λ n set. ap (option_and_then (λ g. number_of g.value)) ((held.each name set.0 (Number n)).1 set.1);
+}
+
+the-set : (verb : Verb) (words : List (List ℕ)) (d : Draft) (name : Name) → Holds verb words d → IsThe (set d name) (λ s. IsSet verb words (setting name (Set s)))
+the-set verb words d name held = record {
+  holds = λ s same.
+      let g = of-kind (λ p v. set_of v) (given d name) s same in
+      (g.0.place, (held.each name g.0.place (Set s)).0 (g.1 ∙ ap (λ v. Some (given_at g.0.place v)) (set-is s g.0.value g.2)));
+  found = λ s is. ap (option_and_then (λ g. set_of g.value)) ((held.each name is.0 (Set s)).1 is.1);
 }
 
 -- the value that is asked for is the one that the draft holds, or the default
@@ -101,14 +146,41 @@ same-option {A} None None to from = refl
 same-option {A} None (Some x) to from = from x refl
 same-option {A} (Some x) p to from = sym (to x refl)
 
--- the job of a draft, where it has its program
-abbrev job_by : Draft → Job
-job_by d = record { flat = d.files.flat; rsrc = d.files.rsrc; pef = d.files.pef; main = main_in d; kib = unwrap_or d.kib 1024; steps = unwrap_or d.steps 1000000 }
+-- a command that loads a program knows no text
+abbrev HasNoText : Verb → Type 0
+HasNoText verb = IsAmong (File Text) (keys verb) → ⊥
 
-place-by : (key : Key) (d : Draft) → place_of (job_by d) key ≡ file_in d.files key
-place-by Flat d = refl
-place-by Rsrc d = refl
-place-by Pef d = refl
+run-no-text : HasNoText ToRun
+run-no-text (inl same) = cc
+run-no-text (inr (inl same)) = cc
+run-no-text (inr (inr (inl same))) = cc
+run-no-text (inr (inr (inr (inl same)))) = cc
+run-no-text (inr (inr (inr (inr (inl same))))) = cc
+run-no-text (inr (inr (inr (inr (inr (inl same)))))) = cc
+run-no-text (inr (inr (inr (inr (inr (inr none)))))) = none
+
+list-no-text : HasNoText ToList
+list-no-text (inl same) = cc
+list-no-text (inr (inl same)) = cc
+list-no-text (inr (inr (inl same))) = cc
+list-no-text (inr (inr (inr (inl same)))) = cc
+list-no-text (inr (inr (inr (inr (inl same))))) = cc
+list-no-text (inr (inr (inr (inr (inr (inl same)))))) = cc
+list-no-text (inr (inr (inr (inr (inr (inr (inl same))))))) = cc
+list-no-text (inr (inr (inr (inr (inr (inr (inr none))))))) = none
+
+no-place : (o : Option ℕ) → ((p : ℕ) → o ≡ Some p → ⊥) → None ≡ o
+no-place None none = refl
+no-place (Some p) none = absurd (none p refl)
+
+place-by : (key : Key) (verb : Verb) (words : List (List ℕ)) (d : Draft) → HasNoText verb → Holds verb words d → place_of (job_by d) key ≡ place d key
+place-by Flat verb words d none held = refl
+place-by Rsrc verb words d none held = refl
+place-by Pef verb words d none held = refl
+place-by Text verb words d none held =
+    no-place (place d Text) (λ p is.
+    let set : Sets verb words p (file Text) = (the-place verb words d Text held).holds p is in
+    none (sets-known verb (word_at words p) (file Text) set.reads))
 
 own-program : (flat own : Option ℕ) → (is_some flat || is_some own) ≡ true → IfNone flat (IsSome own)
 own-program None own some = some
@@ -118,32 +190,35 @@ program-own : (flat own : Option ℕ) → IfNone flat (IsSome own) → (is_some 
 program-own None own some = some
 program-own (Some p) own some = refl
 
-asks-job : (verb : Verb) (words : List (List ℕ)) (d : Draft) → Holds verb words d → has_program d.files (main_in d) ≡ true → AsksJob verb words (job_by d)
-asks-job verb words d held has = record {
-  files = λ key p. (λ same. (held.files key).holds p (sym (place-by key d) ∙ same), λ set. place-by key d ∙ (held.files key).found p set);
-  main = asks-value verb words Main d.main (usual_main (job_by d)) held.main;
-  kib = asks-value verb words Ram d.kib 1024 held.kib;
-  steps = asks-value verb words Steps d.steps 1000000 held.steps;
-  program = own-program d.files.flat (main_file (main_in d) d.files.rsrc d.files.pef) has;
+asks-job : (verb : Verb) (words : List (List ℕ)) (d : Draft) → HasNoText verb → Holds verb words d → has_program (job_by d) ≡ true → AsksJob verb words (job_by d)
+asks-job verb words d none held has = record {
+  files = λ key p. (
+    λ same. (the-place verb words d key held).holds p (sym (place-by key verb words d none held) ∙ same),
+    λ set. place-by key verb words d none held ∙ (the-place verb words d key held).found p set,
+  );
+  main = asks-value verb words (λ s. setting Main (Set s)) (set d Main) (usual_main (job_by d)) (the-set verb words d Main held);
+  kib = asks-value verb words (numbered Ram) (number d Ram) 1024 (the-number verb words d Ram held);
+  steps = asks-value verb words (numbered Steps) (number d Steps) 1000000 (the-number verb words d Steps held);
+  program = own-program (place d Flat) (main_file (main_in d) (place d Rsrc) (place d Pef)) has;
 }
 
-asked-place : (key : Key) (verb : Verb) (words : List (List ℕ)) (d : Draft) (job : Job) → Holds verb words d → AsksJob verb words job → place_of job key ≡ file_in d.files key
+asked-place : (key : Key) (verb : Verb) (words : List (List ℕ)) (d : Draft) (job : Job) → Holds verb words d → AsksJob verb words job → place_of job key ≡ place d key
 asked-place key verb words d job held asks =
-    same-option (place_of job key) (file_in d.files key)
-    (λ p same. (held.files key).found p ((asks.files key p).0 same)) (λ p same. (asks.files key p).1 ((held.files key).holds p same))
+    same-option (place_of job key) (place d key)
+    (λ p same. (the-place verb words d key held).found p ((asks.files key p).0 same)) (λ p same. (asks.files key p).1 ((the-place verb words d key held).holds p same))
 
-asked-job : (verb : Verb) (words : List (List ℕ)) (d : Draft) (job : Job) → Holds verb words d → AsksJob verb words job → (job ≡ job_by d) × (has_program d.files (main_in d) ≡ true)
+asked-job : (verb : Verb) (words : List (List ℕ)) (d : Draft) (job : Job) → Holds verb words d → AsksJob verb words job → (job ≡ job_by d) × (has_program (job_by d) ≡ true)
 asked-job verb words d job held asks =
-    let flat : job.flat ≡ d.files.flat = asked-place Flat verb words d job held asks in
-    let rsrc : job.rsrc ≡ d.files.rsrc = asked-place Rsrc verb words d job held asks in
-    let pef : job.pef ≡ d.files.pef = asked-place Pef verb words d job held asks in
-    let usual : usual_main job ≡ usual_main (job_by d) = ap (λ f. if is_some f || is_some job.rsrc then M68 else Ppc) flat ∙ ap (λ r. if is_some d.files.flat || is_some r then M68 else Ppc) rsrc in
-    let main : job.main ≡ main_in d = asked-value verb words Main d.main (usual_main job) job.main held.main asks.main ∙ ap (unwrap_or d.main) usual in
-    let kib : job.kib ≡ unwrap_or d.kib 1024 = asked-value verb words Ram d.kib 1024 job.kib held.kib asks.kib in
-    let steps : job.steps ≡ unwrap_or d.steps 1000000 = asked-value verb words Steps d.steps 1000000 job.steps held.steps asks.steps in
+    let flat : job.flat ≡ place d Flat = asked-place Flat verb words d job held asks in
+    let rsrc : job.rsrc ≡ place d Rsrc = asked-place Rsrc verb words d job held asks in
+    let pef : job.pef ≡ place d Pef = asked-place Pef verb words d job held asks in
+    let usual : usual_main job ≡ usual_main (job_by d) = ap (λ f. usual_set f job.rsrc) flat ∙ ap (usual_set (place d Flat)) rsrc in
+    let main : job.main ≡ main_in d = asked-value verb words (λ s. setting Main (Set s)) (set d Main) (usual_main job) job.main (the-set verb words d Main held) asks.main ∙ ap (unwrap_or (set d Main)) usual in
+    let kib : job.kib ≡ unwrap_or (number d Ram) 1024 = asked-value verb words (numbered Ram) (number d Ram) 1024 job.kib (the-number verb words d Ram held) asks.kib in
+    let steps : job.steps ≡ unwrap_or (number d Steps) 1000000 = asked-value verb words (numbered Steps) (number d Steps) 1000000 job.steps (the-number verb words d Steps held) asks.steps in
     let whole : job ≡ record { flat = job.flat; rsrc = job.rsrc; pef = job.pef; main = job.main; kib = job.kib; steps = job.steps } = refl in
     let same : job ≡ job_by d = cc in
-    (same, subst (λ job. (is_some job.flat || is_some (main_file job.main job.rsrc job.pef)) ≡ true) same (program-own job.flat (main_file job.main job.rsrc job.pef) asks.program))
+    (same, subst (λ job. has_program job ≡ true) same (program-own job.flat (main_file job.main job.rsrc job.pef) asks.program))
 
 -- the command of a draft is what the words ask for, and where it has none they ask for none
 pub record IsAsked (words : List (List ℕ)) (command : Command) : Type 0 where
@@ -156,21 +231,6 @@ IsMade words o = MatchOption o ((command : Command) → ¬ Asks words command) (
 same-verb : (v w : Verb) (words : List (List ℕ)) → AreRead v words → AreRead w words → v ≡ w
 same-verb v w words one two = let same : Some v ≡ Some w = sym one.named ∙ two.named in cc
 
-run-list : ToRun ≡ ToList → ⊥
-run-list same = cc
-
-run-sample : ToRun ≡ ToSample → ⊥
-run-sample same = cc
-
-list-sample : ToList ≡ ToSample → ⊥
-list-sample same = cc
-
-true-false : true ≡ false → ⊥
-true-false same = cc
-
-none-some : {A : Type 0} {x : A} → None ≡ Some x → ⊥
-none-some {A} {x} same = cc
-
 some-same : {A : Type 0} {x y : A} → Some x ≡ Some y → x ≡ y
 some-same {A} {x} {y} same = cc
 
@@ -179,82 +239,82 @@ take-nil zero words none = refl
 take-nil (suc k) [] none = refl
 take-nil (suc k) (word ∷ words) none = cc
 
--- by each command: what the words ask for, the draft makes
-record AskedRun (d : Draft) (command : Command) : Type 0 where
-  has : has_program d.files (main_in d) ≡ true
-  same : command ≡ Run (job_by d)
+-- a command's name, for which the words that ask for it are read
+abbrev verb_in : Command → Verb
+verb_in (Run job) = ToRun
+verb_in (Listing job address count) = ToList
+verb_in (Sample calls depth) = ToSample
+verb_in (Assemble code text address) = ToAssemble
 
-asked-run : (command : Command) (words : List (List ℕ)) (d : Draft) → Holds ToRun words d → Asks words command → AskedRun d command
-asked-run (Run job) words d held asks = let is : (job ≡ job_by d) × (has_program d.files (main_in d) ≡ true) = asked-job ToRun words d job held asks.1 in record { has = is.1; same = ap Run is.0 }
-asked-run (Listing job address count) words d held asks = let same : ToRun ≡ ToList = same-verb ToRun ToList words held.read asks.0 in absurd (run-list same)
-asked-run (Sample calls depth) words d held asks = let same : ToRun ≡ ToSample = same-verb ToRun ToSample words held.read asks.0 in absurd (run-sample same)
+reads-asked : (words : List (List ℕ)) (command : Command) → Asks words command → AreRead (verb_in command) words
+reads-asked words (Run job) asks = asks.0
+reads-asked words (Listing job address count) asks = asks.0
+reads-asked words (Sample calls depth) asks = asks.0
+reads-asked words (Assemble code text address) asks = asks.0
 
-made-run : (b : Bool) (words : List (List ℕ)) (d : Draft) → Holds ToRun words d → has_program d.files (main_in d) ≡ b → IsMade words (option_map Run (if b then Some (job_by d) else None))
-made-run true words d held has = record { asks = (held.read, asks-job ToRun words d held has); only = λ other asks. (asked-run other words d held asks).same }
-made-run false words d held has = λ command asks. true-false (sym (asked-run command words d held asks).has ∙ has)
+-- what the draft makes, the words ask for
+map-some : {A B : Type 0} (f : A → B) (o : Option A) (y : B) → option_map f o ≡ Some y → (x : A) × (o ≡ Some x) × (f x ≡ y)
+map-some {A} {B} f None y is = cc
+map-some {A} {B} f (Some x) y is = (x, refl, some-same is)
 
-record AskedList (d : Draft) (command : Command) : Type 0 where
-  address : ℕ
-  count : ℕ
-  has : has_program d.files (main_in d) ≡ true
-  at : d.at ≡ Some address
-  counts : d.count ≡ Some count
-  same : command ≡ Listing (job_by d) address count
+then-some : {A B : Type 0} (f : A → Option B) (o : Option A) (y : B) → option_and_then f o ≡ Some y → (x : A) × (o ≡ Some x) × (f x ≡ Some y)
+then-some {A} {B} f None y is = cc
+then-some {A} {B} f (Some x) y is = (x, refl, is)
 
-asked-list : (command : Command) (words : List (List ℕ)) (d : Draft) → Holds ToList words d → Asks words command → AskedList d command
-asked-list (Run job) words d held asks = let same : ToRun ≡ ToList = same-verb ToRun ToList words asks.0 held.read in absurd (run-list same)
-asked-list (Listing job address count) words d held asks =
-    let is : (job ≡ job_by d) × (has_program d.files (main_in d) ≡ true) = asked-job ToList words d job held asks.1 in
-    record { address = address; count = count; has = is.1; at = held.at.found address asks.2; counts = held.count.found count asks.3; same = ap (λ job. Listing job address count) is.0 }
-asked-list (Sample calls depth) words d held asks = let same : ToList ≡ ToSample = same-verb ToList ToSample words held.read asks.0 in absurd (list-sample same)
+job-some : (b : Bool) (d : Draft) (job : Job) → (if b then Some (job_by d) else None) ≡ Some job → (job_by d ≡ job) × (b ≡ true)
+job-some true d job is = (some-same is, refl)
+job-some false d job is = cc
 
-made-list : (b : Bool) (at count : Option ℕ) (words : List (List ℕ)) (d : Draft) → Holds ToList words d → has_program d.files (main_in d) ≡ b → d.at ≡ at → d.count ≡ count
-    → IsMade words (option_and_then (λ job. option_and_then (λ address. option_map (λ n. Listing job address n) count) at) (if b then Some (job_by d) else None))
-made-list false at count words d held has is_at is_count = λ command asks. true-false (sym (asked-list command words d held asks).has ∙ has)
-made-list true None count words d held has is_at is_count = λ command asks. let is : AskedList d command = asked-list command words d held asks in let some : None ≡ Some is.address = sym is_at ∙ is.at in none-some some
-made-list true (Some address) None words d held has is_at is_count = λ command asks. let is : AskedList d command = asked-list command words d held asks in none-some (sym is_count ∙ is.counts)
-made-list true (Some address) (Some count) words d held has is_at is_count = record {
-  asks = (held.read, asks-job ToList words d held has, held.at.holds address is_at, held.count.holds count is_count);
-  only = λ other asks.
-      let is : AskedList d other = asked-list other words d held asks in
-      let a : is.address ≡ address = some-same (sym is.at ∙ is_at) in
-      let n : is.count ≡ count = some-same (sym is.counts ∙ is_count) in
-      is.same ∙ ap (λ x. Listing (job_by d) x is.count) a ∙ ap (Listing (job_by d) address) n;
-}
+made-job : (verb : Verb) (words : List (List ℕ)) (d : Draft) (job : Job) → HasNoText verb → Holds verb words d → job_of d ≡ Some job → AsksJob verb words job
+made-job verb words d job none held is =
+    let j : (job_by d ≡ job) × (has_program (job_by d) ≡ true) = job-some (has_program (job_by d)) d job is in subst (AsksJob verb words) j.0 (asks-job verb words d none held j.1)
 
-record AskedSample (d : Draft) (command : Command) : Type 0 where
-  n : ℕ
-  m : ℕ
-  calls : d.calls ≡ Some n
-  depth : d.depth ≡ Some m
-  same : command ≡ Sample n m
+made-asked : (verb : Verb) (words : List (List ℕ)) (d : Draft) (command : Command) → Holds verb words d → made verb d ≡ Some command → Asks words command
+made-asked ToRun words d command held is = let j = map-some Run (job_of d) command is in subst (Asks words) j.2 (held.read, made-job ToRun words d j.0 run-no-text held j.1)
+made-asked ToList words d command held is =
+    let j = then-some (λ job. option_and_then (λ address. option_map (λ count. Listing job address count) (number d Count)) (number d At)) (job_of d) command is in
+    let a = then-some (λ address. option_map (λ count. Listing j.0 address count) (number d Count)) (number d At) command j.2 in
+    let n = map-some (λ count. Listing j.0 a.0 count) (number d Count) command a.2 in
+    subst (Asks words) n.2 (held.read, made-job ToList words d j.0 list-no-text held j.1, (the-number ToList words d At held).holds a.0 a.1, (the-number ToList words d Count held).holds n.0 n.1)
+made-asked ToSample words d command held is =
+    let n = then-some (λ calls. option_map (λ depth. Sample calls depth) (number d Depth)) (number d Calls) command is in
+    let m = map-some (λ depth. Sample n.0 depth) (number d Depth) command n.2 in
+    subst (Asks words) m.2 (held.read, (the-number ToSample words d Calls held).holds n.0 n.1, (the-number ToSample words d Depth held).holds m.0 m.1)
+made-asked ToAssemble words d command held is =
+    let s = then-some (λ code. option_and_then (λ text. option_map (λ address. Assemble code text address) (number d At)) (place d Text)) (set d CodeSet) command is in
+    let t = then-some (λ text. option_map (λ address. Assemble s.0 text address) (number d At)) (place d Text) command s.2 in
+    let a = map-some (λ address. Assemble s.0 t.0 address) (number d At) command t.2 in
+    subst (Asks words) a.2
+    (held.read, (the-set ToAssemble words d CodeSet held).holds s.0 s.1, (the-place ToAssemble words d Text held).holds t.0 t.1, (the-number ToAssemble words d At held).holds a.0 a.1)
 
-asked-sample : (command : Command) (words : List (List ℕ)) (d : Draft) → Holds ToSample words d → Asks words command → AskedSample d command
-asked-sample (Run job) words d held asks = let same : ToRun ≡ ToSample = same-verb ToRun ToSample words asks.0 held.read in absurd (run-sample same)
-asked-sample (Listing job address count) words d held asks = let same : ToList ≡ ToSample = same-verb ToList ToSample words asks.0 held.read in absurd (list-sample same)
-asked-sample (Sample n m) words d held asks = record { n = n; m = m; calls = held.calls.found n asks.1; depth = held.depth.found m asks.2; same = refl }
+-- and what the words ask for, the draft makes
+job-made : (verb : Verb) (words : List (List ℕ)) (d : Draft) (job : Job) → Holds verb words d → AsksJob verb words job → job_of d ≡ Some job
+job-made verb words d job held asks =
+    let is : (job ≡ job_by d) × (has_program (job_by d) ≡ true) = asked-job verb words d job held asks in ap (λ b. if b then Some (job_by d) else None) is.1 ∙ ap Some (sym is.0)
 
-made-sample : (calls depth : Option ℕ) (words : List (List ℕ)) (d : Draft) → Holds ToSample words d → d.calls ≡ calls → d.depth ≡ depth
-    → IsMade words (option_and_then (λ n. option_map (λ m. Sample n m) depth) calls)
-made-sample None depth words d held is_calls is_depth = λ command asks. none-some (sym is_calls ∙ (asked-sample command words d held asks).calls)
-made-sample (Some n) None words d held is_calls is_depth = λ command asks. none-some (sym is_depth ∙ (asked-sample command words d held asks).depth)
-made-sample (Some n) (Some m) words d held is_calls is_depth = record {
-  asks = (held.read, held.calls.holds n is_calls, held.depth.holds m is_depth);
-  only = λ other asks.
-      let is : AskedSample d other = asked-sample other words d held asks in
-      is.same ∙ ap (λ x. Sample x is.m) (some-same (sym is.calls ∙ is_calls)) ∙ ap (Sample n) (some-same (sym is.depth ∙ is_depth));
-}
+own-made : (command : Command) (words : List (List ℕ)) (d : Draft) → Holds (verb_in command) words d → Asks words command → made (verb_in command) d ≡ Some command
+own-made (Run job) words d held asks = ap (option_map Run) (job-made ToRun words d job held asks.1)
+own-made (Listing job address count) words d held asks =
+    ap (option_and_then (λ job. option_and_then (λ address. option_map (λ count. Listing job address count) (number d Count)) (number d At))) (job-made ToList words d job held asks.1)
+    ∙ ap (option_and_then (λ address. option_map (λ count. Listing job address count) (number d Count))) ((the-number ToList words d At held).found address asks.2)
+    ∙ ap (option_map (λ count. Listing job address count)) ((the-number ToList words d Count held).found count asks.3)
+own-made (Sample calls depth) words d held asks =
+    ap (option_and_then (λ calls. option_map (λ depth. Sample calls depth) (number d Depth))) ((the-number ToSample words d Calls held).found calls asks.1)
+    ∙ ap (option_map (λ depth. Sample calls depth)) ((the-number ToSample words d Depth held).found depth asks.2)
+own-made (Assemble code text address) words d held asks =
+    ap (option_and_then (λ code. option_and_then (λ text. option_map (λ address. Assemble code text address) (number d At)) (place d Text))) ((the-set ToAssemble words d CodeSet held).found code asks.1)
+    ∙ ap (option_and_then (λ text. option_map (λ address. Assemble code text address) (number d At))) ((the-place ToAssemble words d Text held).found text asks.2)
+    ∙ ap (option_map (λ address. Assemble code text address)) ((the-number ToAssemble words d At held).found address asks.3)
 
-made-asked : (verb : Verb) (words : List (List ℕ)) (d : Draft) → Holds verb words d → IsMade words (made verb d)
-made-asked ToRun words d held = made-run (has_program d.files (main_in d)) words d held refl
-made-asked ToList words d held = made-list (has_program d.files (main_in d)) d.at d.count words d held refl refl refl
-made-asked ToSample words d held = made-sample d.calls d.depth words d held refl refl
+asked-made : (verb : Verb) (words : List (List ℕ)) (d : Draft) (command : Command) → Holds verb words d → Asks words command → made verb d ≡ Some command
+asked-made verb words d command held asks =
+    let same : verb_in command ≡ verb = same-verb (verb_in command) verb words (reads-asked words command asks) held.read in
+    subst (λ v. made v d ≡ Some command) same (own-made command words d (subst (λ v. Holds v words d) (sym same) held) asks)
 
--- what words ask for, they are read for
-reads-asked : (words : List (List ℕ)) (command : Command) → Asks words command → (verb : Verb) × AreRead verb words
-reads-asked words (Run job) asks = (ToRun, asks.0)
-reads-asked words (Listing job address count) asks = (ToList, asks.0)
-reads-asked words (Sample calls depth) asks = (ToSample, asks.0)
+is-made : (o : Option Command) (verb : Verb) (words : List (List ℕ)) (d : Draft) → Holds verb words d → made verb d ≡ o → IsMade words o
+is-made None verb words d held is = λ command asks. none-some (sym is ∙ asked-made verb words d command held asks)
+is-made (Some command) verb words d held is =
+    record { asks = made-asked verb words d command held is; only = λ other asks. some-same (sym (asked-made verb words d other held asks) ∙ is) }
 
 -- the words before a place are read where those before a later one are
 sets-taken : (verb : Verb) (words : List (List ℕ)) (k p : ℕ) (s : Setting) → Sets verb (take k words) p s → Sets verb words p s
@@ -272,7 +332,7 @@ read-taken verb words k some read =
       once = λ i j behind below within same.
           let less : j < min k (length words) = inside j within in
           read.once i j behind below (omega arith) (ap key_in (sym (at i (omega arith))) ∙ same ∙ ap key_in (at j (omega arith)));
-      alone = λ flat key other. read.alone (flat.0, sets-taken verb words k flat.0 (File Flat) flat.1) key (other.0, sets-taken verb words k other.0 (File key) other.1);
+      alone = λ flat key other. read.alone (flat.0, sets-taken verb words k flat.0 (file Flat) flat.1) key (other.0, sets-taken verb words k other.0 (file key) other.1);
     }
 
 begin-taken : (words : List (List ℕ)) (k : ℕ) → 0 < k → CanBegin words → CanBegin (take k words)
@@ -320,7 +380,7 @@ made-outcome verb words k d (Some command) held long made = made
 
 draft-outcome : (verb : Verb) (command : List ℕ) (words : List (List ℕ)) (r : Result Draft BadWord) → verb_of command ≡ Some verb → Walked verb (command ∷ words) r
     → Outcome (command ∷ words) (r >>= (λ d. ok_or (made verb d) (bad_at (1 + length words))))
-draft-outcome verb command words (Ok d) named held = made-outcome verb (command ∷ words) (1 + length words) d (made verb d) held (omega arith) (made-asked verb (command ∷ words) d held)
+draft-outcome verb command words (Ok d) named held = made-outcome verb (command ∷ words) (1 + length words) d (made verb d) held (omega arith) (is-made (made verb d) verb (command ∷ words) d held refl)
 draft-outcome verb command words (Err bad) named stops = first-bad verb command words bad.place named stops
 
 -- without a command's name nothing can begin
@@ -332,7 +392,7 @@ no-name words none = record {
     | inl empty ↦ let short : min 1 (length words) ≡ 0 = sym (length-take 1 words) ∙ ap length empty in omega arith
     | inr read ↦ none-some (sym none ∙ subst (λ w. verb_of w ≡ Some read.0) (get_or-take 1 words 0 [] (omega arith)) read.1.named)
   ];
-  missing = λ end command asks. let read : (verb : Verb) × AreRead verb words = reads-asked words command asks in none-some (sym none ∙ read.1.named);
+  missing = λ end command asks. none-some (sym none ∙ (reads-asked words command asks).named);
 }
 
 pub no-verb : verb_of [] ≡ None
@@ -351,7 +411,7 @@ outcome (command ∷ words) = verb-outcome (verb_of command) command words refl
 not-both : (words : List (List ℕ)) (command : Command) (place : ℕ) → Asks words command → IsFirstBad words place → ⊥
 not-both words command place asks bad =
     elim (cases_lt place (length words)) [
-      | inl inside ↦ bad.bad inside (begin-taken words (place + 1) (omega arith) (inr (reads-asked words command asks)))
+      | inl inside ↦ bad.bad inside (begin-taken words (place + 1) (omega arith) (inr (verb_in command, reads-asked words command asks)))
       | inr past ↦ bad.missing (omega (arith, bad.inside)) command asks
     ]
 

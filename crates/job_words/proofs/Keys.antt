@@ -1,99 +1,125 @@
--- A word sets what its key says.
-use Rattle.std.proofs.Common.{◌≡◌, ℕ, List, [], ◌∷◌, length, codes, ◌==◌, Bool, true, false, if◌then◌else◌, IsTrue, Option, Some, None, ap, ◌∙◌, refl}
+-- A word sets the key whose text it begins with, and no two keys have one text or one number.
+use Rattle.std.proofs.Common.{◌≡◌, ℕ, ◌<◌, ◌⊎◌, inl, inr, List, [], ◌∷◌, length, ◌==◌, Bool, true, false, if◌then◌else◌, IsTrue, Option, Some, None, get_or, arith, sym, ap, subst, ◌∙◌, refl}
 use Rattle.std.specs.Str.{bytes_eq}
-use Rattle.std.specs.Option.{option_map}
+use Rattle.std.specs.Option.{option_and_then, option_map}
 use Rattle.std.proofs.lemmas.Slice.Eq.{bytes_eq-Decides}
-use Rattle.mix_bits.specs.declared.isa.Isa.TheVariants.{M68, Ppc}
-use Rattle.mix_bits.specs.Numbers.{decimal_number, hexadecimal_number}
-use Rattle.job_words.specs.Settings.{Row, number_within, key_text, loading, keys, setting_in, key_in, value_in, has_equals, setting_of}
+use Rattle.job_words.specs.Settings.{has_equals, key_in, keys, name_in, setting, setting_in, setting_of, text_of, value_in, value_of}
+use Rattle.job_words.specs.Drafts.{index_of}
 use Rattle.job_words.specs.declared.job.Key.{Key}
-use Rattle.job_words.specs.declared.job.Key.TheVariants.{Flat, Rsrc, Pef}
+use Rattle.job_words.specs.declared.job.Key.TheVariants.{Flat, Rsrc, Pef, Text}
+use Rattle.job_words.specs.declared.setting.Name.{Name}
+use Rattle.job_words.specs.declared.setting.Name.TheVariants.{File, Main, Ram, Steps, At, Count, Calls, Depth, CodeSet}
 use Rattle.job_words.specs.declared.setting.Setting.{Setting}
-use Rattle.job_words.specs.declared.setting.Setting.TheVariants.{File, Main, Ram, Steps, At, Count, Calls, Depth}
+use Rattle.job_words.specs.declared.setting.Value.{Value}
+use Rattle.job_words.specs.declared.setting.Value.TheVariants.{Named}
 use Rattle.job_words.specs.declared.setting.Verb.{Verb}
-use Rattle.job_words.specs.declared.setting.Verb.TheVariants.{ToRun, ToList, ToSample}
 
--- the key whose words set this
-abbrev pub text_of : Setting → List ℕ
-text_of (File key) = key_text key
-text_of (Main set) = codes "main"
-text_of (Ram kib) = codes "ram"
-text_of (Steps steps) = codes "steps"
-text_of (At address) = codes "at"
-text_of (Count count) = codes "count"
-text_of (Calls calls) = codes "n"
-text_of (Depth depth) = codes "depth"
+-- all keys, by their numbers
+abbrev all : List Name
+all = File Flat ∷ File Rsrc ∷ File Pef ∷ Main ∷ Ram ∷ Steps ∷ At ∷ Count ∷ Calls ∷ Depth ∷ File Text ∷ CodeSet ∷ []
 
--- what a row reads has the row's key
-ReadsOwn : Row → Type 0
-ReadsOwn row = (text : List ℕ) (setting : Setting) → row.reads text ≡ Some setting → row.text ≡ text_of setting
+-- each is the one of its text, and the one of its number
+record IsOwn (name : Name) : Type 0 where
+  text : name_in all (text_of name) ≡ Some name
+  number : get_or all (index_of name) Main ≡ name
+  small : index_of name < 12
 
-abbrev ReadOwn : List Row → Type 0
-ReadOwn [] = Unit {0}
-ReadOwn (row ∷ rows) = ReadsOwn row × ReadOwn rows
+own : (name : Name) → IsOwn name
+own (File Flat) = record { text = refl; number = refl; small = omega arith }
+own (File Rsrc) = record { text = refl; number = refl; small = omega arith }
+own (File Pef) = record { text = refl; number = refl; small = omega arith }
+own Main = record { text = refl; number = refl; small = omega arith }
+own Ram = record { text = refl; number = refl; small = omega arith }
+own Steps = record { text = refl; number = refl; small = omega arith }
+own At = record { text = refl; number = refl; small = omega arith }
+own Count = record { text = refl; number = refl; small = omega arith }
+own Calls = record { text = refl; number = refl; small = omega arith }
+own Depth = record { text = refl; number = refl; small = omega arith }
+own (File Text) = record { text = refl; number = refl; small = omega arith }
+own CodeSet = record { text = refl; number = refl; small = omega arith }
 
-number-own : (sets : ℕ → Setting) (o : Option ℕ) (setting : Setting) (key : List ℕ) → ((n : ℕ) → key ≡ text_of (sets n)) → option_map sets o ≡ Some setting → key ≡ text_of setting
-number-own sets None setting key own is = cc
-number-own sets (Some n) setting key own is = let same : sets n ≡ setting = cc in own n ∙ ap text_of same
+pub text-apart : (a b : Name) → text_of a ≡ text_of b → a ≡ b
+text-apart a b same = let one : Some a ≡ Some b = sym (own a).text ∙ ap (name_in all) same ∙ (own b).text in cc
 
-file-own-by : (b : Bool) (own : Key) (setting : Setting) → (if b then None else Some (File own)) ≡ Some setting → key_text own ≡ text_of setting
-file-own-by true own setting is = cc
-file-own-by false own setting is = let same : File own ≡ setting = cc in ap text_of same
+pub index-apart : (a b : Name) → index_of a ≡ index_of b → a ≡ b
+index-apart a b same = sym (own a).number ∙ ap (λ i. get_or all i Main) same ∙ (own b).number
 
-main-own-by : (a b : Bool) (setting : Setting) → (if a then Some (Main M68) else (if b then Some (Main Ppc) else None)) ≡ Some setting → codes "main" ≡ text_of setting
-main-own-by true b setting is = let same : Main M68 ≡ setting = cc in ap text_of same
-main-own-by false true setting is = let same : Main Ppc ≡ setting = cc in ap text_of same
-main-own-by false false setting is = cc
+pub index-small : (name : Name) → index_of name < 12
+index-small name = (own name).small
 
-loading-own : ReadOwn loading
-unfolding ReadsOwn
-loading-own = (
-  λ text setting is. file-own-by (length text == 0) Flat setting is,
-  (
-    λ text setting is. file-own-by (length text == 0) Rsrc setting is,
-    (
-      λ text setting is. file-own-by (length text == 0) Pef setting is,
-      (
-        λ text setting is. main-own-by (bytes_eq text (codes "68k")) (bytes_eq text (codes "ppc")) setting is,
-        (λ text setting is. number-own Ram (number_within 128 16384 text) setting (codes "ram") (λ n. refl) is, tt),
-      ),
-    ),
-  ),
-)
-
-keys-own : (verb : Verb) → ReadOwn (keys verb)
-unfolding ReadsOwn
-keys-own ToRun = (λ text setting is. number-own Steps (decimal_number text) setting (codes "steps") (λ n. refl) is, loading-own)
-keys-own ToList = (
-  λ text setting is. number-own At (hexadecimal_number 8 text) setting (codes "at") (λ n. refl) is,
-  (λ text setting is. number-own Count (number_within 1 4096 text) setting (codes "count") (λ n. refl) is, loading-own),
-)
-keys-own ToSample = (
-  λ text setting is. number-own Calls (number_within 1 1000 text) setting (codes "n") (λ n. refl) is,
-  (λ text setting is. number-own Depth (number_within 1 300 text) setting (codes "depth") (λ n. refl) is, tt),
-)
-
-own-row : (b : Bool) (row : Row) (key text : List ℕ) (setting : Setting) (rest : Option Setting) → bytes_eq key row.text ≡ b → ReadsOwn row
-    → (rest ≡ Some setting → key ≡ text_of setting)
-    → (if b then row.reads text else rest) ≡ Some setting → key ≡ text_of setting
-unfolding ReadsOwn
-own-row true row key text setting rest alike own later is = (bytes_eq-Decides key row.text).0 alike ∙ own text setting is
-own-row false row key text setting rest alike own later is = later is
-
-own-key : (rows : List Row) (key text : List ℕ) (setting : Setting) → ReadOwn rows → setting_in rows key text ≡ Some setting → key ≡ text_of setting
-own-key [] key text setting own is = cc
-own-key (row ∷ rows) key text setting own is =
-    own-row (bytes_eq key row.text) row key text setting (setting_in rows key text) refl own.0 (λ later. own-key rows key text setting own.1 later) is
-
--- a word that sets something has an equals sign, and before it the key of what it sets
-pub record HasOwnKey (word : List ℕ) (setting : Setting) : Type 0 where
+-- what a word that sets something reads
+pub record Reads (word : List ℕ) (s : Setting) : Type 0 where
   pub equals : IsTrue (has_equals word)
-  pub named : key_in word ≡ text_of setting
+  pub named : key_in word ≡ text_of s.name
+  pub value : value_of s.name (value_in word) ≡ Some s.value
 
-keyed-by : (b : Bool) (verb : Verb) (word : List ℕ) (setting : Setting) → has_equals word ≡ b → (if b then setting_in (keys verb) (key_in word) (value_in word) else None) ≡ Some setting → HasOwnKey word setting
-keyed-by true verb word setting with is = record { equals = with; named = own-key (keys verb) (key_in word) (value_in word) setting (keys-own verb) is }
-keyed-by false verb word setting with is = cc
+name-by : (b : Bool) (n name : Name) (rest : Option Name) (key : List ℕ) → bytes_eq key (text_of n) ≡ b → (rest ≡ Some name → key ≡ text_of name)
+    → (if b then Some n else rest) ≡ Some name → key ≡ text_of name
+name-by true n name rest key alike later is = let same : n ≡ name = cc in (bytes_eq-Decides key (text_of n)).0 alike ∙ ap text_of same
+name-by false n name rest key alike later is = later is
 
-pub setting-key : (verb : Verb) (word : List ℕ) (setting : Setting) → setting_of verb word ≡ Some setting → HasOwnKey word setting
+name-text : (names : List Name) (key : List ℕ) (name : Name) → name_in names key ≡ Some name → key ≡ text_of name
+name-text [] key name is = cc
+name-text (n ∷ names) key name is = name-by (bytes_eq key (text_of n)) n name (name_in names key) key refl (λ later. name-text names key name later) is
+
+value-by : (o : Option Value) (name : Name) (word : List ℕ) (s : Setting) → IsTrue (has_equals word) → key_in word ≡ text_of name → value_of name (value_in word) ≡ o
+    → option_map (setting name) o ≡ Some s → Reads word s
+value-by None name word s equals named value is = cc
+value-by (Some v) name word s equals named value is =
+    let same : setting name v ≡ s = cc in
+    record { equals = equals; named = named ∙ ap (λ t. text_of t.name) same; value = ap (λ t. value_of t.name (value_in word)) (sym same) ∙ value ∙ ap (λ t. Some t.value) same }
+
+word-by : (o : Option Name) (verb : Verb) (word : List ℕ) (s : Setting) → IsTrue (has_equals word) → name_in (keys verb) (key_in word) ≡ o
+    → option_and_then (setting_in (value_in word)) o ≡ Some s → Reads word s
+word-by None verb word s equals named is = cc
+word-by (Some name) verb word s equals named is = value-by (value_of name (value_in word)) name word s equals (name-text (keys verb) (key_in word) name named) refl is
+
+reads-by : (b : Bool) (verb : Verb) (word : List ℕ) (s : Setting) → has_equals word ≡ b
+    → (if b then option_and_then (setting_in (value_in word)) (name_in (keys verb) (key_in word)) else None) ≡ Some s → Reads word s
+reads-by true verb word s with is = word-by (name_in (keys verb) (key_in word)) verb word s with refl is
+reads-by false verb word s with is = cc
+
+pub setting-reads : (verb : Verb) (word : List ℕ) (s : Setting) → setting_of verb word ≡ Some s → Reads word s
 unfolding setting_of
-setting-key verb word setting is = keyed-by (has_equals word) verb word setting refl is
+setting-reads verb word s is = reads-by (has_equals word) verb word s refl is
+
+-- a word sets only what the command knows
+abbrev pub IsAmong : Name → List Name → Type 0
+IsAmong name [] = ⊥
+IsAmong name (n ∷ names) = (name ≡ n) ⊎ IsAmong name names
+
+among-by : (b : Bool) (n name : Name) (rest : Option Name) (names : List Name) → (rest ≡ Some name → IsAmong name names)
+    → (if b then Some n else rest) ≡ Some name → IsAmong name (n ∷ names)
+among-by true n name rest names later is = let same : name ≡ n = cc in inl same
+among-by false n name rest names later is = inr (later is)
+
+name-among : (names : List Name) (key : List ℕ) (name : Name) → name_in names key ≡ Some name → IsAmong name names
+name-among [] key name is = cc
+name-among (n ∷ names) key name is = among-by (bytes_eq key (text_of n)) n name (name_in names key) names (λ later. name-among names key name later) is
+
+name-kept : (o : Option Value) (name : Name) (s : Setting) → option_map (setting name) o ≡ Some s → name ≡ s.name
+name-kept None name s is = cc
+name-kept (Some v) name s is = let same : setting name v ≡ s = cc in ap (λ t. t.name) same
+
+known-by : (o : Option Name) (verb : Verb) (word : List ℕ) (s : Setting) → name_in (keys verb) (key_in word) ≡ o
+    → option_and_then (setting_in (value_in word)) o ≡ Some s → IsAmong s.name (keys verb)
+known-by None verb word s named is = cc
+known-by (Some name) verb word s named is =
+    subst (λ n. IsAmong n (keys verb)) (name-kept (value_of name (value_in word)) name s is) (name-among (keys verb) (key_in word) name named)
+
+known-if : (b : Bool) (verb : Verb) (word : List ℕ) (s : Setting)
+    → (if b then option_and_then (setting_in (value_in word)) (name_in (keys verb) (key_in word)) else None) ≡ Some s → IsAmong s.name (keys verb)
+known-if true verb word s is = known-by (name_in (keys verb) (key_in word)) verb word s refl is
+known-if false verb word s is = cc
+
+pub sets-known : (verb : Verb) (word : List ℕ) (s : Setting) → setting_of verb word ≡ Some s → IsAmong s.name (keys verb)
+unfolding setting_of
+sets-known verb word s is = known-if (has_equals word) verb word s is
+
+-- a file is named, and nothing more
+named-by : (b : Bool) (v : Value) → (if b then None else Some Named) ≡ Some v → v ≡ Named
+named-by true v is = cc
+named-by false v is = cc
+
+pub file-named : (key : Key) (word : List ℕ) (v : Value) → Reads word (setting (File key) v) → v ≡ Named
+file-named key word v reads = named-by (length (value_in word) == 0) v reads.value

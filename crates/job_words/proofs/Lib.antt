@@ -2,4 +2,4 @@ pub mod Keys
 pub mod Held
 pub mod Asked
 pub mod Moves
-pub mod FileLemmas
+mod Proper

@@ -9,21 +9,22 @@ use Rattle.std.proofs.lemmas.Bool.{cases_lt, cases_eq}
 use Rattle.std.proofs.lemmas.Bool.Decides.{nat_tests}
 use Rattle.mix_bits.specs.declared.isa.Isa.{Isa}
 use Rattle.mix_bits.specs.declared.isa.Isa.TheVariants.{M68, Ppc}
-use Rattle.job_words.specs.Settings.{verb_of, key_in, setting_of}
+use Rattle.job_words.specs.Settings.{verb_of, key_in, setting_of, setting, file, numbered}
 use Rattle.job_words.specs.Drafts.{main_file}
 use Rattle.job_words.specs.Jobs.{place_of}
 use Rattle.job_words.specs.Asks.{word_at, Sets, IsSet, AreRead, IsSetOr, usual_main, AsksJob, Asks}
 use Rattle.job_words.specs.Laws.{moved_job, moved, Stands, OrderIsFree}
 use Rattle.job_words.proofs.Asked.{no-verb, command-asked}
 use Rattle.job_words.specs.declared.job.Command.{Command}
-use Rattle.job_words.specs.declared.job.Command.TheVariants.{Run, List as Listing, Sample}
+use Rattle.job_words.specs.declared.job.Command.TheVariants.{Run, List as Listing, Sample, Assemble}
 use Rattle.job_words.specs.declared.job.Job.{Job}
 use Rattle.job_words.specs.declared.job.Key.{Key}
-use Rattle.job_words.specs.declared.job.Key.TheVariants.{Flat, Rsrc, Pef}
+use Rattle.job_words.specs.declared.job.Key.TheVariants.{Flat, Rsrc, Pef, Text}
 use Rattle.job_words.specs.declared.setting.Setting.{Setting}
-use Rattle.job_words.specs.declared.setting.Setting.TheVariants.{File, Main, Ram, Steps, At, Count, Calls, Depth}
+use Rattle.job_words.specs.declared.setting.Name.TheVariants.{Main, Ram, Steps, At, Count, Calls, Depth, CodeSet}
+use Rattle.job_words.specs.declared.setting.Value.TheVariants.{Set}
 use Rattle.job_words.specs.declared.setting.Verb.{Verb}
-use Rattle.job_words.specs.declared.setting.Verb.TheVariants.{ToRun, ToList, ToSample}
+use Rattle.job_words.specs.declared.setting.Verb.TheVariants.{ToRun, ToList, ToSample, ToAssemble}
 
 -- words in another order, and the place of each in both
 pub record Moved (to back : ℕ → ℕ) (words others : List (List ℕ)) : Type 0 where
@@ -190,7 +191,7 @@ read-moved to back verb words others r read =
           (ap key_in (f.moves.word i one) ∙ same ∙ ap key_in (sym (f.moves.word j less))) in
           let equal : i ≡ j = sym (r.moves.again i) ∙ ap to places ∙ r.moves.again j in
           omega arith;
-      alone = λ flat key other. read.alone (set-back to back verb words others (File Flat) r flat) key (set-back to back verb words others (File key) r other);
+      alone = λ flat key other. read.alone (set-back to back verb words others (file Flat) r flat) key (set-back to back verb words others (file key) r other);
     }
 
 or-moved : {A : Type 0} (to back : ℕ → ℕ) (verb : Verb) (words others : List (List ℕ)) (sets : A → Setting) (default value : A) → Reordered to back words others → IsSetOr verb words sets default value → IsSetOr verb others sets default value
@@ -201,6 +202,7 @@ place-moved : (key : Key) (to : ℕ → ℕ) (job : Job) → place_of (moved_job
 place-moved Flat to job = refl
 place-moved Rsrc to job = refl
 place-moved Pef to job = refl
+place-moved Text to job = refl
 
 still-some : (to : ℕ → ℕ) (o : Option ℕ) → is_some (option_map to o) ≡ is_some o
 still-some to None = refl
@@ -224,14 +226,14 @@ job-moved to back verb words others job r asks = record {
   files = λ key q. (
     λ is.
         let there : (p : ℕ) × (place_of job key ≡ Some p) × (to p ≡ q) = mapped to (place_of job key) q (sym (place-moved key to job) ∙ is) in
-        subst (λ k. Sets verb others k (File key)) there.2 (sets-moved to back verb words others there.0 (File key) r ((asks.files key there.0).0 there.1)),
+        subst (λ k. Sets verb others k (file key)) there.2 (sets-moved to back verb words others there.0 (file key) r ((asks.files key there.0).0 there.1)),
     λ set.
-        let there : place_of job key ≡ Some (back q) = (asks.files key (back q)).1 (sets-moved back to verb others words q (File key) (back-first to back words others r) set) in
+        let there : place_of job key ≡ Some (back q) = (asks.files key (back q)).1 (sets-moved back to verb others words q (file key) (back-first to back words others r) set) in
         place-moved key to job ∙ ap (option_map to) there ∙ ap Some (r.moves.again q),
   );
-  main = subst (λ default. IsSetOr verb others Main default job.main) (usual-moved to job) (or-moved to back verb words others Main (usual_main job) job.main r asks.main);
-  kib = or-moved to back verb words others Ram 1024 job.kib r asks.kib;
-  steps = or-moved to back verb words others Steps 1000000 job.steps r asks.steps;
+  main = subst (λ default. IsSetOr verb others (λ s. setting Main (Set s)) default job.main) (usual-moved to job) (or-moved to back verb words others (λ s. setting Main (Set s)) (usual_main job) job.main r asks.main);
+  kib = or-moved to back verb words others (numbered Ram) 1024 job.kib r asks.kib;
+  steps = or-moved to back verb words others (numbered Steps) 1000000 job.steps r asks.steps;
   program = program-moved to job.main job.flat job.rsrc job.pef asks.program;
 }
 
@@ -240,13 +242,19 @@ command-moved to back words others (Run job) r asks = (read-moved to back ToRun 
 command-moved to back words others (Listing job address count) r asks = (
   read-moved to back ToList words others r asks.0,
   job-moved to back ToList words others job r asks.1,
-  set-moved to back ToList words others (At address) r asks.2,
-  set-moved to back ToList words others (Count count) r asks.3,
+  set-moved to back ToList words others (numbered At address) r asks.2,
+  set-moved to back ToList words others (numbered Count count) r asks.3,
 )
 command-moved to back words others (Sample calls depth) r asks = (
   read-moved to back ToSample words others r asks.0,
-  set-moved to back ToSample words others (Calls calls) r asks.1,
-  set-moved to back ToSample words others (Depth depth) r asks.2,
+  set-moved to back ToSample words others (numbered Calls calls) r asks.1,
+  set-moved to back ToSample words others (numbered Depth depth) r asks.2,
+)
+command-moved to back words others (Assemble code text address) r asks = (
+  read-moved to back ToAssemble words others r asks.0,
+  set-moved to back ToAssemble words others (setting CodeSet (Set code)) r asks.1,
+  sets-moved to back ToAssemble words others text (file Text) r asks.2,
+  set-moved to back ToAssemble words others (numbered At address) r asks.3,
 )
 
 pub order-free : OrderIsFree

@@ -1,19 +1,19 @@
 -- When words are a command, and which one: by what they set, wherever they stand.
-use Rattle.std.specs.Prelude.{ℕ, ◌≡◌, ◌≢◌, ◌+◌, ◌<◌, ◌≤◌, ◌||◌, ◌⊎◌, ◌↔◌, List as ListOf, [], length, take, slice_index_or, if◌then◌else◌, Some, is_some, IfNone, IsSome}
+use Rattle.std.specs.Prelude.{ℕ, ◌≡◌, ◌≢◌, ◌+◌, ◌<◌, ◌≤◌, ◌⊎◌, ◌↔◌, List as ListOf, [], length, take, slice_index_or, Some, IfNone, IsSome}
 use Rattle.mix_bits.specs.declared.isa.Isa.{Isa}
-use Rattle.mix_bits.specs.declared.isa.Isa.TheVariants.{M68, Ppc}
-use Rattle.job_words.specs.Settings.{verb_of, setting_of, key_in}
-use Rattle.job_words.specs.Drafts.{main_file}
+use Rattle.job_words.specs.Settings.{verb_of, setting_of, key_in, setting, file, numbered}
+use Rattle.job_words.specs.Drafts.{main_file, usual_set}
 use Rattle.job_words.specs.Jobs.{place_of}
 use Rattle.job_words.specs.declared.job.Command.{Command}
-use Rattle.job_words.specs.declared.job.Command.TheVariants.{Run, List, Sample}
+use Rattle.job_words.specs.declared.job.Command.TheVariants.{Run, List, Sample, Assemble}
 use Rattle.job_words.specs.declared.job.Job.{Job}
 use Rattle.job_words.specs.declared.job.Key.{Key}
-use Rattle.job_words.specs.declared.job.Key.TheVariants.{Flat}
+use Rattle.job_words.specs.declared.job.Key.TheVariants.{Flat, Text}
 use Rattle.job_words.specs.declared.setting.Setting.{Setting}
-use Rattle.job_words.specs.declared.setting.Setting.TheVariants.{File, Main, Ram, Steps, At, Count, Calls, Depth}
+use Rattle.job_words.specs.declared.setting.Name.TheVariants.{Main, Ram, Steps, At, Count, Calls, Depth, CodeSet}
+use Rattle.job_words.specs.declared.setting.Value.TheVariants.{Set}
 use Rattle.job_words.specs.declared.setting.Verb.{Verb}
-use Rattle.job_words.specs.declared.setting.Verb.TheVariants.{ToRun, ToList, ToSample}
+use Rattle.job_words.specs.declared.setting.Verb.TheVariants.{ToRun, ToList, ToSample, ToAssemble}
 
 abbrev pub word_at : ListOf (ListOf ℕ) → ℕ → ListOf ℕ
 word_at words place = slice_index_or words place []
@@ -33,29 +33,30 @@ pub record AreRead (verb : Verb) (words : ListOf (ListOf ℕ)) : Type 0 where
   pub named : verb_of (word_at words 0) ≡ Some verb
   pub each : (place : ℕ) → 0 < place → place < length words → IsSome (setting_of verb (word_at words place))
   pub once : (i j : ℕ) → 0 < i → i < j → j < length words → key_in (word_at words i) ≢ key_in (word_at words j)
-  pub alone : IsSet verb words (File Flat) → (key : Key) → IsSet verb words (File key) → key ≡ Flat
+  pub alone : IsSet verb words (file Flat) → (key : Key) → IsSet verb words (file key) → key ≡ Flat
 
 -- a word sets the value, or none does and it is the default
 abbrev pub IsSetOr : {A : Type 0} → Verb → ListOf (ListOf ℕ) → (A → Setting) → A → A → Type 0
-IsSetOr {A} verb words setting default value = IsSet verb words (setting value) ⊎ (((x : A) → ¬ IsSet verb words (setting x)) × (value ≡ default))
+IsSetOr {A} verb words sets default value = IsSet verb words (sets value) ⊎ (((x : A) → ¬ IsSet verb words (sets x)) × (value ≡ default))
 
 -- the main set where no word names one
 abbrev pub usual_main : Job → Isa
-usual_main job = if is_some job.flat || is_some job.rsrc then M68 else Ppc
+usual_main job = usual_set job.flat job.rsrc
 
 -- the words ask for a job: its files stand where their words do, and the main program's is among them
 pub record AsksJob (verb : Verb) (words : ListOf (ListOf ℕ)) (job : Job) : Type 0 where
-  pub files : (key : Key) (place : ℕ) → (place_of job key ≡ Some place) ↔ Sets verb words place (File key)
-  pub main : IsSetOr verb words Main (usual_main job) job.main
-  pub kib : IsSetOr verb words Ram 1024 job.kib
-  pub steps : IsSetOr verb words Steps 1000000 job.steps
+  pub files : (key : Key) (place : ℕ) → (place_of job key ≡ Some place) ↔ Sets verb words place (file key)
+  pub main : IsSetOr verb words (λ set. setting Main (Set set)) (usual_main job) job.main
+  pub kib : IsSetOr verb words (numbered Ram) 1024 job.kib
+  pub steps : IsSetOr verb words (numbered Steps) 1000000 job.steps
   pub program : IfNone job.flat (IsSome (main_file job.main job.rsrc job.pef))
 
 -- the words ask for a command
 abbrev pub Asks : ListOf (ListOf ℕ) → Command → Type 0
 Asks words (Run job) = AreRead ToRun words × AsksJob ToRun words job
-Asks words (List job address count) = AreRead ToList words × AsksJob ToList words job × IsSet ToList words (At address) × IsSet ToList words (Count count)
-Asks words (Sample calls depth) = AreRead ToSample words × IsSet ToSample words (Calls calls) × IsSet ToSample words (Depth depth)
+Asks words (List job address count) = AreRead ToList words × AsksJob ToList words job × IsSet ToList words (numbered At address) × IsSet ToList words (numbered Count count)
+Asks words (Sample calls depth) = AreRead ToSample words × IsSet ToSample words (numbered Calls calls) × IsSet ToSample words (numbered Depth depth)
+Asks words (Assemble set text address) = AreRead ToAssemble words × IsSet ToAssemble words (setting CodeSet (Set set)) × Sets ToAssemble words text (file Text) × IsSet ToAssemble words (numbered At address)
 
 -- words that a command line can begin with, as far as they go
 abbrev pub CanBegin : ListOf (ListOf ℕ) → Type 0

@@ -1,18 +1,60 @@
--- What holds of each command that is read.
+-- What each command wants, and what holds of each that is read.
 use Rattle.std.specs.Prelude.{ℕ, ◌≡◌, ◌<◌, ◌≤◌, List as ListOf, [], ◌∷◌, ◌++◌, length, slice_index_or, IsTrue, Option, Some, None, IfSome, IfNone, IsSome}
 use Rattle.job_words.specs.Settings.{key_in, has_equals, key_text}
 use Rattle.job_words.specs.Drafts.{main_file}
 use Rattle.job_words.specs.declared.job.Job.{Job}
 use Rattle.job_words.specs.declared.job.Key.{Key}
-use Rattle.job_words.specs.declared.job.Key.TheVariants.{Flat, Rsrc, Pef}
+use Rattle.job_words.specs.declared.job.Key.TheVariants.{Flat, Rsrc, Pef, Text}
 use Rattle.job_words.specs.declared.job.Command.{Command}
-use Rattle.job_words.specs.declared.job.Command.TheVariants.{Run, List, Sample}
+use Rattle.job_words.specs.declared.job.Command.TheVariants.{Run, List, Sample, Assemble}
 
--- the place of the word that names a file
+-- the place of the word that names a file of a program; a text is none
 abbrev pub place_of : Job → Key → Option ℕ
 place_of job Flat = job.flat
 place_of job Rsrc = job.rsrc
 place_of job Pef = job.pef
+place_of job Text = None
+
+-- the program that a command loads
+abbrev pub job_in : Command → Option Job
+job_in (Run job) = Some job
+job_in (List job address count) = Some job
+job_in (Sample calls depth) = None
+job_in (Assemble set text address) = None
+
+-- where a text stands
+abbrev pub text_place : ℕ → Key → Option ℕ
+text_place place Text = Some place
+text_place place key = None
+
+-- the place of the word that names the file of a key, if the command wants that file
+abbrev pub place_in : Command → Key → Option ℕ
+place_in (Run job) key = place_of job key
+place_in (List job address count) key = place_of job key
+place_in (Sample calls depth) key = None
+place_in (Assemble set text address) key = text_place text key
+
+-- all keys, in the order in which files are fetched, and how long the file of each is at most
+abbrev pub keys_in_order : ListOf Key
+keys_in_order = Flat ∷ (Rsrc ∷ (Pef ∷ (Text ∷ [])))
+
+abbrev pub limit_of : Key → ℕ
+limit_of Flat = 16777216
+limit_of Rsrc = 16777216
+limit_of Pef = 16777216
+limit_of Text = 16777216
+
+-- the files that a command wants, in the order in which they are fetched, each with the place of its word
+abbrev pub wanted_at : Option ℕ → Key → ListOf (Key × ℕ)
+wanted_at None key = []
+wanted_at (Some place) key = (key, place) ∷ []
+
+abbrev pub wanted_among : ListOf Key → Command → ListOf (Key × ℕ)
+wanted_among [] command = []
+wanted_among (key ∷ keys) command = wanted_at (place_in command key) key ++ wanted_among keys command
+
+abbrev pub wants : Command → ListOf (Key × ℕ)
+wants command = wanted_among keys_in_order command
 
 -- a word begins with a file's key and an equals sign
 pub record IsKeyed (word : ListOf ℕ) (key : Key) : Type 0 where
@@ -24,53 +66,24 @@ pub record HasKey (words : ListOf (ListOf ℕ)) (key : Key) (place : ℕ) : Type
   pub inside : place < length words
   pub keyed : IsKeyed (slice_index_or words place []) key
 
--- each place that a job keeps is that of a word with the file's key
-abbrev pub NamesJob : ListOf (ListOf ℕ) → Job → Type 0
-NamesJob words job = (key : Key) → IfSome (place_of job key) (HasKey words key)
-
+-- each place that a command keeps is that of a word with the file's key
 abbrev pub NamesFiles : ListOf (ListOf ℕ) → Command → Type 0
-NamesFiles words (Run job) = NamesJob words job
-NamesFiles words (List job address count) = NamesJob words job
-NamesFiles words (Sample calls depth) = Unit {0}
+NamesFiles words command = (key : Key) → IfSome (place_in command key) (HasKey words key)
 
--- a job has RAM of a size that there is
-abbrev pub HasRamOf : Job → Type 0
-HasRamOf job = (128 ≤ job.kib) × (job.kib ≤ 16384)
-
-abbrev pub HasRam : Command → Type 0
-HasRam (Run job) = HasRamOf job
-HasRam (List job address count) = HasRamOf job
-HasRam (Sample calls depth) = Unit {0}
-
--- a flat file stands alone, and without one the main program's own file is there
-pub record FitsMainOf (job : Job) : Type 0 where
+-- a flat file stands alone, without one the main program's own file is there, and RAM has a size that there is
+pub record IsProperJob (job : Job) : Type 0 where
   pub alone : IfSome job.flat (λ place. (job.rsrc ≡ None) × (job.pef ≡ None))
   pub own : IfNone job.flat (IsSome (main_file job.main job.rsrc job.pef))
-
-abbrev pub FitsMain : Command → Type 0
-FitsMain (Run job) = FitsMainOf job
-FitsMain (List job address count) = FitsMainOf job
-FitsMain (Sample calls depth) = Unit {0}
+  pub ram : (128 ≤ job.kib) × (job.kib ≤ 16384)
 
 -- the numbers that a listing and a sample can have
 abbrev pub IsCounted : Command → Type 0
 IsCounted (Run job) = Unit {0}
 IsCounted (List job address count) = (1 ≤ count) × (count ≤ 4096)
 IsCounted (Sample calls depth) = ((1 ≤ calls) × (calls ≤ 1000)) × ((1 ≤ depth) × (depth ≤ 300))
+IsCounted (Assemble set text address) = Unit {0}
 
-pub record IsProperJob (job : Job) : Type 0 where
-  pub ram : HasRamOf job
-  pub main : FitsMainOf job
-
-pub record IsProper (command : Command) : Type 0 where
-  pub ram : HasRam command
-  pub main : FitsMain command
+pub record IsProper (words : ListOf (ListOf ℕ)) (command : Command) : Type 0 where
+  pub files : NamesFiles words command
+  pub job : IfSome (job_in command) IsProperJob
   pub counts : IsCounted command
-
--- the files that a job wants, in the order in which they are fetched
-abbrev pub wanted_if : Option ℕ → Key → ListOf Key
-wanted_if None key = []
-wanted_if (Some place) key = key ∷ []
-
-abbrev pub wanted : Job → ListOf Key
-wanted job = wanted_if job.flat Flat ++ (wanted_if job.rsrc Rsrc ++ wanted_if job.pef Pef)

@@ -1,45 +1,57 @@
--- What a word sets: a table of keys for each command.
-use Rattle.std.specs.Prelude.{ℕ, ◌&&◌, ◌==◌, ◌≤◌, nat_le, nat_lt, Bool, List, [], ◌∷◌, length, codes, if◌then◌else◌, Option, Some, None}
+-- What a word sets: a table of the keys of each command, and of the values of each key.
+use Rattle.std.specs.Prelude.{ℕ, ◌&&◌, ◌==◌, nat_le, nat_lt, Bool, List, [], ◌∷◌, length, codes, if◌then◌else◌, Option, Some, None}
 use Rattle.std.specs.List.{before_first, after_first, position_or_len}
 use Rattle.std.specs.Option.{option_and_then, option_map}
 use Rattle.std.specs.Str.{bytes_eq}
 use Rattle.mix_bits.specs.declared.isa.Isa.TheVariants.{M68, Ppc}
 use Rattle.mix_bits.specs.Numbers.{decimal_number, hexadecimal_number}
 use Rattle.job_words.specs.declared.job.Key.{Key}
-use Rattle.job_words.specs.declared.job.Key.TheVariants.{Flat, Rsrc, Pef}
+use Rattle.job_words.specs.declared.job.Key.TheVariants.{Flat, Rsrc, Pef, Text}
+use Rattle.job_words.specs.declared.setting.Name.{Name}
+use Rattle.job_words.specs.declared.setting.Name.TheVariants.{File, Main, Ram, Steps, At, Count, Calls, Depth, CodeSet}
 use Rattle.job_words.specs.declared.setting.Setting.{Setting}
-use Rattle.job_words.specs.declared.setting.Setting.TheVariants.{File, Main, Ram, Steps, At, Count, Calls, Depth}
+use Rattle.job_words.specs.declared.setting.Value.{Value}
+use Rattle.job_words.specs.declared.setting.Value.TheVariants.{Named, Set, Number}
 use Rattle.job_words.specs.declared.setting.Verb.{Verb}
-use Rattle.job_words.specs.declared.setting.Verb.TheVariants.{ToRun, ToList, ToSample}
+use Rattle.job_words.specs.declared.setting.Verb.TheVariants.{ToRun, ToList, ToSample, ToAssemble}
 
 -- the command that a first word is
 unfoldable pub verb_of : List ℕ → Option Verb
 verb_of word =
     if bytes_eq word (codes "run") then Some ToRun
     else (if bytes_eq word (codes "list") then Some ToList
-    else (if bytes_eq word (codes "sample") then Some ToSample else None))
+    else (if bytes_eq word (codes "sample") then Some ToSample
+    else (if bytes_eq word (codes "assemble") then Some ToAssemble else None)))
 
--- a key: its text, and what a value of it sets
-pub record Row : Type 0 where
-  pub text : List ℕ
-  pub reads : List ℕ → Option Setting
+-- the keys that each command knows
+abbrev pub keys : Verb → List Name
+keys ToRun = File Flat ∷ (File Rsrc ∷ (File Pef ∷ (Main ∷ (Ram ∷ (Steps ∷ [])))))
+keys ToList = File Flat ∷ (File Rsrc ∷ (File Pef ∷ (Main ∷ (Ram ∷ (At ∷ (Count ∷ []))))))
+keys ToSample = Calls ∷ (Depth ∷ [])
+keys ToAssemble = CodeSet ∷ (File Text ∷ (At ∷ []))
 
-abbrev pub row : List ℕ → (List ℕ → Option Setting) → Row
-row text reads = record { text = text; reads = reads }
-
--- a file has a name that is not empty
-abbrev pub file_of : Key → List ℕ → Option Setting
-file_of key name = if length name == 0 then None else Some (File key)
-
-abbrev pub main_of : List ℕ → Option Setting
-main_of name =
-    if bytes_eq name (codes "68k") then Some (Main M68)
-    else (if bytes_eq name (codes "ppc") then Some (Main Ppc) else None)
-
+-- the text of each key
 abbrev pub key_text : Key → List ℕ
 key_text Flat = codes "flat"
 key_text Rsrc = codes "rsrc"
 key_text Pef = codes "pef"
+key_text Text = codes "text"
+
+abbrev pub text_of : Name → List ℕ
+text_of (File key) = key_text key
+text_of Main = codes "main"
+text_of Ram = codes "ram"
+text_of Steps = codes "steps"
+text_of At = codes "at"
+text_of Count = codes "count"
+text_of Calls = codes "n"
+text_of Depth = codes "depth"
+text_of CodeSet = codes "set"
+
+abbrev pub set_of : List ℕ → Option Value
+set_of name =
+    if bytes_eq name (codes "68k") then Some (Set M68)
+    else (if bytes_eq name (codes "ppc") then Some (Set Ppc) else None)
 
 -- a number from `least` to `most`
 abbrev pub kept_within : ℕ → ℕ → ℕ → Option ℕ
@@ -48,29 +60,34 @@ kept_within least most n = if nat_le least n && nat_le n most then Some n else N
 abbrev pub number_within : ℕ → ℕ → List ℕ → Option ℕ
 number_within least most text = option_and_then (kept_within least most) (decimal_number text)
 
--- the keys of a program to load
-abbrev pub loading : List Row
-loading =
-    row (codes "flat") (file_of Flat) ∷
-    (row (codes "rsrc") (file_of Rsrc) ∷
-    (row (codes "pef") (file_of Pef) ∷
-    (row (codes "main") main_of ∷
-    (row (codes "ram") (λ text. option_map Ram (number_within 128 16384 text)) ∷ []))))
+abbrev pub number_in : Option ℕ → Option Value
+number_in read = option_map Number read
 
--- the keys that each command knows
-abbrev pub keys : Verb → List Row
-keys ToRun = row (codes "steps") (λ text. option_map Steps (decimal_number text)) ∷ loading
-keys ToList =
-    row (codes "at") (λ text. option_map At (hexadecimal_number 8 text)) ∷
-    (row (codes "count") (λ text. option_map Count (number_within 1 4096 text)) ∷ loading)
-keys ToSample =
-    row (codes "n") (λ text. option_map Calls (number_within 1 1000 text)) ∷
-    (row (codes "depth") (λ text. option_map Depth (number_within 1 300 text)) ∷ [])
+-- the values of each key: a file has a name that is not empty, and a number its range
+abbrev pub value_of : Name → List ℕ → Option Value
+value_of (File key) text = if length text == 0 then None else Some Named
+value_of Main text = set_of text
+value_of Ram text = number_in (number_within 128 16384 text)
+value_of Steps text = number_in (decimal_number text)
+value_of At text = number_in (hexadecimal_number 8 text)
+value_of Count text = number_in (number_within 1 4096 text)
+value_of Calls text = number_in (number_within 1 1000 text)
+value_of Depth text = number_in (number_within 1 300 text)
+value_of CodeSet text = set_of text
 
--- what a value sets by the row of its key
-abbrev pub setting_in : List Row → List ℕ → List ℕ → Option Setting
-setting_in [] key text = None
-setting_in (row ∷ rows) key text = if bytes_eq key row.text then row.reads text else setting_in rows key text
+abbrev pub setting : Name → Value → Setting
+setting name value = record { name = name; value = value }
+
+abbrev pub file : Key → Setting
+file key = setting (File key) Named
+
+abbrev pub numbered : Name → ℕ → Setting
+numbered name n = setting name (Number n)
+
+-- the first of some keys with this text
+abbrev pub name_in : List Name → List ℕ → Option Name
+name_in [] text = None
+name_in (name ∷ names) text = if bytes_eq text (text_of name) then Some name else name_in names text
 
 -- a key ends at the first equals sign, and its value stands behind that
 abbrev pub key_in : List ℕ → List ℕ
@@ -82,14 +99,10 @@ value_in word = after_first (λ byte. byte == 61) word
 abbrev pub has_equals : List ℕ → Bool
 has_equals word = nat_lt (position_or_len (λ byte. byte == 61) word) (length word)
 
+-- what a text sets for a key
+abbrev pub setting_in : List ℕ → Name → Option Setting
+setting_in text name = option_map (setting name) (value_of name text)
+
 -- what a word after the command sets
 unfoldable pub setting_of : Verb → List ℕ → Option Setting
-setting_of verb word = if has_equals word then setting_in (keys verb) (key_in word) (value_in word) else None
-
--- the numbers that a setting can have
-abbrev pub IsInRange : Setting → Type 0
-IsInRange (Ram kib) = (128 ≤ kib) × (kib ≤ 16384)
-IsInRange (Count count) = (1 ≤ count) × (count ≤ 4096)
-IsInRange (Calls calls) = (1 ≤ calls) × (calls ≤ 1000)
-IsInRange (Depth depth) = (1 ≤ depth) × (depth ≤ 300)
-IsInRange _ = Unit {0}
+setting_of verb word = if has_equals word then option_and_then (setting_in (value_in word)) (name_in (keys verb) (key_in word)) else None

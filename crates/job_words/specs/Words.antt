@@ -1,14 +1,11 @@
 -- What a command line asks for.
 use Rattle.std.specs.Prelude.{ℕ, ◌+◌, List, [], ◌∷◌, length, slice_index_or, Result, Ok, Err}
-use Rattle.std.specs.Option.{ok_or, option_and_then, option_map_or}
+use Rattle.std.specs.Option.{ok_or, option_and_then}
 use Rattle.mix_bits.specs.Results.{◌>>=◌}
 use Rattle.job_words.specs.Settings.{verb_of, setting_of, value_in}
 use Rattle.job_words.specs.Drafts.{nothing, with_setting, made}
-use Rattle.job_words.specs.Jobs.{place_of}
 use Rattle.job_words.specs.declared.job.BadWord.{BadWord}
 use Rattle.job_words.specs.declared.job.Command.{Command}
-use Rattle.job_words.specs.declared.job.Job.{Job}
-use Rattle.job_words.specs.declared.job.Key.{Key}
 use Rattle.job_words.specs.declared.draft.Draft.{Draft}
 use Rattle.job_words.specs.declared.setting.Verb.{Verb}
 
@@ -36,7 +33,3 @@ command_of (command ∷ words) = ok_or (verb_of command) (bad_at 0) >>= (λ verb
 -- what stands behind the first equals sign of the word at a place
 abbrev pub name_at : List (List ℕ) → ℕ → List ℕ
 name_at words place = value_in (slice_index_or words place [])
-
--- the name of a file that a job wants
-abbrev pub name_of : List (List ℕ) → Job → Key → List ℕ
-name_of words job key = option_map_or (name_at words) (place_of job key) []

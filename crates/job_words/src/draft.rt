@@ -1,186 +1,189 @@
-ghost use Rattle.std.specs.Prelude.{◌≡◌, ◌+◌, IfSome};
-ghost use Rattle.job_words.specs.Settings.{IsInRange};
-ghost use Rattle.job_words.specs.Drafts.{filled, nothing, with_file, with_setting, files_in, settings_in, StandsAlone, IsSound, has_program, main_in, job_of, made};
-ghost use Rattle.job_words.specs.Jobs.{IsProper, IsProperJob};
+ghost use Rattle.std.specs.Prelude.{◌≡◌, ◌+◌, ◌<◌, IfSome, is_none};
+ghost use Rattle.job_words.specs.Drafts.{given as given_of, has_room as has_room_of, index_of, job_of, made, main_in, has_program, nothing, number as number_of, place as place_of, set as set_of, settings_in, with_setting};
 
 use super::job::{Command, Job, Key};
-use super::setting::{Setting, Verb};
+use super::setting::{Name, Setting, Value, Verb};
 use mix_bits::Isa;
 
-/// The places of the words that name files.
+/// What a word gave for its key.
 #[derive(Clone, Copy)]
-pub struct Files {
-    pub flat: Option<u32>,
-    pub rsrc: Option<u32>,
-    pub pef: Option<u32>,
+pub struct Given {
+    pub place: u32,
+    pub value: Value,
 }
 
-/// What the words so far have set.
+/// What the words so far have given, each under the number of its key.
 #[derive(Clone, Copy)]
 pub struct Draft {
-    pub files: Files,
-    pub main: Option<Isa>,
-    pub kib: Option<u32>,
-    pub steps: Option<u32>,
-    pub at: Option<u32>,
-    pub count: Option<u32>,
-    pub calls: Option<u32>,
-    pub depth: Option<u32>,
+    pub slots: [Option<Given>; 12],
 }
 
 impl Draft {
-    /// A draft in which nothing is set.
+    /// A draft in which nothing is given.
     pub fn new() -> Draft
         ensures { result ≡ nothing }
     {
-        Draft {
-            files: Files {
-                flat: None,
-                rsrc: None,
-                pef: None,
-            },
-            main: None,
-            kib: None,
-            steps: None,
-            at: None,
-            count: None,
-            calls: None,
-            depth: None,
+        Draft { slots: [None; 12] }
+    }
+
+    /// The draft with one more setting, unless its key or one that it excludes is given already.
+    pub fn with(mut self, place: u32, setting: Setting) -> Option<Draft>
+        ensures value { result ≡ with_setting self place setting }
+        ensures more { IfSome result (λ next. settings_in next ≡ 1 + settings_in self) }
+    {
+        if !has_room(&self, setting.name) {
+            return None;
+        }
+        self.slots[index(setting.name)] = Some(Given {
+            place,
+            value: setting.value,
+        });
+        Some(self)
+    }
+
+    /// What is given for a key.
+    fn given(&self, name: Name) -> Option<Given>
+        ensures { result ≡ given_of self.now name }
+    {
+        self.slots[index(name)]
+    }
+
+    /// The place of the word that names a file.
+    fn place(&self, key: Key) -> Option<u32>
+        ensures { result ≡ place_of self.now key }
+    {
+        match self.given(Name::File(key)) {
+            Some(
+                Given {
+                    place,
+                    value: Value::Named,
+                },
+            ) => Some(place),
+            _ => None,
+        }
+    }
+
+    /// The number that is given for a key.
+    fn number(&self, name: Name) -> Option<u32>
+        ensures { result ≡ number_of self.now name }
+    {
+        match self.given(name)?.value {
+            Value::Number(n) => Some(n),
+            _ => None,
+        }
+    }
+
+    /// The instruction set that is given for a key.
+    fn set(&self, name: Name) -> Option<Isa>
+        ensures { result ≡ set_of self.now name }
+    {
+        match self.given(name)?.value {
+            Value::Set(set) => Some(set),
+            _ => None,
         }
     }
 }
 
-/// A value in a slot that is still empty.
-fn fill<T: Copy + Drop>(slot: Option<T>, value: T) -> Option<Option<T>>
-    ensures { result ≡ filled slot value }
+/// The number of a key.
+fn index(name: Name) -> usize
+    ensures value { result ≡ index_of name }
+    ensures inside { result < 12 }
 {
-    if slot.is_some() {
-        None
-    } else {
-        Some(Some(value))
+    match name {
+        Name::File(Key::Flat) => 0,
+        Name::File(Key::Rsrc) => 1,
+        Name::File(Key::Pef) => 2,
+        Name::Main => 3,
+        Name::Ram => 4,
+        Name::Steps => 5,
+        Name::At => 6,
+        Name::Count => 7,
+        Name::Calls => 8,
+        Name::Depth => 9,
+        Name::File(Key::Text) => 10,
+        Name::CodeSet => 11,
     }
 }
 
-/// The files with one more; a flat file stands alone.
-fn set_file(files: Files, place: u32, key: Key) -> Option<Files>
-    requires { StandsAlone files }
-    ensures value { result ≡ with_file files place key }
-    ensures more { IfSome result (λ next. files_in next ≡ 1 + files_in files) }
-    ensures alone { IfSome result StandsAlone }
+/// Whether neither a key is given nor one that it excludes: a flat file stands alone.
+fn has_room(draft: &Draft, name: Name) -> bool
+    ensures { result ≡ has_room_of draft.now name }
 {
-    match key {
-        Key::Flat if files.rsrc.is_none() && files.pef.is_none() => Some(Files {
-            flat: fill(files.flat, place)?,
-            ..files
-        }),
-        Key::Rsrc if files.flat.is_none() => Some(Files {
-            rsrc: fill(files.rsrc, place)?,
-            ..files
-        }),
-        Key::Pef if files.flat.is_none() => Some(Files {
-            pef: fill(files.pef, place)?,
-            ..files
-        }),
-        _ => None,
-    }
+    is_open(draft, name)
+        && match name {
+            Name::File(Key::Flat) => {
+                is_open(draft, Name::File(Key::Rsrc))
+                    && (is_open(draft, Name::File(Key::Pef))
+                        && is_open(draft, Name::File(Key::Text)))
+            }
+            Name::File(_) => is_open(draft, Name::File(Key::Flat)),
+            _ => true,
+        }
 }
 
-/// The draft with one more setting, unless it is set already.
-pub fn set(draft: Draft, place: u32, setting: Setting) -> Option<Draft>
-    requires range { IsInRange setting }
-    requires sound { IsSound draft }
-    ensures value { result ≡ with_setting draft place setting }
-    ensures more { IfSome result (λ next. settings_in next ≡ 1 + settings_in draft) }
-    ensures kept { IfSome result IsSound }
+/// Whether a key is not given.
+fn is_open(draft: &Draft, name: Name) -> bool
+    ensures { result ≡ is_none (given_of draft.now name) }
 {
-    match setting {
-        Setting::File(key) => Some(Draft {
-            files: set_file(draft.files, place, key)?,
-            ..draft
-        }),
-        Setting::Main(set) => Some(Draft {
-            main: fill(draft.main, set)?,
-            ..draft
-        }),
-        Setting::Ram(kib) => Some(Draft {
-            kib: fill(draft.kib, kib)?,
-            ..draft
-        }),
-        Setting::Steps(steps) => Some(Draft {
-            steps: fill(draft.steps, steps)?,
-            ..draft
-        }),
-        Setting::At(address) => Some(Draft {
-            at: fill(draft.at, address)?,
-            ..draft
-        }),
-        Setting::Count(count) => Some(Draft {
-            count: fill(draft.count, count)?,
-            ..draft
-        }),
-        Setting::Calls(calls) => Some(Draft {
-            calls: fill(draft.calls, calls)?,
-            ..draft
-        }),
-        Setting::Depth(depth) => Some(Draft {
-            depth: fill(draft.depth, depth)?,
-            ..draft
-        }),
-    }
+    draft.given(name).is_none()
 }
 
 /// The instruction set of the main program: as it is named, else that of the files.
-fn main_set(draft: Draft) -> Isa
-    ensures { result ≡ main_in draft }
+fn main_set(draft: &Draft) -> Isa
+    ensures { result ≡ main_in draft.now }
 {
-    match draft.main {
+    match draft.set(Name::Main) {
         Some(set) => set,
-        None if draft.files.flat.is_some() || draft.files.rsrc.is_some() => Isa::M68,
+        None if draft.place(Key::Flat).is_some() || draft.place(Key::Rsrc).is_some() => Isa::M68,
         None => Isa::Ppc,
     }
 }
 
-/// Whether the files hold a main program of an instruction set.
-fn has_main(files: Files, main: Isa) -> bool
-    ensures { result ≡ has_program files main }
+/// Whether the files of a job hold its main program.
+fn has_main(job: Job) -> bool
+    ensures { result ≡ has_program job }
 {
-    files.flat.is_some()
-        || match main {
-            Isa::M68 => files.rsrc.is_some(),
-            Isa::Ppc => files.pef.is_some(),
+    job.flat.is_some()
+        || match job.main {
+            Isa::M68 => job.rsrc.is_some(),
+            Isa::Ppc => job.pef.is_some(),
         }
 }
 
 /// The job of a draft, unless its main program is missing.
-fn job(draft: Draft) -> Option<Job>
-    requires { IsSound draft }
-    ensures value { result ≡ job_of draft }
-    ensures proper { IfSome result IsProperJob }
+fn job(draft: &Draft) -> Option<Job>
+    ensures { result ≡ job_of draft.now }
 {
-    let main = main_set(draft);
-    if has_main(draft.files, main) {
-        Some(Job {
-            flat: draft.files.flat,
-            rsrc: draft.files.rsrc,
-            pef: draft.files.pef,
-            main,
-            kib: draft.kib.unwrap_or(1024),
-            steps: draft.steps.unwrap_or(1_000_000),
-        })
-    } else {
-        None
-    }
+    let job = Job {
+        flat: draft.place(Key::Flat),
+        rsrc: draft.place(Key::Rsrc),
+        pef: draft.place(Key::Pef),
+        main: main_set(draft),
+        kib: draft.number(Name::Ram).unwrap_or(1024),
+        steps: draft.number(Name::Steps).unwrap_or(1_000_000),
+    };
+    if has_main(job) { Some(job) } else { None }
 }
 
 /// The command of a draft, unless something is missing.
-pub fn make(verb: Verb, draft: Draft) -> Option<Command>
-    requires { IsSound draft }
-    ensures value { result ≡ made verb draft }
-    ensures proper { IfSome result IsProper }
+pub fn make(verb: Verb, draft: &Draft) -> Option<Command>
+    ensures { result ≡ made verb draft.now }
 {
     match verb {
         Verb::ToRun => Some(Command::Run(job(draft)?)),
-        Verb::ToList => Some(Command::List(job(draft)?, draft.at?, draft.count?)),
-        Verb::ToSample => Some(Command::Sample(draft.calls?, draft.depth?)),
+        Verb::ToList => Some(Command::List(
+            job(draft)?,
+            draft.number(Name::At)?,
+            draft.number(Name::Count)?,
+        )),
+        Verb::ToSample => Some(Command::Sample(
+            draft.number(Name::Calls)?,
+            draft.number(Name::Depth)?,
+        )),
+        Verb::ToAssemble => Some(Command::Assemble(
+            draft.set(Name::CodeSet)?,
+            draft.place(Key::Text)?,
+            draft.number(Name::At)?,
+        )),
     }
 }

@@ -1,4 +1,8 @@
 // What a command line can ask for.
+ghost use Rattle.std.specs.Prelude.{◌≡◌, ◌≤◌, length};
+ghost use Rattle.job_words.specs.Jobs.{limit_of, place_in, place_of, text_place as text_place_of};
+ghost use Rattle.job_words.specs.Settings.{key_text as key_text_of};
+
 use mix_bits::Isa;
 
 /// What the words ask for.
@@ -10,6 +14,33 @@ pub enum Command {
     List(Job, u32, u32),
     /// Runs the sample program: how many calls it makes, and how deep each goes.
     Sample(u32, u32),
+    /// Assembles the lines of a text: in which instruction set, the place of the word that names the text, and the
+    /// address of the first line.
+    Assemble(Isa, u32, u32),
+}
+
+impl Command {
+    /// The place of the word that names the file of a key, if the command wants that file.
+    pub fn place(&self, key: Key) -> Option<u32>
+        ensures { result ≡ place_in self.now key }
+    {
+        match self {
+            Command::Run(job) => job.place(key),
+            Command::List(job, _, _) => job.place(key),
+            Command::Sample(_, _) => None,
+            Command::Assemble(_, text, _) => text_place(*text, key),
+        }
+    }
+}
+
+/// The place of the word that names the file of a key, where a text is the only file.
+fn text_place(place: u32, key: Key) -> Option<u32>
+    ensures { result ≡ text_place_of place key }
+{
+    match key {
+        Key::Text => Some(place),
+        _ => None,
+    }
 }
 
 /// A program to load: its files, each as the place of the word that names it, and how to run it.
@@ -26,7 +57,21 @@ pub struct Job {
     pub steps: u32,
 }
 
-/// A file of a program.
+impl Job {
+    /// The place of the word that names the file of a key; a text is no file of a program.
+    fn place(&self, key: Key) -> Option<u32>
+        ensures { result ≡ place_of self.now key }
+    {
+        match key {
+            Key::Flat => self.flat,
+            Key::Rsrc => self.rsrc,
+            Key::Pef => self.pef,
+            Key::Text => None,
+        }
+    }
+}
+
+/// A file that a command can want.
 #[derive(Clone, Copy, Debug, PartialEq, Eq)]
 pub enum Key {
     /// A flat image.
@@ -35,6 +80,38 @@ pub enum Key {
     Rsrc,
     /// A container of PowerPC code.
     Pef,
+    /// A text of lines to assemble.
+    Text,
+}
+
+impl Key {
+    /// All keys, in the order in which the files of a command are fetched.
+    pub const ALL: [Key; 4] = [Key::Flat, Key::Rsrc, Key::Pef, Key::Text];
+
+    /// The word's text before the equals sign.
+    pub fn text(self) -> &'static str
+        ensures text { result.now ≡ key_text_of self }
+        ensures short { length result.now ≤ 4 }
+    {
+        match self {
+            Key::Flat => "flat",
+            Key::Rsrc => "rsrc",
+            Key::Pef => "pef",
+            Key::Text => "text",
+        }
+    }
+
+    /// How many bytes the file has at most.
+    pub fn limit(self) -> u32
+        ensures { result ≡ limit_of self }
+    {
+        match self {
+            Key::Flat => 16_777_216,
+            Key::Rsrc => 16_777_216,
+            Key::Pef => 16_777_216,
+            Key::Text => 16_777_216,
+        }
+    }
 }
 
 /// The place of the first bad word, counted from 0; it is the number of words where one is missing.

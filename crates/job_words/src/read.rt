@@ -1,28 +1,24 @@
 ghost use Rattle.std.specs.Prelude.{◌≡◌, ◌+◌, ◌<◌, IfOk, map, length};
 ghost use Rattle.std.specs.String.{string_bytes};
-ghost use Rattle.job_words.specs.Drafts.{IsSound, settings_in};
-ghost use Rattle.job_words.specs.Jobs.{NamesFiles, HasRam, FitsMain, IsCounted, IsProper};
+ghost use Rattle.job_words.specs.Drafts.{settings_in};
+ghost use Rattle.job_words.specs.Jobs.{IsProper};
 ghost use Rattle.job_words.specs.Words.{name_at, draft_of, command_by, command_of};
 
-use super::draft::{Draft, make, set};
+use super::draft::{Draft, make};
 use super::job::{BadWord, Command};
 use super::setting::{Verb, read_setting, read_verb};
 
 /// Reads the words of a command line.
 pub fn read_words(words: &[String]) -> Result<Command, BadWord>
     ensures value { result ≡ command_of (map string_bytes words.now) }
-    ensures named { IfOk result (NamesFiles (map string_bytes words.now)) }
-    ensures ram { IfOk result HasRam }
-    ensures main { IfOk result FitsMain }
-    ensures counts { IfOk result IsCounted }
+    ensures proper { IfOk result (IsProper (map string_bytes words.now)) }
 {
     read_all(words)
 }
 
 /// Reads the command and the words after it.
 fn read_all(words: &[String]) -> Result<Command, BadWord>
-    ensures value { result ≡ command_of (map string_bytes words.now) }
-    ensures proper { IfOk result IsProper }
+    ensures { result ≡ command_of (map string_bytes words.now) }
 {
     match words {
         [] => Err(BadWord { place: 0 }),
@@ -35,27 +31,24 @@ fn read_all(words: &[String]) -> Result<Command, BadWord>
 
 /// Reads the words after the command.
 fn read_command(verb: Verb, words: &[String]) -> Result<Command, BadWord>
-    ensures value { result ≡ command_by verb (map string_bytes words.now) }
-    ensures proper { IfOk result IsProper }
+    ensures { result ≡ command_by verb (map string_bytes words.now) }
 {
     let draft = read_settings(verb, 1, words, Draft::new())?;
-    make(verb, draft).ok_or(BadWord {
+    make(verb, &draft).ok_or(BadWord {
         place: 1 + words.len() as u32,
     })
 }
 
 /// Reads the words from place `place` on.
 fn read_settings(verb: Verb, place: u32, words: &[String], draft: Draft) -> Result<Draft, BadWord>
-    requires place { place ≡ 1 + settings_in draft }
-    requires sound { IsSound draft }
+    requires { place ≡ 1 + settings_in draft }
     ensures value { result ≡ draft_of verb place (map string_bytes words.now) draft }
     ensures more { IfOk result (λ next. settings_in next ≡ settings_in draft + length words.now) }
-    ensures kept { IfOk result IsSound }
 {
     match words {
         [] => Ok(draft),
         [word, rest @ ..] => match read_setting(verb, word.as_str()) {
-            Some(setting) => match set(draft, place, setting) {
+            Some(setting) => match draft.with(place, setting) {
                 Some(next) => read_settings(verb, place + 1, rest, next),
                 None => Err(BadWord { place }),
             },

@@ -1,5 +1,5 @@
-ghost use Rattle.std.specs.Prelude.{◌≡◌, IfSome};
-ghost use Rattle.job_words.specs.Settings.{verb_of, keys, loading, setting_in, setting_of, file_of, main_of, number_within, IsInRange};
+ghost use Rattle.std.specs.Prelude.{◌≡◌};
+ghost use Rattle.job_words.specs.Settings.{verb_of, keys as keys_of, text_of, name_in, value_of, set_of, number_in, number_within, setting_of};
 
 use super::job::Key;
 use mix_bits::{Isa, read_decimal, read_hexadecimal};
@@ -10,20 +10,65 @@ pub enum Verb {
     ToRun,
     ToList,
     ToSample,
+    ToAssemble,
+}
+
+/// What stands before the equals sign of a word.
+#[derive(Clone, Copy)]
+pub enum Name {
+    File(Key),
+    Main,
+    Ram,
+    Steps,
+    At,
+    Count,
+    Calls,
+    Depth,
+    CodeSet,
+}
+
+/// What stands behind it.
+#[derive(Clone, Copy)]
+pub enum Value {
+    /// The name of a file.
+    Named,
+    Set(Isa),
+    Number(u32),
 }
 
 /// What a word after the command sets.
 #[derive(Clone, Copy)]
-pub enum Setting {
-    File(Key),
-    Main(Isa),
-    Ram(u32),
-    Steps(u32),
-    At(u32),
-    Count(u32),
-    Calls(u32),
-    Depth(u32),
+pub struct Setting {
+    pub name: Name,
+    pub value: Value,
 }
+
+/// The keys that `run` knows.
+const RUN: [Name; 6] = [
+    Name::File(Key::Flat),
+    Name::File(Key::Rsrc),
+    Name::File(Key::Pef),
+    Name::Main,
+    Name::Ram,
+    Name::Steps,
+];
+
+/// Those of `list`.
+const LIST: [Name; 7] = [
+    Name::File(Key::Flat),
+    Name::File(Key::Rsrc),
+    Name::File(Key::Pef),
+    Name::Main,
+    Name::Ram,
+    Name::At,
+    Name::Count,
+];
+
+/// Those of `sample`.
+const SAMPLE: [Name; 2] = [Name::Calls, Name::Depth];
+
+/// Those of `assemble`.
+const ASSEMBLE: [Name; 3] = [Name::CodeSet, Name::File(Key::Text), Name::At];
 
 /// The command of a first word.
 #[tactic(auto, unfolding(crate::specs::Settings::verb_of))]
@@ -36,6 +81,8 @@ pub fn read_verb(word: &str) -> Option<Verb>
         Some(Verb::ToList)
     } else if word == "sample" {
         Some(Verb::ToSample)
+    } else if word == "assemble" {
+        Some(Verb::ToAssemble)
     } else {
         None
     }
@@ -44,107 +91,93 @@ pub fn read_verb(word: &str) -> Option<Verb>
 /// What a word sets, if the command knows its key.
 #[tactic(auto, unfolding(crate::specs::Settings::setting_of))]
 pub fn read_setting(verb: Verb, word: &str) -> Option<Setting>
-    ensures value { result ≡ setting_of verb word.now }
-    ensures range { IfSome result IsInRange }
+    ensures { result ≡ setting_of verb word.now }
 {
     let (key, text) = word.split_once('=')?;
+    let name = find(keys(verb), key)?;
+    let value = read_value(name, text)?;
+    Some(Setting { name, value })
+}
+
+/// The keys that a command knows.
+fn keys(verb: Verb) -> &'static [Name]
+    ensures { result.now ≡ keys_of verb }
+{
     match verb {
-        Verb::ToRun => run_setting(key, text),
-        Verb::ToList => list_setting(key, text),
-        Verb::ToSample => sample_setting(key, text),
+        Verb::ToRun => &RUN,
+        Verb::ToList => &LIST,
+        Verb::ToSample => &SAMPLE,
+        Verb::ToAssemble => &ASSEMBLE,
     }
 }
 
-fn run_setting(key: &str, text: &str) -> Option<Setting>
-    ensures value { result ≡ setting_in (keys Verb.ToRun) key.now text.now }
-    ensures range { IfSome result IsInRange }
+/// The first of these keys that has a text.
+fn find(names: &[Name], key: &str) -> Option<Name>
+    ensures { result ≡ name_in names.now key.now }
 {
-    if key == "steps" {
-        read_decimal(text.as_bytes()).map(Setting::Steps)
-    } else {
-        load_setting(key, text)
+    for name in names {
+        if key == text(*name) {
+            return Some(*name);
+        }
     }
+    None
 }
 
-fn list_setting(key: &str, text: &str) -> Option<Setting>
-    ensures value { result ≡ setting_in (keys Verb.ToList) key.now text.now }
-    ensures range { IfSome result IsInRange }
+/// The text of a key.
+fn text(name: Name) -> &'static str
+    ensures { result.now ≡ text_of name }
 {
-    if key == "at" {
-        read_hexadecimal(text.as_bytes(), 8).map(Setting::At)
-    } else if key == "count" {
-        within(1, 4096, text).map(Setting::Count)
-    } else {
-        load_setting(key, text)
+    match name {
+        Name::File(key) => key.text(),
+        Name::Main => "main",
+        Name::Ram => "ram",
+        Name::Steps => "steps",
+        Name::At => "at",
+        Name::Count => "count",
+        Name::Calls => "n",
+        Name::Depth => "depth",
+        Name::CodeSet => "set",
     }
 }
 
-fn sample_setting(key: &str, text: &str) -> Option<Setting>
-    ensures value { result ≡ setting_in (keys Verb.ToSample) key.now text.now }
-    ensures range { IfSome result IsInRange }
+/// The value that a text is for a key.
+fn read_value(name: Name, text: &str) -> Option<Value>
+    ensures { result ≡ value_of name text.now }
 {
-    if key == "n" {
-        within(1, 1000, text).map(Setting::Calls)
-    } else if key == "depth" {
-        within(1, 300, text).map(Setting::Depth)
-    } else {
-        None
+    match name {
+        Name::File(_) if text.is_empty() => None,
+        Name::File(_) => Some(Value::Named),
+        Name::Main => read_set(text),
+        Name::Ram => read_within(128, 16384, text),
+        Name::Steps => Some(Value::Number(read_decimal(text.as_bytes())?)),
+        Name::At => Some(Value::Number(read_hexadecimal(text.as_bytes(), 8)?)),
+        Name::Count => read_within(1, 4096, text),
+        Name::Calls => read_within(1, 1000, text),
+        Name::Depth => read_within(1, 300, text),
+        Name::CodeSet => read_set(text),
     }
 }
 
-/// What a word sets of a program to load.
-fn load_setting(key: &str, text: &str) -> Option<Setting>
-    ensures value { result ≡ setting_in loading key.now text.now }
-    ensures range { IfSome result IsInRange }
-{
-    if key == "flat" {
-        file(Key::Flat, text)
-    } else if key == "rsrc" {
-        file(Key::Rsrc, text)
-    } else if key == "pef" {
-        file(Key::Pef, text)
-    } else if key == "main" {
-        main_set(text)
-    } else if key == "ram" {
-        within(128, 16384, text).map(Setting::Ram)
-    } else {
-        None
-    }
-}
-
-/// A file has a name that is not empty.
-fn file(key: Key, name: &str) -> Option<Setting>
-    ensures value { result ≡ file_of key name.now }
-    ensures range { IfSome result IsInRange }
-{
-    if name.is_empty() {
-        None
-    } else {
-        Some(Setting::File(key))
-    }
-}
-
-/// The instruction set of the main program by its name.
-fn main_set(name: &str) -> Option<Setting>
-    ensures value { result ≡ main_of name.now }
-    ensures range { IfSome result IsInRange }
+/// An instruction set by its name.
+fn read_set(name: &str) -> Option<Value>
+    ensures { result ≡ set_of name.now }
 {
     if name == "68k" {
-        Some(Setting::Main(Isa::M68))
+        Some(Value::Set(Isa::M68))
     } else if name == "ppc" {
-        Some(Setting::Main(Isa::Ppc))
+        Some(Value::Set(Isa::Ppc))
     } else {
         None
     }
 }
 
 /// The number whose decimal digits a text is, from `least` to `most`.
-fn within(least: u32, most: u32, text: &str) -> Option<u32>
-    ensures { result ≡ number_within least most text.now }
+fn read_within(least: u32, most: u32, text: &str) -> Option<Value>
+    ensures { result ≡ number_in (number_within least most text.now) }
 {
     let n = read_decimal(text.as_bytes())?;
     if least <= n && n <= most {
-        Some(n)
+        Some(Value::Number(n))
     } else {
         None
     }

@@ -9,7 +9,7 @@ use Rattle.dev_rack.proofs.Steps.{accounts-none}
 use Rattle.mixed_machine.specs.Counts.{Counts, Blames}
 use Rattle.mixed_machine.specs.declared.stop.Stop.{Stop}
 use Rattle.mixed_machine.specs.declared.stop.Stop.TheVariants.{Exit, Fault, Limit, ReadFault, OutFault, TraceFault}
-use Rattle.mix_top.specs.World.{World, Accounted, Closes, Early, OnlyPuts, PutsText, RoseAt}
+use Rattle.mix_top.specs.World.{Beside, Accounted, Closes, Early, OnlyPuts, PutsText, RoseAt}
 use Rattle.mix_top.specs.Parts.{Finishes}
 
 -- a count that stays, where the status is another one; and one that rose, where it is this one
@@ -28,7 +28,7 @@ pub record IsPlain (status : ℕ) : Type 0 where
   pub trace : (status == 7) ≡ false
 
 -- a last line, after which the trace may be the only one that failed
-pub accounted-closes : (old new : World) (mid : Output) (line : List ℕ) (status result : ℕ) → IsPlain status
+pub accounted-closes : (old new : Beside) (mid : Output) (line : List ℕ) (status result : ℕ) → IsPlain status
     → new.outside.input.faults ≡ old.outside.input.faults → new.outside.out.faults ≡ old.outside.out.faults → mid.faults ≡ old.trace.faults
     → Accounts old.outside.rack new.outside.rack → Closes mid new.trace [] line status result → Accounted old new result
 accounted-closes old new mid line status result plain input out trace devices (inl (grows, same)) =
@@ -47,13 +47,13 @@ accounted-closes old new mid line status result plain input out trace devices (i
     }
 
 -- a call that ended before any step
-pub accounted-early : (old new : World) (line : List ℕ) (status result : ℕ) → IsPlain status → Early old new line status result → Accounted old new result
+pub accounted-early : (old new : Beside) (line : List ℕ) (status result : ℕ) → IsPlain status → Early old new line status result → Accounted old new result
 accounted-early old new line status result plain early =
     accounted-closes old new old.trace line status result plain (ap (λ o. o.input.faults) early.outside) (ap (λ o. o.out.faults) early.outside) refl
     (subst (λ o. Accounts old.outside.rack o.rack) (sym early.outside) (accounts-none old.outside.rack)) early.trace
 
 -- a text on the output alone
-pub accounted-puts : (old new : World) (text : List ℕ) (status result : ℕ) → IsPlain status → OnlyPuts old new
+pub accounted-puts : (old new : Beside) (text : List ℕ) (status result : ℕ) → IsPlain status → OnlyPuts old new
     → PutsText old.outside.out new.outside.out text status result → Accounted old new result
 accounted-puts old new text status result plain only (inl (grows, same)) =
     record {
@@ -76,7 +76,7 @@ puts-broke old new line piece status same breaks =
     inr (record { before = []; line = line; rest = []; order = sym (append-nil line); breaks = subst (λ l. Breaks old new [] l) same breaks }, refl)
 
 -- nothing on it
-pub accounted-quiet : (old new : World) (status result : ℕ) → IsPlain status → OnlyPuts old new → new.outside.out ≡ old.outside.out → result ≡ status → Accounted old new result
+pub accounted-quiet : (old new : Beside) (status result : ℕ) → IsPlain status → OnlyPuts old new → new.outside.out ≡ old.outside.out → result ≡ status → Accounted old new result
 accounted-quiet old new status result plain only out same =
     record {
       input = quiet 5 status result old.outside.input.faults new.outside.input.faults plain.input same (ap (λ i. i.faults) only.input);
@@ -86,7 +86,7 @@ accounted-quiet old new status result plain only out same =
     }
 
 -- the counts of the three
-abbrev pub counts_at : World → Counts
+abbrev pub counts_at : Beside → Counts
 counts_at w = record { input = w.outside.input.faults; out = w.outside.out.faults; trace = w.trace.faults }
 
 exit-other : (n : ℕ) (b : Bool) → (0 == n) ≡ false → (1 == n) ≡ false → ((if b then 0 else 1) == n) ≡ false
@@ -97,7 +97,7 @@ exit-plain : (b : Bool) → IsPlain (if b then 0 else 1)
 exit-plain b = record { input = exit-other 5 b refl refl; out = exit-other 6 b refl refl; trace = exit-other 7 b refl refl }
 
 -- a run that stopped, and what follows it
-pub accounted-stop : (old mid new : World) (set : Isa) (stop : Stop) (result : ℕ) → Blames stop (counts_at old) (counts_at mid) → Accounts old.outside.rack mid.outside.rack
+pub accounted-stop : (old mid new : Beside) (set : Isa) (stop : Stop) (result : ℕ) → Blames stop (counts_at old) (counts_at mid) → Accounts old.outside.rack mid.outside.rack
     → new.outside ≡ mid.outside → Finishes stop set mid.trace new.trace result → Accounted old new result
 accounted-stop old mid new set (Exit code) result calm devices same closes =
     accounted-closes old new mid.trace _ _ result (exit-plain (code == 0)) (ap (λ o. o.input.faults) same ∙ calm.input) (ap (λ o. o.out.faults) same ∙ calm.out) calm.trace

@@ -1,5 +1,5 @@
 -- What the parts of the public call answer.
-use Rattle.std.specs.Prelude.{◌≡◌, ℕ, List, [], ◌∷◌, Option}
+use Rattle.std.specs.Prelude.{◌≡◌, ℕ, List, [], ◌∷◌, ◌++◌, Option, Some, IfSome}
 use Rattle.mix_bits.specs.declared.isa.Isa.{Isa}
 use Rattle.mix_io.specs.Counts.{CountsStay, CountRose}
 use Rattle.mix_io.specs.Streams.{Output}
@@ -12,35 +12,62 @@ use Rattle.mixed_machine.specs.declared.stop.Stop.{Stop}
 use Rattle.mixed_machine.specs.declared.stop.Stop.TheVariants.{Exit, Fault, Limit, ReadFault, OutFault, TraceFault}
 use Rattle.mix_steps.specs.declared.outside.Outside.{Outside}
 use Rattle.call_trace.specs.Lines.{end_line}
-use Rattle.job_words.specs.Jobs.{place_of, wanted_if}
-use Rattle.job_words.specs.Words.{name_of}
-use Rattle.job_words.specs.declared.job.Job.{Job}
+use Rattle.job_words.specs.Jobs.{job_in, limit_of, place_in, wanted_among}
+use Rattle.job_words.specs.Words.{name_at}
+use Rattle.job_words.specs.declared.job.Command.{Command}
 use Rattle.job_words.specs.declared.job.Key.{Key}
+use Rattle.job_words.specs.declared.job.Key.TheVariants.{Flat, Rsrc, Pef, Text}
+use Rattle.mix_load.specs.Load.{AreLoadable}
+use Rattle.mix_load.specs.declared.files.Files.{Files}
 use Rattle.mix_load.specs.declared.error.LoadError.{LoadError}
 use Rattle.mix_load.specs.declared.error.LoadError.TheVariants.{NoMemory}
 use Rattle.mix_top.specs.Lines.{memory_line, fetch_line, load_line, long_file, load_refusal}
 use Rattle.mix_io.specs.Streams.{output}
-use Rattle.mix_top.specs.World.{World, Closes, world}
-use Rattle.mix_top.specs.Files.{Contents, IsLong, IsNotLong}
-use Rattle.mix_top.specs.Ends.{IsNext, end_of, status_of}
+use Rattle.mix_top.specs.World.{Beside, Contents, Closes, beside}
+use Rattle.mix_top.specs.Files.{AreFetched, IsLong, IsNotLong, IsOf}
+use Rattle.mix_top.specs.Ends.{end_of, status_of}
+use Rattle.mix_top.specs.declared.files.Fetched.{Fetched}
 use Rattle.mix_top.specs.declared.files.Missing.{Missing}
 
--- why the file of a key was not fetched
-abbrev pub IsCause : Contents → List ℕ → (List ℕ → ℕ) → (List ℕ → ℕ) → FetchError → Type 0
-IsCause contents name old new NoRoom = IsNotLong contents name × CountsStay old new
-IsCause contents name old new Failed = CountRose old new name
-IsCause contents name old new (TooLong limit) = IsLong contents name × CountsStay old new
+-- why a file was not fetched
+abbrev pub IsCause : Contents → ℕ → List ℕ → (List ℕ → ℕ) → (List ℕ → ℕ) → FetchError → Type 0
+IsCause contents limit name old new NoRoom = IsNotLong contents limit name × CountsStay old new
+IsCause contents limit name old new Failed = CountRose old new name
+IsCause contents limit name old new (TooLong most) = IsLong contents limit name × CountsStay old new
 
--- the file that a key's word names was not fetched
-pub record Misses (words : List (List ℕ)) (contents : Contents) (job : Job) (key : Key) (old new : List ℕ → ℕ) (missing : Missing) : Type 0 where
+-- the file that the word for a key names was not fetched
+pub record Misses (words : List (List ℕ)) (contents : Contents) (command : Command) (key : Key) (old new : List ℕ → ℕ) (missing : Missing) : Type 0 where
   pub same : missing.key ≡ key
-  pub named : wanted_if (place_of job key) key ≡ key ∷ []
-  pub cause : IsCause contents (name_of words job key) old new missing.error
+  pub named : place_in command key ≡ Some missing.place
+  pub cause : IsCause contents (limit_of key) (name_at words missing.place) old new missing.error
 
--- the first of a job's files that was not fetched
-pub record MissesFirst (words : List (List ℕ)) (contents : Contents) (job : Job) (old new : List ℕ → ℕ) (missing : Missing) : Type 0 where
-  pub next : IsNext words contents job missing.key
-  pub cause : IsCause contents (name_of words job missing.key) old new missing.error
+-- the first of a command's files for some keys that was not fetched
+pub record MissesFirst (words : List (List ℕ)) (contents : Contents) (command : Command) (keys : List Key) (old new : List ℕ → ℕ) (missing : Missing) : Type 0 where
+  pub before : List (Key × ℕ)
+  pub after : List (Key × ℕ)
+  pub order : wanted_among keys command ≡ before ++ ((missing.key, missing.place) ∷ after)
+  pub fetched : AreFetched words contents before
+  pub cause : IsCause contents (limit_of missing.key) (name_at words missing.place) old new missing.error
+
+-- the files with that of one key more, and with those of some keys
+abbrev pub with_file : Fetched → Key → Option (List ℕ) → Fetched
+with_file files Flat file = record files { program = record files.program { flat = file } }
+with_file files Rsrc file = record files { program = record files.program { rsrc = file } }
+with_file files Pef file = record files { program = record files.program { pef = file } }
+with_file files Text file = record files { text = file }
+
+pub record AddsOne (words : List (List ℕ)) (contents : Contents) (command : Command) (key : Key) (old : Fetched) (Rest : Fetched → Type 0) : Type 0 where
+  pub file : Option (List ℕ)
+  pub is : IsOf words contents command key file
+  pub rest : Rest (with_file old key file)
+
+abbrev pub Adds : List (List ℕ) → Contents → Command → List Key → Fetched → Fetched → Type 0
+Adds words contents command [] old new = new ≡ old
+Adds words contents command (key ∷ keys) old new = AddsOne words contents command key old (λ files. Adds words contents command keys files new)
+
+-- files from which the program of a command, if any, can be loaded
+abbrev pub AreFor : Command → Files → Type 0
+AreFor command files = IfSome (job_in command) (λ job. AreLoadable files job.main)
 
 -- the line and the status for a file that was not fetched
 abbrev pub unfetched_line : Key → FetchError → List ℕ
@@ -63,10 +90,10 @@ unloaded_status NoMemory = 9
 unloaded_status error = 3
 
 -- what the objects that are lent tell
-abbrev pub world_lent : {I O T D : Type 0} → (I → Option (List ℕ)) → (I → ℕ) → (O → Option (List ℕ)) → (O → ℕ) → (T → Option (List ℕ)) → (T → ℕ) → (D → State)
-    → Outside I O T D → World
-world_lent left read_faults held put_faults traced trace_faults state lent =
-    world (outside (left lent.input.now) (read_faults lent.input.now) (state lent.rack.now) (held lent.out.now) (put_faults lent.out.now))
+abbrev pub beside_lent : {I O T D : Type 0} → (I → Option (List ℕ)) → (I → ℕ) → (O → Option (List ℕ)) → (O → ℕ) → (T → Option (List ℕ)) → (T → ℕ) → (D → State)
+    → Outside I O T D → Beside
+beside_lent left read_faults held put_faults traced trace_faults state lent =
+    beside (outside (left lent.input.now) (read_faults lent.input.now) (state lent.rack.now) (held lent.out.now) (put_faults lent.out.now))
     (output (traced lent.trace.now) (trace_faults lent.trace.now))
 
 -- how a run that stopped while a set was active ends the call: with its line and status, or, where the outside

@@ -1,17 +1,33 @@
 -- The outside of a call: what it tells before and after, and the last line that a call puts.
-use Rattle.std.specs.Prelude.{◌≡◌, ℕ, ◌==◌, ◌⊎◌, List, [], ◌++◌, MatchBool}
+use Rattle.std.specs.Prelude.{◌≡◌, ℕ, ◌==◌, ◌⊎◌, List, [], ◌++◌, MatchBool, Option}
 use Rattle.mix_io.specs.Counts.{Rose}
 use Rattle.mix_io.specs.Streams.{Output, Grows, Breaks, StopsWithin}
 use Rattle.dev_rack.specs.Accounts.{Accounts}
 use Rattle.toolbox.specs.Calls.{Outside}
 
--- the outside beside the shelf: the input, the devices and the output; and the trace
-pub record World : Type 0 where
+-- the files of a shelf by their names, where it tells them
+abbrev pub Contents : Type 0
+Contents = Option (List ℕ → Option (List ℕ))
+
+-- a shelf: its files, and the count of faults of each name
+pub record Shelf : Type 0 where
+  pub contents : Contents
+  pub faults : List ℕ → ℕ
+
+-- what lies beside it: the input, the devices and the output; and the trace
+pub record Beside : Type 0 where
   pub outside : Outside
   pub trace : Output
 
-abbrev pub world : Outside → Output → World
-world outside trace = record { outside = outside; trace = trace }
+abbrev pub beside : Outside → Output → Beside
+beside outside trace = record { outside = outside; trace = trace }
+
+pub record World : Type 0 where
+  pub shelf : Shelf
+  pub beside : Beside
+
+abbrev pub world : Contents → (List ℕ → ℕ) → Beside → World
+world contents faults beside = record { shelf = record { contents = contents; faults = faults }; beside = beside }
 
 -- the trace took these bytes and then a last line, and the status is this one; or it failed within that line, and the
 -- status is 7
@@ -19,7 +35,7 @@ abbrev pub Closes : Output → Output → List ℕ → List ℕ → ℕ → ℕ 
 Closes old new bytes line status result = (Grows old new (bytes ++ line) × (result ≡ status)) ⊎ (Breaks old new bytes line × (result ≡ 7))
 
 -- a call that ends before any step: nothing was taken, asked or put on the output, and one line is on the trace
-pub record Early (old new : World) (line : List ℕ) (status result : ℕ) : Type 0 where
+pub record Early (old new : Beside) (line : List ℕ) (status result : ℕ) : Type 0 where
   pub outside : new.outside ≡ old.outside
   pub trace : Closes old.trace new.trace [] line status result
 
@@ -28,10 +44,15 @@ abbrev pub PutsText : Output → Output → List ℕ → ℕ → ℕ → Type 0
 PutsText old new text status result = (Grows old new text × (result ≡ status)) ⊎ (StopsWithin old new text × (result ≡ 6))
 
 -- a call that puts something on the output alone: nothing was taken, asked or traced
-pub record OnlyPuts (old new : World) : Type 0 where
+pub record OnlyPuts (old new : Beside) : Type 0 where
   pub input : new.outside.input ≡ old.outside.input
   pub rack : new.outside.rack ≡ old.outside.rack
   pub trace : new.trace ≡ old.trace
+
+-- a text was put, or the output failed and holds a beginning of it
+pub record Listed (text : List ℕ) (old new : Beside) (result : ℕ) : Type 0 where
+  pub only : OnlyPuts old new
+  pub out : PutsText old.outside.out new.outside.out text 0 result
 
 -- a count rose exactly where the call ended with its status
 abbrev pub RoseAt : ℕ → ℕ → ℕ → ℕ → Type 0
@@ -39,8 +60,13 @@ RoseAt status result old new = MatchBool (result == status) (Rose old new) (new 
 
 -- no failure of the input, the output or the trace is passed over, and none is made up; and the journal accounts for
 -- each device
-pub record Accounted (old new : World) (result : ℕ) : Type 0 where
+pub record Accounted (old new : Beside) (result : ℕ) : Type 0 where
   pub input : RoseAt 5 result old.outside.input.faults new.outside.input.faults
   pub out : RoseAt 6 result old.outside.out.faults new.outside.out.faults
   pub trace : RoseAt 7 result old.trace.faults new.trace.faults
   pub devices : Accounts old.outside.rack new.outside.rack
+
+-- a call that ended in one of these ways, and accounts for each failure and each device
+pub record EndsIn (Way : Beside → Beside → ℕ → Type 0) (old new : Beside) (result : ℕ) : Type 0 where
+  pub accounted : Accounted old new result
+  pub way : Way old new result

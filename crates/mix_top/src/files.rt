@@ -1,77 +1,145 @@
-// The files of a job.
+// The files that a command wants.
 ghost use Rattle.std.specs.Prelude.{◌≡◌, IfErr, IfOk, OnOk, map};
-ghost use Rattle.std.specs.Option.{option_map};
 ghost use Rattle.std.specs.String.{string_bytes};
 ghost use Rattle.mix_io.specs.Counts.{CountsStay};
-ghost use Rattle.job_words.specs.Jobs.{NamesJob, place_of as place_of_key};
-ghost use Rattle.job_words.specs.Words.{name_at};
-ghost use Rattle.mix_top.specs.Files.{AreFiles, IsNamed};
-ghost use Rattle.mix_top.specs.Parts.{Misses, MissesFirst};
+ghost use Rattle.job_words.specs.Jobs.{NamesFiles, keys_in_order};
+ghost use Rattle.mix_top.specs.Files.{AreFiles, IsOf, text_in};
+ghost use Rattle.mix_top.specs.Parts.{Adds, Misses, MissesFirst, with_file as with_file_of};
 
-use job_words::{Job, Key, file_name};
+use job_words::{Command, Key, file_name};
 use mix_io::{FetchError, Shelf};
 use mix_load::{FileBytes, Files};
 use std::alloc::Global;
 
-/// The largest file that is fetched.
-const FILE_LIMIT: u32 = 16_777_216;
+/// The files that a command wants: those of a program, and a text.
+#[derive(Drop)]
+pub struct Fetched {
+    pub program: Files,
+    pub text: Option<FileBytes>,
+}
 
-/// A file that was not fetched, and why.
+/// A file that was not fetched: its key, the place of the word that names it, and why.
 #[derive(Drop)]
 pub struct Missing {
     pub key: Key,
+    pub place: u32,
     pub error: FetchError,
 }
 
-/// Fetches the files of a job, the fork before the container.
+/// Fetches the files that a command wants, in the order of their keys.
 pub fn fetch_files<F: Shelf>(
     alloc: Global,
     words: &[String],
-    job: Job,
+    command: Command,
     shelf: &mut F,
-) -> Result<Files, Missing>
-    requires { NamesJob (map string_bytes words.now) job }
+) -> Result<Fetched, Missing>
+    requires { NamesFiles (map string_bytes words.now) command }
     ensures contents { F.contents shelf.new ≡ F.contents shelf.old }
-    ensures files { IfOk result (AreFiles (map string_bytes words.now) (F.contents shelf.old) job) }
+    ensures files { IfOk result (AreFiles (map string_bytes words.now) (F.contents shelf.old) command) }
     ensures counts { OnOk result (CountsStay (F.faults shelf.old) (F.faults shelf.new)) }
-    ensures missing { IfErr result (MissesFirst (map string_bytes words.now) (F.contents shelf.old) job (F.faults shelf.old) (F.faults shelf.new)) }
+    ensures missing { IfErr result (MissesFirst (map string_bytes words.now) (F.contents shelf.old) command keys_in_order (F.faults shelf.old) (F.faults shelf.new)) }
 {
-    let flat = fetch_file(alloc, words, job, Key::Flat, shelf)?;
-    let rsrc = fetch_file(alloc, words, job, Key::Rsrc, shelf)?;
-    let pef = fetch_file(alloc, words, job, Key::Pef, shelf)?;
-    Ok(Files { flat, rsrc, pef })
+    let none = Fetched {
+        program: Files {
+            flat: None,
+            rsrc: None,
+            pef: None,
+        },
+        text: None,
+    };
+    add_files(alloc, words, command, &Key::ALL, none, shelf)
 }
 
-/// Fetches the file that a job's word for a key names, if there is one.
-fn fetch_file<F: Shelf>(
+/// Adds the files of some keys that a command wants.
+fn add_files<F: Shelf>(
     alloc: Global,
     words: &[String],
-    job: Job,
-    key: Key,
+    command: Command,
+    keys: &[Key],
+    files: Fetched,
     shelf: &mut F,
-) -> Result<Option<FileBytes>, Missing>
-    requires { NamesJob (map string_bytes words.now) job }
+) -> Result<Fetched, Missing>
+    requires { NamesFiles (map string_bytes words.now) command }
     ensures contents { F.contents shelf.new ≡ F.contents shelf.old }
-    ensures file { IfOk result (IsNamed (F.contents shelf.old) (option_map (name_at (map string_bytes words.now)) (place_of_key job key))) }
+    ensures files { IfOk result (Adds (map string_bytes words.now) (F.contents shelf.old) command keys.now files) }
     ensures counts { OnOk result (CountsStay (F.faults shelf.old) (F.faults shelf.new)) }
-    ensures missing { IfErr result (Misses (map string_bytes words.now) (F.contents shelf.old) job key (F.faults shelf.old) (F.faults shelf.new)) }
+    ensures missing { IfErr result (MissesFirst (map string_bytes words.now) (F.contents shelf.old) command keys.now (F.faults shelf.old) (F.faults shelf.new)) }
 {
-    let Some(place) = place_of(job, key) else {
-        return Ok(None);
-    };
-    match shelf.fetch(alloc, file_name(words, place), FILE_LIMIT) {
-        Ok(bytes) => Ok(Some(FileBytes::of(bytes))),
-        Err(error) => Err(Missing { key, error }),
+    match keys {
+        [] => Ok(files),
+        [key, rest @ ..] => match fetch_file(alloc, words, command, *key, shelf) {
+            Ok(file) => {
+                let more = with_file(files, *key, file);
+                add_files(alloc, words, command, rest, more, shelf)
+            }
+            Err(missing) => Err(missing),
+        },
     }
 }
 
-/// The place of the word that names a file.
-fn place_of(job: Job, key: Key) -> Option<u32>
-    ensures { result ≡ place_of_key job key }
+/// The files with that of a key.
+fn with_file(files: Fetched, key: Key, file: Option<FileBytes>) -> Fetched
+    ensures { result ≡ with_file_of files key file }
 {
+    let Fetched { program, text } = files;
     match key {
-        Key::Flat => job.flat,
-        Key::Rsrc => job.rsrc,
-        Key::Pef => job.pef,
+        Key::Flat => Fetched {
+            program: Files {
+                flat: file,
+                ..program
+            },
+            text,
+        },
+        Key::Rsrc => Fetched {
+            program: Files {
+                rsrc: file,
+                ..program
+            },
+            text,
+        },
+        Key::Pef => Fetched {
+            program: Files {
+                pef: file,
+                ..program
+            },
+            text,
+        },
+        Key::Text => Fetched {
+            program,
+            text: file,
+        },
+    }
+}
+
+/// The bytes of the text, none where there is no text.
+pub fn text_of(files: &Fetched) -> &[u8]
+    ensures { result.now ≡ text_in files.now }
+{
+    match &files.text {
+        Some(text) => text.bytes(),
+        None => &[],
+    }
+}
+
+/// Fetches the file of a key, if the command wants it.
+fn fetch_file<F: Shelf>(
+    alloc: Global,
+    words: &[String],
+    command: Command,
+    key: Key,
+    shelf: &mut F,
+) -> Result<Option<FileBytes>, Missing>
+    requires { NamesFiles (map string_bytes words.now) command }
+    ensures contents { F.contents shelf.new ≡ F.contents shelf.old }
+    ensures file { IfOk result (IsOf (map string_bytes words.now) (F.contents shelf.old) command key) }
+    ensures counts { OnOk result (CountsStay (F.faults shelf.old) (F.faults shelf.new)) }
+    ensures missing { IfErr result (Misses (map string_bytes words.now) (F.contents shelf.old) command key (F.faults shelf.old) (F.faults shelf.new)) }
+{
+    let Some(place) = command.place(key) else {
+        return Ok(None);
+    };
+    match shelf.fetch(alloc, file_name(words, place), key.limit()) {
+        Ok(bytes) => Ok(Some(FileBytes::of(bytes))),
+        Err(error) => Err(Missing { key, place, error }),
     }
 }

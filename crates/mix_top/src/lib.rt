@@ -3,6 +3,7 @@
 //! `mixed_main` carries the promise of the program: a call ends in one of the ways of `specs/Ends`, with its cause.
 #![tactic(auto)]
 
+mod assemble;
 mod close;
 mod files;
 mod lines;

@@ -1,10 +1,11 @@
 // The lines of the trace that a call ends with before it runs a program.
 ghost use Rattle.std.specs.Prelude.{◌≡◌, ◌+◌, ◌≤◌, ◌++◌, length};
-ghost use Rattle.job_words.specs.Settings.{key_text as key_text_of};
 ghost use Rattle.mix_top.specs.Lines.{file_number as file_number_of, fetch_line, fork_refusal, head_refusal, key_number as key_number_of, load_line, load_refusal, long_file, numbered as numbered_line, refusal, reloc_refusal, words_line};
+ghost use Rattle.mix_top.specs.Assembling.{line_refusal, reason_name as reason_name_of};
 
 use itoa::Buffer;
 use job_words::Key;
+use mix_assemble::{Reason, Refused};
 use mix_bits::Line;
 use mix_load::{File, LoadError};
 use pef_head::PefError;
@@ -24,7 +25,7 @@ pub fn fetch_text(key: Key) -> Line
 {
     let mut line = Line::new();
     line.add("fetch ");
-    line.add(key_text(key));
+    line.add(key.text());
     line.add("\n");
     line
 }
@@ -102,6 +103,25 @@ fn reloc_text(error: RelocError) -> Line
     }
 }
 
+/// The line for a line that is refused.
+pub fn line_text(line: Refused) -> Line
+    ensures { result ≡ load_line (line_refusal line) }
+{
+    refused(reason_name(line.reason), line.line as i128)
+}
+
+/// The name of a reason.
+fn reason_name(reason: Reason) -> &'static str
+    ensures text { result.now ≡ reason_name_of reason }
+    ensures short { length result.now ≤ 20 }
+{
+    match reason {
+        Reason::Address => "asm-address",
+        Reason::Name => "asm-name",
+        Reason::Operands => "asm-operands",
+    }
+}
+
 /// `load NAME NUMBER`
 fn refused(name: &str, number: i128) -> Line
     requires { length name.now ≤ 20 }
@@ -124,18 +144,6 @@ fn numbered(head: &str, name: &str, number: i128) -> Line
     line
 }
 
-/// The name of a file's key.
-fn key_text(key: Key) -> &'static str
-    ensures text { result.now ≡ key_text_of key }
-    ensures short { length result.now ≤ 4 }
-{
-    match key {
-        Key::Flat => "flat",
-        Key::Rsrc => "rsrc",
-        Key::Pef => "pef",
-    }
-}
-
 /// The number of a file's key.
 fn key_number(key: Key) -> u32
     ensures { result ≡ key_number_of key }
@@ -144,6 +152,7 @@ fn key_number(key: Key) -> u32
         Key::Flat => 0,
         Key::Rsrc => 1,
         Key::Pef => 2,
+        Key::Text => 4,
     }
 }
 

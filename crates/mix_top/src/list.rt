@@ -1,13 +1,12 @@
 // A listing of a program, from its files to its last line.
-ghost use Rattle.job_words.specs.Jobs.{HasRamOf};
-ghost use Rattle.job_words.specs.declared.job.Command.TheVariants.{List as Lists};
+ghost use Rattle.job_words.specs.Jobs.{IsProperJob};
 ghost use Rattle.mix_list.specs.Listing.{listing};
 ghost use Rattle.mix_load.specs.Load.{AreLoadable};
 ghost use Rattle.mix_steps.specs.Beside.{AreSame};
 ghost use Rattle.mix_io.specs.Streams.{output};
-ghost use Rattle.mix_top.specs.World.{Accounted, PutsText};
-ghost use Rattle.mix_top.specs.Ends.{FileWay};
-ghost use Rattle.mix_top.specs.Parts.{world_lent};
+ghost use Rattle.mix_top.specs.World.{EndsIn, PutsText};
+ghost use Rattle.mix_top.specs.Ends.{ListsWay};
+ghost use Rattle.mix_top.specs.Parts.{beside_lent};
 
 use super::close::close_unloaded;
 use super::status::{OUTPUT_FAILED, SUCCESS};
@@ -37,14 +36,10 @@ pub fn list_files<'i, 'o, 't, 'd, I: Source, O: Sink, T: Sink, D: Devices>(
     outside: &mut Outside<'i, 'o, 't, 'd, I, O, T, D>,
 ) -> u8
     requires files { AreLoadable files.now job.main }
-    requires ram { HasRamOf job }
-    ensures accounted { Accounted
-        (world_lent I.left I.faults O.held O.faults T.held T.faults D.state outside.old)
-        (world_lent I.left I.faults O.held O.faults T.held T.faults D.state outside.new)
-        result }
-    ensures way { FileWay (Lists job span.at span.count) job files.now
-        (world_lent I.left I.faults O.held O.faults T.held T.faults D.state outside.old)
-        (world_lent I.left I.faults O.held O.faults T.held T.faults D.state outside.new)
+    requires job { IsProperJob job }
+    ensures ends { EndsIn (ListsWay job span.at span.count files.now)
+        (beside_lent I.left I.faults O.held O.faults T.held T.faults D.state outside.old)
+        (beside_lent I.left I.faults O.held O.faults T.held T.faults D.state outside.new)
         result }
     ensures same { AreSame outside.old outside.new }
 {

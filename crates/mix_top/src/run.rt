@@ -1,12 +1,13 @@
 // A program from its files to its end.
 ghost use Rattle.mix_load.specs.Load.{AreLoadable};
-ghost use Rattle.job_words.specs.Jobs.{HasRamOf};
-ghost use Rattle.job_words.specs.declared.job.Command.TheVariants.{Run};
+ghost use Rattle.job_words.specs.Jobs.{IsProperJob};
 ghost use Rattle.switch_frame.specs.Program.{IsProgram};
+ghost use Rattle.switch_frame.specs.Records.{isa_of};
+ghost use Rattle.mixed_machine.specs.Machine.{IsWhole, flat};
 ghost use Rattle.mix_steps.specs.Beside.{AreSame};
-ghost use Rattle.mix_top.specs.World.{Accounted};
-ghost use Rattle.mix_top.specs.Ends.{FileWay, ProgramWay};
-ghost use Rattle.mix_top.specs.Parts.{world_lent};
+ghost use Rattle.mix_top.specs.World.{EndsIn};
+ghost use Rattle.mix_top.specs.Ends.{ProgramWay, Ran, RunsWay};
+ghost use Rattle.mix_top.specs.Parts.{beside_lent};
 
 use super::close::{close_unloaded, close_without_memory, finish};
 use dev_rack::Devices;
@@ -26,14 +27,10 @@ pub fn run_files<'i, 'o, 't, 'd, I: Source, O: Sink, T: Sink, D: Devices>(
     outside: &mut Outside<'i, 'o, 't, 'd, I, O, T, D>,
 ) -> u8
     requires files { AreLoadable files.now job.main }
-    requires ram { HasRamOf job }
-    ensures accounted { Accounted
-        (world_lent I.left I.faults O.held O.faults T.held T.faults D.state outside.old)
-        (world_lent I.left I.faults O.held O.faults T.held T.faults D.state outside.new)
-        result }
-    ensures way { FileWay (Run job) job files.now
-        (world_lent I.left I.faults O.held O.faults T.held T.faults D.state outside.old)
-        (world_lent I.left I.faults O.held O.faults T.held T.faults D.state outside.new)
+    requires job { IsProperJob job }
+    ensures ends { EndsIn (RunsWay job files.now)
+        (beside_lent I.left I.faults O.held O.faults T.held T.faults D.state outside.old)
+        (beside_lent I.left I.faults O.held O.faults T.held T.faults D.state outside.new)
         result }
     ensures same { AreSame outside.old outside.new }
 {
@@ -51,28 +48,38 @@ fn run_program<'i, 'o, 't, 'd, I: Source, O: Sink, T: Sink, D: Devices>(
     outside: &mut Outside<'i, 'o, 't, 'd, I, O, T, D>,
 ) -> u8
     requires { IsProgram program }
-    ensures accounted { Accounted
-        (world_lent I.left I.faults O.held O.faults T.held T.faults D.state outside.old)
-        (world_lent I.left I.faults O.held O.faults T.held T.faults D.state outside.new)
-        result }
-    ensures way { ProgramWay program steps
-        (world_lent I.left I.faults O.held O.faults T.held T.faults D.state outside.old)
-        (world_lent I.left I.faults O.held O.faults T.held T.faults D.state outside.new)
+    ensures ends { EndsIn (ProgramWay program steps)
+        (beside_lent I.left I.faults O.held O.faults T.held T.faults D.state outside.old)
+        (beside_lent I.left I.faults O.held O.faults T.held T.faults D.state outside.new)
         result }
     ensures same { AreSame outside.old outside.new }
 {
     match Machine::start(alloc, program) {
-        Ok(mut machine) => {
-            let stop = run(
-                &mut machine,
-                outside.input,
-                outside.out,
-                outside.trace,
-                outside.rack,
-                steps,
-            );
-            finish(stop, &machine.active, outside.trace)
-        }
+        Ok(mut machine) => run_machine(&mut machine, steps, outside),
         Err(_) => close_without_memory(outside.trace),
     }
+}
+
+/// Runs a machine from where it is, for at most `steps` steps, and puts the end line.
+pub fn run_machine<'i, 'o, 't, 'd, I: Source, O: Sink, T: Sink, D: Devices>(
+    machine: &mut Machine,
+    steps: u32,
+    outside: &mut Outside<'i, 'o, 't, 'd, I, O, T, D>,
+) -> u8
+    requires { IsWhole machine.old.body (isa_of machine.old.active) }
+    ensures ends { EndsIn (Ran (flat machine.old.body machine.old.active) steps)
+        (beside_lent I.left I.faults O.held O.faults T.held T.faults D.state outside.old)
+        (beside_lent I.left I.faults O.held O.faults T.held T.faults D.state outside.new)
+        result }
+    ensures same { AreSame outside.old outside.new }
+{
+    let stop = run(
+        machine,
+        outside.input,
+        outside.out,
+        outside.trace,
+        outside.rack,
+        steps,
+    );
+    finish(stop, &machine.active, outside.trace)
 }

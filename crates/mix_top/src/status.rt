@@ -1,4 +1,4 @@
-/// The program ended with code 0; or a listing was put, or a sample ended with an exit.
+/// The program ended with code 0; or a listing or an assembled text was put, or a sample ended with an exit.
 pub const SUCCESS: u8 = 0;
 
 /// The program ended with another code.
@@ -7,7 +7,7 @@ pub const OTHER_CODE: u8 = 1;
 /// The words are no command.
 pub const BAD_WORDS: u8 = 2;
 
-/// A file is above the limit, or breaks a load rule.
+/// A file is above the limit or breaks a load rule, or a line of a text is refused.
 pub const NOT_LOADED: u8 = 3;
 
 /// The shelf failed at a file.

@@ -2,7 +2,11 @@
 #![tactic(auto)]
 
 #[cfg(test)]
+mod asm;
+#[cfg(test)]
 mod case;
+#[cfg(test)]
+mod cfm;
 #[cfg(test)]
 mod crossing;
 #[cfg(test)]

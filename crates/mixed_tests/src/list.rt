@@ -6,6 +6,7 @@ use std::test::Fail;
 /// A case a line: the words, the files, the lines of the output, those of the trace, and the status.
 const CASES: &str = "
 list flat=a at=00010000 count=2 | a: 7048AA80 A9F4 | 00010000: moveq #$48,d0 / 00010002: dc.w $AA80 | | 0
+list flat=a at=00010000 count=7 | a: 49C0480E FFFFFFFC 4E740008 4C010402 4C013000 41F014FC 60FF0000 0006 | 00010000: extb.l d0 / 00010002: link.l a6,#$FFFFFFFC / 00010008: rtd #$0008 / 0001000C: mulu.l d1,d2:d0 / 00010010: mulu.l d1,d0,d3 / 00010014: lea $FC(a0,d1.w*4),a0 / 00010018: bra.l $00010020 | | 0
 list flat=a main=ppc at=00010000 count=2 | a: 4800180F 00000000 | 00010000: bla $0000180C / 00010004: .long $00000000 | | 0
 list flat=a at=000FFFFE count=3 | a: 7048AA80 A9F4 | 000FFFFE: move.b d0,d0 | | 0
 list pef=p at=00010020 count=3 | p: container | 00010020: .long $00001448 / 00010024: .long $00010000 / 00010028: .long $00010020 | | 0

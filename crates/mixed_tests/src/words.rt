@@ -49,7 +49,20 @@ sample n=1 depth=1 n=1 | |  | words 3 | 2
 sample n=1 depth=1 flat=a | |  | words 3 | 2
 sample n=1 depth=1 steps=5 | |  | words 3 | 2
 run flat=a at=00010000 | |  | words 2 | 2
-assemble set=68k text=a at=00010000 | |  | words 0 | 2
+assemble | |  | words 1 | 2
+assemble set=68k text=a | |  | words 3 | 2
+assemble set=68k at=00010000 | |  | words 3 | 2
+assemble text=a at=00010000 | |  | words 3 | 2
+assemble set=x text=a at=00010000 | |  | words 1 | 2
+assemble set=68k text= at=00010000 | |  | words 2 | 2
+assemble set=68k text=a at=0001000 | |  | words 3 | 2
+assemble set=68k text=a at=0001000a | |  | words 3 | 2
+assemble set=68k set=ppc text=a at=00010000 | |  | words 2 | 2
+assemble set=68k text=a at=00010000 flat=a | |  | words 4 | 2
+assemble set=68k text=a at=00010000 count=1 | |  | words 4 | 2
+run flat=a text=a | |  | words 2 | 2
+run text=a | |  | words 1 | 2
+list flat=a at=00010000 count=1 set=68k | |  | words 4 | 2
 run flat=a save=s | |  | words 2 | 2
 continue image=a | |  | words 0 | 2
 debug flat=a script=a | |  | words 0 | 2

@@ -17,6 +17,7 @@ mixedrun runs programs that mix 68K and PowerPC code.
 usage: mixedrun run FILES [main=68k|ppc] [ram=KIB] [steps=N]
        mixedrun list FILES at=ADDRESS count=N [main=68k|ppc] [ram=KIB]
        mixedrun sample n=N depth=D
+       mixedrun assemble set=68k|ppc text=FILE at=ADDRESS
 
 FILES is flat=FILE, rsrc=FILE, pef=FILE, or rsrc=FILE pef=FILE.
 
@@ -28,16 +29,20 @@ FILES is flat=FILE, rsrc=FILE, pef=FILE, or rsrc=FILE pef=FILE.
   ram=KIB     the size of RAM, 128 to 16384 KiB (default 1024)
   steps=N     how many steps are done at most, 0 to 4294967295
               (default 1000000)
-  at=ADDRESS  where a listing begins, in eight upper-case hexadecimal digits
+  at=ADDRESS  where a listing or a text begins, in eight upper-case
+              hexadecimal digits
   count=N     how many instructions it has at most, 1 to 4096
   n=N         how many calls the sample makes, 1 to 1000
   depth=D     how deep each of them goes, 1 to 300
+  set=SET     the set of the instructions of a text, 68k or ppc
+  text=FILE   a text of lines to assemble, as list writes them
 
 run runs a program; list writes its instructions as text, a line for each;
 sample runs a program of its own whose 68K and PowerPC code call each other,
-and counts what crosses. The words stand in any order behind the command.
-A flat file stands alone; main=68k needs a flat file or a fork, and main=ppc a
-flat file or a container.
+and counts what crosses; assemble writes the bytes of a text's instructions,
+or nothing where a line is refused. The words stand in any order behind the
+command. A flat file stands alone; main=68k needs a flat file or a fork, and
+main=ppc a flat file or a container.
 
 Input comes from standard input, output goes to standard output, and the trace
 of calls, returns, device asks and the end goes to standard error. Slot 0 holds
@@ -45,7 +50,8 @@ a counter and slot 1 a tape.
 
 Status:
   0, 1    the program ended with code 0, or with another code
-  2       bad words                    3       the program was not loaded
+  2       bad words                    3       the program was not loaded,
+                                               or a line was refused
   4       a file was not read          5       the input failed
   6       the output failed            7       the trace failed
   9       there was no memory          10      a fault
