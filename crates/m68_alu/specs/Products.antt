@@ -1,6 +1,6 @@
 -- Products and quotients of words and of longs, by unbounded integers
 -- (M68000 Family Programmer's Reference Manual, MULS, MULU, DIVS, DIVSL, DIVU and DIVUL in section 4).
-use Rattle.std.specs.Prelude.{ℕ, ℤ, ◌+◌, ◌-◌, ◌*◌, ◌/◌, ◌%◌, ◌^◌, ◌==◌, ◌*ℤ◌, pos, neg_ℤ, unsigned_abs, nat_le, int_lt, int_le, int_div, int_rem, Bool, true, false, ◌||◌, if◌then◌else◌}
+use Rattle.std.specs.Prelude.{ℕ, ℤ, ◌+◌, ◌-◌, ◌*◌, ◌/◌, ◌%◌, ◌^◌, ◌==◌, ◌*ℤ◌, pos, neg_ℤ, unsigned_abs, nat_le, int_lt, int_le, int_div, int_rem, Bool, true, false, ◌||◌, if◌then◌else◌, Option, None, Some}
 use Rattle.std.specs.Int.{int_rem_euclid}
 use Rattle.mix_bits.specs.Sizes.{signed_below}
 use Rattle.mix_bits.specs.declared.size.Size.TheVariants.{Two, Four}
@@ -78,11 +78,21 @@ divided signed a b old =
     if b % 2 ^ 16 == 0 then ByZero
     else quotient_in signed 16 (integer signed 32 a) (integer signed 16 b) (Overflow (overflowed old)) (packed old)
 
--- 64 bits by a long: the quotient low and the remainder high; the flags tell of the quotient
+-- 64 bits by a long: the quotient and the remainder, where the quotient is a long
+abbrev pub both : ℕ → ℕ → Option (ℕ × ℕ)
+both quotient remainder = Some (quotient, remainder)
+
+abbrev pub long_quotient : Bool → ℕ → ℕ → Option (ℕ × ℕ)
+long_quotient signed dividend by = quotient_in signed 32 (integer signed 64 dividend) (integer signed 32 by) None both
+
+-- the quotient low and the remainder high; the flags tell of the quotient
 abbrev pub paired : Ccr → ℕ → ℕ → LongQuotient
 paired old quotient remainder = Divided (record { low = quotient; high = remainder; ccr = result_flags Four quotient old })
 
+abbrev pub long_answer : Ccr → Option (ℕ × ℕ) → LongQuotient
+long_answer old None = Leaves (overflowed old)
+long_answer old (Some (quotient, remainder)) = paired old quotient remainder
+
 abbrev pub long_divided : Bool → ℕ → ℕ → ℕ → Ccr → LongQuotient
 long_divided signed high low by old =
-    if by == 0 then NoDivisor
-    else quotient_in signed 32 (integer signed 64 (high * 2 ^ 32 + low)) (integer signed 32 by) (Leaves (overflowed old)) (paired old)
+    if by == 0 then NoDivisor else long_answer old (long_quotient signed (high * 2 ^ 32 + low) by)

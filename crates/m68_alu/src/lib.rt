@@ -19,7 +19,9 @@ pub use laws::overflow_laws;
 pub use logical::logic;
 pub use m68_isa::{LogicOp, ShiftOp};
 pub use products::{Wide, mul, mul_long};
-pub use quotients::{LongQuotient, Quotient, div, div_long};
+pub use quotients::{
+    LongQuotient, Quotient, div, div_long, signed_long_quotient, unsigned_long_quotient,
+};
 pub use shifts::shift;
 pub use sizes::result_flags;
 pub use sums::{Out, add, addx, cmp, sub, subx};

@@ -1,9 +1,9 @@
 // Quotients.
-ghost use Rattle.std.specs.Prelude.{◌≡◌, ◌≢◌, ◌<◌, ◌^◌, ◌≤ℤ◌, pos, neg_ℤ, int_div, int_rem, true, false, FitsSigned};
+ghost use Rattle.std.specs.Prelude.{◌≡◌, ◌≢◌, ◌<◌, ◌^◌, ◌≤ℤ◌, pos, neg_ℤ, int_div, int_rem, true, false, FitsSigned, None};
 ghost use Rattle.std.specs.Int.{w64};
 ghost use Rattle.mix_bits.specs.Sizes.{signed_of, truncated};
 ghost use Rattle.mix_bits.specs.declared.size.Size.TheVariants.{Two, Four};
-ghost use Rattle.m68_alu.specs.Products.{divided, integer, long_divided, low_bits, overflowed, packed as packed_lem, paired as paired_lem, quotient_in};
+ghost use Rattle.m68_alu.specs.Products.{both, divided, integer, long_divided, long_quotient, low_bits, overflowed, packed as packed_lem, paired as paired_lem, quotient_in};
 
 use super::products::Wide;
 use super::sizes::{leaves, result_flags, signed};
@@ -79,13 +79,60 @@ fn signed_quotient(a: u32, b: u32, old: Ccr) -> Quotient
 pub fn div_long(is_signed: bool, high: u32, low: u32, by: u32, old: Ccr) -> LongQuotient
     ensures { result ≡ long_divided is_signed high low by old }
 {
-    let dividend = u64::from(high) * 0x1_0000_0000 + u64::from(low);
     if by == 0 {
-        LongQuotient::ByZero
-    } else if is_signed {
-        signed_long_quotient(signed_dividend(dividend), by, old)
+        return LongQuotient::ByZero;
+    }
+    let dividend = u64::from(high) * 0x1_0000_0000 + u64::from(low);
+    let quotient = if is_signed {
+        signed_long_quotient(dividend, by)
     } else {
-        unsigned_long_quotient(dividend, by, old)
+        unsigned_long_quotient(dividend, by)
+    };
+    match quotient {
+        None => LongQuotient::Overflow(overflow_flags(old)),
+        Some((quotient, remainder)) => pair(quotient, remainder, old),
+    }
+}
+
+/// The quotient and the remainder of 64 bits by a long, without signs, or nothing where the quotient is no long.
+#[inline(always)]
+pub fn unsigned_long_quotient(dividend: u64, by: u32) -> Option<(u32, u32)>
+    requires { by ≢ 0 }
+    ensures { result ≡ long_quotient false dividend by }
+{
+    let divisor = u64::from(by);
+    let quotient = dividend / divisor;
+    if quotient >= 0x1_0000_0000 {
+        None
+    } else {
+        Some((quotient as u32, (dividend % divisor) as u32))
+    }
+}
+
+/// The same with signs.
+#[inline(always)]
+pub fn signed_long_quotient(dividend: u64, by: u32) -> Option<(u32, u32)>
+    requires { by ≢ 0 }
+    ensures { result ≡ long_quotient true dividend by }
+{
+    quotient_of_signed(signed_dividend(dividend), by)
+}
+
+/// The same of a signed number. The least one gives no long by any divisor.
+#[inline(always)]
+fn quotient_of_signed(a: i64, b: u32) -> Option<(u32, u32)>
+    requires { b ≢ 0 }
+    ensures { result ≡ quotient_in true 32 a (signed_of b Four) None both }
+{
+    if a == i64::MIN {
+        return None;
+    }
+    let divisor = divisor(Size::Four, b);
+    let quotient = divide(a, divisor);
+    if leaves(Size::Four, quotient) {
+        None
+    } else {
+        Some((long(quotient), long(rest(a, divisor))))
     }
 }
 
@@ -95,37 +142,6 @@ fn signed_dividend(dividend: u64) -> i64
     ensures fits { FitsSigned w64 result }
 {
     dividend.cast_signed()
-}
-
-/// The quotient of unsigned numbers.
-fn unsigned_long_quotient(a: u64, b: u32, old: Ccr) -> LongQuotient
-    requires { b ≢ 0 }
-    ensures { result ≡ quotient_in false 32 (pos a) (pos b) (LongQuotient.Overflow (overflowed old)) (paired_lem old) }
-{
-    let divisor = u64::from(b);
-    let quotient = a / divisor;
-    if quotient >= 0x1_0000_0000 {
-        LongQuotient::Overflow(overflow_flags(old))
-    } else {
-        pair(quotient as u32, (a % divisor) as u32, old)
-    }
-}
-
-/// The quotient of signed numbers. The least dividend gives no long by any divisor.
-fn signed_long_quotient(a: i64, b: u32, old: Ccr) -> LongQuotient
-    requires { b ≢ 0 }
-    ensures { result ≡ quotient_in true 32 a (signed_of b Four) (LongQuotient.Overflow (overflowed old)) (paired_lem old) }
-{
-    let divisor = divisor(Size::Four, b);
-    if a == i64::MIN {
-        return LongQuotient::Overflow(overflow_flags(old));
-    }
-    let quotient = divide(a, divisor);
-    if leaves(Size::Four, quotient) {
-        LongQuotient::Overflow(overflow_flags(old))
-    } else {
-        pair(long(quotient), long(rest(a, divisor)), old)
-    }
 }
 
 /// A divisor that is not 0.

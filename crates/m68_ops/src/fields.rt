@@ -8,7 +8,7 @@ ghost use Rattle.m68_isa.specs.Shifts.{shift_op, shift_count};
 ghost use Rattle.m68_isa.specs.Fields.{HasCount};
 
 use m68_isa::{BitOp, Exchange, LogicOp, ShiftCount, ShiftOp};
-use mix_bits::{Size, sext};
+use mix_bits::Size;
 
 /// Bits 15 to 12.
 #[inline(always)]
@@ -113,7 +113,8 @@ pub fn condition_of(word: u32) -> u32
 pub fn byte_of(word: u32) -> u32
     ensures { result ≡ sign_extended (low_byte (first_of word)) Size.One }
 {
-    sext(word % 0x100, Size::One)
+    let byte = (word % 0x100) as u8;
+    i32::from(byte.cast_signed()).cast_unsigned()
 }
 
 /// Bits 7 to 0.

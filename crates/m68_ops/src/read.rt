@@ -1,5 +1,5 @@
-ghost use Rattle.std.specs.Prelude.{◌≡◌, ◌≢◌};
-ghost use Rattle.m68_isa.specs.First.{first_of, low_byte};
+ghost use Rattle.std.specs.Prelude.{◌≡◌, ◌<◌};
+ghost use Rattle.m68_isa.specs.First.{condition_of as condition_of_first, first_of, low_byte};
 ghost use Rattle.m68_ops.specs.Ops.{Fits, Reads};
 
 use super::arithmetic::{line_8, line_9, line_b, line_c, line_d};
@@ -65,43 +65,58 @@ fn line_6(word: u32) -> Op68
     ensures reads { Reads result word }
     ensures fits { Fits result word }
 {
-    match low_byte_of(word) {
-        0 => branch_by_word(word),
-        0xff => branch_by_long(word),
-        _ => branch_by_byte(word),
+    match condition_of(word) {
+        0 => always(word),
+        1 => calling(word),
+        _ => conditional(word),
     }
 }
 
-/// A branch with its displacement in the low byte.
-fn branch_by_byte(word: u32) -> Op68
+/// Words 0110 0000: bra.
+fn always(word: u32) -> Op68
     requires line { (first_of word).line ≡ 6 }
-    requires some { low_byte (first_of word) ≢ 0 }
-    requires byte { low_byte (first_of word) ≢ 255 }
+    requires condition { condition_of_first (first_of word) ≡ 0 }
     ensures reads { Reads result word }
     ensures fits { Fits result word }
 {
-    match condition_of(word) {
-        0 => Op68::BraByte,
-        1 => Op68::BsrByte,
+    match low_byte_of(word) {
+        0 => Op68::BraWord,
+        0xff => branch_by_long(word),
+        _ => Op68::BraByte,
+    }
+}
+
+/// Words 0110 0001: bsr.
+fn calling(word: u32) -> Op68
+    requires line { (first_of word).line ≡ 6 }
+    requires condition { condition_of_first (first_of word) ≡ 1 }
+    ensures reads { Reads result word }
+    ensures fits { Fits result word }
+{
+    match low_byte_of(word) {
+        0 => Op68::BsrWord,
+        0xff => branch_by_long(word),
+        _ => Op68::BsrByte,
+    }
+}
+
+/// Words 0110 but those: bcc.
+fn conditional(word: u32) -> Op68
+    requires line { (first_of word).line ≡ 6 }
+    requires condition { 1 < condition_of_first (first_of word) }
+    ensures reads { Reads result word }
+    ensures fits { Fits result word }
+{
+    match low_byte_of(word) {
+        0 => Op68::BccWord,
+        0xff => branch_by_long(word),
         _ => Op68::BccByte,
     }
 }
 
-/// A branch with its displacement in the word behind.
-fn branch_by_word(word: u32) -> Op68
-    requires line { (first_of word).line ≡ 6 }
-    requires none { low_byte (first_of word) ≡ 0 }
-    ensures reads { Reads result word }
-    ensures fits { Fits result word }
-{
-    match condition_of(word) {
-        0 => Op68::BraWord,
-        1 => Op68::BsrWord,
-        _ => Op68::BccWord,
-    }
-}
-
-/// A branch with its displacement in the long behind.
+/// A branch with its displacement in the long behind, which is rare.
+#[cold]
+#[inline(never)]
 fn branch_by_long(word: u32) -> Op68
     requires line { (first_of word).line ≡ 6 }
     requires mark { low_byte (first_of word) ≡ 255 }
