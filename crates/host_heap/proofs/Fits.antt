@@ -1,10 +1,11 @@
 -- the tests `fits` and `can_place` as facts
-use Rattle.std.proofs.Common.{ℕ, ◌≡◌, ◌%◌, ◌<◌, ◌≤◌, true, inl, inr, ⊎_elim, IsTrue, length}
+use Rattle.std.proofs.Common.{ℕ, ◌≡◌, true, inl, inr, ⊎_elim, IsTrue}
 use Rattle.std.proofs.lemmas.Bool.{and_parts, and_from, or_cases, or_left, or_right, leb-true, le-leb, ltb-true, lt-ltb, eqb-true, eq-eqb}
 use Rattle.std.proofs.lemmas.List.Sums.{AllPass-from_list_all, list_all-from_AllPass}
 use Rattle.host_heap.specs.declared.block.Block.{Block}
-use Rattle.host_heap.specs.Space.{Space, IsApart, HasRoom, block_limit}
-use Rattle.host_heap.specs.Place.{fits, can_place, is_apart}
+use Rattle.host_heap.specs.Space.{Space, IsApart, HasRoom}
+use Rattle.host_heap.specs.Place.{CanPlace, fits, can_place, is_apart}
+use Rattle.host_heap.specs.Laws.{PlacesAreTested}
 
 pub IsApart-from_test : (size address : ℕ) (block : Block) → is_apart size address block ≡ true → IsApart size address block
 IsApart-from_test size address block h =
@@ -32,14 +33,6 @@ fits_from s size address r =
     (and_from _ _ (le-leb _ _ r.above) (le-leb _ _ r.below))
     (list_all-from_AllPass (is_apart size address) s.blocks (λ k d l. is_apart_from size address _ (r.apart k d l)))
 
--- what a block needs that is placed
-pub record CanPlace (s : Space) (size address : ℕ) : Type 0 where
-  pub few : length s.blocks < block_limit
-  pub whole : size % 8 ≡ 0
-  pub least : 8 ≤ size
-  pub even : address % 8 ≡ 0
-  pub room : HasRoom s size address
-
 pub CanPlace-from_test : (s : Space) (size address : ℕ) → IsTrue (can_place s size address) → CanPlace s size address
 CanPlace-from_test s size address h =
     let few = and_parts _ _ h in
@@ -58,3 +51,6 @@ pub can_place_from : (s : Space) (size address : ℕ) → CanPlace s size addres
 can_place_from s size address h =
     and_from _ _ (lt-ltb _ _ h.few)
     (and_from _ _ (eq-eqb _ _ h.whole) (and_from _ _ (le-leb _ _ h.least) (and_from _ _ (eq-eqb _ _ h.even) (fits_from s size address h.room))))
+
+pub places_are_tested : PlacesAreTested
+places_are_tested s size address = (CanPlace-from_test s size address, can_place_from s size address)

@@ -1,5 +1,5 @@
 -- every change keeps a heap sound
-use Rattle.std.proofs.Common.{ℕ, ◌≡◌, ◌≢◌, ◌+◌, ◌-◌, ◌*◌, ◌/◌, ◌%◌, ◌<◌, ◌≤◌, Bool, false, not, Option, Some, None, List, ◌∷◌, length, max, inl, inr, ⊎_elim, sym, ap, ◌∙◌, subst, arith}
+use Rattle.std.proofs.Common.{ℕ, ◌≡◌, ◌+◌, ◌-◌, ◌*◌, ◌/◌, ◌%◌, ◌<◌, ◌≤◌, Bool, false, not, Option, Some, None, List, ◌∷◌, length, max, inl, inr, ⊎_elim, sym, ap, ◌∙◌, subst, arith}
 use Rattle.std.specs.Prelude.{◌==◌, nat_lt, All, filter}
 use Rattle.std.proofs.Math.Nat.{mul-mod_left}
 use Rattle.std.proofs.lemmas.Bool.{ltb-true, le-ltb}
@@ -8,9 +8,9 @@ use Rattle.std.proofs.lemmas.List.Elements.{All-cons, All-append, All-filter, fi
 use Rattle.std.proofs.lemmas.List.Kept.{AllPairs-cons, AllPairs-filter}
 use Rattle.host_heap.specs.declared.block.Block.{Block}
 use Rattle.host_heap.specs.Space.{Space, block_limit, rounded, IsApart, HasRoom, IsLowest}
-use Rattle.host_heap.specs.Place.{IsPlace, place_for, lowest_fit, placed, placed_where, taken, begins_at, freed}
+use Rattle.host_heap.specs.Place.{CanPlace, IsPlace, place_for, lowest_fit, placed, placed_where, taken, begins_at, freed}
 use Rattle.host_heap.specs.Sound.{IsInside, IsAligned, EndsBefore, IsSound}
-use Rattle.host_heap.proofs.Fits.{CanPlace}
+use Rattle.host_heap.specs.Laws.{RoomBeginsNone}
 use Rattle.host_heap.proofs.Lowest.{place_for-place, IsLowest-from}
 use Rattle.host_heap.proofs.Order.{AllPairs-append, length-filter_two, length-filter-le, filter_out_none}
 
@@ -119,7 +119,7 @@ pub IsSound-taken : (s : Space) (size : ℕ) → IsSound s → IsSound (taken s 
 IsSound-taken s size h = IsSound-where s size (place_for s size) h (place_for-place s size)
 
 -- no block begins where a new one goes
-pub none_begins : (s : Space) (size address : ℕ) → IsSound s → 8 ≤ size → HasRoom s size address → All (λ b. b.address ≢ address) s.blocks
+pub none_begins : RoomBeginsNone
 none_begins s size address h least room = λ k d l e.
     let whole = h.aligned k d l in ⊎_elim (λ before. omega (arith, e, before)) (λ after. omega (arith, e, after, whole.2)) (room.apart k d l)
 

@@ -4,3 +4,5 @@ pub mod Order
 pub mod Keeps
 pub mod Walk
 pub mod Undo
+pub mod Placing
+pub mod Appending

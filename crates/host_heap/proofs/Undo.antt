@@ -7,9 +7,8 @@ use Rattle.std.proofs.lemmas.List.{get_or_default, length-append}
 use Rattle.std.proofs.lemmas.List.Elements.{All-head, All-tail, All-filter, filter-append, filter_passes}
 use Rattle.host_heap.specs.declared.block.Block.{Block}
 use Rattle.host_heap.specs.Space.{Space, rounded, IsApart}
-use Rattle.host_heap.specs.Place.{IsPlace, with_block, without, placed, taken, freed}
+use Rattle.host_heap.specs.Place.{CanPlace, IsPlace, with_block, without, placed, taken, freed}
 use Rattle.host_heap.specs.Sound.{IsInside, IsAligned, EndsBefore, IsSound}
-use Rattle.host_heap.proofs.Fits.{CanPlace}
 use Rattle.host_heap.proofs.Order.{AllPairs-head, AllPairs-tail, filter_all, filter_none}
 use Rattle.host_heap.proofs.Lowest.{place_from}
 use Rattle.host_heap.proofs.Keeps.{CanPlace-got, IsSound-freed, none_begins, taken-some}

@@ -1,10 +1,18 @@
 -- What holds of blocks that are placed and given up.
-use Rattle.std.specs.Prelude.{◌≡◌, ℕ, Some, IsTrue, false}
+use Rattle.std.specs.Prelude.{◌≡◌, ◌≢◌, ◌↔◌, ℕ, ◌<◌, ◌≤◌, [], ◌∷◌, ◌++◌, length, Some, IsTrue, false, All}
 use Rattle.std.specs.List.{Contains}
 use Rattle.host_heap.specs.declared.block.Block.{Block}
-use Rattle.host_heap.specs.Space.{Space, rounded}
-use Rattle.host_heap.specs.Place.{place_for, can_place, placed, taken, begins_at, freed}
-use Rattle.host_heap.specs.Sound.{IsSound}
+use Rattle.host_heap.specs.Space.{Space, block_limit, rounded, HasRoom}
+use Rattle.host_heap.specs.Place.{CanPlace, place_for, can_append, can_place, is_behind, last_end, may_follow, placed, taken, begins_at, freed}
+use Rattle.host_heap.specs.Sound.{IsAligned, IsSound}
+
+-- what the test of a place tells
+abbrev pub PlacesAreTested : Type 0
+PlacesAreTested = (s : Space) (size address : ℕ) → IsTrue (can_place s size address) ↔ CanPlace s size address
+
+-- where another block has room, none begins
+abbrev pub RoomBeginsNone : Type 0
+RoomBeginsNone = (s : Space) (size address : ℕ) → IsSound s → 8 ≤ size → HasRoom s size address → All (λ b. b.address ≢ address) s.blocks
 
 -- a sound heap stays sound with a block that may be placed
 abbrev pub PlacingKeepsSound : Type 0
@@ -30,3 +38,15 @@ PlacingUndoesFreeing =
 -- where no block begins, there is none to give up
 abbrev pub FreeingNothing : Type 0
 FreeingNothing = (s : Space) (address : ℕ) → begins_at s.blocks address ≡ false → freed s address ≡ s
+
+-- a block behind all others is the last one
+abbrev pub PlacingAppends : Type 0
+PlacingAppends =
+    (s : Space) (size address : ℕ) → All IsAligned s.blocks → IsTrue (is_behind s.blocks address) →
+    placed s size address ≡ record s { blocks = s.blocks ++ record { address = address; size = size } ∷ [] }
+
+-- and where there is room for one more block, the last one tells whether it may stand there
+abbrev pub LastTells : Type 0
+LastTells =
+    (s : Space) (size address : ℕ) → IsSound s → length s.blocks < block_limit →
+    can_append s size address ≡ may_follow (last_end s.low s.blocks) s.high size address

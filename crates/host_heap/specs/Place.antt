@@ -1,8 +1,8 @@
 -- What `get`, `place` and `free` answer, and what they leave.
-use Rattle.std.specs.Prelude.{ℕ, zero, suc, ◌+◌, ◌-◌, ◌%◌, ◌<◌, ◌≤◌, ◌⊎◌, Bool, ◌==◌, ◌&&◌, ◌||◌, not, nat_lt, nat_le, if◌then◌else◌, Option, Some, None, List, ◌∷◌, ◌++◌, length, filter}
+use Rattle.std.specs.Prelude.{◌≡◌, ℕ, zero, suc, ◌+◌, ◌-◌, ◌%◌, ◌<◌, ◌≤◌, ◌⊎◌, Bool, ◌==◌, ◌&&◌, ◌||◌, not, nat_lt, nat_le, if◌then◌else◌, Option, Some, None, List, [], ◌∷◌, ◌++◌, length, filter}
 use Rattle.std.specs.List.{list_all, list_any}
 use Rattle.host_heap.specs.declared.block.Block.{Block}
-use Rattle.host_heap.specs.Space.{Space, block_limit, rounded, IsLowest, HasNone}
+use Rattle.host_heap.specs.Space.{Space, block_limit, rounded, HasRoom, IsLowest, HasNone}
 
 -- what `get` may answer: the lowest address with room, and None exactly where no block more may stand or no address has room
 abbrev pub IsPlace : Space → ℕ → Option ℕ → Type 0
@@ -22,6 +22,32 @@ fits s size address =
 abbrev pub can_place : Space → ℕ → ℕ → Bool
 can_place s size address =
     nat_lt (length s.blocks) block_limit && (size % 8 == 0 && (nat_le 8 size && (address % 8 == 0 && fits s size address)))
+
+-- the same as a fact
+pub record CanPlace (s : Space) (size address : ℕ) : Type 0 where
+  pub few : length s.blocks < block_limit
+  pub whole : size % 8 ≡ 0
+  pub least : 8 ≤ size
+  pub even : address % 8 ≡ 0
+  pub room : HasRoom s size address
+
+-- whether each block ends at or before an address
+abbrev pub is_behind : List Block → ℕ → Bool
+is_behind blocks address = list_all (λ b. nat_le (b.address + b.size) address) blocks
+
+-- where the last block ends, `low` without one
+unfoldable pub last_end : ℕ → List Block → ℕ
+last_end low [] = low
+last_end low (b ∷ bs) = last_end (b.address + b.size) bs
+
+-- whether a block of this size may stand at this address behind one that ends at `end`, and ends by `high`
+abbrev pub may_follow : ℕ → ℕ → ℕ → ℕ → Bool
+may_follow end high size address =
+    size % 8 == 0 && (nat_le 8 size && (address % 8 == 0 && (nat_le end address && nat_le (address + size) high)))
+
+-- whether a block of this size may stand at this address behind all others
+abbrev pub can_append : Space → ℕ → ℕ → Bool
+can_append s size address = is_behind s.blocks address && can_place s size address
 
 -- the first of `count` numbers, from `start` on, that passes the test
 unfoldable pub first_from : (ℕ → Bool) → ℕ → ℕ → Option ℕ

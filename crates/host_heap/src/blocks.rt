@@ -3,7 +3,7 @@ ghost use Rattle.std.specs.Prelude.{◌≡◌, ◌≢◌, ◌+◌, ◌<◌, ◌�
 ghost use Rattle.std.specs.List.{list_all};
 ghost use Rattle.std.specs.List.Sorted.{IsNonDecreasingBy};
 ghost use Rattle.host_heap.specs.Space.{rounded};
-ghost use Rattle.host_heap.specs.Place.{can_place, fits, is_apart, lowest_fit, with_block, begins_at, without};
+ghost use Rattle.host_heap.specs.Place.{can_append, can_place, fits, is_apart, last_end, lowest_fit, may_follow, with_block, begins_at, without};
 ghost use Rattle.host_heap.specs.Sound.{IsSound};
 
 use crate::block::Block;
@@ -70,6 +70,39 @@ fn is_apart(block: &Block, size: u32, address: u32) -> bool
 {
     u64::from(address) + u64::from(size) <= u64::from(block.address)
         || u64::from(block.address) + u64::from(block.size) <= u64::from(address)
+}
+
+/// Whether such a block may stand there behind all others, of which the last one tells.
+pub fn can_append(blocks: &[Block], low: u32, high: u32, size: u32, address: u32) -> bool
+    requires { IsSound (record { low = low; high = high; blocks = blocks.now }) }
+    ensures { result ≡ can_append (record { low = low; high = high; blocks = blocks.now }) size address }
+{
+    blocks.len() < BLOCK_LIMIT && may_follow(last_end(blocks, low), high, size, address)
+}
+
+/// Whether a block of `size` bytes may stand at this address behind one that ends at `end`, and ends by `high`.
+pub fn may_follow(end: u64, high: u32, size: u32, address: u32) -> bool
+    ensures { result ≡ may_follow end high size address }
+{
+    let behind = end <= u64::from(address);
+    let inside = u64::from(address) + u64::from(size) <= u64::from(high);
+    size % 8 == 0 && (8 <= size && (address % 8 == 0 && (behind && inside)))
+}
+
+/// Where the last block ends, `low` without one.
+fn last_end(blocks: &[Block], low: u32) -> u64
+    ensures { result ≡ last_end low blocks.now }
+{
+    match blocks.last() {
+        None => u64::from(low),
+        Some(last) => end(last),
+    }
+}
+
+fn end(block: &Block) -> u64
+    ensures { result ≡ block.now.address + block.now.size }
+{
+    u64::from(block.address) + u64::from(block.size)
 }
 
 /// Puts a block in between those below it and those above it.

@@ -3,11 +3,11 @@ ghost use Rattle.std.specs.Prelude.{◌≡◌, ◌<◌, ◌≤◌, ◌+◌, ◌%
 ghost use Rattle.std.specs.Bool.{OnFalse, OnTrue};
 ghost use Rattle.std.specs.List.{slice_get};
 ghost use Rattle.host_heap.specs.Space.{Space};
-ghost use Rattle.host_heap.specs.Place.{IsPlace, place_for, can_place, placed, taken, begins_at, freed};
+ghost use Rattle.host_heap.specs.Place.{IsPlace, place_for, can_append, can_place, placed, taken, begins_at, freed};
 ghost use Rattle.host_heap.specs.Sound.{IsSound};
 
 use crate::block::Block;
-use crate::blocks::{add, begins_at, can_place, lowest_fit, remove, rounded};
+use crate::blocks::{add, begins_at, can_append, can_place, lowest_fit, remove, rounded};
 use std::alloc::{AllocError, Global};
 use std::marker::Model;
 
@@ -80,6 +80,21 @@ impl Heap {
         ensures within { OnTrue result (address + size < 2 ^ 32) }
     {
         let possible = can_place(&self.blocks, self.low, self.high, size, address);
+        if possible {
+            add(&mut self.blocks, Block { address, size });
+            true
+        } else {
+            false
+        }
+    }
+
+    /// The same behind all other blocks alone, of which it looks only at the last one.
+    pub fn append(&mut self, address: u32, size: u32) -> bool
+        ensures exact { result ≡ can_append self.old size address }
+        ensures after { OnTrue result (self.new ≡ placed self.old size address) }
+        ensures unchanged { OnFalse result (self.new ≡ self.old) }
+    {
+        let possible = can_append(&self.blocks, self.low, self.high, size, address);
         if possible {
             add(&mut self.blocks, Block { address, size });
             true

@@ -3,7 +3,7 @@ ghost use Rattle.std.specs.Prelude.{◌≡◌, ℕ, ◌%◌, ◌≤◌, ◌↔�
 ghost use Rattle.host_heap.specs.Space.{Space, IsLowest, HasNone};
 ghost use Rattle.host_heap.specs.Place.{IsPlace, lowest_fit, place_for, taken, freed};
 ghost use Rattle.host_heap.specs.Sound.{IsSound};
-ghost use Rattle.host_heap.specs.Laws.{FreeingNothing, FreeingUndoesPlacing, PlacingKeepsSound, PlacingUndoesFreeing, TakingPlaces};
+ghost use Rattle.host_heap.specs.Laws.{FreeingNothing, FreeingUndoesPlacing, LastTells, PlacesAreTested, PlacingAppends, PlacingKeepsSound, PlacingUndoesFreeing, RoomBeginsNone, TakingPlaces};
 
 /// The value `lowest_fit` is the lowest address with room, and None exactly where there is none.
 pub fn lowest_fit_is_lowest()
@@ -42,7 +42,11 @@ pub fn freeing_undoes_taking()
 
 /// What placing blocks and giving them up leaves of a heap.
 pub fn placing_laws()
+    ensures tests { PlacesAreTested }
+    ensures begins { RoomBeginsNone }
     ensures sound { PlacingKeepsSound }
+    ensures appends { PlacingAppends }
+    ensures last { LastTells }
     ensures taking { TakingPlaces }
     ensures freeing { FreeingUndoesPlacing }
     ensures again { PlacingUndoesFreeing }

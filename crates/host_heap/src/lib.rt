@@ -10,6 +10,7 @@ mod laws;
 mod tests;
 
 pub use block::Block;
+pub use blocks::may_follow;
 pub use heap::Heap;
 pub use laws::{
     empty_heap_is_sound, freeing_keeps_sound, freeing_undoes_taking, lowest_fit_is_lowest,

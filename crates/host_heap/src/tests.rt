@@ -1,12 +1,14 @@
 use crate::Heap;
-use Step::{Free, Get};
+use Step::{Append, Free, Get, Place};
 use std::test::Fail;
 
-/// A call and what it is to answer: of `get` the size, of `free` the address.
+/// A call and what it is to answer: of `get` the size, of `free` the address, of `place` and `append` both.
 #[derive(Clone, Copy)]
 enum Step {
     Get(u32, Option<u32>),
     Free(u32, bool),
+    Place(u32, u32, bool),
+    Append(u32, u32, bool),
 }
 
 /// Whether each call, in order, answers as it is to.
@@ -15,6 +17,8 @@ fn answers(heap: &mut Heap, steps: &[Step]) -> bool {
         let good = match step {
             Get(size, wanted) => heap.get(*size) == *wanted,
             Free(address, wanted) => heap.free(*address) == *wanted,
+            Place(address, size, wanted) => heap.place(*address, *size) == *wanted,
+            Append(address, size, wanted) => heap.append(*address, *size) == *wanted,
         };
         if !good {
             return false;
@@ -79,30 +83,67 @@ fn does_not_wrap_at_the_last_address(rt: HostRuntime) -> Result<(), Fail> {
 }
 
 #[test]
-fn places_blocks_where_they_stood(rt: HostRuntime) -> Result<(), Fail> {
-    let mut heap = Heap::new(rt.alloc(), 0x1_0000, 0x1_0030)?;
-    assert!(rt; heap.place(0x1_0010, 16));
-    assert!(rt; !heap.place(0x1_0008, 16));
-    assert!(rt; !heap.place(0x1_0020, 0));
-    assert!(rt; !heap.place(0x1_0024, 8));
-    assert!(rt; !heap.place(0x1_0028, 16));
+fn places_a_block_where_it_may_stand(rt: HostRuntime) -> Result<(), Fail> {
+    let mut heap = Heap::new(rt.alloc(), 0x1_0000, 0x1_0040)?;
     let steps = [
-        Get(17, None),
-        Get(16, Some(0x1_0000)),
-        Get(8, Some(0x1_0020)),
-        Free(0x1_0010, true),
+        Place(0x1_0010, 16, true),
+        // It would meet that block, from below, inside of it and from above.
+        Place(0x1_0008, 16, false),
+        Place(0x1_0010, 8, false),
+        Place(0x1_0018, 16, false),
+        // It has no byte, or its size or its address is no multiple of 8.
+        Place(0x1_0020, 0, false),
+        Place(0x1_0020, 12, false),
+        Place(0x1_0024, 8, false),
+        // It leaves the heap, below and above, and around the last address.
+        Place(0xFFF8, 8, false),
+        Place(0x1_0038, 16, false),
+        Place(0x1_0038, 0xFFFF_FFF8, false),
+        Get(33, None),
+        Place(0x1_0000, 16, true),
+        Place(0x1_0038, 8, true),
+        Get(24, Some(0x1_0020)),
     ];
     assert!(rt; answers(&mut heap, &steps));
-    assert!(rt; heap.place(0x1_0010, 16));
-    assert_eq!(rt; heap.bounds(), (0x1_0000, 0x1_0030));
-    assert_eq!(rt; heap.count(), 3);
-    assert_eq!(rt;
-        heap.block(1).map(|block| (block.address, block.size)),
-        Some((0x1_0010, 16))
-    );
-    assert!(rt; heap.block(3).is_none());
-    let total: u32 = heap.blocks().len() as u32;
-    assert_eq!(rt; total, heap.count());
+    assert_eq!(rt; heap.bounds(), (0x1_0000, 0x1_0040));
+    assert_eq!(rt; heap.count(), 4);
+    for (number, block) in [
+        (0, Some((0x1_0000, 16))),
+        (1, Some((0x1_0010, 16))),
+        (2, Some((0x1_0020, 24))),
+        (3, Some((0x1_0038, 8))),
+        (4, None),
+        (u32::MAX, None),
+    ] {
+        let found = heap.block(number).map(|block| (block.address, block.size));
+        assert_eq!(rt; found, block);
+    }
+    Ok(())
+}
+
+#[test]
+fn appends_a_block_behind_the_last_one(rt: HostRuntime) -> Result<(), Fail> {
+    let mut heap = Heap::new(rt.alloc(), 0x1_0000, 0x1_0040)?;
+    assert_eq!(rt; heap.count(), 0);
+    assert!(rt; heap.block(0).is_none());
+    let steps = [
+        Append(0xFFF8, 8, false),
+        Append(0x1_0010, 8, true),
+        // There is room, but not behind that block.
+        Append(0x1_0000, 8, false),
+        Append(0x1_0010, 8, false),
+        Append(0x1_001C, 8, false),
+        Append(0x1_0018, 0, false),
+        Append(0x1_0018, 12, false),
+        Append(0x1_0018, 8, true),
+        Place(0x1_0000, 8, true),
+        Append(0x1_0008, 8, false),
+        Append(0x1_0038, 16, false),
+        Append(0x1_0038, 8, true),
+        Append(0x1_0040, 8, false),
+    ];
+    assert!(rt; answers(&mut heap, &steps));
+    assert_eq!(rt; heap.count(), 4);
     Ok(())
 }
 
@@ -114,8 +155,10 @@ fn holds_4096_blocks(rt: HostRuntime) -> Result<(), Fail> {
     }
     let steps = [
         Get(8, None),
+        Place(0x1_8000, 8, false),
+        Append(0x1_8000, 8, false),
         Free(0x1_0008, true),
-        Get(16, Some(0x1_8000)),
+        Append(0x1_8000, 16, true),
         Get(8, None),
     ];
     assert!(rt; answers(&mut heap, &steps));

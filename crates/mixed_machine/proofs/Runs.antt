@@ -8,6 +8,7 @@ use Rattle.mixed_machine.specs.Step.{step}
 use Rattle.mixed_machine.specs.Exec.{How, End, exec_to, goes_on, rests, is_back, Leads}
 use Rattle.mixed_machine.specs.Exec.How.{Limited, Faulted}
 use Rattle.mixed_machine.specs.Exec.End.{Back, Ended}
+use Rattle.mixed_machine.specs.Laws.{NoStepsStay}
 
 pub suc-more : (n m : ℕ) → suc n + m ≡ suc (n + m)
 suc-more n m = omega arith
@@ -36,7 +37,7 @@ unfolding state_at
 rests-here true s t leads = cc
 rests-here false s t leads = ap state_at leads
 
-pub no-steps : (d : ℕ) (s t : State) → Leads d 0 s t → s ≡ t
+pub no-steps : NoStepsStay
 unfolding exec_to
 no-steps d s t leads = rests-here (is_back d s) s t leads
 

@@ -10,6 +10,10 @@ use Rattle.mixed_machine.specs.Outside.{At}
 use Rattle.mixed_machine.specs.Runs.{Runs}
 use Rattle.dev_rack.specs.Accounts.{Accounts}
 
+-- no steps lead only to where they began
+abbrev pub NoStepsStay : Type 0
+NoStepsStay = (d : ℕ) (s t : State) → Leads d 0 s t → s ≡ t
+
 -- where n steps were done and no end was reached, a run of n + m steps is one of m steps from there
 abbrev pub RunsContinue : Type 0
 RunsContinue = (d n m : ℕ) (s t : State) → Leads d n s t → exec_to d (n + m) s ≡ exec_to d m t

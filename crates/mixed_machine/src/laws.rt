@@ -1,7 +1,7 @@
 ghost use Rattle.mixed_machine.specs.CrossingLaws.{CountBegins, CountExits, CountFaults, CountGoesOn, CountLimit};
 ghost use Rattle.mixed_machine.specs.Events.{BeginsAt, CalleeCameBack, CalleeStopped, ComesBackAt, ExitsAt, FaultsAt, GoesOnAt, LimitAt, OutBreaksAt, ReadBreaksAt, TraceBreaksAt};
 ghost use Rattle.mixed_machine.specs.StepLaws.{StepsAreKinds, TrapsNeverCross};
-ghost use Rattle.mixed_machine.specs.Laws.{BacksContinue, BacksStay, CutsContinue, EndsReach, EndsStay, LimitsAreLast, NeverBack, RunsContinue};
+ghost use Rattle.mixed_machine.specs.Laws.{BacksContinue, BacksStay, CutsContinue, EndsReach, EndsStay, LimitsAreLast, NeverBack, NoStepsStay, RunsContinue};
 
 /// Laws of single steps. It does nothing: the clauses are its point.
 ///
@@ -15,11 +15,13 @@ pub fn step_laws()
 
 /// Laws of runs. It does nothing: the clauses are its point.
 ///
-/// A run of `n + m` steps is a run of `n` steps and then one of `m`; an end stays where more steps are
-/// allowed. A run until fewer than `e` callers are suspended is a run until fewer than `d` are, for any
-/// greater `d`, and goes on where that one came back. A run that was cut at its step limit and continued
-/// is the uncut run, with what it put and took, and with the answers of the devices in both.
+/// No steps lead only to where they began. A run of `n + m` steps is a run of `n` steps and then one of
+/// `m`; an end stays where more steps are allowed. A run until fewer than `e` callers are suspended is a
+/// run until fewer than `d` are, for any greater `d`, and goes on where that one came back. A run that was
+/// cut at its step limit and continued is the uncut run, with what it put and took, and with the answers of
+/// the devices in both.
 pub fn run_laws()
+    ensures none { NoStepsStay }
     ensures continues { RunsContinue }
     ensures stays { EndsStay }
     ensures backs_stay { BacksStay }

@@ -1,5 +1,5 @@
 -- What stands in a frame is the image of the record that is read of it.
-use Rattle.std.proofs.Common.{◌≡◌, ◌⊎◌, inl, inr, ℕ, zero, suc, ◌+◌, ◌-◌, ◌*◌, ◌%◌, ◌^◌, ◌<◌, ◌≤◌, ◌==◌, nat_lt, Bool, true, false, cond, lit<, List, [], ◌∷◌, ◌++◌, length, get_or, Option, Some, None, unwrap_or, arith, ap, sym, subst, ◌∙◌, refl}
+use Rattle.std.proofs.Common.{◌≡◌, ◌⊎◌, inl, inr, ℕ, zero, suc, ◌+◌, ◌-◌, ◌*◌, ◌/◌, ◌%◌, ◌^◌, ◌<◌, ◌≤◌, ◌==◌, nat_lt, Bool, true, false, cond, lit<, List, [], ◌∷◌, ◌++◌, length, get_or, Option, Some, None, unwrap_or, arith, ap, sym, subst, ◌∙◌, refl}
 use Rattle.std.specs.Int.{from_bool}
 use Rattle.std.proofs.lemmas.Bool.{and_from, and_parts, eqb-true}
 use Rattle.std.proofs.lemmas.Bool.Decides.{nat_tests}
@@ -10,7 +10,6 @@ use Rattle.m68_isa.specs.declared.registers.Ccr.{Ccr}
 use Rattle.m68_isa.specs.declared.registers.Regs68.{Regs68}
 use Rattle.m68_isa.specs.Registers.{ccr_bits, ccr_of}
 use Rattle.m68_isa.specs.Longs.{longs_of as longs_of_m68}
-use Rattle.m68_isa.proofs.Bits.{read_back}
 use Rattle.ppc_isa.specs.declared.registers.RegsPpc.{RegsPpc}
 use Rattle.ppc_isa.specs.Longs.{longs_of as longs_of_ppc}
 use Rattle.big_memory.specs.Lists.{part}
@@ -63,8 +62,11 @@ eight-longs a b c d e f g h bytes b_is c_is d_is e_is f_is g_is h_is =
     ∙ ap (λ xs. long_at a bytes ∷ long_at b bytes ∷ long_at c bytes ∷ long_at d bytes ∷ xs) (four-longs e f g h bytes (omega arith) (omega arith) (omega arith))
 
 -- five bits are those of the condition codes that they say
-pub five-bits : (n : ℕ) → n < 32 → ccr_bits (ccr_of n) ≡ n
-five-bits n small = read_back n ∙ (let same : n % 32 ≡ n = omega arith in same)
+bit-back : (n : ℕ) → from_bool (n % 2 == 1) ≡ n % 2
+bit-back n = grind (arith, nat_tests)
+
+five-bits : (n : ℕ) → n < 32 → ccr_bits (ccr_of n) ≡ n
+five-bits n small = omega (arith, bit-back (n / 16), bit-back (n / 8), bit-back (n / 4), bit-back (n / 2), bit-back n)
 
 m68-again : (a : ℕ) (bytes : List ℕ) → holds_file set_m68 a bytes ≡ true → longs_at 20 a bytes ≡ longs_of_m68 (m68_at a bytes) ++ (0 ∷ 0 ∷ [])
 m68-again a bytes held =

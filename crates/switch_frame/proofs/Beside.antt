@@ -3,10 +3,10 @@ use Rattle.std.proofs.Common.{◌≡◌, ◌⊎◌, inl, inr, ℕ, suc, ◌+◌,
 use Rattle.big_memory.specs.Lists.{put}
 use Rattle.big_memory.proofs.Lists.{length-put, put-part, put-put_same, put-put_apart}
 use Rattle.switch_frame.specs.Records.{Record, image}
-use Rattle.switch_frame.specs.Chain.{Apart, Frames, outer_of, cleared, zeros, view}
+use Rattle.switch_frame.specs.Chain.{Above, Apart, Frames, outer_of, cleared, zeros, view}
 use Rattle.switch_frame.specs.Laws.{ViewIsMemory}
 use Rattle.switch_frame.proofs.Pieces.{length-zeros}
-use Rattle.switch_frame.proofs.Linked.{IsLen, IsRange, Above, apart-above, frames-above, len-ram, length-cleared, length-image_fits, range-fits}
+use Rattle.switch_frame.proofs.Linked.{IsLen, IsRange, apart-above, frames_above, len-ram, length-cleared, length-image_fits, range-fits}
 
 -- two writes apart go in either order
 puts-apart : (a b : ℕ) (ys zs xs : List ℕ) → a + length ys ≤ length xs → b + length zs ≤ length xs → (a + length ys ≤ b) ⊎ (b + length zs ≤ a) → put b zs (put a ys xs) ≡ put a ys (put b zs xs)
@@ -56,7 +56,7 @@ view-is bytes (r ∷ rs) frames ok =
     let size : length held ≡ r.hi - r.lo = length-image_fits len r rs (outer_of rs) (suc (length rs)) frames.1 in
     let rest : length (cleared bytes rs) ≡ len = length-cleared bytes rs frames.2 ok in
     let end : r.lo + length (zeros (r.hi - r.lo)) ≡ r.hi = omega (arith, range.some) in
-    let above : Above (r.lo + length (zeros (r.hi - r.lo))) rs = rw end (frames-above len bytes r rs ok frames.1.inside frames.2) in
+    let above : Above (r.lo + length (zeros (r.hi - r.lo))) rs = rw end (frames_above len bytes r rs frames.1.inside frames.2) in
     ap (λ xs. put r.lo held xs) (view-put len r.lo (zeros (r.hi - r.lo)) (cleared bytes rs) bytes rs rest (omega (arith, range.end)) (apart-above r.lo (length (zeros (r.hi - r.lo))) rs above) frames.2 ok
     ∙ ap (λ xs. put r.lo (zeros (r.hi - r.lo)) xs) (view-is bytes rs frames.2 ok))
     ∙ put-put_same r.lo (zeros (r.hi - r.lo)) held bytes (none ∙ sym size) (omega (arith, range.end))

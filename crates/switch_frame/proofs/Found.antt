@@ -13,6 +13,7 @@ use Rattle.switch_frame.specs.Records.{Record, head_of, image, isa_of, record_at
 use Rattle.switch_frame.specs.Chain.{Fits, Frames, Links, most_frames, outer_of, records}
 use Rattle.switch_frame.specs.Calls.{IsOutermost}
 use Rattle.switch_frame.specs.Checks.{IsWholeChain, caller_at, checked, fits_outer, is_below, is_good, is_set, walk}
+use Rattle.switch_frame.specs.Laws.{WholeChainsPass}
 use Rattle.switch_frame.proofs.Images.{IsReadAt, kind-back}
 use Rattle.switch_frame.proofs.Linked.{IsLen, IsRange, first-back, len-ram, range-fits, reads_back}
 use Rattle.switch_frame.proofs.Walks.{IsGood, good-is, good-tells, same-set, set-same, walk-bad, walk-ends, walk-last, walk-on}
@@ -207,11 +208,11 @@ walk-finds m main (suc most) count r (s ∷ rs) ok less few frames outermost =
     ∙ walk-finds m main most (suc count) s rs ok (omega (arith, less)) (omega (arith, few)) frames.2 (outermost-less main r s rs outermost)
     ∙ ap Ok number
 
-pub only-whole : (m : Memory) (top : ℕ) (active main : Isa) (rs : List Record) → IsWholeChain m top active main rs → checked m top active main ≡ Ok (length rs)
-only-whole m top active main [] whole =
+pub whole_chains_pass : WholeChainsPass
+whole_chains_pass m top active main [] whole =
     let same : is_set active main ≡ true = ap (λ s. is_set s main) whole.called ∙ same-set main in
     checked-none m top active main whole.links.first ∙ ap (λ b. cond b (Ok 0) (Err 0)) same
-only-whole m top active main (r ∷ rs) whole =
+whole_chains_pass m top active main (r ∷ rs) whole =
     let links = whole.links in
     let ok : IsLen (length m.bytes) = len-ram m links.ram in
     let range : IsRange (length m.bytes) r = range-fits (length m.bytes) r rs ok links.frames.1 in

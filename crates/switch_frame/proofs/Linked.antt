@@ -6,8 +6,9 @@ use Rattle.big_memory.specs.Memory.{Memory, IsRam}
 use Rattle.big_memory.proofs.Lists.{length-put, part-put_apart}
 use Rattle.switch_frame.specs.Sets.{frame_size}
 use Rattle.switch_frame.specs.Records.{Record, isa_of, image}
-use Rattle.switch_frame.specs.Chain.{Apart, Fits, Frames, IsInside, outer_of, records, read_chain, depth_at, cleared, zeros}
-use Rattle.switch_frame.specs.Laws.{ReadsBack, ReadsOuter, BeginsEmpty, KeepsLength}
+use Rattle.switch_frame.specs.Chain.{Above, Apart, Fits, Frames, outer_of, records, read_chain, depth_at, cleared, zeros}
+use Rattle.switch_frame.specs.FrameLaws.{FramesAbove}
+use Rattle.switch_frame.specs.Laws.{ReadsBack, ReadsOuter, BeginsEmpty, KeepsLength, TopIsLong}
 use Rattle.switch_frame.proofs.Pieces.{length-zeros}
 use Rattle.switch_frame.proofs.Images.{IsReadAt, image-back, length-image, size-least}
 
@@ -34,9 +35,13 @@ pub length-image_fits : (len : ℕ) (r : Record) (rs : List Record) (outer depth
 length-image_fits len r rs outer depth fits = length-image r outer depth fits.alone.held.file ∙ (let e : frame_size (isa_of r.caller) ≡ r.hi - r.lo = omega (arith, fits.alone.size) in e)
 
 -- an innermost frame's lo is in the stack
-pub outer-small : (len : ℕ) (bytes : List ℕ) (rs : List Record) → IsLen len → Frames len bytes rs → outer_of rs < 2 ^ 32
+outer-small : (len : ℕ) (bytes : List ℕ) (rs : List Record) → IsLen len → Frames len bytes rs → outer_of rs < 2 ^ 32
 outer-small len bytes [] ok frames = lit< tt
 outer-small len bytes (r ∷ rs) ok frames = let range : IsRange len r = range-fits len r rs ok frames.1 in omega (arith, range.some, range.end, ok.most)
+
+pub top_is_long : TopIsLong
+top_is_long m top rs links =
+    let small : outer_of rs < 2 ^ 32 = outer-small (length m.bytes) m.bytes rs (len-ram m links.ram) links.frames in omega (arith, links.first, small)
 
 -- the frame of the first record, read by its layout
 pub first-back : (len : ℕ) (bytes : List ℕ) (r : Record) (rs : List Record) → IsLen len → length rs < 2 ^ 31 → Frames len bytes (r ∷ rs) → IsReadAt bytes r (outer_of rs) (suc (length rs))
@@ -76,11 +81,6 @@ reads_outer m top r rs links = record { ram = links.ram; first = refl; few = ome
 pub begins_empty : BeginsEmpty
 begins_empty m ram free = record { links = record { ram = ram; first = refl; few = lit≤ tt; frames = tt }; guarded = free }
 
--- each record lies above an address
-abbrev pub Above : ℕ → List Record → Type 0
-Above hi [] = Unit {0}
-Above hi (r ∷ rs) = (hi ≤ r.lo) × Above hi rs
-
 pub above-less : (lo hi : ℕ) (rs : List Record) → lo ≤ hi → Above hi rs → Above lo rs
 above-less lo hi [] less above = tt
 above-less lo hi (r ∷ rs) less above = (omega (arith, above.0), above-less lo hi rs less above.1)
@@ -89,13 +89,11 @@ pub apart-above : (a n : ℕ) (rs : List Record) → Above (a + n) rs → Apart 
 apart-above a n [] above = tt
 apart-above a n (r ∷ rs) above = (inr above.0, apart-above a n rs above.1)
 
--- the frames outside a frame lie above it
-pub frames-above : (len : ℕ) (bytes : List ℕ) (r : Record) (rs : List Record) → IsLen len → IsInside r rs → Frames len bytes rs → Above r.hi rs
-frames-above len bytes r [] ok inside frames = tt
-frames-above len bytes r (s ∷ rs) ok inside frames =
-    let range : IsRange len s = range-fits len s rs ok frames.1 in
-    let hi : r.hi ≤ s.hi = omega (arith, inside.0, range.some) in
-    (inside.0, above-less r.hi s.hi rs hi (frames-above len bytes s rs ok frames.1.inside frames.2))
+pub frames_above : FramesAbove
+frames_above len bytes r [] inside frames = tt
+frames_above len bytes r (s ∷ rs) inside frames =
+    let hi : r.hi ≤ s.hi = omega (arith, inside.0, frames.1.alone.size) in
+    (inside.0, above-less r.hi s.hi rs hi (frames_above len bytes s rs frames.1.inside frames.2))
 
 -- a write apart from the frames keeps them
 pub frames-kept : (len a : ℕ) (ys bytes : List ℕ) (rs : List Record) → IsLen len → a + length ys ≤ length bytes → Apart a (length ys) rs → Frames len bytes rs → Frames len (put a ys bytes) rs

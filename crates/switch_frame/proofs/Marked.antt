@@ -10,7 +10,7 @@ use Rattle.big_memory.proofs.Lists.{length-put, get_or-put_replicate}
 use Rattle.switch_frame.specs.Sets.{frame_size}
 use Rattle.switch_frame.specs.Records.{isa_of}
 use Rattle.switch_frame.specs.Chain.{IsFrameRange, in_range}
-use Rattle.switch_frame.specs.RangeLaws.{FitsIsRange, MarkAt, MarksKept, MarksSame, TopTells}
+use Rattle.switch_frame.specs.RangeLaws.{FitsIsRange, MarkAt, MarksKept, MarksSame, RangeMoves, TopTells}
 use Rattle.switch_frame.proofs.Linked.{IsRange, len-ram, range-fits}
 
 pub top_tells : TopTells
@@ -31,9 +31,8 @@ range-size m lo hi Ppc size aligned stack within =
 pub fits_is_range : FitsIsRange
 fits_is_range m r fits = range-size m r.lo r.hi (isa_of r.caller) fits.size fits.aligned fits.stack fits.within
 
--- a range in a memory that is as long
-pub range-moves : (m n : Memory) (lo hi : ℕ) → length n.bytes ≡ length m.bytes → IsFrameRange m lo hi → IsFrameRange n lo hi
-range-moves m n lo hi same range =
+pub range_moves : RangeMoves
+range_moves m n lo hi same range =
     record { first = range.first; last = range.last; stack = omega (arith, same, range.stack); order = range.order; small = range.small; within = omega (arith, same, range.within) }
 
 -- the marks of a range set or cleared

@@ -10,11 +10,11 @@ use Rattle.big_memory.proofs.Free.{free_ram}
 use Rattle.big_memory.specs.Laws.{Passes}
 use Rattle.big_memory.proofs.Guarded.{passes, refusal-none, test_from_free}
 use Rattle.switch_frame.specs.Records.{Record}
-use Rattle.switch_frame.specs.Chain.{Apart, Chain, Frames}
+use Rattle.switch_frame.specs.Chain.{Above, Apart, Chain, Frames}
 use Rattle.switch_frame.specs.Calls.{is_crossed}
 use Rattle.switch_frame.specs.Laws.{FreeKeepsChain, PlacesAreFree, RefusalsAreRanges, meets_frames}
 use Rattle.switch_frame.specs.FrameLaws.{BelowInnermost, MeetsNone}
-use Rattle.switch_frame.proofs.Linked.{IsLen, IsRange, Above, above-less, apart-above, frames-above, len-ram, range-fits}
+use Rattle.switch_frame.proofs.Linked.{IsLen, IsRange, above-less, apart-above, frames_above, len-ram, range-fits}
 use Rattle.switch_frame.proofs.Guards.{apart-free, apart-meets, guard_is_frames, meets-apart}
 
 pub meets_none : MeetsNone
@@ -36,7 +36,7 @@ above-crossed len hi bytes [] ok below frames = tt
 above-crossed len hi bytes (r ∷ rs) ok below frames =
     let range : IsRange len r = range-fits len r rs ok frames.1 in
     let first : hi ≤ r.lo = grind (arith, nat_tests) in
-    (first, above-less hi r.hi rs (omega (arith, range.some)) (frames-above len bytes r rs ok frames.1.inside frames.2))
+    (first, above-less hi r.hi rs (omega (arith, range.some)) (frames_above len bytes r rs frames.1.inside frames.2))
 
 pub below_innermost : BelowInnermost
 below_innermost m top rs hi a n links below end =

@@ -5,12 +5,12 @@ use Rattle.std.proofs.lemmas.List.{length-append, get_or_append_left, get_or-app
 use Rattle.big_memory.specs.Lists.{part, put}
 use Rattle.big_memory.proofs.Lists.{part-put_apart, part-put_same}
 use Rattle.switch_frame.specs.Records.{Record}
-use Rattle.switch_frame.specs.Chain.{Frames, covered, cleared, zeros}
+use Rattle.switch_frame.specs.Chain.{Above, Frames, covered, cleared, zeros}
 use Rattle.switch_frame.specs.Seen.{marks_over, seen_by}
 use Rattle.switch_frame.specs.Laws.{LowIsMemory, SeenIsMemory}
 use Rattle.switch_frame.specs.FrameLaws.{AreZeros, ZerosBeside}
 use Rattle.switch_frame.proofs.Pieces.{length-zeros}
-use Rattle.switch_frame.proofs.Linked.{IsLen, IsRange, Above, frames-above, keeps_length, len-ram, length-cleared, range-fits}
+use Rattle.switch_frame.proofs.Linked.{IsLen, IsRange, frames_above, keeps_length, len-ram, length-cleared, range-fits}
 use Rattle.switch_frame.proofs.Beside.{view_is_memory}
 
 -- the marks of units, counted and one by one
@@ -76,7 +76,7 @@ cleared-zeros bytes (r ∷ rs) ok frames =
     let rest : length (cleared bytes rs) ≡ length bytes = length-cleared bytes rs frames.2 ok in
     let size : length (zeros (r.hi - r.lo)) ≡ r.hi - r.lo = length-zeros (r.hi - r.lo) in
     let end : r.lo + length (zeros (r.hi - r.lo)) ≡ r.hi = omega (arith, range.some) in
-    let above : Above (r.lo + length (zeros (r.hi - r.lo))) rs = rw end (frames-above (length bytes) bytes r rs ok frames.1.inside frames.2) in (
+    let above : Above (r.lo + length (zeros (r.hi - r.lo))) rs = rw end (frames_above (length bytes) bytes r rs frames.1.inside frames.2) in (
       part-put_same r.lo (r.hi - r.lo) (zeros (r.hi - r.lo)) (cleared bytes rs) size (omega (arith, range.some, range.end)),
       zeros-kept r.lo (zeros (r.hi - r.lo)) (cleared bytes rs) rs (omega (arith, range.end)) above (cleared-zeros bytes rs ok frames.2),
     )

@@ -12,14 +12,14 @@ use Rattle.switch_frame.specs.declared.kind.Kind.{Kind}
 use Rattle.big_memory.specs.Numbers.{long_at}
 use Rattle.switch_frame.specs.Sets.{caller_isa, frame_size, kind_code, kind_at, kind_told}
 use Rattle.switch_frame.specs.Records.{Record, isa_of, image, record_at, record_of, held_of}
-use Rattle.switch_frame.specs.Chain.{Apart, Fits, Frames, IsFrameRange, IsHeld, IsInside, Links, Chain, outer_of, records, depth_at, covered, in_range, cleared, zeros, most_frames}
+use Rattle.switch_frame.specs.Chain.{Above, Apart, Fits, Frames, IsFrameRange, IsHeld, IsInside, Links, Chain, outer_of, records, depth_at, covered, in_range, cleared, zeros, most_frames}
 use Rattle.switch_frame.specs.Calls.{IsPlace, IsCalled, IsInnermost, innermost, is_crossed}
 use Rattle.big_memory.proofs.Rams.{bytes_keep_ram}
 use Rattle.switch_frame.proofs.Pieces.{length-zeros}
 use Rattle.switch_frame.proofs.Images.{IsReadAt, kind-back}
-use Rattle.switch_frame.proofs.Linked.{IsLen, IsRange, Above, apart-above, first-back, depth-back, frames-above, frames-kept, len-ram, length-cleared, length-image_fits, range-fits, reads_back}
+use Rattle.switch_frame.proofs.Linked.{IsLen, IsRange, apart-above, first-back, depth-back, frames_above, frames-kept, len-ram, length-cleared, length-image_fits, range-fits, reads_back}
 use Rattle.switch_frame.proofs.Beside.{cleared-put}
-use Rattle.switch_frame.proofs.Marked.{fits_is_range, mark_at, marks_kept, range-moves}
+use Rattle.switch_frame.proofs.Marked.{fits_is_range, mark_at, marks_kept, range_moves}
 use Rattle.switch_frame.proofs.Places.{called-inside}
 
 pub cond-true : (b x : Bool) → cond b true x ≡ (b || x)
@@ -50,7 +50,7 @@ outside-apart : (len : ℕ) (bytes : List ℕ) (r : Record) (rs : List Record) (
 outside-apart len bytes r rs n ok fits frames size =
     let range : IsRange len r = range-fits len r rs ok fits in
     let end : r.lo + n ≡ r.hi = omega (arith, range.some) in
-    let above : Above (r.lo + n) rs = rw end (frames-above len bytes r rs ok fits.inside frames) in
+    let above : Above (r.lo + n) rs = rw end (frames_above len bytes r rs fits.inside frames) in
     apart-above r.lo n rs above
 
 pushed-chain : (m : Memory) (top : ℕ) (rs : List Record) (r : Record) → Chain m top rs → length rs < most_frames → Fits (length m.bytes) r rs → Chain (pushed m r rs) r.lo (r ∷ rs)
@@ -67,7 +67,7 @@ pushed-chain m top rs r chain few fits =
     let apart : Apart r.lo (length held) rs = outside-apart len m.bytes r rs (length held) ok fits links.frames size in
     let kept : Frames (length m.bytes) (put r.lo held m.bytes) rs = frames-kept len r.lo held m.bytes rs ok within apart links.frames in
     let whole : Frames (length m.bytes) (put r.lo held m.bytes) (r ∷ rs) = (part-put_same r.lo (r.hi - r.lo) held m.bytes size (omega (arith, range.some, range.end)), fits, kept) in
-    let there : IsFrameRange (with_bytes r.lo held m) r.lo r.hi = range-moves m (with_bytes r.lo held m) r.lo r.hi same (fits_is_range m r fits.alone) in
+    let there : IsFrameRange (with_bytes r.lo held m) r.lo r.hi = range_moves m (with_bytes r.lo held m) r.lo r.hi same (fits_is_range m r fits.alone) in
     record {
       links = record {
         ram = marks_kept (with_bytes r.lo held m) r.lo r.hi true ram there;
@@ -92,8 +92,8 @@ popped-chain m top rs r chain =
     let ram : IsRam (with_bytes r.lo none m) = bytes_keep_ram m r.lo none within links.ram in
     let apart : Apart r.lo (length none) rs = outside-apart len m.bytes r rs (length none) ok fits links.frames.2 size in
     let kept : Frames (length m.bytes) (put r.lo none m.bytes) rs = frames-kept len r.lo none m.bytes rs ok within apart links.frames.2 in
-    let there : IsFrameRange (with_bytes r.lo none m) r.lo r.hi = range-moves m (with_bytes r.lo none m) r.lo r.hi same (fits_is_range m r fits.alone) in
-    let above : Above r.hi rs = frames-above len m.bytes r rs ok fits.inside links.frames.2 in
+    let there : IsFrameRange (with_bytes r.lo none m) r.lo r.hi = range_moves m (with_bytes r.lo none m) r.lo r.hi same (fits_is_range m r fits.alone) in
+    let above : Above r.hi rs = frames_above len m.bytes r rs fits.inside links.frames.2 in
     record {
       links = record {
         ram = marks_kept (with_bytes r.lo none m) r.lo r.hi false ram there;

@@ -103,6 +103,11 @@ abbrev pub Apart : ℕ → ℕ → List Record → Type 0
 Apart a n [] = Unit {0}
 Apart a n (r ∷ rs) = ((r.hi ≤ a) ⊎ (a + n ≤ r.lo)) × Apart a n rs
 
+-- each record's range begins at or above an address
+abbrev pub Above : ℕ → List Record → Type 0
+Above a [] = Unit {0}
+Above a (r ∷ rs) = (a ≤ r.lo) × Above a rs
+
 -- a whole chain: its frames stand in memory, and exactly their units are guarded
 pub record Chain (m : Memory) (top : ℕ) (rs : List Record) : Type 0 where
   pub links : Links m top rs

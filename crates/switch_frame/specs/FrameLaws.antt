@@ -7,7 +7,7 @@ use Rattle.switch_frame.specs.declared.kind.Kind.{Kind}
 use Rattle.big_memory.specs.Numbers.{bytes_of_longs}
 use Rattle.switch_frame.specs.Sets.{caller_isa}
 use Rattle.switch_frame.specs.Records.{Record, isa_of}
-use Rattle.switch_frame.specs.Chain.{Apart, Chain, Links, cleared, most_frames, zeros}
+use Rattle.switch_frame.specs.Chain.{Above, Apart, Chain, Frames, IsInside, Links, cleared, most_frames, zeros}
 use Rattle.switch_frame.specs.Calls.{IsCalled, IsPlace, is_crossed, room_of}
 use Rattle.switch_frame.specs.Laws.{IsStored, meets_frames}
 
@@ -36,6 +36,10 @@ StoredApart =
 -- bytes that end at or below an address which is not above the innermost frame's lo lie apart from each frame
 abbrev pub BelowInnermost : Type 0
 BelowInnermost = (m : Memory) (top : ℕ) (rs : List Record) (hi a n : ℕ) → Links m top rs → is_crossed rs hi ≡ false → a + n ≤ hi → Apart a n rs
+
+-- the frames outside a frame lie above it
+abbrev pub FramesAbove : Type 0
+FramesAbove = (len : ℕ) (bytes : List ℕ) (r : Record) (rs : List Record) → IsInside r rs → Frames len bytes rs → Above r.hi rs
 
 -- room is a place, and leaves the callee its stack
 abbrev pub RoomIsPlace : Type 0

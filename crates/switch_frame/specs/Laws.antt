@@ -1,5 +1,6 @@
 -- Laws of chains.
-use Rattle.std.specs.Prelude.{◌≡◌, ℕ, ◌+◌, ◌<◌, ◌≤◌, ◌==◌, nat_lt, Bool, false, ◌&&◌, ◌||◌, if◌then◌else◌, List, [], ◌∷◌, length, slice_index_or, Option, Some, None, Ok}
+use Rattle.std.specs.Prelude.{◌≡◌, ℕ, ◌+◌, ◌^◌, ◌<◌, ◌≤◌, ◌==◌, nat_lt, Bool, false, ◌&&◌, ◌||◌, if◌then◌else◌, List, [], ◌∷◌, length, slice_index_or, Option, Some, None, Ok}
+use Rattle.mix_bits.specs.declared.isa.Isa.{Isa}
 use Rattle.big_memory.specs.declared.refusals.Access.{Access}
 use Rattle.big_memory.specs.declared.refusals.Access.TheVariants.{Outside, Gate, Frame}
 use Rattle.big_memory.specs.Lists.{part, put}
@@ -9,6 +10,7 @@ use Rattle.switch_frame.specs.declared.kind.Kind.{Kind}
 use Rattle.switch_frame.specs.Records.{Record}
 use Rattle.switch_frame.specs.Chain.{Chain, Links, cleared, outer_of, records, view}
 use Rattle.switch_frame.specs.Calls.{IsPlace, room_of}
+use Rattle.switch_frame.specs.Checks.{IsWholeChain, checked}
 use Rattle.switch_frame.specs.Seen.{seen_by}
 
 -- the bytes of a chain's frames, read by their layout, are its records
@@ -78,3 +80,11 @@ FreeKeepsChain = (m n : Memory) (top : ℕ) (rs : List Record) → Chain m top r
 -- below the stack the memory beside the frames is the memory
 abbrev pub LowIsMemory : Type 0
 LowIsMemory = (m : Memory) (top : ℕ) (rs : List Record) (a n : ℕ) → Links m top rs → a + n ≤ floor_of m → part a n (cleared m.bytes rs) ≡ part a n m.bytes
+
+-- the innermost frame begins at an address of 32 bits
+abbrev pub TopIsLong : Type 0
+TopIsLong = (m : Memory) (top : ℕ) (rs : List Record) → Links m top rs → top < 2 ^ 32
+
+-- a chain that is whole but for the guard passes the check, which counts its frames
+abbrev pub WholeChainsPass : Type 0
+WholeChainsPass = (m : Memory) (top : ℕ) (active main : Isa) (rs : List Record) → IsWholeChain m top active main rs → checked m top active main ≡ Ok (length rs)

@@ -14,6 +14,10 @@ TopTells =
 abbrev pub FitsIsRange : Type 0
 FitsIsRange = (m : Memory) (r : Record) → FitsAlone (length m.bytes) r → IsFrameRange m r.lo r.hi
 
+-- and it is one in each memory that is as long
+abbrev pub RangeMoves : Type 0
+RangeMoves = (m n : Memory) (lo hi : ℕ) → length n.bytes ≡ length m.bytes → IsFrameRange m lo hi → IsFrameRange n lo hi
+
 -- a unit's mark, when those of such a range are replaced
 abbrev pub MarkAt : Type 0
 MarkAt =

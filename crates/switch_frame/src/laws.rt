@@ -1,7 +1,7 @@
-ghost use Rattle.switch_frame.specs.FrameLaws.{BelowInnermost, FirstIsHeld, LengthBytes, LengthZeros, MeetsNone, PlaceByLength, RoomByLength, RoomIsPlace, StoredApart, TopIsZero, ZerosBeside};
+ghost use Rattle.switch_frame.specs.FrameLaws.{BelowInnermost, FirstIsHeld, FramesAbove, LengthBytes, LengthZeros, MeetsNone, PlaceByLength, RoomByLength, RoomIsPlace, StoredApart, TopIsZero, ZerosBeside};
 ghost use Rattle.switch_frame.specs.GateLaws.{LongsArePage, PageByBytes, PageHasLongs};
-ghost use Rattle.switch_frame.specs.RangeLaws.{FitsIsRange, MarkAt, MarksKept, MarksSame, TopTells};
-ghost use Rattle.switch_frame.specs.Laws.{BeginsEmpty, FreeKeepsChain, GuardIsFrames, KeepsLength, LowIsMemory, PlacesAreFree, PlacesAreGiven, ReadsBack, ReadsOuter, RefusalsAreRanges, SeenIsMemory, StoresBeside, ViewIsMemory};
+ghost use Rattle.switch_frame.specs.RangeLaws.{FitsIsRange, MarkAt, MarksKept, MarksSame, RangeMoves, TopTells};
+ghost use Rattle.switch_frame.specs.Laws.{BeginsEmpty, FreeKeepsChain, GuardIsFrames, KeepsLength, LowIsMemory, PlacesAreFree, PlacesAreGiven, ReadsBack, ReadsOuter, RefusalsAreRanges, SeenIsMemory, StoresBeside, TopIsLong, ViewIsMemory, WholeChainsPass};
 
 /// What follows from the definitions of a chain. It does nothing: the clauses are its point.
 pub fn chain_laws()
@@ -18,6 +18,8 @@ pub fn chain_laws()
     ensures seen { SeenIsMemory }
     ensures keeps { FreeKeepsChain }
     ensures low { LowIsMemory }
+    ensures top { TopIsLong }
+    ensures whole { WholeChainsPass }
 {}
 
 /// What follows for single frames and their ranges. It does nothing, either.
@@ -27,6 +29,7 @@ pub fn frame_laws()
     ensures meets { MeetsNone }
     ensures stored { StoredApart }
     ensures below { BelowInnermost }
+    ensures above { FramesAbove }
     ensures room { RoomIsPlace }
     ensures place_by_length { PlaceByLength }
     ensures room_by_length { RoomByLength }
@@ -39,6 +42,7 @@ pub fn frame_laws()
 pub fn range_laws()
     ensures top { TopTells }
     ensures range { FitsIsRange }
+    ensures moves { RangeMoves }
     ensures mark { MarkAt }
     ensures marks_kept { MarksKept }
     ensures marks_same { MarksSame }

@@ -1,5 +1,5 @@
-use Rattle.host_heap.proofs.Lowest.{IsPlace-from, place_from}
+use Rattle.host_heap.proofs.Placing.{place_is_unique}
 use Rattle.host_heap.proofs.laws.place_is_unique.Goals as goal
 
 pub returns : goal.returns
-returns c = λ s size answer. (IsPlace-from s size answer, place_from s size answer)
+returns c = place_is_unique

@@ -1,4 +1,5 @@
-use Rattle.switch_frame.proofs.Linked.{reads_back, reads_outer, begins_empty, keeps_length}
+use Rattle.switch_frame.proofs.Found.{whole_chains_pass}
+use Rattle.switch_frame.proofs.Linked.{reads_back, reads_outer, begins_empty, keeps_length, top_is_long}
 use Rattle.switch_frame.proofs.Beside.{view_is_memory}
 use Rattle.switch_frame.proofs.Guards.{guard_is_frames, stores_beside}
 use Rattle.switch_frame.proofs.Seen.{low_is_memory, seen_is_memory}
@@ -40,3 +41,9 @@ returns-clause-keeps c = free_keeps_chain
 
 pub returns-clause-low : goal.returns-clause-low
 returns-clause-low c = low_is_memory
+
+pub returns-clause-top : goal.returns-clause-top
+returns-clause-top c = top_is_long
+
+pub returns-clause-whole : goal.returns-clause-whole
+returns-clause-whole c = whole_chains_pass

@@ -1,6 +1,7 @@
 use Rattle.big_memory.proofs.Numbers.{length_of_bytes}
 use Rattle.switch_frame.proofs.Pieces.{length-zeros}
 use Rattle.switch_frame.proofs.Guards.{stored-apart}
+use Rattle.switch_frame.proofs.Linked.{frames_above}
 use Rattle.switch_frame.proofs.Seen.{zeros_beside}
 use Rattle.switch_frame.proofs.Ranges.{below_innermost, meets_none}
 use Rattle.switch_frame.proofs.Places.{first_is_held, place_by_length, room_by_length, room_is_place, top_is_zero}
@@ -13,6 +14,7 @@ returns c = record {
   meets = meets_none;
   stored = stored-apart;
   below = below_innermost;
+  above = frames_above;
   room = room_is_place;
   place_by_length = place_by_length;
   room_by_length = room_by_length;

@@ -1,6 +1,6 @@
 use Rattle.std.proofs.Common.{◌≡◌, ◌==◌, false, cond, Ok, Err, sym, ◌∙◌, ap, arith}
 use Rattle.std.proofs.lemmas.Bool.Decides.{nat_tests}
-use Rattle.switch_frame.proofs.Found.{checked-none, checked-walks, if-whole, none-whole, only-whole}
+use Rattle.switch_frame.proofs.Found.{checked-none, checked-walks, if-whole, none-whole, whole_chains_pass}
 use Rattle.switch_frame.proofs.whole.check.Goals as goal
 
 pub returns-then-top-ne0-clause-exact : goal.returns-then-top-ne0-clause-exact
@@ -17,7 +17,7 @@ returns-then-top-ne0-clause-whole c =
 pub returns-then-top-ne0-clause-only : goal.returns-then-top-ne0-clause-only
 returns-then-top-ne0-clause-only c = λ rs whole.
     let live : (c.args.top == 0) ≡ false = grind (arith, nat_tests) in
-    c.walk.ensures ∙ sym (checked-walks c.args.ram.now c.args.top c.args.active c.args.main live) ∙ only-whole c.args.ram.now c.args.top c.args.active c.args.main rs whole
+    c.walk.ensures ∙ sym (checked-walks c.args.ram.now c.args.top c.args.active c.args.main live) ∙ whole_chains_pass c.args.ram.now c.args.top c.args.active c.args.main rs whole
 
 pub returns-then-is_set-clause-exact : goal.returns-then-is_set-clause-exact
 returns-then-is_set-clause-exact c =
