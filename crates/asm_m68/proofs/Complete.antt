@@ -26,7 +26,8 @@ use Rattle.m68_spelling.specs.Spelling.Ending.{Alone, Distance, Extended, Paired
 use Rattle.m68_spelling.proofs.Complete.{texts_spell, words_spell}
 use Rattle.asm_m68.specs.declared.assembler.AsmError.{AsmError}
 use Rattle.asm_m68.specs.declared.assembler.AsmError.TheVariants.{Name, Operands}
-use Rattle.asm_m68.specs.Assembly.{Gives, IsData, IsText, answer, assembled, checked, data_text, has_text, prints, tells, with_form}
+use Rattle.asm_m68.specs.Assembly.{Gives, GivesSome, IsData, IsText, answer, assembled, checked, data_text, has_text, prints, tells, with_form}
+use Rattle.asm_m68.specs.Laws.{GivenAreNamed, GivesOne}
 
 -- What is spelled are words.
 
@@ -166,6 +167,29 @@ data_assembled line at ws d =
 pub complete : (line : List ℕ) (at : ℕ) (ws : List ℕ) → at < 2 ^ 32 → Gives line at ws → assembled line at ≡ Ok ws
 complete line at ws fits g = elim g [ inl word ↦ data_assembled line at ws word | inr text ↦ text_assembled line at ws fits text ]
 
+same_words : (vs ws line : List ℕ) (at : ℕ) → assembled line at ≡ Ok vs → assembled line at ≡ Ok ws → vs ≡ ws
+same_words vs ws line at ev ew = cc
+
+pub gives_one : GivesOne
+gives_one line at vs ws fits first second = same_words vs ws line at (complete line at vs fits first) (complete line at ws fits second)
+
+-- A line that gives words gives those that it spells.
+
+checked_spells : (form : Form) (vs : List ℕ) (at : ℕ) (line ws : List ℕ) → checked form vs at line ≡ Ok ws → vs ≡ ws
+checked_spells form vs at line ws = by (prints form vs at line)
+  where
+    by : (b : Bool) → (if b then Ok vs else Err Operands) ≡ Ok ws → vs ≡ ws
+    by true h = cc
+    by false h = cc
+
+pub known_words : (line : List ℕ) (at : ℕ) (form : Form) (vs : List ℕ) → at < 2 ^ 32 → GivesSome line at → form_of (name_of line) ≡ Some form → vs ≡ spelled form at (read_all (rest_of line)) → Gives line at vs
+known_words line at form vs fits (ws, g) named is =
+    let all : checked form (spelled form at (read_all (rest_of line))) at line ≡ Ok ws = sym (ap (λ o. with_form o line at) named) ∙ complete line at ws fits g in
+    subst (Gives line at) (sym (is ∙ checked_spells form (spelled form at (read_all (rest_of line))) at line ws all)) g
+
+pub known_form : {P : Type 0} (line : List ℕ) (at : ℕ) → at < 2 ^ 32 → GivesSome line at → form_of (name_of line) ≡ None → P
+known_form {P} line at fits (ws, g) none = absurd (let all : with_form None line at ≡ Ok ws = sym (ap (λ o. with_form o line at) none) ∙ complete line at ws fits g in cc)
+
 -- Names.
 
 checked_is_named : (form : Form) (ws : List ℕ) (at : ℕ) (line : List ℕ) → checked form ws at line ≡ Err Name → ⊥
@@ -182,6 +206,13 @@ unnamed (Some form) line at h = absurd (checked_is_named form (spelled form at (
 not_found : (o : Option Form) (line : List ℕ) (at : ℕ) → is_some o ≡ false → with_form o line at ≡ Err Name
 not_found None line at h = refl
 not_found (Some form) line at h = cc
+
+named : (o : Option Form) (line : List ℕ) (at : ℕ) (ws : List ℕ) → with_form o line at ≡ Ok ws → is_some o ≡ true
+named None line at ws h = cc
+named (Some form) line at ws h = refl
+
+pub given_named : GivenAreNamed
+given_named line at ws fits g = sym (is_listed (name_of line)) ∙ named (form_of (name_of line)) line at ws (complete line at ws fits g)
 
 -- The three answers.
 

@@ -10,7 +10,7 @@ use Rattle.m68_isa.specs.declared.first.First.{First}
 use Rattle.m68_isa.specs.declared.found.Found.{Found}
 use Rattle.m68_isa.specs.declared.found.Found.TheVariants.{Made, Privileged as RowPrivileged, Illegal as RowIllegal}
 use Rattle.m68_isa.specs.declared.instructions.Decoded68.{Decoded68}
-use Rattle.m68_isa.specs.declared.instructions.Decoded68.TheVariants.{Op, LineA, LineF, Illegal, Short}
+use Rattle.m68_isa.specs.declared.instructions.Decoded68.TheVariants.{Op, LineA, LineF, Privileged, Illegal, Short}
 use Rattle.m68_isa.specs.declared.instructions.Instr68.{Instr68}
 use Rattle.m68_isa.specs.declared.instructions.Instr68.TheVariants.{Immediate, ImmediateToCcr, BitByRegister, BitByNumber, Movep, Move, Movea, Negx, Clr, Neg, Not, MoveFromSr, MoveToCcr, Nbcd, Pea, Ext, MovemToMemory, MovemFromMemory, MulLong, DivLong, Tst, Tas, Link, Rtd, Jsr, Jmp, Chk, Lea, Addq, Subq, Scc, Dbcc, Bcc, Or, Div, Sub, Suba, Cmp, Cmpa, Eor, And, Mul, Add, Adda, ShiftMemory}
 use Rattle.m68_isa.specs.declared.operand.Operand.{Operand as Read}
@@ -31,6 +31,8 @@ use Rattle.m68_text.specs.declared.operand.Operand.TheVariants.{Data, Address, W
 use Rattle.m68_text.specs.Operands.{directed, immediate, operands, place, with_registers}
 use Rattle.m68_spelling.proofs.Places.{special_immediate}
 use Rattle.m68_spelling.proofs.Shapes.{some_long, some_move, some_size}
+use Rattle.asm_m68.specs.Assembly.{count_of}
+use Rattle.asm_m68.specs.Laws.{NoneIsMissing}
 
 -- two lists agree on so many words
 pub record Agree (ws vs : List ℕ) (n : ℕ) : Type 0 where
@@ -615,3 +617,23 @@ alone at (w ∷ ws) i used below is =
     let whole : Whole (chosen (rows_of f) f (w ∷ ws)) (length (w ∷ ws)) i used = ended_whole (chosen (rows_of f) f (w ∷ ws)) (length (w ∷ ws)) i used (inside_line (f.line == 10) (f.line == 15) w _ i used is) in
     taken_alone at w ws i used below is whole
     (chosen_same at (w ∷ ws) (take used (w ∷ ws)) f (rows_of f) i used true (all_same at (w ∷ ws) (take used (w ∷ ws)) f (first_is w below)) whole.made (record { same = λ k h. take_same (w ∷ ws) used k h }))
+
+-- No word of an instruction is missing.
+
+op_whole : (w : ℕ) (ws : List ℕ) (i : Instr68) (used : ℕ) → decoded (w ∷ ws) ≡ Op i used → used ≤ length (w ∷ ws)
+op_whole w ws i used is =
+    let f : First = first_of w in
+    let whole : Whole (chosen (rows_of f) f (w ∷ ws)) (length (w ∷ ws)) i used = ended_whole (chosen (rows_of f) f (w ∷ ws)) (length (w ∷ ws)) i used (inside_line (f.line == 10) (f.line == 15) w _ i used is) in
+    whole.fits
+
+count_whole : (d : Decoded68) (w : ℕ) (ws : List ℕ) → decoded (w ∷ ws) ≡ d → count_of d ≤ length (w ∷ ws)
+count_whole (Op i used) w ws is = op_whole w ws i used is
+count_whole (LineA v) w ws is = omega arith
+count_whole LineF w ws is = omega arith
+count_whole Privileged w ws is = omega arith
+count_whole Illegal w ws is = omega arith
+count_whole Short w ws is = omega arith
+
+pub none_missing : NoneIsMissing
+none_missing [] = omega arith
+none_missing (w ∷ ws) = count_whole (decoded (w ∷ ws)) w ws refl

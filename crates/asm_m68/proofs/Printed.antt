@@ -1,5 +1,5 @@
 -- No two instructions share a text, and each name is printed.
-use Rattle.std.proofs.Common.{◌≡◌, ℕ, ◌||◌, ◌⊎◌, inl, inr, List, [], ◌∷◌, length, Bool, true, false, nat_lt, Ok, if◌then◌else◌, refl, sym, ◌∙◌}
+use Rattle.std.proofs.Common.{◌≡◌, ℕ, ◌||◌, ◌⊎◌, inl, inr, List, [], ◌∷◌, length, Bool, true, false, nat_lt, if◌then◌else◌, refl, sym, ◌∙◌}
 use Rattle.std.proofs.lemmas.Bool.{ltb-true}
 use Rattle.std.proofs.lemmas.Slice.Eq.{bytes_eq-Decides}
 use Rattle.std.specs.List.{list_any}
@@ -9,18 +9,15 @@ use Rattle.m68_text.specs.Listed.{stems, wide_stems, plain_names, tested, condit
 use Rattle.m68_text.specs.Text.{text_of}
 use Rattle.m68_spelling.specs.Laws.{AreWords}
 use Rattle.m68_spelling.specs.Lines.{name_of}
-use Rattle.asm_m68.specs.Assembly.{assembled, is_exact}
+use Rattle.asm_m68.specs.Assembly.{is_exact}
 use Rattle.asm_m68.specs.Laws.{IsPrinted, NamesArePrinted, TextsDiffer}
-use Rattle.asm_m68.proofs.Complete.{complete}
-
-same_words : (vs ws line : List ℕ) (at : ℕ) → assembled line at ≡ Ok vs → assembled line at ≡ Ok ws → vs ≡ ws
-same_words vs ws line at ev ew = cc
+use Rattle.asm_m68.proofs.Complete.{gives_one}
 
 pub texts_differ : TextsDiffer
 texts_differ at vs ws i j fits first second is also e =
-    same_words vs ws (text_of (decoded ws) ws at) at
-    (complete (text_of (decoded ws) ws at) at vs fits (inr (record { words = first; instruction = i; decodes = is; text = sym e })))
-    (complete (text_of (decoded ws) ws at) at ws fits (inr (record { words = second; instruction = j; decodes = also; text = refl })))
+    gives_one (text_of (decoded ws) ws at) at vs ws fits
+    (inr (record { words = first; instruction = i; decodes = is; text = sym e }))
+    (inr (record { words = second; instruction = j; decodes = also; text = refl }))
 
 -- Words that print each name, in the order of the list.
 

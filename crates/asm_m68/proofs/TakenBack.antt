@@ -9,6 +9,7 @@ use Rattle.m68_text.specs.Operands.{operands_text}
 use Rattle.m68_text.specs.Text.{text_of}
 use Rattle.m68_spelling.specs.Laws.{AreWords}
 use Rattle.asm_m68.specs.Assembly.{Gives, count_of, data_text}
+use Rattle.asm_m68.specs.Laws.{TextsGive}
 use Rattle.asm_m68.proofs.Prefix.{Alone, alone}
 
 first_below : (ws : List ℕ) → AreWords ws → slice_index ws 0 < 65536
@@ -44,7 +45,7 @@ given Illegal ws at are is whole = word_given ws at are (some_word ws Illegal is
 given Short ws at are is whole = absurd (whole refl)
 
 -- the text gives the first words, those of the instruction
-pub first_given : (ws : List ℕ) (at : ℕ) → AreWords ws → decoded ws ≢ Short → Gives (text_of (decoded ws) ws at) at (take (count_of (decoded ws)) ws)
+pub first_given : TextsGive
 first_given ws at are whole = given (decoded ws) ws at are refl whole
 
 -- by the text that was written

@@ -39,6 +39,10 @@ pub record IsText (line : List ℕ) (at : ℕ) (ws : List ℕ) : Type 0 where
 abbrev pub Gives : List ℕ → ℕ → List ℕ → Type 0
 Gives line at ws = IsData line ws ⊎ IsText line at ws
 
+-- a line that gives words
+abbrev pub GivesSome : List ℕ → ℕ → Type 0
+GivesSome line at = (ws : List ℕ) × Gives line at ws
+
 -- the words are one instruction, or one word that is none, and nothing more
 abbrev pub is_exact : Decoded68 → ℕ → Bool
 is_exact (Op i used) count = used == count

@@ -2,10 +2,10 @@ ghost use Rattle.std.specs.Prelude.{◌≡◌, ◌≢◌, ◌↔◌, ℕ, List, 
 ghost use Rattle.m68_isa.specs.declared.instructions.Decoded68.TheVariants.{Short};
 ghost use Rattle.m68_isa.specs.Decode.{decoded};
 ghost use Rattle.m68_text.specs.Listed.{is_name};
-ghost use Rattle.m68_spelling.specs.Code.{IsPadded};
+ghost use Rattle.m68_spelling.specs.Code.{IsPadded, kept};
 ghost use Rattle.m68_spelling.specs.Lines.{name_of, read_all, rest_of};
 ghost use Rattle.m68_spelling.specs.Spelling.{spelled};
-ghost use Rattle.asm_m68.specs.Assembly.{Gives, IsFew, answer, assembled, checked, count_of, data_text, has_text as has_text_of, prints as prints_of};
+ghost use Rattle.asm_m68.specs.Assembly.{Gives, GivesSome, IsFew, answer, assembled, checked, count_of, data_text, has_text as has_text_of, prints as prints_of};
 ghost use Rattle.asm_m68.specs.declared.assembler.AsmError.TheVariants.{Name as NameError, Operands as OperandsError};
 
 use m68_forms::{Form, form_of};
@@ -33,6 +33,20 @@ pub fn assemble68(line: &[u8], at: u32) -> Result<Code68, AsmError>
     ensures padded { IfOk result IsPadded }
 {
     assemble_line(line, at)
+}
+
+/// The words of a line that is known to give some: what `assemble68` answers, with no look at their own text.
+pub fn known68(line: &[u8], at: u32) -> Code68
+    requires { GivesSome line.now at }
+    ensures words { Gives line.now at (kept result) }
+    ensures few { IsFew result }
+    ensures padded { IsPadded result }
+{
+    let (name, rest) = split_name(line);
+    match form_of(name) {
+        None => Code68::empty(),
+        Some(form) => spell(form, at, read_operands(rest)),
+    }
 }
 
 /// What the text of the instruction that begins with these words assembles to at its address: the instruction's

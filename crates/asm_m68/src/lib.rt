@@ -7,6 +7,6 @@
 mod assembler;
 mod laws;
 
-pub use assembler::{AsmError, assemble68, reassembled68};
+pub use assembler::{AsmError, assemble68, known68, reassembled68};
 pub use laws::asm_laws;
 pub use m68_spelling::Code68;

@@ -1,12 +1,11 @@
 -- A line gives what is assembled, and nothing else.
-use Rattle.std.proofs.Common.{◌≡◌, ◌↔◌, ℕ, suc, ◌+◌, ◌%◌, ◌^◌, ◌<◌, ◌==◌, ◌||◌, ◌⊎◌, inl, inr, List, [], ◌∷◌, ◌++◌, codes, map, Bool, true, false, Option, Some, None, IsSome, Result, Ok, Err, if◌then◌else◌, arith, refl, sym, ap, subst, ◌∙◌}
+use Rattle.std.proofs.Common.{◌≡◌, ◌↔◌, ℕ, ◌+◌, ◌%◌, ◌^◌, ◌<◌, ◌||◌, inl, inr, List, [], ◌∷◌, ◌++◌, codes, map, Bool, true, false, Option, Some, None, Result, Ok, Err, if◌then◌else◌, arith, refl, sym, ap, subst, ◌∙◌}
 use Rattle.std.proofs.lemmas.Slice.Eq.{bytes_eq-Decides}
 use Rattle.std.specs.List.{list_any}
 use Rattle.std.specs.Str.{bytes_eq}
 use Rattle.ppc_isa.specs.declared.instruction.InstrPpc.{InstrPpc}
 use Rattle.ppc_isa.specs.Rows.{decoded}
 use Rattle.ppc_isa.specs.Valid.{Stands}
-use Rattle.ppc_isa.specs.Words.{word_of}
 use Rattle.ppc_isa.proofs.Found.{decoded_stands}
 use Rattle.ppc_text.specs.declared.operand.Operand.TheVariants.{Target}
 use Rattle.ppc_text.specs.Listed.{is_name, names, shapes}
@@ -21,8 +20,9 @@ use Rattle.asm_ppc.specs.declared.layout.Spelling.{Spelling}
 use Rattle.asm_ppc.specs.declared.numbers.Numbers.{Numbers}
 use Rattle.asm_ppc.specs.Reading.{none, read}
 use Rattle.asm_ppc.specs.Spelling.{is_long, placed, spelled}
-use Rattle.asm_ppc.specs.Table.{Entry, entry, looked_up, lookup, table}
-use Rattle.asm_ppc.specs.Assembly.{Gives, assembled, checked, name_of, rest_of, text_as, with_entry}
+use Rattle.asm_ppc.specs.Table.{Entry, looked_up, lookup, table}
+use Rattle.asm_ppc.specs.Assembly.{Gives, GivesSome, assembled, checked, name_of, rest_of, text_as, with_entry}
+use Rattle.asm_ppc.specs.Laws.{GivenAreNamed, GivesOne}
 use Rattle.asm_ppc.proofs.Texts.{all_taken, name-back, numbers-back}
 use Rattle.asm_ppc.proofs.Rows.{Found, fit, found}
 
@@ -91,6 +91,29 @@ pub complete : (line : List ℕ) (at w : ℕ) → at < 2 ^ 32 → Gives line at 
 complete line at w fits g =
     elim g.1 [ inl long ↦ long_assembled line at w g.0 long | inr text ↦ word_assembled (decoded w) line at w fits g.0 refl text ]
 
+same_word : (v w : ℕ) (line : List ℕ) (at : ℕ) → assembled line at ≡ Ok v → assembled line at ≡ Ok w → v ≡ w
+same_word v w line at ev ew = cc
+
+pub gives_one : GivesOne
+gives_one line at v w fits first second = same_word v w line at (complete line at v fits first) (complete line at w fits second)
+
+-- A line that gives a word gives the one that it spells.
+
+checked_spells : (layout : Layout) (v at : ℕ) (line : List ℕ) (w : ℕ) → checked layout v at line ≡ Ok w → v ≡ w
+checked_spells layout v at line w = by (bytes_eq (text_as layout v at) line)
+  where
+    by : (b : Bool) → (if b then Ok v else Err Operands) ≡ Ok w → v ≡ w
+    by true h = cc
+    by false h = cc
+
+pub known_word : (line : List ℕ) (at : ℕ) (s : Spelling) (v : ℕ) → at < 2 ^ 32 → GivesSome line at → looked_up (name_of line) ≡ Some s → v ≡ spelled s (read (rest_of line)) at → Gives line at v
+known_word line at s v fits (w, g) found is =
+    let all : checked s.layout (spelled s (read (rest_of line)) at) at line ≡ Ok w = sym (ap (λ o. with_entry o line at) found) ∙ complete line at w fits g in
+    subst (Gives line at) (sym (is ∙ checked_spells s.layout (spelled s (read (rest_of line)) at) at line w all)) g
+
+pub known_entry : {P : Type 0} (line : List ℕ) (at : ℕ) → at < 2 ^ 32 → GivesSome line at → looked_up (name_of line) ≡ None → P
+known_entry {P} line at fits (w, g) none = absurd (let all : with_entry None line at ≡ Ok w = sym (ap (λ o. with_entry o line at) none) ∙ complete line at w fits g in cc)
+
 -- Names.
 
 abbrev is_found : Option Spelling → Bool
@@ -127,6 +150,13 @@ unnamed (Some s) line at h = absurd (checked_is_named s.layout (spelled s (read 
 not_found : (o : Option Spelling) (line : List ℕ) (at : ℕ) → is_found o ≡ false → with_entry o line at ≡ Err Name
 not_found None line at h = refl
 not_found (Some s) line at h = cc
+
+named : (o : Option Spelling) (line : List ℕ) (at w : ℕ) → with_entry o line at ≡ Ok w → is_found o ≡ true
+named None line at w h = cc
+named (Some s) line at w h = refl
+
+pub given_named : GivenAreNamed
+given_named line at w fits g = sym (found_is_name (name_of line)) ∙ named (looked_up (name_of line)) line at w (complete line at w fits g)
 
 -- The three answers.
 

@@ -1,5 +1,5 @@
 -- No two words share a text, and each name is printed.
-use Rattle.std.proofs.Common.{◌≡◌, ℕ, ◌^◌, ◌<◌, ◌||◌, ◌⊎◌, inl, inr, List, [], ◌∷◌, codes, map, Bool, true, false, nat_lt, Ok, if◌then◌else◌, arith, lit<, refl, sym, ap, subst, ◌∙◌}
+use Rattle.std.proofs.Common.{◌≡◌, ℕ, ◌^◌, ◌<◌, ◌||◌, ◌⊎◌, inl, inr, List, [], ◌∷◌, codes, map, Bool, true, false, nat_lt, if◌then◌else◌, arith, refl, sym, ◌∙◌}
 use Rattle.std.proofs.lemmas.Bool.Decides.{nat_tests}
 use Rattle.std.proofs.lemmas.Slice.Eq.{bytes_eq-Decides}
 use Rattle.std.specs.List.{list_any}
@@ -7,19 +7,15 @@ use Rattle.std.specs.Str.{bytes_eq}
 use Rattle.ppc_isa.specs.declared.instruction.InstrPpc.{InstrPpc}
 use Rattle.ppc_isa.specs.Rows.{decoded}
 use Rattle.ppc_isa.specs.Words.{word_of}
-use Rattle.ppc_text.specs.Listed.{is_name, names, shapes}
+use Rattle.ppc_text.specs.Listed.{names, shapes}
 use Rattle.ppc_text.specs.Names.{name}
 use Rattle.ppc_text.specs.Text.{word_text}
-use Rattle.asm_ppc.specs.Assembly.{assembled, name_of}
+use Rattle.asm_ppc.specs.Assembly.{name_of}
 use Rattle.asm_ppc.specs.Laws.{IsPrinted, NamesArePrinted, TextsDiffer}
-use Rattle.asm_ppc.proofs.Complete.{complete}
-
-same_word : (v w : ℕ) (line : List ℕ) (at : ℕ) → assembled line at ≡ Ok v → assembled line at ≡ Ok w → v ≡ w
-same_word v w line at ev ew = cc
+use Rattle.asm_ppc.proofs.Complete.{gives_one}
 
 pub texts_differ : TextsDiffer
-texts_differ at v w fits small less e =
-    same_word v w (word_text w at) at (complete (word_text w at) at v fits (small, inr (sym e))) (complete (word_text w at) at w fits (less, inr refl))
+texts_differ at v w fits small less e = gives_one (word_text w at) at v w fits (small, inr (sym e)) (less, inr refl)
 
 -- whether a word's text has a name
 abbrev prints_name : ℕ → List ℕ → Bool

@@ -1,5 +1,5 @@
 -- The table and the instructions: each instruction's name has an entry, by which its operands spell its word.
-use Rattle.std.proofs.Common.{◌≡◌, ℕ, ◌+◌, ◌%◌, ◌^◌, ◌<◌, inl, inr, Bool, true, false, Some, arith, refl, rules}
+use Rattle.std.proofs.Common.{◌≡◌, ℕ, ◌+◌, ◌%◌, ◌^◌, ◌<◌, inl, inr, true, false, Some, arith, refl, rules}
 use Rattle.ppc_isa.specs.declared.instruction.CarryUse.TheVariants.{Plain, Carrying, Extended}
 use Rattle.ppc_isa.specs.declared.instruction.ExtendedOperand.TheVariants.{Zero as ZeroOperand, MinusOne}
 use Rattle.ppc_isa.specs.declared.instruction.ImmediateOp.TheVariants.{Or as ImmediateOr, OrShifted, Xor as ImmediateXor, XorShifted, And as ImmediateAnd, AndShifted}
@@ -19,7 +19,6 @@ use Rattle.ppc_isa.specs.Words.{word_of}
 use Rattle.ppc_text.specs.Names.{name}
 use Rattle.ppc_text.specs.Operands.{operands}
 use Rattle.asm_ppc.specs.declared.layout.Layout.{Layout}
-use Rattle.asm_ppc.specs.declared.layout.Spelling.{Spelling}
 use Rattle.asm_ppc.specs.Reading.{none}
 use Rattle.asm_ppc.specs.Spelling.{is_long, placed}
 use Rattle.asm_ppc.specs.Table.{looked_up, table}

@@ -1,5 +1,5 @@
 -- What a line gives.
-use Rattle.std.specs.Prelude.{ℕ, suc, ◌≡◌, ◌⊎◌, ◌^◌, ◌<◌, ◌==◌, List, [], ◌∷◌, take, drop, Bool, Option, Some, None, Result, Ok, Err, if◌then◌else◌}
+use Rattle.std.specs.Prelude.{ℕ, suc, ◌≡◌, ◌⊎◌, ◌^◌, ◌<◌, ◌==◌, List, [], ◌∷◌, take, drop, Option, Some, None, Result, Ok, Err, if◌then◌else◌}
 use Rattle.std.specs.Str.{bytes_eq}
 use Rattle.ppc_text.specs.Text.{long_text, word_text}
 use Rattle.asm_ppc.specs.declared.assembler.AsmError.{AsmError}
@@ -25,6 +25,10 @@ rest_of line = drop (suc (name_length line)) line
 -- the word whose text at an address is the line; a word has its own text after `.long` too
 abbrev pub Gives : List ℕ → ℕ → ℕ → Type 0
 Gives line at w = (w < 2 ^ 32) × ((line ≡ long_text w) ⊎ (line ≡ word_text w at))
+
+-- a line that gives a word
+abbrev pub GivesSome : List ℕ → ℕ → Type 0
+GivesSome line at = (w : ℕ) × Gives line at w
 
 -- The answer by the name's entry and the line's numbers.
 

@@ -1,8 +1,16 @@
--- Laws of texts and names.
-use Rattle.std.specs.Prelude.{ℕ, ◌≡◌, ◌^◌, ◌<◌, List, Bool, true}
+-- Laws of lines, texts and names.
+use Rattle.std.specs.Prelude.{ℕ, ◌≡◌, ◌^◌, ◌<◌, List, true}
 use Rattle.ppc_text.specs.Listed.{is_name}
 use Rattle.ppc_text.specs.Text.{word_text}
-use Rattle.asm_ppc.specs.Assembly.{name_of}
+use Rattle.asm_ppc.specs.Assembly.{Gives, name_of}
+
+-- a line gives one word at most
+abbrev pub GivesOne : Type 0
+GivesOne = (line : List ℕ) (at v w : ℕ) → at < 2 ^ 32 → Gives line at v → Gives line at w → v ≡ w
+
+-- and has a name of the list
+abbrev pub GivenAreNamed : Type 0
+GivenAreNamed = (line : List ℕ) (at w : ℕ) → at < 2 ^ 32 → Gives line at w → is_name (name_of line) ≡ true
 
 -- two words with the same text at the same address are one
 abbrev pub TextsDiffer : Type 0

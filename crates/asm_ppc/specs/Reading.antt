@@ -1,6 +1,6 @@
 -- The numbers of a line's operands: decimal digits, after a minus sign or not, and upper-case hexadecimal
 -- digits after a `$`. A comma or an opening bracket ends a number; all other bytes are passed over.
-use Rattle.std.specs.Prelude.{ℕ, ◌+◌, ◌-◌, ◌*◌, ◌%◌, ◌^◌, ◌==◌, ◌&&◌, ◌||◌, nat_le, List, [], ◌∷◌, Bool, true, false, if◌then◌else◌}
+use Rattle.std.specs.Prelude.{ℕ, ◌+◌, ◌-◌, ◌*◌, ◌%◌, ◌^◌, ◌==◌, ◌&&◌, nat_le, List, [], ◌∷◌, Bool, true, false, if◌then◌else◌}
 use Rattle.asm_ppc.specs.declared.numbers.Numbers.{Numbers}
 use Rattle.asm_ppc.specs.declared.numbers.Reading.{Reading}
 

@@ -1,6 +1,6 @@
 -- The table of names: the word of each with zeros for operands, and the places of its operands
 -- (PowerPC 601 RISC Microprocessor User's Manual, chapter 10).
-use Rattle.std.specs.Prelude.{ℕ, List, [], ◌∷◌, codes, map, Option, Some, None, if◌then◌else◌}
+use Rattle.std.specs.Prelude.{ℕ, List, [], ◌∷◌, codes, Option, Some, None, if◌then◌else◌}
 use Rattle.std.specs.Str.{bytes_eq}
 use Rattle.asm_ppc.specs.declared.layout.Layout.{Layout}
 use Rattle.asm_ppc.specs.declared.layout.Layout.TheVariants.{Nothing, One, Two, Three, LogicalTwo, LogicalThree, Immediate, LogicalImmediate, CompareImmediate, Compare, Rotate, Access, ConditionalBy, ConditionalTo, BranchBy, BranchTo, ConditionFields, ConditionField, FieldMask, Long}

@@ -1,7 +1,7 @@
 ghost use Rattle.std.specs.Prelude.{◌≡◌, ◌≤◌, ◌↔◌, ℕ, length, true, false};
 ghost use Rattle.std.specs.Str.{bytes_eq};
 ghost use Rattle.ppc_text.specs.Listed.{is_name};
-ghost use Rattle.asm_ppc.specs.Assembly.{Gives, assembled, checked as checked_of, name_length as name_length_of, name_of, rest_of, text_as};
+ghost use Rattle.asm_ppc.specs.Assembly.{Gives, GivesSome, assembled, checked as checked_of, name_length as name_length_of, name_of, rest_of, text_as};
 ghost use Rattle.asm_ppc.specs.declared.assembler.AsmError.TheVariants.{Name as NameError, Operands as OperandsError};
 
 use super::layout::{Layout, spell};
@@ -27,6 +27,18 @@ pub fn assemble_ppc(line: &[u8], at: u32) -> Result<u32, AsmError>
     ensures operands { (result ≡ Err OperandsError) ↔ ((is_name (name_of line.now) ≡ true) × ((w : ℕ) → Gives line.now at w → ⊥)) }
 {
     assemble_line(line, at)
+}
+
+/// The word of a line that is known to give one: what `assemble_ppc` answers, with no look at its own text.
+pub fn known_ppc(line: &[u8], at: u32) -> u32
+    requires { GivesSome line.now at }
+    ensures { Gives line.now at result }
+{
+    let (name, rest) = split(line);
+    match find(name) {
+        None => 0,
+        Some(spelling) => spell(spelling, read(rest), at),
+    }
 }
 
 /// What a word's text at an address assembles to there: the word.

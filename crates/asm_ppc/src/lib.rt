@@ -12,5 +12,5 @@ mod table;
 #[cfg(test)]
 mod tests;
 
-pub use assembler::{AsmError, assemble_ppc, reassembled};
+pub use assembler::{AsmError, assemble_ppc, known_ppc, reassembled};
 pub use laws::asm_laws;

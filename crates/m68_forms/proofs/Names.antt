@@ -6,6 +6,7 @@ use Rattle.std.specs.Option.{is_some}
 use Rattle.std.specs.Str.{bytes_eq}
 use Rattle.m68_text.specs.Listed.{stems, wide_stems, plain_names, tested, conditions, names, is_name}
 use Rattle.m68_forms.specs.declared.form.Form.{Form}
+use Rattle.m68_forms.specs.Laws.{FormsAreListed}
 use Rattle.m68_forms.specs.Table.{Entry, form_by, form_of, found_in, rows_a, rows_b, rows_c, rows_d, rows_e, rows_j, rows_l, rows_m, rows_n, rows_o, rows_p, rows_r, rows_s, rows_t, rows_u}
 
 both : (b c : Bool) → (if b then c else false) ≡ true → (b ≡ true) × (c ≡ true)
@@ -148,6 +149,6 @@ among (m ∷ ms) n found h =
     let rest : list_any (λ k. bytes_eq k n) ms ≡ true → is_some (form_of n) ≡ true = among ms n parts.1 in
     elim (either (bytes_eq m n) (list_any (λ k. bytes_eq k n) ms) h) [ inl here ↦ subst (λ k. is_some (form_of k) ≡ true) (same_bytes m n here) parts.0 | inr there ↦ rest there ]
 
-pub is_listed : (n : List ℕ) → is_some (form_of n) ≡ is_name n
+pub is_listed : FormsAreListed
 unfolding form_of
 is_listed n = same (is_some (form_of n)) (is_name n) (by_letter (slice_index n 0) n) (among names n names_found)

@@ -5,7 +5,9 @@
 #![tactic(auto)]
 
 mod form;
+mod laws;
 mod table;
 
 pub use form::{Choice, Form, Place};
+pub use laws::form_laws;
 pub use table::form_of;

@@ -1,8 +1,8 @@
 -- An instruction's name and operands spell its first word: computed over all first words, whatever words follow.
-use Rattle.std.proofs.Common.{◌≡◌, ℕ, zero, suc, ◌+◌, ◌*◌, ◌/◌, ◌%◌, ◌^◌, ◌<◌, ◌≤◌, ◌==◌, not, List, [], ◌∷◌, map, Bool, true, false, Option, Some, None, if◌then◌else◌, arith, refl, sym, ap, ◌∙◌}
+use Rattle.std.proofs.Common.{◌≡◌, ℕ, zero, suc, ◌+◌, ◌*◌, ◌/◌, ◌%◌, ◌<◌, ◌==◌, not, List, [], ◌∷◌, map, Bool, true, false, Option, Some, None, if◌then◌else◌, arith, refl, sym, ap, subst, ◌∙◌}
 use Rattle.std.proofs.lemmas.Bool.{eqb-true}
 use Rattle.mix_bits.specs.Ranges.{every}
-use Rattle.mix_bits.proofs.Every.{every_within}
+use Rattle.mix_bits.proofs.Every.{every_at}
 use Rattle.m68_isa.specs.declared.instructions.Instr68.{Instr68}
 use Rattle.m68_isa.specs.declared.instructions.Instr68.TheVariants.{Bcc, MulLong, DivLong}
 use Rattle.m68_isa.specs.declared.found.Found.{Found}
@@ -135,7 +135,7 @@ word_spells : List ℕ → ℕ → ℕ → Bool
 word_spells ws at w = found_spells (chosen (rows_of (first_of w)) (first_of w) (w ∷ ws)) (w ∷ ws) at w
 
 LineSpells : List ℕ → ℕ → ℕ → Type 0
-LineSpells ws at k = every 12 k (word_spells ws at) ≡ true
+LineSpells ws at k = every 12 0 (λ low. word_spells ws at (4096 * k + low)) ≡ true
 
 line_0 : (ws : List ℕ) (at : ℕ) → LineSpells ws at 0
 unfolding LineSpells word_spells form_of form_by rows_a rows_b rows_c rows_d rows_e rows_j rows_l rows_m rows_n rows_o rows_p rows_r rows_s rows_t rows_u
@@ -220,12 +220,14 @@ line ws at (suc (suc (suc (suc (suc (suc (suc (suc (suc (suc (suc (suc (suc (suc
 line ws at (suc (suc (suc (suc (suc (suc (suc (suc (suc (suc (suc (suc (suc (suc (suc zero))))))))))))))) below = line_15 ws at
 line ws at (suc (suc (suc (suc (suc (suc (suc (suc (suc (suc (suc (suc (suc (suc (suc (suc k)))))))))))))))) below = absurd (omega (arith, below))
 
-of_line : (ws : List ℕ) (at k w : ℕ) → LineSpells ws at k → 2 ^ 12 * k ≤ w → w < 2 ^ 12 * (k + 1) → word_spells ws at w ≡ true
+of_line : (ws : List ℕ) (at k low : ℕ) → LineSpells ws at k → low < 4096 → word_spells ws at (4096 * k + low) ≡ true
 unfolding LineSpells
-of_line ws at k w h from to = every_within 12 k (word_spells ws at) w h from to
+of_line ws at k low h below = every_at 12 (λ v. word_spells ws at (4096 * k + v)) low h below
 
 of_word : (ws : List ℕ) (at w : ℕ) → w < 65536 → word_spells ws at w ≡ true
-of_word ws at w below = of_line ws at (w / 4096) w (line ws at (w / 4096) (omega (arith, below))) (omega arith) (omega arith)
+of_word ws at w below =
+    let parts : 4096 * (w / 4096) + w % 4096 ≡ w = omega arith in
+    subst (λ v. word_spells ws at v ≡ true) parts (of_line ws at (w / 4096) (w % 4096) (line ws at (w / 4096) (omega (arith, below))) (omega arith))
 
 both : (b c : Bool) → (if b then c else false) ≡ true → (b ≡ true) × (c ≡ true)
 both true c h = (refl, h)

@@ -12,14 +12,14 @@ use Rattle.m68_isa.specs.declared.found.Found.TheVariants.{Made, Privileged as R
 use Rattle.m68_isa.specs.declared.instructions.Instr68.{Instr68}
 use Rattle.m68_isa.specs.declared.operand.Operand.{Operand as Read}
 use Rattle.m68_isa.specs.Classes.{in_class}
-use Rattle.m68_isa.specs.First.{long_or_word, low_byte, size_of}
-use Rattle.m68_isa.specs.Moves.{move_size}
+use Rattle.m68_isa.specs.First.{low_byte}
 use Rattle.m68_isa.specs.Operands.{operand_at, special_at}
 use Rattle.m68_isa.specs.Rows.{Row, row, one}
 use Rattle.m68_isa.specs.Widths.{is_any}
 use Rattle.m68_text.specs.declared.operand.Operand.{Operand}
 use Rattle.m68_text.specs.declared.operand.Operand.TheVariants.{Data}
 use Rattle.m68_text.specs.Operands.{directed, operands, place}
+use Rattle.m68_spelling.specs.Laws.{LongOrWordIsAny, MoveSizeIsAny, SizeIsAny}
 use Rattle.m68_spelling.specs.Reading.{nothing}
 use Rattle.m68_spelling.specs.Spelling.{content, contents, following, is_word, way_of}
 use Rattle.m68_spelling.specs.Spelling.Ending.{Extended}
@@ -218,11 +218,11 @@ some_if : (b : Bool) (s t : Size) → is_any s ≡ true → is_any t ≡ true �
 some_if true s t first second = first
 some_if false s t first second = second
 
-pub some_size : (bits : ℕ) → is_any (size_of bits) ≡ true
+pub some_size : SizeIsAny
 some_size bits = some_if (bits == 0) One _ refl (some_if (bits == 1) Two Four refl refl)
 
-pub some_long : (bit : ℕ) → is_any (long_or_word bit) ≡ true
+pub some_long : LongOrWordIsAny
 some_long bit = some_if (bit == 0) Two Four refl refl
 
-pub some_move : (line : ℕ) → is_any (move_size line) ≡ true
+pub some_move : MoveSizeIsAny
 some_move line = some_if (line == 1) One _ refl (some_if (line == 2) Four Two refl refl)

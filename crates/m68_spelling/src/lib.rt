@@ -11,6 +11,6 @@ mod reading;
 mod spelling;
 
 pub use code::Code68;
-pub use laws::spelling_laws;
+pub use laws::{operand_laws, spelling_laws};
 pub use line::{Parsed, read_operands, split_name};
 pub use spelling::spell;

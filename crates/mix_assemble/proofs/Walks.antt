@@ -1,14 +1,15 @@
 -- The lines of a text, one after the other.
-use Rattle.std.proofs.Common.{◌≡◌, ℕ, ◌+◌, ◌<◌, ◌≤◌, List, [], ◌∷◌, ◌++◌, length, Result, Ok, Err, OnErr, OnOk, arith, sym, ap, subst, ◌∙◌, refl, append_assoc, append-nil}
+use Rattle.std.proofs.Common.{◌≡◌, ℕ, ◌+◌, ◌^◌, ◌<◌, ◌≤◌, List, [], ◌∷◌, ◌++◌, length, Result, Ok, Err, OnErr, OnOk, arith, sym, ap, subst, ◌∙◌, refl, append_assoc, append-nil}
 use Rattle.mix_bits.specs.Addresses.{onward}
 use Rattle.mix_bits.specs.declared.isa.Isa.{Isa}
 use Rattle.mix_io.specs.Streams.{Output, Grows, Breaks, StopsWithin}
 use Rattle.mix_io.proofs.Streams.{grows-none, grows-more, breaks-after}
 use Rattle.mix_assemble.specs.Lines.{lines_of}
 use Rattle.mix_assemble.specs.Assembling.{Assembles, HasBytes, IsAssembled, IsGiven, IsWithRest, before, refused_at}
-use Rattle.mix_assemble.specs.Parts.{Adds, IsOnly, OfBytes, behind_line, first_line}
+use Rattle.mix_assemble.specs.Parts.{Adds, GivesBytes, OfBytes, behind_line, first_line}
 use Rattle.mix_assemble.specs.declared.refused.Reason.{Reason}
 use Rattle.mix_assemble.specs.declared.refused.Refused.{Refused}
+use Rattle.mix_assemble.proofs.Once.{one_given}
 use Rattle.mix_assemble.proofs.Splits.{behind-less, lines-split}
 
 -- what is left of a text gives this
@@ -47,7 +48,7 @@ walked-begins set at text =
     record { done = []; leads = λ all is. subst (IsAssembled set at text) (sym (before-none all)) is; fewer = omega arith }
 
 pub walked-on : (set : Isa) (at : ℕ) (text : List ℕ) (number next after : ℕ) (rest line behind bytes : List ℕ) → Walked set at text number next rest
-    → Takes rest line behind → IsOnly (IsGiven set line next) (Ok bytes) → after ≡ onward next (length bytes) → Walked set at text (number + 1) after behind
+    → Takes rest line behind → IsGiven set line next (Ok bytes) → after ≡ onward next (length bytes) → Walked set at text (number + 1) after behind
 walked-on set at text number next after rest line behind bytes walked takes gives same =
     let less : length behind < length rest = less-left rest line behind takes in
     record {
@@ -56,15 +57,15 @@ walked-on set at text number next after rest line behind bytes walked takes give
           subst (IsAssembled set at text) (before-more walked.done bytes all)
           (walked.leads (before bytes all)
           (subst (λ lines. Assembles set number next lines (before bytes all)) (sym (lines-taken rest line behind takes))
-          (Ok bytes, gives.holds, (all, subst (λ a. Left set (number + 1) a behind all) same is, refl))));
+          (Ok bytes, gives, (all, subst (λ a. Left set (number + 1) a behind all) same is, refl))));
       fewer = omega (arith, less, walked.fewer);
     }
 
 pub walked-bad : (set : Isa) (at : ℕ) (text : List ℕ) (number next : ℕ) (rest line behind : List ℕ) (reason : Reason) → Walked set at text number next rest
-    → Takes rest line behind → IsOnly (IsGiven set line next) (Err reason) → IsAssembled set at text (Err (refused_at number reason))
+    → Takes rest line behind → IsGiven set line next (Err reason) → IsAssembled set at text (Err (refused_at number reason))
 walked-bad set at text number next rest line behind reason walked takes gives =
     walked.leads (Err (refused_at number reason))
-    (subst (λ lines. Assembles set number next lines (Err (refused_at number reason))) (sym (lines-taken rest line behind takes)) (Err reason, gives.holds, refl))
+    (subst (λ lines. Assembles set number next lines (Err (refused_at number reason))) (sym (lines-taken rest line behind takes)) (Err reason, gives, refl))
 
 no-bytes : (xs : List ℕ) → length xs ≡ 0 → xs ≡ []
 no-bytes [] none = refl
@@ -76,6 +77,7 @@ walked-ends set at text number next rest walked none =
 
 -- some bytes of the lines before one were put, and the others are held
 pub record Putting (old new : Output) (set : Isa) (at : ℕ) (text : List ℕ) (next : ℕ) (rest held : List ℕ) : Type 0 where
+  pub fits : next < 2 ^ 32
   pub bytes : List ℕ
   pub is : IsAssembled set at text (Ok bytes)
   pub number : ℕ
@@ -85,9 +87,9 @@ pub record Putting (old new : Output) (set : Isa) (at : ℕ) (text : List ℕ) (
   pub left : Left set number next rest (Ok later)
   pub split : bytes ≡ (done ++ held) ++ later
 
-pub putting-begins : (o : Output) (set : Isa) (at : ℕ) (text held : List ℕ) → HasBytes set at text → held ≡ [] → Putting o o set at text at text held
-putting-begins o set at text held (bytes, is) none =
-    record { bytes = bytes; is = is; number = 1; done = []; later = bytes; grows = grows-none o; left = is; split = ap (λ h. h ++ bytes) (sym none) }
+pub putting-begins : (o : Output) (set : Isa) (at : ℕ) (text held : List ℕ) → at < 2 ^ 32 → HasBytes set at text → held ≡ [] → Putting o o set at text at text held
+putting-begins o set at text held fits (bytes, is) none =
+    record { fits = fits; bytes = bytes; is = is; number = 1; done = []; later = bytes; grows = grows-none o; left = is; split = ap (λ h. h ++ bytes) (sym none) }
 
 -- the line that was taken gave its bytes, and those behind it the rest
 pub record Went (set : Isa) (number after : ℕ) (behind bytes later : List ℕ) : Type 0 where
@@ -108,11 +110,11 @@ went-with set number next behind bytes later (Ok more) same with =
     went-by set number next behind bytes later (Ok more) with.0 same (subst (λ b. Left set (number + 1) (onward next (length b)) behind with.0) one with.1)
     (with.2 ∙ ap (λ b. before b with.0) one)
 
-went : (set : Isa) (number next : ℕ) (rest line behind bytes later : List ℕ) → Takes rest line behind → IsOnly (IsGiven set line next) (Ok bytes) → Left set number next rest (Ok later)
+went : (set : Isa) (number next : ℕ) (rest line behind bytes later : List ℕ) → next < 2 ^ 32 → Takes rest line behind → IsGiven set line next (Ok bytes) → Left set number next rest (Ok later)
     → Went set (number + 1) (onward next (length bytes)) behind bytes later
-went set number next rest line behind bytes later takes gives left =
+went set number next rest line behind bytes later fits takes gives left =
     let own = subst (λ lines. Assembles set number next lines (Ok later)) (lines-taken rest line behind takes) left in
-    went-with set number next behind bytes later own.0 (gives.only own.0 own.1) own.2
+    went-with set number next behind bytes later own.0 (one_given set line next fits own.0 (Ok bytes) own.1 gives) own.2
 
 adds-all : (old new : Output) (done held kept bytes more : List ℕ) (adds : Adds old new held kept bytes) → (done ++ held) ++ (bytes ++ more) ≡ ((done ++ adds.out) ++ kept) ++ more
 adds-all old new done held kept bytes more adds =
@@ -120,11 +122,12 @@ adds-all old new done held kept bytes more adds =
     ∙ ap (λ xs. xs ++ more) (append_assoc done held bytes ∙ ap (λ xs. done ++ xs) adds.split ∙ sym (append_assoc done adds.out kept))
 
 pub putting-on : (old mid new : Output) (set : Isa) (at : ℕ) (text : List ℕ) (next after : ℕ) (rest line behind held kept bytes : List ℕ) → Putting old mid set at text next rest held
-    → Takes rest line behind → IsOnly (IsGiven set line next) (Ok bytes) → after ≡ onward next (length bytes) → Adds mid new held kept bytes
+    → Takes rest line behind → IsGiven set line next (Ok bytes) → after ≡ onward next (length bytes) → Adds mid new held kept bytes
     → Putting old new set at text after behind kept
 putting-on old mid new set at text next after rest line behind held kept bytes putting takes gives same adds =
-    let own : Went set (putting.number + 1) (onward next (length bytes)) behind bytes putting.later = went set putting.number next rest line behind bytes putting.later takes gives putting.left in
+    let own : Went set (putting.number + 1) (onward next (length bytes)) behind bytes putting.later = went set putting.number next rest line behind bytes putting.later putting.fits takes gives putting.left in
     record {
+      fits = omega (arith, same);
       bytes = putting.bytes;
       is = putting.is;
       number = putting.number + 1;
@@ -135,17 +138,16 @@ putting-on old mid new set at text next after rest line behind held kept bytes p
       split = putting.split ∙ ap (λ xs. (putting.done ++ held) ++ xs) own.split ∙ adds-all mid new putting.done held kept bytes own.more adds;
     }
 
--- no line of a text that is not refused is
-not-refused : (number : ℕ) (reason : Reason) (later : List ℕ) (given : Result (List ℕ) Reason) (Rest : ℕ → Result (List ℕ) Refused → Type 0) → given ≡ Err reason
-    → IsWithRest number given Rest (Ok later) → ⊥
-not-refused number reason later (Ok bytes) Rest same with = cc
-not-refused number reason later (Err other) Rest same with = cc
+-- each line of a text that is not refused gives bytes
+some-bytes : (set : Isa) (number next : ℕ) (line later : List ℕ) (given : Result (List ℕ) Reason) (Rest : ℕ → Result (List ℕ) Refused → Type 0) → IsGiven set line next given
+    → IsWithRest number given Rest (Ok later) → GivesBytes set line next
+some-bytes set number next line later (Ok bytes) Rest is with = (bytes, is)
+some-bytes set number next line later (Err reason) Rest is with = cc
 
-pub putting-good : {P : Type 0} (old mid : Output) (set : Isa) (at : ℕ) (text : List ℕ) (next : ℕ) (rest line behind held : List ℕ) (reason : Reason) → Putting old mid set at text next rest held
-    → Takes rest line behind → IsOnly (IsGiven set line next) (Err reason) → P
-putting-good {P} old mid set at text next rest line behind held reason putting takes gives =
+pub putting-known : (old mid : Output) (set : Isa) (at : ℕ) (text : List ℕ) (next : ℕ) (rest line behind held : List ℕ) → Putting old mid set at text next rest held → Takes rest line behind → GivesBytes set line next
+putting-known old mid set at text next rest line behind held putting takes =
     let own = subst (λ lines. Assembles set putting.number next lines (Ok putting.later)) (lines-taken rest line behind takes) putting.left in
-    absurd (not-refused putting.number reason putting.later own.0 (λ count rest. Left set (putting.number + 1) (onward next count) behind rest) (gives.only own.0 own.1) own.2)
+    some-bytes set putting.number next line putting.later own.0 (λ count rest. Left set (putting.number + 1) (onward next count) behind rest) own.1 own.2
 
 -- the held bytes were not put
 pub putting-breaks : (old mid new : Output) (set : Isa) (at : ℕ) (text : List ℕ) (next : ℕ) (rest held : List ℕ) → Putting old mid set at text next rest held → Breaks mid new [] held → OfBytes set at text (StopsWithin old new)

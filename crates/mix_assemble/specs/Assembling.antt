@@ -1,5 +1,5 @@
 -- What a text of lines assembles to.
-use Rattle.std.specs.Prelude.{ℕ, ◌≡◌, ◌+◌, ◌/◌, ◌%◌, ◌==◌, List, [], ◌∷◌, ◌++◌, length, drop, true, false, MatchBool, Option, Some, None, Result, Ok, Err}
+use Rattle.std.specs.Prelude.{ℕ, ◌≡◌, ◌+◌, ◌/◌, ◌%◌, ◌==◌, List, [], ◌∷◌, ◌++◌, length, drop, Bool, true, false, MatchBool, Option, Some, None, Result, Ok, Err}
 use Rattle.mix_bits.specs.Addresses.{onward}
 use Rattle.mix_bits.specs.declared.isa.Isa.{Isa}
 use Rattle.mix_bits.specs.declared.isa.Isa.TheVariants.{M68, Ppc}
@@ -22,20 +22,20 @@ word_bytes (word ∷ words) = word / 256 ∷ (word % 256 ∷ word_bytes words)
 abbrev pub long_bytes : ℕ → List ℕ
 long_bytes long = word_bytes (long / 65536 ∷ (long % 65536 ∷ []))
 
--- a line of 68K code gives the bytes of the words whose text at an address it is; else its name is none, or there are no
--- such words
+-- a line gives the bytes of what it stands for; else its name is none, or it stands for nothing
+abbrev pub IsAnswer : {X : Type 0} → (X → Type 0) → (X → List ℕ) → Bool → Result (List ℕ) Reason → Type 0
+IsAnswer {X = X} Gives bytes_of known (Ok bytes) = (code : X) × Gives code × (bytes ≡ bytes_of code)
+IsAnswer {X = X} Gives bytes_of known (Err Address) = ⊥
+IsAnswer {X = X} Gives bytes_of known (Err Name) = known ≡ false
+IsAnswer {X = X} Gives bytes_of known (Err Operands) = (known ≡ true) × ((code : X) → ¬ Gives code)
+
+-- a line of 68K code stands for the words whose text at an address it is
 abbrev pub Is68k : List ℕ → ℕ → Result (List ℕ) Reason → Type 0
-Is68k line at (Ok bytes) = (words : List ℕ) × Gives68k line at words × (bytes ≡ word_bytes words)
-Is68k line at (Err Address) = ⊥
-Is68k line at (Err Name) = is_name_68k (name_68k line) ≡ false
-Is68k line at (Err Operands) = (is_name_68k (name_68k line) ≡ true) × ((words : List ℕ) → ¬ Gives68k line at words)
+Is68k line at given = IsAnswer (Gives68k line at) word_bytes (is_name_68k (name_68k line)) given
 
 -- a line of PowerPC code, the same of its word
 abbrev pub IsPpc : List ℕ → ℕ → Result (List ℕ) Reason → Type 0
-IsPpc line at (Ok bytes) = (word : ℕ) × GivesPpc line at word × (bytes ≡ long_bytes word)
-IsPpc line at (Err Address) = ⊥
-IsPpc line at (Err Name) = is_name_ppc (name_ppc line) ≡ false
-IsPpc line at (Err Operands) = (is_name_ppc (name_ppc line) ≡ true) × ((word : ℕ) → ¬ GivesPpc line at word)
+IsPpc line at given = IsAnswer (GivesPpc line at) long_bytes (is_name_ppc (name_ppc line)) given
 
 abbrev pub IsInstruction : Isa → List ℕ → ℕ → Result (List ℕ) Reason → Type 0
 IsInstruction M68 line at given = Is68k line at given

@@ -1,3 +1,4 @@
 pub mod Lines
 pub mod Assembling
 pub mod Parts
+pub mod Laws

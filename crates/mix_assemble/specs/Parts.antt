@@ -6,7 +6,7 @@ use Rattle.asm_m68.specs.declared.assembler.AsmError.{AsmError as Error68k}
 use Rattle.asm_m68.specs.declared.assembler.AsmError.TheVariants.{Name as Name68k, Operands as Operands68k}
 use Rattle.asm_ppc.specs.declared.assembler.AsmError.{AsmError as ErrorPpc}
 use Rattle.asm_ppc.specs.declared.assembler.AsmError.TheVariants.{Name as NamePpc, Operands as OperandsPpc}
-use Rattle.mix_assemble.specs.Assembling.{IsAssembled}
+use Rattle.mix_assemble.specs.Assembling.{IsAssembled, IsGiven, IsInstruction}
 use Rattle.mix_assemble.specs.declared.refused.Reason.{Reason}
 use Rattle.mix_assemble.specs.declared.refused.Reason.TheVariants.{Name, Operands}
 
@@ -31,10 +31,12 @@ abbrev pub reason_ppc : ErrorPpc → Reason
 reason_ppc NamePpc = Name
 reason_ppc OperandsPpc = Operands
 
--- this is what something holds of, and nothing else
-pub record IsOnly {A : Type 0} (Holds : A → Type 0) (value : A) : Type 0 where
-  pub holds : Holds value
-  pub only : (other : A) → Holds other → other ≡ value
+-- a line that is not refused, with an address or without
+abbrev pub GivesBytes : Isa → List ℕ → ℕ → Type 0
+GivesBytes set line at = (bytes : List ℕ) × IsGiven set line at (Ok bytes)
+
+abbrev pub SpellsBytes : Isa → List ℕ → ℕ → Type 0
+SpellsBytes set line at = (bytes : List ℕ) × IsInstruction set line at (Ok bytes)
 
 -- bytes were added to a piece, of which some went out
 pub record Adds (old new : Output) (piece kept bytes : List ℕ) : Type 0 where

@@ -1,13 +1,13 @@
 // The bytes of one line.
 ghost use Rattle.std.specs.Prelude.{◌≡◌, ◌≤◌, Ok, Err, IfErr, IfOk, length};
 ghost use Rattle.mix_assemble.specs.Assembling.{IsGiven, IsInstruction, long_bytes, word_bytes as word_bytes_of};
-ghost use Rattle.mix_assemble.specs.Parts.{IsOnly, reason_68k as reason_68k_of, reason_ppc as reason_ppc_of};
+ghost use Rattle.mix_assemble.specs.Parts.{GivesBytes, SpellsBytes, reason_68k as reason_68k_of, reason_ppc as reason_ppc_of};
 
 use super::lines::{address_in, is_silent};
 use super::refused::Reason;
 use arrayvec::ArrayVec;
-use asm_m68::{AsmError as Error68k, assemble68};
-use asm_ppc::{AsmError as ErrorPpc, assemble_ppc};
+use asm_m68::{AsmError as Error68k, assemble68, known68};
+use asm_ppc::{AsmError as ErrorPpc, assemble_ppc, known_ppc};
 use mix_bits::Isa;
 
 /// How many bytes an instruction has at most.
@@ -18,8 +18,8 @@ pub type Bytes = ArrayVec<u8, MOST_BYTES>;
 
 /// The bytes that a line gives at its address, or why it is refused.
 pub fn assemble_line(set: Isa, line: &[u8], at: u32) -> Result<Bytes, Reason>
-    ensures bytes { IfOk result (λ b. IsOnly (IsGiven set line.now at) (Ok b.items)) }
-    ensures refused { IfErr result (λ reason. IsOnly (IsGiven set line.now at) (Err reason)) }
+    ensures bytes { IfOk result (λ b. IsGiven set line.now at (Ok b.items)) }
+    ensures refused { IfErr result (λ reason. IsGiven set line.now at (Err reason)) }
 {
     if is_silent(line) {
         return Ok(ArrayVec::new());
@@ -38,8 +38,8 @@ pub fn assemble_line(set: Isa, line: &[u8], at: u32) -> Result<Bytes, Reason>
 
 /// The bytes of an instruction whose text stands alone.
 fn assemble_instruction(set: Isa, line: &[u8], at: u32) -> Result<Bytes, Reason>
-    ensures bytes { IfOk result (λ b. IsOnly (IsInstruction set line.now at) (Ok b.items)) }
-    ensures refused { IfErr result (λ reason. IsOnly (IsInstruction set line.now at) (Err reason)) }
+    ensures bytes { IfOk result (λ b. IsInstruction set line.now at (Ok b.items)) }
+    ensures refused { IfErr result (λ reason. IsInstruction set line.now at (Err reason)) }
 {
     match set {
         Isa::M68 => match assemble68(line, at) {
@@ -50,6 +50,34 @@ fn assemble_instruction(set: Isa, line: &[u8], at: u32) -> Result<Bytes, Reason>
             Ok(word) => Ok(bytes_of_long(word)),
             Err(error) => Err(reason_ppc(error)),
         },
+    }
+}
+
+/// The bytes of a line that is known to give some, at its address.
+pub fn known_line(set: Isa, line: &[u8], at: u32) -> Bytes
+    requires { GivesBytes set line.now at }
+    ensures { IsGiven set line.now at (Ok result.items) }
+{
+    if is_silent(line) {
+        return ArrayVec::new();
+    }
+    match address_in(line) {
+        None => known_instruction(set, line, at),
+        Some(_) => known_instruction(set, &line[10..], at),
+    }
+}
+
+/// The bytes of an instruction whose text stands alone and is known to give some.
+fn known_instruction(set: Isa, line: &[u8], at: u32) -> Bytes
+    requires { SpellsBytes set line.now at }
+    ensures { IsInstruction set line.now at (Ok result.items) }
+{
+    match set {
+        Isa::M68 => {
+            let code = known68(line, at);
+            bytes_of(&code.words[..code.count as usize])
+        }
+        Isa::Ppc => bytes_of_long(known_ppc(line, at)),
     }
 }
 

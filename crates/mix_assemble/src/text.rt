@@ -4,7 +4,7 @@ ghost use Rattle.mix_io.specs.Streams.{Breaks, Grows, StopsWithin, output};
 ghost use Rattle.mix_assemble.specs.Assembling.{HasBytes, IsAssembled};
 ghost use Rattle.mix_assemble.specs.Parts.{Adds, OfBytes};
 
-use super::line::assemble_line;
+use super::line::{assemble_line, known_line};
 use super::lines::split_line;
 use super::refused::Refused;
 use arrayvec::ArrayVec;
@@ -55,14 +55,10 @@ pub fn put_text<O: Sink>(set: Isa, text: &[u8], at: u32, out: &mut O) -> Result<
     let mut next = at;
     'lines: while !rest.is_empty() {
         let (line, behind) = split_line(rest);
+        let bytes = known_line(set, line, next);
         rest = behind;
-        match assemble_line(set, line, next) {
-            Ok(bytes) => {
-                next = onward(next, bytes.len() as u32);
-                add_bytes(&mut piece, &bytes, out)?;
-            }
-            Err(_) => return Ok(()),
-        }
+        next = onward(next, bytes.len() as u32);
+        add_bytes(&mut piece, &bytes, out)?;
     }
     flush(&piece, out)
 }

@@ -1,8 +1,10 @@
-//! Tests of the texts of instructions, and of lines that are assembled.
+//! Tests of the texts of instructions, and of lines and listings that are assembled.
 #![tactic(auto)]
 
 #[cfg(test)]
 mod assembler;
+#[cfg(test)]
+mod listings;
 #[cfg(test)]
 mod m68;
 #[cfg(test)]

@@ -3,11 +3,17 @@ use Rattle.std.proofs.Common.{◌≡◌, ◌<◌, [], length, rules, ap, ◌∙�
 use Rattle.mix_bits.specs.Addresses.{onward}
 use Rattle.mix_io.specs.Streams.{Breaks, Grows, output}
 use Rattle.mix_assemble.specs.Parts.{Adds}
-use Rattle.mix_assemble.proofs.Walks.{Takes, err-of, ok-of, on-err, putting-ends, putting-begins, putting-breaks, putting-good, putting-on}
+use Rattle.mix_assemble.proofs.Walks.{Takes, err-of, ok-of, on-err, putting-ends, putting-begins, putting-breaks, putting-known, putting-on}
 use Rattle.mix_assemble.proofs.text.put_text.Goals as goal
 
 pub lines-init : goal.lines-init
-lines-init g c = putting-begins _ c.args.set c.args.at c.args.text.now _ c.requires c.new-piece.ensures
+lines-init g c = putting-begins _ c.args.set c.args.at c.args.text.now _ c.ranges.at.fits c.requires c.new-piece.ensures
+
+pub known_line-bytes-requires : goal.known_line-bytes-requires
+known_line-bytes-requires g c =
+    let some : 0 < length c.lines.rest.now = search rules in
+    putting-known _ (output (g.O.Sink.held c.lines.out) (g.O.Sink.faults c.lines.out)) c.args.set c.args.at c.args.text.now c.lines.next c.lines.rest.now c.split_line.result.0.now c.split_line.result.1.now
+    c.lines.piece.items c.lines.invariant (record { some = some; first = c.split_line.ensures.line; others = c.split_line.ensures.rest })
 
 pub lines-preserved : goal.lines-preserved
 lines-preserved g c =
@@ -15,24 +21,16 @@ lines-preserved g c =
     let takes : Takes c.lines.rest.now c.split_line.result.0.now c.split_line.result.1.now
     = record { some = some; first = c.split_line.ensures.line; others = c.split_line.ensures.rest } in
     putting-on _ (output (g.O.Sink.held c.lines.out) (g.O.Sink.faults c.lines.out)) _ c.args.set c.args.at c.args.text.now c.lines.next c.onward-next.result c.lines.rest.now
-    c.split_line.result.0.now c.split_line.result.1.now c.lines.piece.items c.add_bytes.new.piece.items c.in-Ok.bytes.items c.lines.invariant takes c.in-Ok.ensures.bytes
+    c.split_line.result.0.now c.split_line.result.1.now c.lines.piece.items c.add_bytes.new.piece.items c.known_line-bytes.result.items c.lines.invariant takes c.known_line-bytes.ensures
     (c.onward-next.ensures ∙ ap (onward c.lines.next) c.len.ensures.value)
     (subst (Adds (output (g.O.Sink.held c.lines.out) (g.O.Sink.faults c.lines.out)) (output (g.O.Sink.held c.add_bytes.new.out) (g.O.Sink.faults c.add_bytes.new.out)) c.lines.piece.items
     c.add_bytes.new.piece.items)
-    c.deref.ensures.0 c.in_ok-add_bytes-in-Ok.ensures.whole)
+    c.deref.ensures.0 c.in_ok-add_bytes.ensures.whole)
 
-pub returns-in_err-add_bytes-in-Ok-clause-part : goal.returns-in_err-add_bytes-in-Ok-clause-part
-returns-in_err-add_bytes-in-Ok-clause-part g c =
+pub returns-in_err-add_bytes-clause-part : goal.returns-in_err-add_bytes-clause-part
+returns-in_err-add_bytes-clause-part g c =
     on-err c.from_residual.result
-    (putting-breaks _ _ _ c.args.set c.args.at c.args.text.now c.lines.next c.lines.rest.now c.lines.piece.items c.lines.invariant c.in_err-add_bytes-in-Ok.ensures.part)
-
-pub returns-in-Err-clause-whole : goal.returns-in-Err-clause-whole
-returns-in-Err-clause-whole g c =
-    let some : 0 < length c.lines.rest.now = search rules in
-    let takes : Takes c.lines.rest.now c.split_line.result.0.now c.split_line.result.1.now
-    = record { some = some; first = c.split_line.ensures.line; others = c.split_line.ensures.rest } in
-    putting-good _ (output (g.O.Sink.held c.lines.out) (g.O.Sink.faults c.lines.out)) c.args.set c.args.at c.args.text.now c.lines.next c.lines.rest.now c.split_line.result.0.now c.split_line.result.1.now c.lines.piece.items c.in-Err.field-0 c.lines.invariant takes
-    c.in-Err.ensures.refused
+    (putting-breaks _ _ _ c.args.set c.args.at c.args.text.now c.lines.next c.lines.rest.now c.lines.piece.items c.lines.invariant c.in_err-add_bytes.ensures.part)
 
 pub returns-clause-part : goal.returns-clause-part
 returns-clause-part g c =

@@ -1,0 +1,15 @@
+use Rattle.m68_spelling.proofs.Places.{special_immediate}
+use Rattle.m68_spelling.proofs.Shapes.{some_long, some_move, some_size}
+use Rattle.m68_spelling.proofs.laws.operand_laws.Goals as goal
+
+pub returns-clause-immediates : goal.returns-clause-immediates
+returns-clause-immediates c = special_immediate
+
+pub returns-clause-sizes : goal.returns-clause-sizes
+returns-clause-sizes c = some_size
+
+pub returns-clause-longs : goal.returns-clause-longs
+returns-clause-longs c = some_long
+
+pub returns-clause-moves : goal.returns-clause-moves
+returns-clause-moves c = some_move
