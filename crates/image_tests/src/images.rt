@@ -1,35 +1,88 @@
 // Images are built here by the format's table, byte by byte.
 use big_memory::Access;
-use mix_image::{ImageError, restore, save};
+use mix_image::{ImageError, MOST_BYTES, restore, save};
 use mix_io::{Failed, MemKeep};
 use std::alloc::{AllocError, Global};
 use std::test::Fail;
 
-/// How many bytes the image below has: 33 longs, 126 pages of zeros, and the two of the gate page.
+/// How many bytes the image without frames has: 33 longs, 126 pages of zeros, and the two of the gate page.
 const LENGTH: usize = 132 + 126 + 2 * 1025;
 
-/// The image of a 68K program with 128 KiB of RAM and two blocks, before its first step.
-fn image(alloc: Global) -> Result<Vec<u8>, AllocError> {
-    image_with(alloc, 0)
+/// The frames of an image: none, one of each instruction set, or so many of 68K callers that called 68K code.
+#[derive(Clone, Copy)]
+enum Frames {
+    None,
+    Two,
+    Row(u32),
 }
 
-/// The same, or, where `top` is not 0, with two frames from there on.
-fn image_with(alloc: Global, top: u32) -> Result<Vec<u8>, AllocError> {
+impl Frames {
+    /// Where the innermost one begins.
+    fn top(self) -> u32 {
+        match self {
+            Frames::None => 0,
+            Frames::Two => 0x1_FE70,
+            Frames::Row(count) => 0x2_0000 - 112 * count.min(290),
+        }
+    }
+
+    /// The long at an address of the stack, with the end of RAM at 0x20000.
+    fn long(self, address: u32) -> u32 {
+        match self {
+            Frames::None => 0,
+            Frames::Two => two_long(address),
+            Frames::Row(count) => row_long(count, address),
+        }
+    }
+}
+
+/// The frame of a 68K caller at 0x1FF70, which called PowerPC code, and inside it that of this code at
+/// 0x1FE70, which called 68K code.
+fn two_long(address: u32) -> u32 {
+    match address {
+        0x1_FE70 => 0x1_FF70,
+        0x1_FE74 => 2,
+        0x1_FE78 | 0x1_FF78 => 0x3B0,
+        0x1_FE80 | 0x1_FF80 => 0x1_0040,
+        0x1_FE84 => 0x1_FF30,
+        0x1_FE8C => 2,
+        0x1_FF74 | 0x1_FF8C => 1,
+        0x1_FF84 => 0x1_FFE0,
+        0x1_FFD4 => 31,
+        _ => 0,
+    }
+}
+
+/// Frames of 112 bytes, each below the one before it, from the end of RAM down.
+fn row_long(count: u32, address: u32) -> u32 {
+    let below = 0x1_FFFF - address.min(0x1_FFFF);
+    let outer = below / 112;
+    let lo = 0x2_0000 - 112 * (outer + 1).min(1000);
+    if outer >= count {
+        return 0;
+    }
+    match 111 - below % 112 {
+        0 if outer > 0 => lo + 112,
+        4 => 4,
+        8 => 0x3B0,
+        20 => lo + 112,
+        28 => outer + 1,
+        _ => 0,
+    }
+}
+
+/// The image of a 68K program with 128 KiB of RAM and two blocks.
+fn image(alloc: Global, frames: Frames) -> Result<Vec<u8>, AllocError> {
     let mut bytes = Vec::new(alloc);
     bytes.extend_from_slice(b"MIXIMG01")?;
     let head = [128, 0x1_2000, 0, 0x2_0000, 0x1_0000, 0x1_8000, 2];
     push_longs(&mut bytes, &head)?;
     push_longs(&mut bytes, &[0x1_0000, 16, 0x1_0018, 8])?;
-    push_longs(&mut bytes, &[top, 0])?;
+    push_longs(&mut bytes, &[frames.top(), 0])?;
     push_longs(&mut bytes, &[7; 17])?;
     push_longs(&mut bytes, &[31])?;
     for page in 0..128 {
-        match page {
-            4 => push_page(&mut bytes, 0x1000)?,
-            5 => push_page(&mut bytes, 0x1400)?,
-            127 if top != 0 => push_stack(&mut bytes)?,
-            _ => bytes.extend_from_slice(&[0])?,
-        }
+        push_page(&mut bytes, page, frames)?;
     }
     Ok(bytes)
 }
@@ -41,55 +94,34 @@ fn push_longs(bytes: &mut Vec<u8>, longs: &[u32]) -> Result<(), AllocError> {
     Ok(())
 }
 
-/// A page of the gate page, from an address on.
-fn push_page(bytes: &mut Vec<u8>, from: u32) -> Result<(), AllocError> {
+/// The page of RAM with this number.
+fn push_page(bytes: &mut Vec<u8>, page: u32, frames: Frames) -> Result<(), AllocError> {
+    let mut longs = [0; 256];
+    for k in 0..256u32 {
+        longs[k as usize] = ram_long(1024 * page.min(127) + 4 * k, frames);
+    }
+    if longs.iter().all(|long| *long == 0) {
+        return bytes.extend_from_slice(&[0]);
+    }
     bytes.extend_from_slice(&[1])?;
-    for k in 0..256 {
-        push_longs(bytes, &[gate_long(from, k)])?;
-    }
-    Ok(())
+    push_longs(bytes, &longs)
 }
 
-/// The entry, the main vector, A5, the size of RAM, and the transition vectors of the host functions.
-fn gate_long(from: u32, k: u32) -> u32 {
-    match (from, k) {
-        (0x1000, 8) => 0x1_0000,
-        (0x1000, 10) => 0x1_2000,
-        (0x1000, 11) => 0x2_0000,
-        (0x1400, 0..30) if k % 2 == 0 => 0x1800 + 2 * k,
-        _ => 0,
-    }
-}
-
-/// The last page of RAM, with the two frames.
-fn push_stack(bytes: &mut Vec<u8>) -> Result<(), AllocError> {
-    bytes.extend_from_slice(&[1])?;
-    for k in 0..256 {
-        push_longs(bytes, &[frame_long(4 * k)])?;
-    }
-    Ok(())
-}
-
-/// The frame of a 68K caller at 0x1FF70, which called PowerPC code, and inside it that of this code at
-/// 0x1FE70, which called 68K code.
-fn frame_long(place: u32) -> u32 {
-    match place {
-        0x270 => 0x1_FF70,
-        0x274 => 2,
-        0x278 | 0x378 => 0x3B0,
-        0x280 | 0x380 => 0x1_0040,
-        0x284 => 0x1_FF30,
-        0x28C => 2,
-        0x374 | 0x38C => 1,
-        0x384 => 0x1_FFE0,
-        0x3D4 => 31,
+/// The entry, the main vector, A5, the size of RAM and the transition vectors of the host functions, and the frames.
+fn ram_long(address: u32, frames: Frames) -> u32 {
+    match address {
+        0x1020 => 0x1_0000,
+        0x1028 => 0x1_2000,
+        0x102C => 0x2_0000,
+        0x1400..0x1478 if address % 8 == 0 => 0x1800 + (address - 0x1400) / 2,
+        0x1_8000.. => frames.long(address),
         _ => 0,
     }
 }
 
 /// Why bytes are refused, if they are.
 fn refusal(alloc: Global, bytes: &[u8]) -> Option<ImageError> {
-    if bytes.len() > 20000 {
+    if bytes.len() > MOST_BYTES as usize {
         return None;
     }
     restore(alloc, bytes).err()
@@ -111,7 +143,7 @@ fn refusal_with(alloc: Global, bytes: &mut [u8], at: usize, long: u32) -> Option
 #[test]
 fn each_field_is_refused_with_its_number(rt: HostRuntime) -> Result<(), Fail> {
     let alloc = rt.alloc();
-    let mut bytes = image(alloc)?;
+    let mut bytes = image(alloc, Frames::None)?;
     assert!(rt; bytes.len() == LENGTH);
     assert!(rt; refusal(alloc, &bytes).is_none());
     for (at, long, error) in [
@@ -152,7 +184,7 @@ fn another_set_than_the_main_programs_is_refused_without_a_frame(
     rt: HostRuntime,
 ) -> Result<(), Fail> {
     let alloc = rt.alloc();
-    let mut bytes = image(alloc)?;
+    let mut bytes = image(alloc, Frames::None)?;
     assert!(rt; bytes.len() > 24);
     bytes[16..24].copy_from_slice(&[0, 0, 0, 1, 0, 1, 0xFF, 0xC0]);
     assert!(rt; refusal(alloc, &bytes) == Some(ImageError::Frame(0)));
@@ -162,17 +194,11 @@ fn another_set_than_the_main_programs_is_refused_without_a_frame(
 #[test]
 fn a_beginning_of_an_image_is_short(rt: HostRuntime) -> Result<(), Fail> {
     let alloc = rt.alloc();
-    let bytes = image(alloc)?;
-    for length in 0..140 {
-        assert!(rt; length <= bytes.len());
-        let found = refusal(alloc, &bytes[..length]);
-        assert!(rt; found == Some(ImageError::Short(length as u32)));
-    }
-    // Within and behind each of the two pages that are spelled out, and before the last byte.
-    for length in [1160, 1161, 1162, 2185, 2186, LENGTH - 1] {
-        assert!(rt; length <= bytes.len());
-        let found = refusal(alloc, &bytes[..length]);
-        assert!(rt; found == Some(ImageError::Short(length as u32)));
+    let bytes = image(alloc, Frames::None)?;
+    for length in 0..LENGTH as u32 {
+        assert!(rt; length as usize <= bytes.len());
+        let found = refusal(alloc, &bytes[..length as usize]);
+        assert!(rt; found == Some(ImageError::Short(length)));
     }
     Ok(())
 }
@@ -180,10 +206,10 @@ fn a_beginning_of_an_image_is_short(rt: HostRuntime) -> Result<(), Fail> {
 #[test]
 fn a_byte_behind_an_image_and_a_page_of_zeros_are_refused(rt: HostRuntime) -> Result<(), Fail> {
     let alloc = rt.alloc();
-    let mut bytes = image(alloc)?;
+    let mut bytes = image(alloc, Frames::None)?;
     bytes.push(0)?;
     assert!(rt; refusal(alloc, &bytes) == Some(ImageError::Extra(LENGTH as u32)));
-    let mut spelled = image(alloc)?;
+    let mut spelled = image(alloc, Frames::None)?;
     spelled.truncate(132);
     spelled.extend_from_slice(&[1])?;
     spelled.extend_from_slice(&[0; 1024])?;
@@ -194,7 +220,7 @@ fn a_byte_behind_an_image_and_a_page_of_zeros_are_refused(rt: HostRuntime) -> Re
 #[test]
 fn each_long_of_the_gate_page_is_tested(rt: HostRuntime) -> Result<(), Fail> {
     let alloc = rt.alloc();
-    let mut bytes = image(alloc)?;
+    let mut bytes = image(alloc, Frames::None)?;
     for k in 0..256 {
         let place = 137 + 4 * k as usize;
         let free = k == 8 || k == 9;
@@ -211,10 +237,45 @@ fn each_long_of_the_gate_page_is_tested(rt: HostRuntime) -> Result<(), Fail> {
 }
 
 #[test]
+fn each_long_of_the_half_of_zeros_is_tested(rt: HostRuntime) -> Result<(), Fail> {
+    let alloc = rt.alloc();
+    let bytes = image(alloc, Frames::None)?;
+    // The one byte of the page at 0x1800 stands at 2186, and that of the next one behind it.
+    for (place, from) in [(2186, 0x1800), (2187, 0x1C00)] {
+        assert!(rt; place < bytes.len());
+        let mut spelled = Vec::from_slice(alloc, &bytes[..place])?;
+        spelled.extend_from_slice(&[1])?;
+        spelled.extend_from_slice(&[0; 1024])?;
+        spelled.extend_from_slice(&bytes[place + 1..])?;
+        for k in 0..256 {
+            let wanted = Some(ImageError::Gate(from + 4 * k));
+            let found = refusal_with(alloc, &mut spelled, place + 1 + 4 * k as usize, 0xABCD);
+            assert!(rt; found == wanted);
+        }
+    }
+    Ok(())
+}
+
+#[test]
+fn at_most_256_frames_are_a_chain(rt: HostRuntime) -> Result<(), Fail> {
+    let alloc = rt.alloc();
+    for (count, wanted) in [
+        (1, None),
+        (255, None),
+        (256, None),
+        (257, Some(ImageError::Frame(0x1_8F90))),
+    ] {
+        let bytes = image(alloc, Frames::Row(count))?;
+        assert!(rt; refusal(alloc, &bytes) == wanted);
+    }
+    Ok(())
+}
+
+#[test]
 fn a_restored_machine_is_saved_as_it_was(rt: HostRuntime) -> Result<(), Fail> {
     let alloc = rt.alloc();
-    let bytes = image(alloc)?;
-    assert!(rt; bytes.len() <= 20000);
+    let bytes = image(alloc, Frames::None)?;
+    assert!(rt; bytes.len() <= MOST_BYTES as usize);
     let Ok(machine) = restore(alloc, &bytes) else {
         return Err(Fail::from(AllocError));
     };
@@ -234,8 +295,8 @@ fn a_restored_machine_is_saved_as_it_was(rt: HostRuntime) -> Result<(), Fail> {
 #[test]
 fn frames_are_tested_and_guarded(rt: HostRuntime) -> Result<(), Fail> {
     let alloc = rt.alloc();
-    let mut bytes = image_with(alloc, 0x1_FE70)?;
-    assert!(rt; bytes.len() <= 20000);
+    let mut bytes = image(alloc, Frames::Two)?;
+    assert!(rt; bytes.len() <= MOST_BYTES as usize);
     let Ok(machine) = restore(alloc, &bytes) else {
         return Err(Fail::from(AllocError));
     };

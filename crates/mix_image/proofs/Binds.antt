@@ -22,6 +22,10 @@ pub passed : {A : Type 0} (test : Bool) (e : ImageError) (value result : A) → 
 passed true e value result is = (refl, cc)
 passed false e value result is = absurd (cc)
 
+pub refused : {A : Type 0} (test : Bool) (e refusal : ImageError) (value : A) → Err e ≡ only_if test refusal value → (test ≡ false) × (e ≡ refusal)
+refused true e refusal value is = absurd (cc)
+refused false e refusal value is = (refl, cc)
+
 pub passes : {A : Type 0} (test : Bool) (e : ImageError) (value : A) → test ≡ true → only_if test e value ≡ Ok value
 passes test e value is = rw is refl
 

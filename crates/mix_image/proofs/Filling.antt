@@ -103,7 +103,7 @@ read-extra bytes at kib end m all more =
     then (pages_from bytes at kib) (λ p. only_if (nat_le (length bytes) p.end) (Extra p.end) (bare p.bytes)) (record { bytes = m.bytes; end = end }) (Err (Extra end)) (end-read bytes at kib end m all)
     (ap (λ b. only_if b (Extra end) (bare m.bytes)) test)
 
-stopped-on : (bytes : List ℕ) (at k more : ℕ) (e : ImageError) → pages_from bytes at k ≡ Err e → pages_from bytes at (k + more) ≡ Err e
+pub stopped-on : (bytes : List ℕ) (at k more : ℕ) (e : ImageError) → pages_from bytes at k ≡ Err e → pages_from bytes at (k + more) ≡ Err e
 stopped-on bytes at k zero e is = let same : k + 0 ≡ k = omega arith in ap (λ n. pages_from bytes at n) same ∙ is
 stopped-on bytes at k (suc more) e is =
     let next : k + suc more ≡ suc (k + more) = omega arith in

@@ -8,7 +8,7 @@ use Rattle.switch_frame.specs.Chain.{Chain, Frames, Links, cleared, records}
 use Rattle.switch_frame.specs.Checks.{IsFirstWrong, IsWholeChain}
 use Rattle.switch_frame.specs.Program.{HasGatePage, Stands, gate_long}
 use Rattle.switch_frame.specs.Records.{Record, isa_of}
-use Rattle.switch_frame.proofs.Found.{only-whole}
+use Rattle.switch_frame.proofs.Found.{whole_chains_pass}
 use Rattle.switch_frame.proofs.Gates.{page_by_bytes}
 use Rattle.switch_frame.proofs.Linked.{keeps_length}
 use Rattle.switch_frame.proofs.Marked.{marks_same}
@@ -89,18 +89,13 @@ tested-whole bytes n m fields tested =
     (subst (λ v. IsOutermost v.body.main (records v.body.ram.bytes v.body.top)) same tested.outermost) in
     (subst (λ v. HasSpelling v) back whole, ap spell same ∙ spell-guard marks n ∙ fields.spelled)
 
-matched : (bytes : List ℕ) (r : Result Machine ImageError) (m : Machine) → r ≡ fields_of bytes → MatchResult r (λ n. IsTested n (Ok m)) (λ e. Ok m ≡ Err e) → (n : Machine) × (fields_of bytes ≡ Ok n) × IsGuarded n m
-matched bytes (Ok n) m is all = (n, sym is, all)
+matched : (bytes : List ℕ) (r : Result Machine ImageError) (m : Machine) → r ≡ fields_of bytes → MatchResult r (λ n. (Ok m ≡ Err NoMemory) ⊎ IsTested n (Ok m)) (λ e. Ok m ≡ Err e) → (n : Machine) × (fields_of bytes ≡ Ok n) × IsGuarded n m
+matched bytes (Ok n) m is all = elim all [ inl none ↦ absurd (cc) | inr tested ↦ (n, sym is, tested) ]
 matched bytes (Err e) m is all = absurd (cc)
 
 pub restored-back : (bytes : List ℕ) (m : Machine) → AreBytes bytes → IsRestored bytes (Ok m) → HasSpelling m × (spell m ≡ bytes)
 restored-back bytes m fit restored =
-    elim restored [
-      | inl none ↦ absurd (cc)
-      | inr all ↦
-          let found = matched bytes (fields_of bytes) m refl all in
-          tested-whole bytes found.0 m (fields-back bytes found.0 fit found.1) found.2
-    ]
+    let found = matched bytes (fields_of bytes) m refl restored in tested-whole bytes found.0 m (fields-back bytes found.0 fit found.1) found.2
 
 pub whole-restored : (bytes : List ℕ) (result : Result Machine ImageError) → AreBytes bytes → IsRestored bytes result → IfOk result HasSpelling
 whole-restored bytes (Ok m) fit restored = (restored-back bytes m fit restored).0
@@ -155,7 +150,7 @@ tested-there : (m : Machine) (result : Result Machine ImageError) → HasSpellin
 tested-there m (Ok r) has tested = ap Ok (tested-same m r has tested)
 tested-there m (Err (Gate a)) has tested = absurd (never-wrong (bared m).body.a5 a (bared m).body.ram.bytes (bared-page m has) tested)
 tested-there m (Err (Frame lo)) has tested =
-    absurd (let no : Err lo ≡ Ok (length (callers_of m.body)) = sym tested.1 ∙ only-whole (bared m).body.ram (bared m).body.top (isa_of (bared m).active) (bared m).body.main (callers_of m.body) (bared-whole m has) in cc)
+    absurd (let no : Err lo ≡ Ok (length (callers_of m.body)) = sym tested.1 ∙ whole_chains_pass (bared m).body.ram (bared m).body.top (isa_of (bared m).active) (bared m).body.main (callers_of m.body) (bared-whole m has) in cc)
 tested-there m (Err NoMemory) has tested = absurd tested
 tested-there m (Err (Short n)) has tested = absurd tested
 tested-there m (Err Magic) has tested = absurd tested
@@ -171,9 +166,9 @@ tested-there m (Err (Extra n)) has tested = absurd tested
 
 pub spelling_is_restored : SpellingIsRestored
 spelling_is_restored m result has restored =
-    elim restored [
+    elim (subst (λ r. MatchResult r (λ n. (result ≡ Err NoMemory) ⊎ IsTested n result) (λ e. result ≡ Err e)) (fields-there m has) restored) [
       | inl none ↦ inr none
-      | inr all ↦ inl (tested-there m result has (subst (λ r. MatchResult r (λ n. IsTested n result) (λ e. result ≡ Err e)) (fields-there m has) all))
+      | inr tested ↦ inl (tested-there m result has tested)
     ]
 
 pub only-spelled : (bytes : List ℕ) (m : Machine) (result : Result Machine ImageError) → HasSpelling m → spell m ≡ bytes → IsRestored bytes result → (result ≡ Ok m) ⊎ (result ≡ Err NoMemory)

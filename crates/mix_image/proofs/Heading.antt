@@ -7,7 +7,6 @@ use Rattle.mix_bits.specs.declared.isa.Isa.TheVariants.{M68, Ppc}
 use Rattle.big_memory.specs.Numbers.{long_at, longs_at}
 use Rattle.host_heap.specs.Space.{block_limit}
 use Rattle.switch_frame.specs.Program.{program_start, start_sp_of}
-use Rattle.switch_frame.proofs.Again.{cons-long, eight-longs, longs-split, no-longs}
 use Rattle.mix_image.specs.declared.error.ImageError.{ImageError}
 use Rattle.mix_image.specs.declared.error.ImageError.TheVariants.{Short, Magic, Ram, Main, StartSp, Heap, Block as Blocks}
 use Rattle.mix_image.specs.declared.head.Head.{Head}
@@ -15,6 +14,7 @@ use Rattle.mix_image.specs.Fields.{are_bounds, bounds_of, count_of, head_of, kib
 use Rattle.mix_image.specs.Heads.{IsHead}
 use Rattle.mix_image.specs.Spelling.{mark_first, mark_second, set_number}
 use Rattle.mix_image.proofs.Binds.{enough, long-read, long-there, not-short, passed, passes, past, then}
+use Rattle.mix_image.proofs.Rows.{cons-long, four-longs, longs-split, no-longs}
 
 -- the number of a set
 pub set-back : (value : ℕ) (refusal : ImageError) (set : Isa) → set_of value refusal ≡ Ok set → value ≡ set_number set
@@ -211,9 +211,11 @@ head-there bytes h at =
 -- the nine longs of a head
 pub nine-longs : (bytes : List ℕ) → longs_at 9 0 bytes ≡ long_at 0 bytes ∷ long_at 4 bytes ∷ long_at 8 bytes ∷ long_at 12 bytes ∷ long_at 16 bytes ∷ long_at 20 bytes ∷ long_at 24 bytes ∷ long_at 28 bytes ∷ long_at 32 bytes ∷ []
 nine-longs bytes =
-    longs-split 8 1 0 32 bytes refl
-    ∙ ap (λ xs. xs ++ longs_at 1 32 bytes) (eight-longs 0 4 8 12 16 20 24 28 bytes refl refl refl refl refl refl refl)
-    ∙ ap (λ xs. long_at 0 bytes ∷ long_at 4 bytes ∷ long_at 8 bytes ∷ long_at 12 bytes ∷ long_at 16 bytes ∷ long_at 20 bytes ∷ long_at 24 bytes ∷ long_at 28 bytes ∷ xs) (cons-long 0 32 36 bytes refl ∙ ap (λ xs. long_at 32 bytes ∷ xs) (no-longs 36 bytes))
+    longs-split 4 5 0 16 bytes refl
+    ∙ ap (λ xs. xs ++ longs_at 5 16 bytes) (four-longs 0 4 8 12 bytes refl refl refl)
+    ∙ ap (λ xs. long_at 0 bytes ∷ long_at 4 bytes ∷ long_at 8 bytes ∷ long_at 12 bytes ∷ xs) (longs-split 4 1 16 32 bytes refl
+    ∙ ap (λ xs. xs ++ longs_at 1 32 bytes) (four-longs 16 20 24 28 bytes refl refl refl)
+    ∙ ap (λ xs. long_at 16 bytes ∷ long_at 20 bytes ∷ long_at 24 bytes ∷ long_at 28 bytes ∷ xs) (cons-long 0 32 36 bytes refl ∙ ap (λ xs. long_at 32 bytes ∷ xs) (no-longs 36 bytes)))
 
 pub head-longs : (bytes : List ℕ) (h : Head) → IsHeadAt bytes h
     → longs_at 9 0 bytes ≡ mark_first ∷ mark_second ∷ h.kib ∷ h.a5 ∷ set_number h.main ∷ h.start_sp ∷ h.low ∷ h.high ∷ h.count ∷ []

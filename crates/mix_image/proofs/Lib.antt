@@ -1,9 +1,11 @@
+pub mod Rows
 pub mod Binds
 pub mod Placing
 pub mod Pagings
 pub mod Filling
 pub mod Heading
 pub mod Tails
+pub mod Testing
 pub mod Spelled
 pub mod Finishing
 pub mod Saving

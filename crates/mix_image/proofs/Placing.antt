@@ -1,42 +1,31 @@
 -- The blocks of a heap, read one behind the other.
-use Rattle.std.proofs.Common.{◌≡◌, ℕ, zero, suc, ◌+◌, ◌-◌, ◌*◌, ◌<◌, ◌≤◌, nat_le, nat_lt, true, ◌&&◌, inr, List, [], ◌∷◌, ◌++◌, length, get_or, Ok, Err, arith, ap, sym, subst, ◌∙◌, refl, append_assoc, length-append}
+use Rattle.std.proofs.Common.{◌≡◌, ℕ, zero, suc, ◌+◌, ◌-◌, ◌*◌, ◌<◌, ◌≤◌, nat_le, true, ◌&&◌, inr, List, [], ◌∷◌, ◌++◌, length, get_or, Ok, Err, arith, ap, sym, subst, ◌∙◌, refl, append_assoc, length-append}
 use Rattle.std.specs.Prelude.{All}
-use Rattle.std.proofs.lemmas.Bool.{and_from, and_parts, leb-true, le-leb, lt-ltb, le-ltb}
+use Rattle.std.proofs.lemmas.Bool.{and_from, and_parts, le-leb}
 use Rattle.std.proofs.lemmas.List.{append-nil}
-use Rattle.std.proofs.lemmas.List.Sums.{AllPass-from_list_all, list_all-from_AllPass}
+use Rattle.std.proofs.lemmas.List.Sums.{list_all-from_AllPass}
 use Rattle.mix_bits.specs.Results.{◌>>=◌}
 use Rattle.big_memory.specs.Numbers.{long_at, longs_at}
 use Rattle.host_heap.specs.declared.block.Block.{Block}
 use Rattle.host_heap.specs.Space.{Space}
-use Rattle.host_heap.specs.Place.{can_place, placed, with_block}
+use Rattle.host_heap.specs.Place.{CanPlace, can_place, is_behind, placed, with_block}
 use Rattle.host_heap.specs.Sound.{IsAligned, IsInside, IsSound}
-use Rattle.host_heap.proofs.Fits.{CanPlace, CanPlace-from_test, can_place_from}
-use Rattle.host_heap.proofs.Order.{filter_all, filter_none}
-use Rattle.host_heap.proofs.Keeps.{IsSound-placed}
-use Rattle.switch_frame.proofs.Again.{cons-long, longs-split, no-longs}
+use Rattle.host_heap.proofs.Fits.{places_are_tested}
+use Rattle.host_heap.proofs.Placing.{placing_appends, placing_keeps_sound}
 use Rattle.mix_image.specs.declared.error.ImageError.{ImageError}
 use Rattle.mix_image.specs.declared.error.ImageError.TheVariants.{Block as Blocks}
-use Rattle.mix_image.specs.Fields.{block_from, blocks_from, empty_heap, is_behind, long_from}
+use Rattle.mix_image.specs.Fields.{block_from, blocks_from, empty_heap, long_from}
 use Rattle.mix_image.specs.Spelling.{block_longs}
 use Rattle.mix_image.proofs.Binds.{long-among, long-read, long-there, passed, passes, past, then}
+use Rattle.mix_image.proofs.Rows.{longs-split, no-longs, two-longs}
 
 -- a heap with its blocks
 abbrev pub with_blocks : ℕ → ℕ → List Block → Space
 with_blocks low high blocks = record { low = low; high = high; blocks = blocks }
 
 -- the test of what stands before a block
-behind-all : (blocks : List Block) (address : ℕ) → is_behind blocks address ≡ true → All (λ b. b.address + b.size ≤ address) blocks
-behind-all blocks address is = λ k d l. leb-true _ _ (AllPass-from_list_all (λ b. nat_le (b.address + b.size) address) blocks is k d l)
-
 all-behind : (blocks : List Block) (address : ℕ) → All (λ b. b.address + b.size ≤ address) blocks → is_behind blocks address ≡ true
 all-behind blocks address all = list_all-from_AllPass (λ b. nat_le (b.address + b.size) address) blocks (λ k d l. le-leb _ _ (all k d l))
-
--- a block behind all others is the last
-appended : (blocks : List Block) (new : Block) → All IsAligned blocks → All (λ b. b.address + b.size ≤ new.address) blocks → with_block blocks new ≡ blocks ++ new ∷ []
-appended blocks new aligned behind =
-    let low = filter_all (λ (b : Block). nat_lt b.address new.address) blocks (λ k d l. let whole = aligned k d l in let before = behind k d l in lt-ltb _ _ (omega (arith, whole.2))) in
-    let high = filter_none (λ (b : Block). nat_lt new.address b.address) blocks (λ k d l. let before = behind k d l in le-ltb _ _ (omega arith)) in
-    rw (low, high) refl
 
 longs-append : (xs : List Block) (b : Block) → block_longs (xs ++ b ∷ []) ≡ block_longs xs ++ (b.address ∷ b.size ∷ [])
 longs-append [] b = refl
@@ -45,9 +34,6 @@ longs-append (x ∷ xs) b = ap (λ ys. x.address ∷ x.size ∷ ys) (longs-appen
 pub length-longs : (xs : List Block) → length (block_longs xs) ≡ 2 * length xs
 length-longs [] = refl
 length-longs (x ∷ xs) = let rest : length (block_longs xs) ≡ 2 * length xs = length-longs xs in omega arith
-
-two-longs : (a b : ℕ) (bytes : List ℕ) → b ≡ a + 4 → longs_at 2 a bytes ≡ long_at a bytes ∷ long_at b bytes ∷ []
-two-longs a b bytes next = cons-long 1 a b bytes next ∙ ap (λ xs. long_at a bytes ∷ xs) (cons-long 0 b (b + 4) bytes refl ∙ ap (λ xs. long_at b bytes ∷ xs) (no-longs (b + 4) bytes))
 
 -- ---- blocks that were read
 
@@ -68,13 +54,12 @@ placed-more : (bytes : List ℕ) (low high k address size : ℕ) (t : Space) →
 placed-more bytes low high k address size t before there first second test =
     let new : Block = record { address = address; size = size } in
     let parts = and_parts (is_behind t.blocks address) (can_place t size address) test in
-    let can : CanPlace t size address = CanPlace-from_test t size address parts.1 in
-    let last : with_block t.blocks new ≡ t.blocks ++ new ∷ [] = appended t.blocks new before.sound.aligned (behind-all t.blocks address parts.0) in
+    let last : with_block t.blocks new ≡ t.blocks ++ new ∷ [] = ap (λ (u : Space). u.blocks) (placing_appends t size address before.sound.aligned parts.0) in
     let more : 2 * suc k ≡ 2 * k + 2 = omega arith in
     record {
       low_is = before.low_is;
       high_is = before.high_is;
-      sound = IsSound-placed t size address before.sound can;
+      sound = placing_keeps_sound t size address before.sound parts.1;
       count = ap length last ∙ length-append t.blocks (new ∷ []) ∙ (let e : length t.blocks + 1 ≡ suc k = omega (arith, before.count) in e);
       longs = ap (λ n. longs_at n 36 bytes) more
           ∙ longs-split (2 * k) 2 36 (36 + 8 * k) bytes (omega arith)
@@ -85,7 +70,7 @@ placed-more bytes low high k address size t before there first second test =
       there = omega (arith, there);
     }
 
-blocks-start : (bytes : List ℕ) (s : Space) → blocks_from bytes s 0 ≡ Ok s
+pub blocks-start : (bytes : List ℕ) (s : Space) → blocks_from bytes s 0 ≡ Ok s
 unfolding blocks_from
 blocks-start bytes s = refl
 
@@ -168,8 +153,8 @@ block-there bytes low high done left b next there first second =
       room = record { above = next.inside.0; below = next.inside.1; apart = λ j d l. inr (next.behind j d l) };
     } in
     let test : (is_behind done b.address && can_place (with_blocks low high done) b.size b.address) ≡ true
-    = and_from (is_behind done b.address) (can_place s b.size b.address) (all-behind done b.address next.behind) (can_place_from s b.size b.address can) in
-    let last : placed (with_blocks low high done) b.size b.address ≡ with_blocks low high (done ++ b ∷ []) = ap (λ bs. with_blocks low high bs) (appended done b next.done_aligned next.behind) in
+    = and_from (is_behind done b.address) (can_place s b.size b.address) (all-behind done b.address next.behind) ((places_are_tested s b.size b.address).1 can) in
+    let last : placed (with_blocks low high done) b.size b.address ≡ with_blocks low high (done ++ b ∷ []) = placing_appends (with_blocks low high done) b.size b.address next.done_aligned (all-behind done b.address next.behind) in
     then (long_from bytes (36 + 8 * k)) _ b.address _ (long-there bytes (36 + 8 * k) b.address (omega (arith, there)) first)
     (then (long_from bytes (40 + 8 * k)) _ b.size _ (long-there bytes (40 + 8 * k) b.size (omega (arith, there)) second)
     (passes (is_behind done b.address && can_place s b.size b.address) (Blocks k) (placed s b.size b.address) test ∙ ap Ok last))

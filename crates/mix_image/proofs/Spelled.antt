@@ -22,9 +22,7 @@ use Rattle.switch_frame.specs.declared.active.Active.TheVariants.{M68, Ppc}
 use Rattle.switch_frame.specs.Chain.{IsFile}
 use Rattle.switch_frame.specs.Program.{HasHeap, start_sp_of}
 use Rattle.switch_frame.specs.Records.{isa_of, longs_of_file}
-use Rattle.switch_frame.proofs.Images.{ccr-small}
-use Rattle.switch_frame.proofs.Linked.{len-ram, outer-small}
-use Rattle.switch_frame.proofs.Again.{cons-long, longs-split, no-longs, one-long}
+use Rattle.switch_frame.proofs.Linked.{top_is_long}
 use Rattle.mixed_machine.specs.Machine.{callers_of}
 use Rattle.mix_engine.specs.declared.machine.Machine.{Machine}
 use Rattle.mix_image.specs.declared.head.Head.{Head}
@@ -32,10 +30,11 @@ use Rattle.mix_image.specs.Fields.{active_from, bare, blocks_from, empty_heap, f
 use Rattle.mix_image.specs.Heads.{IsHead}
 use Rattle.mix_image.specs.Spelling.{HasSpelling, block_longs, head_longs, longs_of, mark_first, mark_second, pages, set_number, spell, tail_longs}
 use Rattle.mix_image.proofs.Binds.{long-among, long-read, long-there, past, then}
+use Rattle.mix_image.proofs.Rows.{longs-split, one-long, two-longs}
 use Rattle.mix_image.proofs.Placing.{IsPlaced, blocks-back, blocks-there, length-longs}
 use Rattle.mix_image.proofs.Pagings.{memory-back, memory-there}
 use Rattle.mix_image.proofs.Heading.{IsHeadAt, head-back, head-longs as longs-of-head, head-there}
-use Rattle.mix_image.proofs.Tails.{IsFileAt, active-back, active-there, file_longs, longs-size}
+use Rattle.mix_image.proofs.Tails.{bits-small, IsFileAt, active-back, active-there, file_longs, longs-size}
 
 -- ---- a machine that was read
 
@@ -72,7 +71,7 @@ tail-longs : (bytes : List ℕ) (at top : ℕ) (active : Active) → long_at at 
     → longs_at (2 + file_longs (isa_of active)) at bytes ≡ top ∷ set_number (isa_of active) ∷ longs_of_file active
 tail-longs bytes at top active first second here =
     longs-split 2 (file_longs (isa_of active)) at (at + 8) bytes (omega arith)
-    ∙ ap (λ xs. xs ++ longs_at (file_longs (isa_of active)) (at + 8) bytes) (cons-long 1 at (at + 4) bytes refl ∙ ap (λ xs. long_at at bytes ∷ xs) (cons-long 0 (at + 4) (at + 8) bytes (omega arith) ∙ ap (λ xs. long_at (at + 4) bytes ∷ xs) (no-longs (at + 8) bytes)))
+    ∙ ap (λ xs. xs ++ longs_at (file_longs (isa_of active)) (at + 8) bytes) (two-longs at (at + 4) bytes refl)
     ∙ ap (λ x. x ∷ long_at (at + 4) bytes ∷ longs_at (file_longs (isa_of active)) (at + 8) bytes) first
     ∙ ap (λ x. top ∷ x ∷ longs_at (file_longs (isa_of active)) (at + 8) bytes) second
     ∙ ap (λ xs. top ∷ set_number (isa_of active) ∷ xs) here.longs
@@ -230,7 +229,7 @@ numbers-of m has =
       aligned = has.whole.heap.aligned;
       ordered = has.whole.heap.ordered;
       high = has.whole.heap.whole;
-      top = subst (λ v. v < 2 ^ 32) (sym chain.links.first) (outer-small (length m.body.ram.bytes) m.body.ram.bytes (callers_of m.body) (len-ram m.body.ram ram) chain.links.frames);
+      top = top_is_long m.body.ram m.body.top (callers_of m.body) chain.links;
     }
 
 number-small : (set : Isa) → set_number set < 2 ^ 32
@@ -272,7 +271,7 @@ each-join (x ∷ xs) ys first second (suc k) = each-join xs ys (λ j. first (suc
 file-each : (file : Active) → IsFile file → (k : ℕ) → get_or (longs_of_file file) k 0 < 2 ^ 32
 file-each (M68 file) ok k =
     each-join file.d (file.a ++ (file.pc ∷ ccr_bits file.ccr ∷ [])) ok.data_registers.each
-    (each-join file.a (file.pc ∷ ccr_bits file.ccr ∷ []) ok.address_registers.each (each-cons file.pc (ccr_bits file.ccr ∷ []) ok.pc_fits (each-cons (ccr_bits file.ccr) [] (ccr-small file.ccr) each-none))) k
+    (each-join file.a (file.pc ∷ ccr_bits file.ccr ∷ []) ok.address_registers.each (each-cons file.pc (ccr_bits file.ccr ∷ []) ok.pc_fits (each-cons (ccr_bits file.ccr) [] (omega (arith, bits-small file.ccr)) each-none))) k
 file-each (Ppc file) ok k =
     each-join file.gpr (file.cr ∷ file.lr ∷ file.ctr ∷ file.xer ∷ file.pc ∷ []) ok.general.each
     (each-cons file.cr (file.lr ∷ file.ctr ∷ file.xer ∷ file.pc ∷ []) ok.cr_fits
@@ -351,7 +350,7 @@ file-at m bytes has read there =
     let split : longs_at 2 (36 + 8 * length m.body.heap.blocks) bytes ++ longs_at (file_longs (isa_of m.active)) (44 + 8 * length m.body.heap.blocks) bytes ≡ tail_longs m
     = sym (longs-split 2 (file_longs (isa_of m.active)) at (44 + 8 * length m.body.heap.blocks) bytes (omega arith)) ∙ read.tail in
     let two : longs_at 2 (36 + 8 * length m.body.heap.blocks) bytes ≡ long_at (36 + 8 * length m.body.heap.blocks) bytes ∷ long_at (40 + 8 * length m.body.heap.blocks) bytes ∷ []
-    = cons-long 1 at (40 + 8 * length m.body.heap.blocks) bytes (omega arith) ∙ ap (λ xs. long_at at bytes ∷ xs) (cons-long 0 (40 + 8 * length m.body.heap.blocks) (44 + 8 * length m.body.heap.blocks) bytes (omega arith) ∙ ap (λ xs. long_at (40 + 8 * length m.body.heap.blocks) bytes ∷ xs) (no-longs (44 + 8 * length m.body.heap.blocks) bytes)) in
+    = two-longs at (40 + 8 * length m.body.heap.blocks) bytes (omega arith) in
     let rest = longs_at (file_longs (isa_of m.active)) (44 + 8 * length m.body.heap.blocks) bytes in
     record {
       there = there;

@@ -1,9 +1,11 @@
 -- The registers in an image.
-use Rattle.std.proofs.Common.{◌≡◌, ℕ, ◌+◌, ◌*◌, ◌^◌, ◌<◌, ◌≤◌, nat_lt, true, false, lit<, lit≤, List, [], ◌∷◌, ◌++◌, length, take, drop, get_or, Ok, Err, arith, ap, sym, subst, ◌∙◌, refl, length-take, length-drop}
+use Rattle.std.proofs.Common.{◌≡◌, ℕ, ◌+◌, ◌*◌, ◌^◌, ◌<◌, ◌≤◌, nat_lt, Bool, true, false, lit<, lit≤, List, [], ◌∷◌, ◌++◌, length, take, drop, get_or, Ok, Err, arith, ap, sym, subst, ◌∙◌, refl, length-take, length-drop}
+use Rattle.std.specs.Int.{from_bool}
 use Rattle.std.proofs.lemmas.Bool.Decides.{nat_tests}
 use Rattle.std.proofs.lemmas.List.{get_or-append_right, places}
 use Rattle.mix_bits.specs.declared.isa.Isa.{Isa}
 use Rattle.mix_bits.specs.declared.isa.Isa.TheVariants.{M68 as set_m68, Ppc as set_ppc}
+use Rattle.m68_isa.specs.declared.registers.Ccr.{Ccr as Codes}
 use Rattle.m68_isa.specs.declared.registers.Regs68.{Regs68}
 use Rattle.m68_isa.specs.Registers.{ccr_bits}
 use Rattle.m68_isa.specs.Longs.{file_of as m68_file, longs_of as longs_of_m68}
@@ -17,7 +19,6 @@ use Rattle.switch_frame.specs.declared.active.Active.{Active}
 use Rattle.switch_frame.specs.declared.active.Active.TheVariants.{M68, Ppc}
 use Rattle.switch_frame.specs.Chain.{IsFile}
 use Rattle.switch_frame.specs.Records.{isa_of, longs_of_file}
-use Rattle.switch_frame.proofs.Again.{bits-small}
 use Rattle.mix_image.specs.declared.error.ImageError.TheVariants.{Short, Ccr, Active as Actives}
 use Rattle.mix_image.specs.Fields.{active_from, file_from, file_size, long_from, m68_from, only_if, ppc_from, set_of}
 use Rattle.mix_image.specs.Spelling.{set_number}
@@ -128,6 +129,15 @@ active-within bytes at active is =
     file-within bytes (at + 4) two.0 active two.2
 
 -- ---- and read from there
+
+-- five bits
+bit-small : (b : Bool) → from_bool b < 2
+bit-small true = lit< tt
+bit-small false = lit< tt
+
+pub bits-small : (c : Codes) → ccr_bits c < 32
+bits-small c =
+    let x = bit-small c.x in let n = bit-small c.n in let z = bit-small c.z in let v = bit-small c.v in let carry = bit-small c.c in omega arith
 
 bits-last : (file : Regs68) → length file.d ≡ 8 → length file.a ≡ 8 → get_or (longs_of_m68 file) 17 0 ≡ ccr_bits file.ccr
 bits-last file d a =

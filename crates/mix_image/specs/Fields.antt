@@ -1,6 +1,5 @@
 -- The fields of an image, read in order: each with the refusal that comes where it is the first that does not pass.
 use Rattle.std.specs.Prelude.{ℕ, zero, suc, ◌+◌, ◌*◌, ◌/◌, ◌%◌, ◌==◌, nat_le, nat_lt, Bool, false, ◌&&◌, if◌then◌else◌, List, [], ◌++◌, length, replicate, slice_index, Option, Some, None, Result, Ok, Err}
-use Rattle.std.specs.List.{list_all}
 use Rattle.mix_bits.specs.Results.{◌>>=◌}
 use Rattle.mix_bits.specs.declared.isa.Isa.{Isa}
 use Rattle.mix_bits.specs.declared.isa.Isa.TheVariants.{M68 as set_m68, Ppc as set_ppc}
@@ -9,9 +8,8 @@ use Rattle.ppc_isa.specs.Longs.{file_of as ppc_file}
 use Rattle.big_memory.specs.Lists.{part}
 use Rattle.big_memory.specs.Memory.{Memory}
 use Rattle.big_memory.specs.Numbers.{long_at, longs_at}
-use Rattle.host_heap.specs.declared.block.Block.{Block}
 use Rattle.host_heap.specs.Space.{Space, block_limit}
-use Rattle.host_heap.specs.Place.{can_place, placed}
+use Rattle.host_heap.specs.Place.{can_append, placed}
 use Rattle.switch_frame.specs.declared.active.Active.{Active}
 use Rattle.switch_frame.specs.declared.active.Active.TheVariants.{M68, Ppc}
 use Rattle.switch_frame.specs.Program.{blank, program_start, start_sp_of}
@@ -68,16 +66,12 @@ head_of bytes =
     count_of bytes >>= λ count.
     Ok (record { kib = kib; a5 = a5; main = main; start_sp = start_sp; low = bounds.0; high = bounds.1; count = count })
 
--- whether each block ends at or before an address
-abbrev pub is_behind : List Block → ℕ → Bool
-is_behind blocks address = list_all (λ b. nat_le (b.address + b.size) address) blocks
-
 -- the heap with the next block, which stands behind all others
 abbrev pub block_from : List ℕ → Space → ℕ → Result Space ImageError
 block_from bytes s k =
     long_from bytes (36 + 8 * k) >>= λ address.
     long_from bytes (40 + 8 * k) >>= λ size.
-    only_if (is_behind s.blocks address && can_place s size address) (Blocks k) (placed s size address)
+    only_if (can_append s size address) (Blocks k) (placed s size address)
 
 unfoldable pub blocks_from : List ℕ → Space → ℕ → Result Space ImageError
 blocks_from bytes s zero = Ok s

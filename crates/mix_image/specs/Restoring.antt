@@ -55,6 +55,6 @@ abbrev pub Passes : Machine → Result (Unit {0}) ImageError → Type 0
 Passes m (Ok done) = HasGatePage m.body.a5 m.body.ram.bytes × IsWholeChain m.body.ram m.body.top (isa_of m.active) m.body.main (records m.body.ram.bytes m.body.top)
 Passes m (Err e) = IsTested m (Err e)
 
--- what an image is restored to; want of memory may come instead
+-- what an image is restored to; once each field is right, want of memory may come instead
 abbrev pub IsRestored : List ℕ → Result Machine ImageError → Type 0
-IsRestored bytes result = (result ≡ Err NoMemory) ⊎ MatchResult (fields_of bytes) (λ m. IsTested m result) (λ e. result ≡ Err e)
+IsRestored bytes result = MatchResult (fields_of bytes) (λ m. (result ≡ Err NoMemory) ⊎ IsTested m result) (λ e. result ≡ Err e)

@@ -1,12 +1,45 @@
 // The blocks of the heap in an image.
-ghost use Rattle.std.specs.Prelude.{◌≡◌, ◌+◌, ◌*◌, ◌%◌, ◌<◌, ◌≤◌, length, nat_le, MatchResult, Ok, Err};
-ghost use Rattle.mix_image.specs.Fields.{block_from, blocks_from, empty_heap, is_behind};
+ghost use Rattle.std.specs.Prelude.{◌≡◌, ◌%◌, ◌<◌, ◌≤◌, length, MatchResult, Ok, Err};
+ghost use Rattle.mix_image.specs.Fields.{block_from, blocks_from, empty_heap};
 ghost use Rattle.mix_image.specs.Restoring.{Gives};
+ghost use Rattle.mix_image.specs.Testing.{end_from, outcome};
 
 use crate::ImageError;
 use crate::longs::long;
-use host_heap::{Block, Heap};
+use host_heap::{Heap, may_follow};
 use std::alloc::Global;
+
+/// Tests the blocks in order, each by where the one before it ends. It takes no memory.
+pub fn test_blocks(bytes: &[u8], low: u32, high: u32, count: u32) -> Result<(), ImageError>
+    requires small { length bytes.now ≤ 17825792 }
+    requires first { low % 16 ≡ 0 }
+    requires last { high % 16 ≡ 0 }
+    requires ordered { low ≤ high }
+    requires few { count ≤ 4096 }
+    ensures { result ≡ outcome (blocks_from bytes.now (empty_heap low high) count) }
+{
+    let mut end = u64::from(low);
+    'each: for k in 0..count {
+        end = test_block(bytes, end, high, k)?;
+    }
+    Ok(())
+}
+
+/// Where the block with this number ends, which is to stand behind `end` and to end by `high`.
+fn test_block(bytes: &[u8], end: u64, high: u32, k: u32) -> Result<u64, ImageError>
+    requires small { length bytes.now ≤ 17825792 }
+    requires few { k < 4096 }
+    ensures { result ≡ end_from bytes.now end high k }
+{
+    let place = 36 + 8 * k as usize;
+    let address = long(bytes, place)?;
+    let size = long(bytes, place + 4)?;
+    if may_follow(end, high, size, address) {
+        Ok(u64::from(address) + u64::from(size))
+    } else {
+        Err(ImageError::Block(k))
+    }
+}
 
 /// A heap with the blocks that the image holds.
 pub fn read_blocks(
@@ -39,22 +72,9 @@ fn read_block(bytes: &[u8], heap: &mut Heap, k: u32) -> Result<(), ImageError>
     let place = 36 + 8 * k as usize;
     let address = long(bytes, place)?;
     let size = long(bytes, place + 4)?;
-    if is_behind(heap.blocks(), address) && heap.place(address, size) {
+    if heap.append(address, size) {
         Ok(())
     } else {
         Err(ImageError::Block(k))
     }
-}
-
-/// Whether each block ends at or before an address.
-fn is_behind(blocks: &[Block], address: u32) -> bool
-    ensures { result ≡ is_behind blocks.now address }
-{
-    blocks.iter().all(|block| ends_by(block, address))
-}
-
-fn ends_by(block: &Block, address: u32) -> bool
-    ensures { result ≡ nat_le (block.now.address + block.now.size) address }
-{
-    u64::from(block.address) + u64::from(block.size) <= u64::from(address)
 }

@@ -1,16 +1,31 @@
 // The fields of an image, in order.
-ghost use Rattle.std.specs.Prelude.{◌≤◌, length, IfOk};
+ghost use Rattle.std.specs.Prelude.{◌≡◌, ◌≤◌, length};
 ghost use Rattle.mix_image.specs.Fields.{fields_of};
 ghost use Rattle.mix_image.specs.Restoring.{Gives};
+ghost use Rattle.mix_image.specs.Testing.{outcome};
 
 use crate::ImageError;
-use crate::blocks::read_blocks;
+use crate::blocks::{read_blocks, test_blocks};
 use crate::head::read_head;
 use crate::longs::long;
-use crate::memory::read_memory;
+use crate::memory::{read_memory, test_memory};
 use crate::registers::{file_size, read_active};
 use mix_engine::{Body, Machine};
 use std::alloc::Global;
+
+/// Whether each field of the image is right, or the first refusal. It takes no memory.
+#[tactic(auto, unfolding(crate::specs::Fields::fields_of))]
+pub fn test_fields(bytes: &[u8]) -> Result<(), ImageError>
+    requires { length bytes.now ≤ 17825792 }
+    ensures { result ≡ outcome (fields_of bytes.now) }
+{
+    let head = read_head(bytes)?;
+    test_blocks(bytes, head.low, head.high, head.count)?;
+    let place = 36 + 8 * head.count as usize;
+    long(bytes, place)?;
+    let active = read_active(bytes, place + 4)?;
+    test_memory(bytes, place + 8 + file_size(active.isa()), head.kib)
+}
 
 /// The machine whose fields the image holds, with nothing guarded.
 #[tactic(auto, unfolding(crate::specs::Fields::fields_of))]

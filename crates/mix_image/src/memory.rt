@@ -1,9 +1,10 @@
 // The bytes of RAM in an image.
-ghost use Rattle.std.specs.Prelude.{◌≡◌, ◌+◌, ◌*◌, ◌<◌, ◌≤◌, ℕ, length, slice_index, IfOk, Ok, option_copied};
+ghost use Rattle.std.specs.Prelude.{◌≡◌, ◌+◌, ◌*◌, ◌<◌, ◌≤◌, ℕ, length, nat_le, slice_index, IfOk, Ok, option_copied};
 ghost use Rattle.big_memory.specs.Memory.{with_bytes};
-ghost use Rattle.mix_image.specs.Fields.{full_page, memory_from, page_bytes, page_from, page_size};
+ghost use Rattle.mix_image.specs.Fields.{full_page, memory_from, only_if, page_bytes, page_from, page_size};
 ghost use Rattle.mix_image.specs.Restoring.{Gives, Reads};
 ghost use Rattle.mix_image.specs.Spelling.{is_blank};
+ghost use Rattle.mix_image.specs.Testing.{outcome};
 
 use crate::ImageError;
 use crate::longs::short;
@@ -12,6 +13,32 @@ use std::alloc::Global;
 
 /// How many bytes a page has.
 pub const PAGE: usize = 1024;
+
+/// Tests the pages of so many KiB, with which the image ends. It takes no memory.
+pub fn test_memory(bytes: &[u8], at: usize, kib: u32) -> Result<(), ImageError>
+    requires small { length bytes.now ≤ 17825792 }
+    requires place { at ≤ length bytes.now }
+    ensures { result ≡ outcome (memory_from bytes.now at kib) }
+{
+    let mut end = at;
+    'tested: for k in 0..kib {
+        end += page_size(read_page(bytes, end, k)?);
+    }
+    test_end(bytes, end)
+}
+
+/// Tests that no byte stands behind the last field.
+fn test_end(bytes: &[u8], end: usize) -> Result<(), ImageError>
+    requires small { length bytes.now ≤ 17825792 }
+    requires place { end ≤ length bytes.now }
+    ensures { result ≡ only_if (nat_le (length bytes.now) end) (ImageError.Extra end) (record {}) }
+{
+    if bytes.len() <= end {
+        Ok(())
+    } else {
+        Err(ImageError::Extra(end as u32))
+    }
+}
 
 /// Memory of so many KiB with the bytes that the image holds, which end there.
 pub fn read_memory(alloc: Global, bytes: &[u8], at: usize, kib: u32) -> Result<Ram, ImageError>
@@ -28,11 +55,8 @@ pub fn read_memory(alloc: Global, bytes: &[u8], at: usize, kib: u32) -> Result<R
         put_page(&mut ram, k, page);
         end += page_size(page);
     }
-    if end < bytes.len() {
-        Err(ImageError::Extra(end as u32))
-    } else {
-        Ok(ram)
-    }
+    test_end(bytes, end)?;
+    Ok(ram)
 }
 
 /// The page with this number, none where all its bytes are 0.

@@ -6,13 +6,14 @@ ghost use Rattle.mix_image.specs.Restoring.{IsRestored, Passes};
 ghost use Rattle.mix_image.specs.Spelling.{HasSpelling, spell};
 
 use crate::ImageError;
-use crate::fields::read_fields;
+use crate::fields::{read_fields, test_fields};
 use crate::longs::are_bytes;
 use mix_engine::Machine;
 use std::alloc::Global;
 use switch_frame::{check, check_gate, guard_frames};
 
-/// The machine whose spelling the bytes are, or the first refusal. Want of memory may come in place of either.
+/// The machine whose spelling the bytes are, or the first refusal. Memory is taken once each field is right, and want of it
+/// may come from then on.
 pub fn restore(alloc: Global, bytes: &[u8]) -> Result<Machine, ImageError>
     requires { length bytes.now ≤ 17825792 }
     ensures exact { IsRestored bytes.now result }
@@ -29,6 +30,7 @@ fn restore_tested(alloc: Global, bytes: &[u8]) -> Result<Machine, ImageError>
     ensures { IsRestored bytes.now result }
 {
     are_bytes(bytes);
+    test_fields(bytes)?;
     let mut machine = read_fields(alloc, bytes)?;
     test(&machine)?;
     let top = machine.body.top;

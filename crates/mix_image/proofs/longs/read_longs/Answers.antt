@@ -1,6 +1,6 @@
 use Rattle.std.proofs.Common.{◌≡◌, ◌+◌, ◌-◌, ◌*◌, length, take, drop, arith, ap, ◌∙◌}
 use Rattle.big_memory.specs.Numbers.{longs_at}
-use Rattle.big_memory.proofs.Numbers.{longs-read}
+use Rattle.mix_image.proofs.Rows.{longs-read}
 use Rattle.mix_image.proofs.longs.read_longs.Goals as goal
 
 pub returns-clause-longs : goal.returns-clause-longs

@@ -1,6 +1,9 @@
-use Rattle.std.proofs.Common.{◌≡◌, ◌+◌, ◌<◌, inr, arith, sym, subst}
+use Rattle.std.proofs.Common.{◌≡◌, ◌+◌, ◌<◌, ◌≤◌, nat_le, length, inr, arith, sym, subst}
 use Rattle.std.specs.Prelude.{option_copied}
 use Rattle.std.proofs.lemmas.Result.{err_from_is_err_and}
+use Rattle.std.proofs.lemmas.Bool.Decides.{nat_tests}
+use Rattle.mix_image.specs.declared.error.ImageError.TheVariants.{Extra}
+use Rattle.mix_image.proofs.Binds.{passed, refused}
 use Rattle.mix_image.proofs.Filling.{IsReadTo, read-all, read-extra, read-more, read-none, read-stops}
 use Rattle.mix_image.proofs.memory.read_memory.Goals as goal
 
@@ -20,12 +23,17 @@ pages-preserved c =
     (read-more c.args.bytes.now c.args.at c.args.kib c.pages.k c.pages.end c.pages.ram c.put_page.new.ram (option_copied c.in_ok-page.page) c.pages.invariant less
     c.in_ok-page.ensures.exact c.in_ok-page.ensures.len c.in_ok-page.ensures.within c.put_page.ensures)
 
-pub returns-then-end-bytes : goal.returns-then-end-bytes
-returns-then-end-bytes c =
+pub returns-in_err-test_end : goal.returns-in_err-test_end
+returns-in_err-test_end c =
+    let p = err_from_is_err_and c.from_residual-in_err-test_end.result c.from_residual-in_err-test_end.ensures.1 in
+    let refused = refused (nat_le (length c.args.bytes.now) c.pages.end) c.in_err-test_end.field-0.0 (Extra c.pages.end) (record {}) c.in_err-test_end.ensures in
+    let more : c.pages.end < length c.args.bytes.now = grind (arith, nat_tests, refused.0) in
     let last : c.pages.k ≡ c.args.kib = omega arith in
-    inr (read-extra c.args.bytes.now c.args.at c.args.kib c.pages.end c.pages.ram (subst (λ k. IsReadTo c.args.bytes.now c.args.at c.args.kib k c.pages.end c.pages.ram) last c.pages.invariant) c.if-end-bytes.true)
+    rw (p.1, p.2, refused.1) (inr (read-extra c.args.bytes.now c.args.at c.args.kib c.pages.end c.pages.ram (subst (λ k. IsReadTo c.args.bytes.now c.args.at c.args.kib k c.pages.end c.pages.ram) last c.pages.invariant) more))
 
-pub returns-else-end-bytes : goal.returns-else-end-bytes
-returns-else-end-bytes c =
+pub returns : goal.returns
+returns c =
+    let passed = passed (nat_le (length c.args.bytes.now) c.pages.end) (Extra c.pages.end) (record {}) (record {}) (sym c.in_ok-test_end.ensures) in
+    let end : length c.args.bytes.now ≤ c.pages.end = grind (arith, nat_tests, passed.0) in
     let last : c.pages.k ≡ c.args.kib = omega arith in
-    read-all c.args.bytes.now c.args.at c.args.kib c.pages.end c.pages.ram (subst (λ k. IsReadTo c.args.bytes.now c.args.at c.args.kib k c.pages.end c.pages.ram) last c.pages.invariant) c.if-end-bytes.false
+    read-all c.args.bytes.now c.args.at c.args.kib c.pages.end c.pages.ram (subst (λ k. IsReadTo c.args.bytes.now c.args.at c.args.kib k c.pages.end c.pages.ram) last c.pages.invariant) end
