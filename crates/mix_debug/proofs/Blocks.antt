@@ -4,19 +4,18 @@ use Rattle.std.specs.Prelude.{All, AllPairs, filter}
 use Rattle.std.specs.List.{Contains}
 use Rattle.std.proofs.lemmas.Bool.{cases_Bool, cases_lt, eq-eqb, eqb-true, ne_eqb, le-ltb, lt-ltb}
 use Rattle.std.proofs.lemmas.List.{drop_all, drop_more}
+use Rattle.host_heap.specs.Place.{place_for, taken}
+use Rattle.mix_debug.specs.Reaches.{SameBlocks}
 use Rattle.std.proofs.lemmas.List.Elements.{All-head, All-tail}
 use Rattle.host_heap.specs.declared.block.Block.{Block}
 use Rattle.host_heap.specs.Space.{Space, rounded}
-use Rattle.host_heap.specs.Place.{begins_at, can_place, freed, placed, with_block, without}
+use Rattle.host_heap.specs.Place.{CanPlace, begins_at, can_place, freed, placed, with_block, without}
 use Rattle.host_heap.specs.Sound.{EndsBefore, IsAligned, IsSound}
-use Rattle.host_heap.proofs.Fits.{CanPlace, can_place_from}
-use Rattle.host_heap.proofs.Keeps.{CanPlace-got, none_begins, taken-some}
-use Rattle.host_heap.proofs.Lowest.{IsPlace-from}
-use Rattle.host_heap.proofs.Order.{AllPairs-head, AllPairs-tail, filter_all, filter_none}
-use Rattle.host_heap.proofs.Undo.{CanPlace-freed, freed-placed, placed-freed}
+use Rattle.host_heap.proofs.Keeps.{none_begins}
 use Rattle.mixed_machine.specs.StepLaws.{HeapMoves}
 use Rattle.mix_debug.specs.declared.head.BlockChange.TheVariants.{Stays, Made, Freed}
 use Rattle.mix_debug.specs.Entries.{block_between, first_other, heap_before}
+use Rattle.mix_debug.proofs.Below.{AllPairs-head, AllPairs-tail, CanPlace-freed, CanPlace-got, IsPlace-from, can_place_from, filter_all, filter_none, freed-placed, placed-freed, taken-some}
 
 -- blocks in order of address
 abbrev Rising : List Block → Type 0
@@ -126,12 +125,44 @@ between-more old new b more found = rw (ne_eqb (length new) (length old) (λ e. 
 between-fewer : (old new : List Block) (b : Block) → length new < length old → first_other old new ≡ Some b → block_between old new ≡ Freed b
 between-fewer old new b fewer found = rw (ne_eqb (length new) (length old) (λ e. omega (arith, e, fewer)), le-ltb (length old) (length new) (omega (arith, fewer)), found) refl
 
-heap-made : (old : Space) (size a : ℕ) → IsSound old → CanPlace old size a → heap_before (block_between old.blocks (placed old size a).blocks) (placed old size a) ≡ old
-heap-made old size a sound can =
+-- a block that is placed is found
+pub record PlacedIn (old : Space) (size a : ℕ) : Type 0 where
+  pub between : block_between old.blocks (placed old size a).blocks ≡ Made (record { address = a; size = size })
+  pub more : length (placed old size a).blocks ≡ suc (length old.blocks)
+
+placed-in : (old : Space) (size a : ℕ) → IsSound old → CanPlace old size a → PlacedIn old size a
+placed-in old size a sound can =
     let b : Block = record { address = a; size = size } in
     let it = put-in old.blocks b (rising-of old.blocks sound.apart sound.aligned) (none_begins old size a sound can.least can.room) in
-    let change : block_between old.blocks (placed old size a).blocks ≡ Made b = between-more old.blocks (with_block old.blocks b) b (omega (arith, it.more)) it.found in
-    ap (λ c. heap_before c (placed old size a)) change ∙ freed-placed old size a sound can
+    record { between = between-more old.blocks (with_block old.blocks b) b (omega (arith, it.more)) it.found; more = it.more }
+
+heap-made : (old : Space) (size a : ℕ) → IsSound old → CanPlace old size a → heap_before (block_between old.blocks (placed old size a).blocks) (placed old size a) ≡ old
+heap-made old size a sound can =
+    ap (λ c. heap_before c (placed old size a)) (placed-in old size a sound can).between ∙ freed-placed old size a sound can
+
+taken-is : (old : Space) (size a : ℕ) → place_for old size ≡ Some a → taken old size ≡ placed old (rounded size) a
+taken-is old size a found = sym (taken-some old size (rounded size) a refl (sym found))
+
+taken-in : (old : Space) (size a : ℕ) → IsSound old → place_for old size ≡ Some a → PlacedIn old (rounded size) a
+taken-in old size a sound found =
+    let place = IsPlace-from old size (Some a) (sym found) in
+    placed-in old (rounded size) a sound (CanPlace-got old size a sound place.0 place.1)
+
+pub block-made : (old new : Space) (size a : ℕ) → IsSound old → place_for old size ≡ Some a → new ≡ taken old size
+    → block_between old.blocks new.blocks ≡ Made (record { address = a; size = rounded size })
+block-made old new size a sound found is =
+    ap (λ (s : Space). block_between old.blocks s.blocks) (is ∙ taken-is old size a found) ∙ (taken-in old size a sound found).between
+
+-- where there are as many blocks they are the same
+pub blocks-same : (old new : Space) → IsSound old → HeapMoves old new → SameBlocks old.blocks new.blocks
+blocks-same old new sound (inl same) equal = ap (λ (s : Space). s.blocks) same
+blocks-same old new sound (inr (inl made)) equal =
+    let is : new ≡ placed old (rounded made.0) made.1 = made.3 ∙ taken-is old made.0 made.1 made.2 in
+    let more = (taken-in old made.0 made.1 sound made.2).more in
+    absurd (omega (arith, equal, ap (λ (s : Space). length s.blocks) is, more))
+blocks-same old new sound (inr (inr gone)) equal =
+    let fewer = (left-out old.blocks gone.0 (rising-of old.blocks sound.apart sound.aligned) gone.1).fewer in
+    absurd (omega (arith, equal, ap (λ (s : Space). length s.blocks) gone.2, fewer))
 
 heap-freed : (old : Space) (a : ℕ) → IsSound old → begins_at old.blocks a ≡ true → heap_before (block_between old.blocks (freed old a).blocks) (freed old a) ≡ old
 heap-freed old a sound there =

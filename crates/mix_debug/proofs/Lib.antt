@@ -6,6 +6,8 @@ pub mod Spelling
 pub mod Stepping
 pub mod Guarding
 pub mod Blocks
+pub mod Reached
 pub mod Keeping
 pub mod Undoing
 pub mod Telling
+pub mod Below

@@ -126,16 +126,20 @@ none-left left few = omega (arith, few)
 all-left : (left : ℕ) → 0 < left → 1 - left ≡ 0
 all-left left some = omega (arith, some)
 
-step-done : (stop : Stop) (left : ℕ) (s t : State) (old new : Sinks) → is_done stop ≡ true → Stops 0 1 left s t old new stop → Kind s t
-step-done (Exit code) left s t old new done stops = absurd (let e : false ≡ true = done in cc)
-step-done (Fault fault) left s t old new done stops = absurd (let e : false ≡ true = done in cc)
-step-done Limit left s t old new done stops = goes-kind (step s) s t (steps-are_kinds s) (first-goes (is_back 0 s) (step s) s t left (never-below s) (one-step Limited s t left stops.ends))
-step-done ReadFault left s t old new done stops = absurd (let e : false ≡ true = done in cc)
-step-done OutFault left s t old new done stops = absurd (let e : false ≡ true = done in cc)
-step-done TraceFault left s t old new done stops =
+-- a step that is done is the definition's
+pub step-goes : (stop : Stop) (left : ℕ) (s t : State) (old new : Sinks) → is_done stop ≡ true → Stops 0 1 left s t old new stop → GoesTo (step s) t
+step-goes (Exit code) left s t old new done stops = absurd (let e : false ≡ true = done in cc)
+step-goes (Fault fault) left s t old new done stops = absurd (let e : false ≡ true = done in cc)
+step-goes Limit left s t old new done stops = first-goes (is_back 0 s) (step s) s t left (never-below s) (one-step Limited s t left stops.ends)
+step-goes ReadFault left s t old new done stops = absurd (let e : false ≡ true = done in cc)
+step-goes OutFault left s t old new done stops = absurd (let e : false ≡ true = done in cc)
+step-goes TraceFault left s t old new done stops =
     let few : left < 1 = stops.fewer in
     let same : s ≡ stops.last = no-steps 0 s stops.last (subst (λ j. Leads 0 j s stops.last) (none-left left few) stops.leads) in
-    goes-kind (step s) s t (steps-are_kinds s) (subst (λ u. GoesTo (step u) t) (sym same) stops.goes)
+    subst (λ u. GoesTo (step u) t) (sym same) stops.goes
+
+step-done : (stop : Stop) (left : ℕ) (s t : State) (old new : Sinks) → is_done stop ≡ true → Stops 0 1 left s t old new stop → Kind s t
+step-done stop left s t old new done stops = goes-kind (step s) s t (steps-are_kinds s) (step-goes stop left s t old new done stops)
 
 step-still : (stop : Stop) (left : ℕ) (s t : State) (old new : Sinks) → is_done stop ≡ false → Stops 0 1 left s t old new stop → t ≡ s
 step-still (Exit code) left s t old new still stops = first-exits (is_back 0 s) (step s) s t left code (never-below s) (one-step (Exited code) s t left stops.ends)

@@ -2,6 +2,7 @@ pub mod Runs
 pub mod Entries
 pub mod Pasts
 pub mod Machines
+pub mod Reaches
 pub mod Histories
 pub mod Trails
 pub mod Trips

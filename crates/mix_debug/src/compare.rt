@@ -4,11 +4,15 @@ ghost use Rattle.std.specs.Bool.{OnTrue};
 ghost use Rattle.switch_frame.specs.Sets.{frame_size as frame_size_of};
 ghost use Rattle.big_memory.specs.Lists.{part};
 ghost use Rattle.mix_debug.specs.Runs.{Covers};
+ghost use Rattle.mix_reach.specs.Ranges.{Beside};
 ghost use Rattle.mix_debug.specs.Entries.{block_between, first_other, frame_between};
+ghost use Rattle.mix_debug.specs.Reaches.{stored_in as stored_in_of};
 
 use crate::head::{BlockChange, FrameChange};
 use host_heap::Block;
 use mix_bits::Isa;
+use mix_reach::{Reach, Stores, step_reach};
+use switch_frame::Active;
 
 /// How many bytes are compared at once.
 const PIECE: usize = 1024;
@@ -18,6 +22,35 @@ const PIECE: usize = 1024;
 pub struct Range {
     pub low: usize,
     pub high: usize,
+}
+
+/// Where a step stored: in the block that it made, or by what was told before it, where the innermost frame began before
+/// and after it, and the registers after it.
+pub fn stored_in(change: BlockChange, next: Stores, old: u32, new: u32, active: &Active) -> Reach
+    ensures { result ≡ stored_in_of change next old new active.now }
+{
+    match change {
+        BlockChange::Made(block) => {
+            let low = block.address as usize;
+            Reach {
+                low,
+                high: low + next.filled as usize,
+            }
+        }
+        _ => step_reach(next, old, new, active),
+    }
+}
+
+/// The part of a reach that lies in memory.
+pub fn in_memory(reach: Reach, old: &[u8], new: &[u8]) -> Range
+    requires { Beside reach old.now new.now }
+    ensures { Covers result.low result.high old.now new.now }
+{
+    let high = reach.high.min(new.len());
+    Range {
+        low: reach.low.min(high),
+        high,
+    }
 }
 
 /// The range without the pieces at both ends in which no byte has changed.

@@ -23,6 +23,7 @@ use dev_rack::Devices;
 use mix_bits::NoMemory;
 use mix_engine::{Machine, Stop, run};
 use mix_io::{Failed, Sink, Source};
+use mix_reach::next_stores;
 use std::alloc::Global;
 use std::marker::Model;
 
@@ -184,10 +185,11 @@ fn advance<I: Source, O: Sink, T: Sink, D: Devices>(
 {
     let file = machine.active;
     let top = machine.body.top;
+    let next = next_stores(&machine.body.ram, &machine.active);
     let stop = run(machine, input, out, trace, rack, 1);
     if !is_done(stop) {
         return stop;
     }
-    history.keep(machine, file, top);
+    history.keep(machine, file, top, next);
     stop
 }

@@ -2,19 +2,23 @@
 ghost use Rattle.std.specs.Prelude.{◌≡◌, ◌<◌, ◌≤◌, ◌∷◌, [], IfOk, length, vec_capacity};
 ghost use Rattle.host_heap.specs.Sound.{IsSound as IsSoundHeap};
 ghost use Rattle.mix_debug.specs.Runs.{olds_of, runs_in};
-ghost use Rattle.mix_debug.specs.Entries.{Entry, within};
+ghost use Rattle.mix_debug.specs.Entries.{Entry, heap_before, within};
 ghost use Rattle.mix_debug.specs.Pasts.{IsPast, entries_in};
 ghost use Rattle.mix_debug.specs.Machines.{IsSound, before};
 ghost use Rattle.mix_debug.specs.Histories.{IsHistory, entry_of};
+ghost use Rattle.mix_debug.specs.Reaches.{SameBlocks, stored_in as stored_in_of};
+ghost use Rattle.mix_reach.specs.Ranges.{Beside};
+ghost use Rattle.mix_debug.specs.Entries.{block_between as block_between_of};
 
-use crate::compare::{Range, block_between, frame_between, narrowed};
-use crate::head::Head;
+use crate::compare::{Range, block_between, frame_between, in_memory, narrowed, stored_in};
+use crate::head::{BlockChange, Head};
 use crate::past::{Past, ROOM, cost};
 use crate::runs::count_changes;
 use crate::undo::{copy_range, undo_block, undo_frame};
 use host_heap::{Block, Heap};
 use mix_bits::NoMemory;
 use mix_engine::Machine;
+use mix_reach::Stores;
 use std::alloc::Global;
 use switch_frame::Active;
 
@@ -55,9 +59,13 @@ impl History {
         self.past.len()
     }
 
-    /// Keeps the step that led to a machine from these registers and from the frame that began at `top`.
-    pub fn keep(&mut self, machine: &Machine, file: Active, top: u32)
+    /// Keeps the step that led to a machine from these registers and from the frame that began at `top`. What the step
+    /// changed of memory is looked for where it stored.
+    pub fn keep(&mut self, machine: &Machine, file: Active, top: u32, next: Stores)
         requires copied { length self.old.copy.items ≡ length machine.now.body.ram.bytes }
+        requires stored { Beside (stored_in_of (block_between_of self.old.blocks.items machine.now.body.heap.blocks) next top machine.now.body.top machine.now.active)
+            self.old.copy.items machine.now.body.ram.bytes }
+        requires same_blocks { SameBlocks self.old.blocks.items machine.now.body.heap.blocks }
         requires room { 4096 ≤ vec_capacity self.old.blocks }
         requires past { IsPast self.old.past }
         requires old_small { top ≤ 16777216 }
@@ -71,26 +79,21 @@ impl History {
             ≡ within ROOM (entry_of file top self.old.copy.items self.old.blocks.items machine.now ∷ entries_in self.old.past) }
     {
         let bytes = machine.body.ram.bytes();
-        let range = narrowed(
-            &self.copy,
-            bytes,
-            Range {
-                low: 0,
-                high: bytes.len(),
-            },
-        );
+        let block = block_between(&self.blocks, machine.body.heap.blocks());
+        let reach = stored_in(block, next, top, machine.body.top, &machine.active);
+        let range = narrowed(&self.copy, bytes, in_memory(reach, &self.copy, bytes));
         let changes = count_changes(&self.copy, bytes, range.low, range.high);
         let head = Head {
             file,
             top,
             frame: frame_between(top, machine.body.top, file.isa(), machine.active.isa()),
-            block: block_between(&self.blocks, machine.body.heap.blocks()),
+            block,
             runs: changes.runs,
             olds: changes.bytes,
         };
         keep_in(&mut self.past, head, &self.copy, bytes, range);
         copy_range(&mut self.copy, bytes, range.low, range.high);
-        copy_blocks(&mut self.blocks, &machine.body.heap);
+        follow_blocks(&mut self.blocks, &machine.body.heap);
     }
 
     /// Takes the newest step back.
@@ -102,8 +105,7 @@ impl History {
     {
         let head = self.past.take(&mut machine.body.ram, &mut self.copy);
         undo_frame(&mut machine.body.ram, head.frame);
-        undo_block(&mut machine.body.heap, head.block);
-        copy_blocks(&mut self.blocks, &machine.body.heap);
+        undo_blocks(&mut self.blocks, &mut machine.body.heap, head.block);
         machine.body.top = head.top;
         machine.active = head.file;
     }
@@ -130,6 +132,37 @@ fn keep_in(past: &mut Past, head: Head, old: &[u8], new: &[u8], range: Range)
     } else {
         past.trim(ROOM - cost);
         past.push(head, old, new, range.low, range.high);
+    }
+}
+
+/// Takes back what a step did to the blocks of a heap, and to the list of them.
+fn undo_blocks(blocks: &mut Vec<Block>, heap: &mut Heap, change: BlockChange)
+    requires same { blocks.old.items ≡ heap.old.blocks }
+    requires room { 4096 ≤ vec_capacity blocks.old }
+    ensures after { heap.new ≡ heap_before change heap.old }
+    ensures blocks { blocks.new.items ≡ heap.new.blocks }
+    ensures heap { IsSoundHeap heap.new }
+    ensures room { 4096 ≤ vec_capacity blocks.new }
+{
+    heap.every_heap_is_sound();
+    if let BlockChange::Stays = change {
+        return;
+    }
+    undo_block(heap, change);
+    copy_blocks(blocks, heap);
+}
+
+/// Makes a list of blocks that of a heap after one step: where there are as many, they are the same.
+fn follow_blocks(blocks: &mut Vec<Block>, heap: &Heap)
+    requires same { SameBlocks blocks.old.items heap.now.blocks }
+    requires room { 4096 ≤ vec_capacity blocks.old }
+    ensures blocks { blocks.new.items ≡ heap.now.blocks }
+    ensures heap { IsSoundHeap heap.now }
+    ensures room { 4096 ≤ vec_capacity blocks.new }
+{
+    heap.every_heap_is_sound();
+    if blocks.len() != heap.blocks().len() {
+        copy_blocks(blocks, heap);
     }
 }
 

@@ -8,19 +8,19 @@ use Rattle.mix_debug.proofs.history.History.keep.Goals as goal
 
 pub returns-clause-copied : goal.returns-clause-copied
 returns-clause-copied c =
-    copy-kept c.args.self.now.copy.len c.narrowed-range.result.low c.narrowed-range.result.high c.args.self.now.copy.items c.deref.result.now c.deref_mut.result.now c.bytes-bytes.result.now
-    c.args.machine.now.body.ram.bytes c.copy_range.new.copy c.deref.ensures.value c.deref_mut.ensures.value c.bytes-bytes.ensures.is c.requires.copied c.narrowed-range.ensures c.copy_range.ensures (sym c.deref_mut.ensures.len)
+    copy-kept c.args.self.now.copy.len c.narrowed-range.result.low c.narrowed-range.result.high c.args.self.now.copy.items c.deref-2.result.now c.deref_mut.result.now c.bytes-bytes.result.now
+    c.args.machine.now.body.ram.bytes c.copy_range.new.copy c.deref-2.ensures.value c.deref_mut.ensures.value c.bytes-bytes.ensures.is c.requires.copied c.narrowed-range.ensures c.copy_range.ensures (sym c.deref_mut.ensures.len)
 
 pub returns-clause-entries : goal.returns-clause-entries
 returns-clause-entries c =
     let low = c.narrowed-range.result.low in
     let high = c.narrowed-range.result.high in
     let ram = c.args.machine.now.body.ram.bytes in
-    let counted = runs-found low high c.args.self.now.copy.items c.deref.result.now c.deref-2.result.now c.bytes-bytes.result.now ram c.deref.ensures.value c.deref-2.ensures.value c.bytes-bytes.ensures.is c.requires.copied c.narrowed-range.ensures in
-    let kept = runs-found low high c.args.self.now.copy.items c.deref.result.now c.deref-4.result.now c.bytes-bytes.result.now ram c.deref.ensures.value c.deref-4.ensures.value c.bytes-bytes.ensures.is c.requires.copied c.narrowed-range.ensures in
+    let counted = runs-found low high c.args.self.now.copy.items c.deref-2.result.now c.deref-4.result.now c.bytes-bytes.result.now ram c.deref-2.ensures.value c.deref-4.ensures.value c.bytes-bytes.ensures.is c.requires.copied c.narrowed-range.ensures in
+    let kept = runs-found low high c.args.self.now.copy.items c.deref-2.result.now c.deref-5.result.now c.bytes-bytes.result.now ram c.deref-2.ensures.value c.deref-5.ensures.value c.bytes-bytes.ensures.is c.requires.copied c.narrowed-range.ensures in
     c.keep_in.ensures.entries
     ∙ ap (λ e. within 1048576 (e ∷ entries_in c.args.self.now.past))
     (entry-is c.args.file c.args.top c.args.self.now.copy.items c.args.self.now.blocks.items c.args.machine.now c.isa.result c.isa-2.result c.frame_between.result
-    c.deref-3.result.now c.blocks-2.result.now c.block_between.result c.count_changes-changes.result.runs c.count_changes-changes.result.bytes _
-    c.isa.ensures c.isa-2.ensures c.frame_between.ensures c.deref-3.ensures.value c.blocks-2.ensures c.block_between.ensures
+    c.deref.result.now c.blocks-2.result.now c.block_between-block.result c.count_changes-changes.result.runs c.count_changes-changes.result.bytes _
+    c.isa.ensures c.isa-2.ensures c.frame_between.ensures c.deref.ensures.value c.blocks-2.ensures c.block_between-block.ensures
     (c.count_changes-changes.ensures.runs ∙ ap length counted) (c.count_changes-changes.ensures.bytes ∙ ap (λ rs. length (olds_of rs)) counted) kept)

@@ -1,0 +1,17 @@
+//! Which bytes of memory a step of the mixed machine may change, told without looking at memory.
+//!
+//! `next_stores` tells it before the step, by its instruction; `step_reach` after it, where it made a frame or gave one
+//! up. All other bytes stay, as `reach_laws` says.
+#![tactic(auto)]
+
+mod laws;
+mod m68;
+mod ppc;
+mod reach;
+mod steps;
+#[cfg(test)]
+mod tests;
+
+pub use laws::reach_laws;
+pub use reach::{Reach, Stores};
+pub use steps::{next_stores, step_reach};

@@ -1,0 +1,54 @@
+ghost use Rattle.std.specs.Prelude.{◌≡◌};
+ghost use Rattle.mix_reach.specs.Ranges.{filling as filling_of, nothing as nothing_of, plain as plain_of, range as range_of};
+
+/// A range of bytes outside of which none changes, from the address of the first up to the one behind the last. It may
+/// reach beyond memory.
+#[derive(Clone, Copy)]
+pub struct Reach {
+    pub low: usize,
+    pub high: usize,
+}
+
+/// Where a step stores that makes or gives up no frame.
+#[derive(Clone, Copy)]
+pub struct Stores {
+    /// Where, if it makes no block.
+    pub reach: Reach,
+    /// In how many bytes of a block that it makes, from its first one on.
+    pub filled: u32,
+}
+
+/// In a range.
+pub(crate) fn plain(reach: Reach) -> Stores
+    ensures { result ≡ plain_of reach }
+{
+    Stores { reach, filled: 0 }
+}
+
+/// In a block that is made.
+pub(crate) fn filling(filled: u32) -> Stores
+    ensures { result ≡ filling_of filled }
+{
+    Stores {
+        reach: nothing(),
+        filled,
+    }
+}
+
+/// The `n` bytes at an address.
+pub(crate) fn range(at: u32, n: u32) -> Reach
+    ensures { result ≡ range_of at n }
+{
+    let low = at as usize;
+    Reach {
+        low,
+        high: low + n as usize,
+    }
+}
+
+/// No byte.
+pub(crate) fn nothing() -> Reach
+    ensures { result ≡ nothing_of }
+{
+    Reach { low: 0, high: 0 }
+}

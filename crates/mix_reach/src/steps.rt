@@ -1,0 +1,142 @@
+// Where a step stores.
+ghost use Rattle.std.specs.Prelude.{◌≡◌, Some};
+ghost use Rattle.big_memory.specs.Map.{host_code as host_code_of};
+ghost use Rattle.toolbox.specs.Functions.{trap_number};
+ghost use Rattle.toolbox.specs.Registers.{operands_of};
+ghost use Rattle.toolbox.specs.declared.function.Function.TheVariants.{BlockMove, NewPtrClear};
+ghost use Rattle.mix_reach.specs.Ranges.{range as range_of};
+ghost use Rattle.mix_reach.specs.Steps.{frame_given_up as frame_given_up_of, frame_made as frame_made_of, host_stores as host_stores_of, next_stores as next_stores_of, reach, word_stores as word_stores_of};
+ghost use Rattle.big_memory.specs.Memory.{loaded};
+ghost use Rattle.mix_bits.specs.declared.size.Size.TheVariants.{Four};
+ghost use Rattle.switch_frame.specs.declared.active.Active.TheVariants.{M68, Ppc};
+
+use crate::reach::{Reach, Stores, filling, nothing, plain, range};
+use crate::{m68, ppc};
+use big_memory::{Ram, host_code, in_gate_page};
+use m68_isa::{Decoded68, Regs68};
+use mix_bits::onward;
+use ppc_isa::{RegsPpc, decode_ppc};
+use switch_frame::Active;
+use toolbox::{trap_index, trap_laws};
+
+/// The numbers of the host functions that store.
+const NEW_DESCRIPTOR: u32 = 0;
+
+const NEW_FAT_DESCRIPTOR: u32 = 1;
+
+const NEW_CLEAR: u32 = 5;
+
+const BLOCK_MOVE: u32 = 7;
+
+/// How many bytes a switch frame has at most.
+const MOST_FRAME: usize = 192;
+
+/// Where the next step of code stores, unless it makes or gives up a frame.
+pub fn next_stores(ram: &Ram, active: &Active) -> Stores
+    ensures { result ≡ next_stores_of ram.now active.now }
+{
+    match active {
+        Active::M68(regs) => match m68::decode_at(ram, regs.pc) {
+            Decoded68::Op(instruction, _) => plain(m68::stores(regs, instruction)),
+            Decoded68::LineA(word) => trap_stores(word, active),
+            _ => plain(nothing()),
+        },
+        Active::Ppc(regs) => {
+            if in_gate_page(regs.pc) {
+                host_stores(host_code(regs.pc), active)
+            } else {
+                word_stores(ram, regs)
+            }
+        }
+    }
+}
+
+/// The same for the word of PowerPC code.
+fn word_stores(ram: &Ram, regs: &RegsPpc) -> Stores
+    ensures { result ≡ word_stores_of regs.now (loaded ram.now regs.now.pc Four) }
+{
+    match ram.load_long(regs.pc) {
+        Ok(word) => match decode_ppc(word) {
+            Some(instruction) => plain(ppc::stores(regs, instruction)),
+            None => plain(nothing()),
+        },
+        Err(_) => plain(nothing()),
+    }
+}
+
+/// The same for a word of line A.
+fn trap_stores(word: u16, active: &Active) -> Stores
+    ensures { result ≡ host_stores_of (trap_number word) active.now }
+{
+    trap_laws();
+    host_stores(trap_index(word), active)
+}
+
+/// The same for the host function of a number.
+fn host_stores(index: Option<u32>, active: &Active) -> Stores
+    ensures { result ≡ host_stores_of index active.now }
+{
+    match index {
+        Some(NEW_DESCRIPTOR) => filling(32),
+        Some(NEW_FAT_DESCRIPTOR) => filling(52),
+        Some(NEW_CLEAR) => filling(cleared(active)),
+        Some(BLOCK_MOVE) => plain(moved(active)),
+        _ => plain(nothing()),
+    }
+}
+
+/// How many bytes NewPtrClear clears.
+fn cleared(active: &Active) -> u32
+    ensures { result ≡ (operands_of NewPtrClear active.now).first }
+{
+    match active {
+        Active::M68(regs) => regs.d[0],
+        Active::Ppc(regs) => regs.gpr[3],
+    }
+}
+
+/// The bytes that BlockMove moves.
+fn moved(active: &Active) -> Reach
+    ensures { result ≡ range_of (operands_of BlockMove active.now).second (operands_of BlockMove active.now).third }
+{
+    match active {
+        Active::M68(regs) => range(regs.a[1], regs.d[0]),
+        Active::Ppc(regs) => range(regs.gpr[4], regs.gpr[5]),
+    }
+}
+
+/// Where a step stored that made no block: by what was told before it, where the innermost frame began before and after
+/// it, and the registers after it.
+pub fn step_reach(next: Stores, old: u32, new: u32, active: &Active) -> Reach
+    ensures { result ≡ reach next old new active.now }
+{
+    if new == old {
+        next.reach
+    } else if new != 0 && (old == 0 || new < old) {
+        frame_made(new, active)
+    } else {
+        frame_given_up(old, active)
+    }
+}
+
+/// From the callee's stack pointer up to the end of the frame.
+fn frame_made(top: u32, callee: &Active) -> Reach
+    ensures { result ≡ frame_made_of top callee.now }
+{
+    Reach {
+        low: callee.sp() as usize,
+        high: top as usize + MOST_FRAME,
+    }
+}
+
+/// The frame, and a result at the caller's stack pointer.
+fn frame_given_up(top: u32, caller: &Active) -> Reach
+    ensures { result ≡ frame_given_up_of top caller.now }
+{
+    let frame = top as usize;
+    let place = onward(caller.sp(), 0) as usize;
+    Reach {
+        low: frame.min(place),
+        high: (frame + MOST_FRAME).max(place + 4),
+    }
+}
