@@ -1,0 +1,85 @@
+// The texts of a script on the trace.
+ghost use Rattle.std.specs.Prelude.{◌≡◌, ◌+◌, ◌≤◌, ◌<◌, ◌++◌, [], length};
+ghost use Rattle.call_trace.specs.Names.{set_name as name_of_set};
+ghost use Rattle.mix_io.specs.Streams.{output};
+ghost use Rattle.mix_debug.specs.Crawl.{crawl_of};
+ghost use Rattle.mix_script.specs.Events.{answer, at_line};
+ghost use Rattle.mix_script.specs.Parts.{TellsEnd, TellsTo, traced_of};
+ghost use Rattle.mix_script.specs.Places.{stop_in};
+
+use crate::walk::Stopped;
+use call_trace::{End, put_end};
+use mix_bits::{Isa, Line};
+use mix_debug::Debug;
+use mix_io::{Failed, Sink};
+use switch_frame::Active;
+
+/// Puts the end line of a program that ended.
+pub fn tell_end<T: Sink>(end: Option<End>, trace: &mut T) -> Result<(), Stopped>
+    ensures { TellsEnd end (output (T.held trace.old) (T.faults trace.old)) (output (T.held trace.new) (T.faults trace.new)) (stop_in result) }
+{
+    match end {
+        None => Ok(()),
+        Some(end) => traced(put_end(trace, &end)),
+    }
+}
+
+/// Puts where the code is after so many steps: `at SET PC K`.
+pub fn tell_place<T: Sink>(file: &Active, done: u32, trace: &mut T) -> Result<(), Stopped>
+    ensures { TellsTo (at_line done file.now) (output (T.held trace.old) (T.faults trace.old)) (output (T.held trace.new) (T.faults trace.new)) (stop_in result) }
+{
+    let mut line = Line::new();
+    add_place(&mut line, file, done);
+    traced(trace.put(line.bytes()))
+}
+
+/// Puts `yes` or `no`.
+pub fn tell_answer<T: Sink>(done: bool, trace: &mut T) -> Result<(), Stopped>
+    ensures { TellsTo (answer done) (output (T.held trace.old) (T.faults trace.old)) (output (T.held trace.new) (T.faults trace.new)) (stop_in result) }
+{
+    let text: &[u8] = if done { b"yes\n" } else { b"no\n" };
+    traced(trace.put(text))
+}
+
+/// Puts where the code is, and where each suspended caller.
+pub fn tell_crawl<T: Sink>(debug: &Debug, trace: &mut T) -> Result<(), Stopped>
+    ensures { TellsTo (crawl_of debug.now.machine) (output (T.held trace.old) (T.faults trace.old)) (output (T.held trace.new) (T.faults trace.new)) (stop_in result) }
+{
+    traced(debug.crawl(trace))
+}
+
+/// What a failed put on the trace tells.
+fn traced(put: Result<(), Failed>) -> Result<(), Stopped>
+    ensures { result ≡ traced_of put }
+{
+    match put {
+        Ok(()) => Ok(()),
+        Err(_) => Err(Stopped::Trace),
+    }
+}
+
+/// The line of where the code is.
+#[tactic(auto, unfolding(crate::specs::Events::at_line))]
+fn add_place(line: &mut Line, file: &Active, done: u32)
+    requires { line.old ≡ [] }
+    ensures { line.new ≡ at_line done file.now }
+{
+    line.add("at ");
+    line.add(set_name(file.isa()));
+    line.add(" ");
+    line.add_hex(file.pc(), 8);
+    line.add(" ");
+    line.add_dec(done);
+    line.add("\n");
+}
+
+/// The word for a set of instructions.
+fn set_name(set: Isa) -> &'static str
+    ensures name { result.now ≡ name_of_set set }
+    ensures length { length result.now ≡ 3 }
+{
+    match set {
+        Isa::M68 => "68k",
+        Isa::Ppc => "ppc",
+    }
+}

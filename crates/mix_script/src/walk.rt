@@ -1,0 +1,166 @@
+// Steps of a command, one after the other.
+ghost use Rattle.std.specs.Prelude.{◌≡◌, ◌≤◌, length};
+ghost use Rattle.toolbox.specs.Effects.{Around};
+ghost use Rattle.mixed_machine.specs.Machine.{callers_of};
+ghost use Rattle.mix_debug.specs.Trails.{stop_of};
+ghost use Rattle.mix_steps.specs.Beside.{AreSame};
+ghost use Rattle.mix_script.specs.Events.{backward, stops};
+ghost use Rattle.mix_script.specs.Parts.{DoesOnce, GoesForward, WalksBack, halt_in, once_of as once_by};
+ghost use Rattle.mix_script.specs.Places.{Over, place_beside, sinks_in};
+ghost use Rattle.mix_script.specs.Sessions.{session_of};
+
+use call_trace::End;
+use dev_rack::Devices;
+use mix_bits::Isa;
+use mix_debug::{Debug, Step};
+use mix_io::{Sink, Source};
+use mix_steps::Outside;
+use mixed_machine::Stop;
+use switch_frame::depth;
+
+/// Where a command ends that does up to so many steps.
+#[derive(Clone, Copy)]
+pub enum Until {
+    /// At its count alone.
+    Count,
+    /// Also at an address that is set to stop at.
+    Breakpoint,
+    /// Also where no more than so many frames are live.
+    Frames(u32),
+}
+
+/// What of the outside failed, and so ended a script.
+#[derive(Clone, Copy, Debug, PartialEq, Eq)]
+pub enum Stopped {
+    Input,
+    Output,
+    Trace,
+}
+
+/// Steps that were done or taken back, and the end of the program, where they came to it.
+#[derive(Clone, Copy)]
+pub struct Walked {
+    pub done: u32,
+    pub end: Option<End>,
+}
+
+/// What one step came to.
+#[derive(Clone, Copy)]
+pub enum Once {
+    /// It is done.
+    Went,
+    /// The program ends here.
+    Ended(End),
+    /// The outside failed.
+    Halted(Stopped),
+}
+
+/// Does up to so many steps.
+pub fn walk_forward<'i, 'o, 't, 'd, I: Source, O: Sink, T: Sink, D: Devices>(
+    debug: &mut Debug,
+    until: Until,
+    count: u32,
+    outside: &mut Outside<'i, 'o, 't, 'd, I, O, T, D>,
+) -> Result<Walked, Stopped>
+    ensures walks { GoesForward until count
+        (place_beside I.left I.faults O.held O.faults T.held T.faults D.state debug.old outside.old)
+        (place_beside I.left I.faults O.held O.faults T.held T.faults D.state debug.new outside.new)
+        result }
+    ensures same { AreSame outside.old outside.new }
+{
+    let mut done = 0;
+    'steps: while done < count {
+        match step_once(debug, outside) {
+            Once::Went => {
+                done += 1;
+                if is_there(debug, until) {
+                    return Ok(Walked { done, end: None });
+                }
+            }
+            Once::Ended(end) => {
+                return Ok(Walked {
+                    done,
+                    end: Some(end),
+                });
+            }
+            Once::Halted(stopped) => return Err(stopped),
+        }
+    }
+    Ok(Walked { done, end: None })
+}
+
+/// Does one step.
+fn step_once<'i, 'o, 't, 'd, I: Source, O: Sink, T: Sink, D: Devices>(
+    debug: &mut Debug,
+    outside: &mut Outside<'i, 'o, 't, 'd, I, O, T, D>,
+) -> Once
+    ensures step { Over (halt_in result)
+        (λ s t. DoesOnce result s t
+        (sinks_in (place_beside I.left I.faults O.held O.faults T.held T.faults D.state debug.old outside.old))
+        (sinks_in (place_beside I.left I.faults O.held O.faults T.held T.faults D.state debug.new outside.new)))
+        (place_beside I.left I.faults O.held O.faults T.held T.faults D.state debug.old outside.old)
+        (place_beside I.left I.faults O.held O.faults T.held T.faults D.state debug.new outside.new) }
+    ensures same { AreSame outside.old outside.new }
+{
+    let set = debug.machine().active.isa();
+    let step = debug.forward(outside.input, outside.out, outside.trace, outside.rack);
+    once_of(set, step)
+}
+
+/// What a step by code of a set came to.
+fn once_of(set: Isa, step: Step) -> Once
+    ensures { result ≡ once_by set (stop_of step) }
+{
+    match step {
+        Step::Next => Once::Went,
+        Step::End(stop) => once_at(set, stop),
+    }
+}
+
+/// The same by how a run of one step stopped.
+fn once_at(set: Isa, stop: Stop) -> Once
+    ensures { result ≡ once_by set stop }
+{
+    match stop {
+        Stop::Exit(code) => Once::Ended(End::Exit(code)),
+        Stop::Fault(fault) => Once::Ended(End::Fault(set, fault)),
+        Stop::Limit => Once::Went,
+        Stop::ReadFault => Once::Halted(Stopped::Input),
+        Stop::OutFault => Once::Halted(Stopped::Output),
+        Stop::TraceFault => Once::Halted(Stopped::Trace),
+    }
+}
+
+/// Whether a command that ends before its count does so here.
+fn is_there(debug: &Debug, until: Until) -> bool
+    ensures { (around : Around) → result ≡ stops until (session_of debug.now around) }
+{
+    match until {
+        Until::Count => false,
+        Until::Breakpoint => debug.is_break(debug.machine().active.pc()),
+        Until::Frames(most) => live(debug) <= most,
+    }
+}
+
+/// How many frames are live.
+#[tactic(auto, unfolding(mixed_machine::specs::Machine::callers_of))]
+pub fn live(debug: &Debug) -> u32
+    ensures { result ≡ length (callers_of debug.now.machine.body) }
+{
+    let machine = debug.machine();
+    depth(&machine.body.ram, machine.body.top)
+}
+
+/// Takes up to so many steps back.
+pub fn walk_back(debug: &mut Debug, count: u32) -> Walked
+    ensures { (around : Around) → WalksBack (backward count (session_of debug.old around)) result (session_of debug.old around) (session_of debug.new around) }
+{
+    let mut done = 0;
+    'taken: while done < count {
+        if !debug.back() {
+            return Walked { done, end: None };
+        }
+        done += 1;
+    }
+    Walked { done, end: None }
+}
