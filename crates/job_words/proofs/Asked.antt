@@ -7,29 +7,27 @@ use Rattle.std.proofs.lemmas.List.{append-nil, append_assoc, get_or-replicate, l
 use Rattle.std.proofs.lemmas.Bool.{cases_lt}
 use Rattle.mix_bits.specs.Results.{◌>>=◌}
 use Rattle.mix_bits.specs.declared.isa.Isa.{Isa}
-use Rattle.job_words.specs.Settings.{verb_of, key_in, keys, setting_of, setting, file, numbered}
-use Rattle.job_words.specs.Drafts.{given, given_at, index_of, job_by, job_of, main_in, main_file, has_program, made, named_at, nothing, number, number_of, place, set, set_of, usual_set}
-use Rattle.job_words.specs.Jobs.{place_of}
+use Rattle.job_words.specs.Settings.{verb_of, key_in, setting_of, setting, named, file, numbered}
+use Rattle.job_words.specs.Drafts.{given, given_at, index_of, job_by, job_of, main_in, main_file, has_program, made, named_at, nothing, number, number_of, place, set, set_of, steps_in, usual_set}
 use Rattle.job_words.specs.Words.{bad_at, with_word, draft_of, command_by, command_of}
-use Rattle.job_words.specs.Asks.{word_at, Sets, IsSet, AreRead, IsSetOr, usual_main, AsksJob, Asks, CanBegin, IsFirstBad}
+use Rattle.job_words.specs.Asks.{word_at, Sets, IsSet, AreRead, IsSetOr, IsWhere, usual_main, AsksJob, Asks, CanBegin, IsFirstBad}
 use Rattle.job_words.specs.Laws.{CommandIsAsked, RefusalIsFirst}
-use Rattle.job_words.proofs.Keys.{IsAmong, index-small, sets-known}
+use Rattle.job_words.proofs.Keys.{index-small}
 use Rattle.job_words.proofs.Held.{Holds, GoesOn, word-next}
 use Rattle.job_words.specs.declared.job.BadWord.{BadWord}
 use Rattle.job_words.specs.declared.job.Command.{Command}
-use Rattle.job_words.specs.declared.job.Command.TheVariants.{Run, List as Listing, Sample, Assemble}
+use Rattle.job_words.specs.declared.job.Command.TheVariants.{Run, List as Listing, Sample, Assemble, Continue, Debug}
 use Rattle.job_words.specs.declared.job.Job.{Job}
-use Rattle.job_words.specs.declared.job.Key.{Key}
-use Rattle.job_words.specs.declared.job.Key.TheVariants.{Flat, Rsrc, Pef, Text}
+use Rattle.job_words.specs.declared.job.Key.TheVariants.{Flat, Rsrc, Pef, Image, Text, Script}
 use Rattle.job_words.specs.declared.draft.Draft.{Draft}
 use Rattle.job_words.specs.declared.setting.Setting.{Setting}
 use Rattle.job_words.specs.declared.draft.Given.{Given}
 use Rattle.job_words.specs.declared.setting.Name.{Name}
-use Rattle.job_words.specs.declared.setting.Name.TheVariants.{File, Main, Ram, Steps, At, Count, Calls, Depth, CodeSet}
+use Rattle.job_words.specs.declared.setting.Name.TheVariants.{File, Main, Ram, Steps, At, Count, Calls, Depth, CodeSet, Save}
 use Rattle.job_words.specs.declared.setting.Value.{Value}
 use Rattle.job_words.specs.declared.setting.Value.TheVariants.{Named, Set, Number}
 use Rattle.job_words.specs.declared.setting.Verb.{Verb}
-use Rattle.job_words.specs.declared.setting.Verb.TheVariants.{ToRun, ToList, ToSample, ToAssemble}
+use Rattle.job_words.specs.declared.setting.Verb.TheVariants.{ToRun, ToList, ToSample, ToAssemble, ToContinue, ToDebug}
 
 -- the words before a place are all that can be read
 pub record Stops (verb : Verb) (words : List (List ℕ)) (place : ℕ) : Type 0 where
@@ -68,7 +66,7 @@ none-some {A} {x} same = cc
 
 -- no word behind the command's is none that sets
 none-given : (name : Name) → given nothing name ≡ None
-none-given name = get_or-replicate 12 (index_of name) None None (index-small name)
+none-given name = get_or-replicate 15 (index_of name) None None (index-small name)
 
 begins : (verb : Verb) (command : List ℕ) → verb_of command ≡ Some verb → Holds verb (command ∷ []) nothing
 begins verb command named = record {
@@ -77,7 +75,7 @@ begins verb command named = record {
     named = named;
     each = λ p behind inside. absurd (omega arith);
     once = λ i j behind less inside same. omega arith;
-    alone = λ flat key other. absurd (omega (arith, flat.1.behind, flat.1.inside));
+    alone = λ flat. absurd (omega (arith, flat.1.behind, flat.1.inside));
   };
   long = refl;
   each = λ name p value. (λ is. absurd (none-some (sym (none-given name) ∙ is)), λ set. absurd (omega (arith, set.behind, set.inside)));
@@ -105,13 +103,13 @@ set-is : (x : Isa) (v : Value) → set_of v ≡ Some x → v ≡ Set x
 set-is x (Set s) is = cc
 set-is x v is = cc
 
-the-place : (verb : Verb) (words : List (List ℕ)) (d : Draft) (key : Key) → Holds verb words d → IsThe (place d key) (λ p. Sets verb words p (file key))
-the-place verb words d key held = record {
+the-place : (verb : Verb) (words : List (List ℕ)) (d : Draft) (name : Name) → Holds verb words d → IsThe (place d name) (λ p. Sets verb words p (named name))
+the-place verb words d name held = record {
   holds = λ p same.
-      let g = of-kind named_at (given d (File key)) p same in
+      let g = of-kind named_at (given d name) p same in
       let is : (g.0.place ≡ p) × (g.0.value ≡ Named) = named-is g.0.place p g.0.value g.2 in
-      (held.each (File key) p Named).0 (g.1 ∙ ap (λ x. Some (given_at x g.0.value)) is.0 ∙ ap (λ v. Some (given_at p v)) is.1);
-  found = λ p set. ap (option_and_then (λ g. named_at g.place g.value)) ((held.each (File key) p Named).1 set);
+      (held.each name p Named).0 (g.1 ∙ ap (λ x. Some (given_at x g.0.value)) is.0 ∙ ap (λ v. Some (given_at p v)) is.1);
+  found = λ p set. ap (option_and_then (λ g. named_at g.place g.value)) ((held.each name p Named).1 set);
 }
 
 the-number : (verb : Verb) (words : List (List ℕ)) (d : Draft) (name : Name) → Holds verb words d → IsThe (number d name) (λ n. IsSet verb words (numbered name n))
@@ -146,41 +144,13 @@ same-option {A} None None to from = refl
 same-option {A} None (Some x) to from = from x refl
 same-option {A} (Some x) p to from = sym (to x refl)
 
--- a command that loads a program knows no text
-abbrev HasNoText : Verb → Type 0
-HasNoText verb = IsAmong (File Text) (keys verb) → ⊥
+-- where a word stands that names a file
+where-named : (verb : Verb) (words : List (List ℕ)) (d : Draft) (name : Name) → Holds verb words d → IsWhere verb words (named name) (place d name)
+where-named verb words d name held p = ((the-place verb words d name held).holds p, (the-place verb words d name held).found p)
 
-run-no-text : HasNoText ToRun
-run-no-text (inl same) = cc
-run-no-text (inr (inl same)) = cc
-run-no-text (inr (inr (inl same))) = cc
-run-no-text (inr (inr (inr (inl same)))) = cc
-run-no-text (inr (inr (inr (inr (inl same))))) = cc
-run-no-text (inr (inr (inr (inr (inr (inl same)))))) = cc
-run-no-text (inr (inr (inr (inr (inr (inr none)))))) = none
-
-list-no-text : HasNoText ToList
-list-no-text (inl same) = cc
-list-no-text (inr (inl same)) = cc
-list-no-text (inr (inr (inl same))) = cc
-list-no-text (inr (inr (inr (inl same)))) = cc
-list-no-text (inr (inr (inr (inr (inl same))))) = cc
-list-no-text (inr (inr (inr (inr (inr (inl same)))))) = cc
-list-no-text (inr (inr (inr (inr (inr (inr (inl same))))))) = cc
-list-no-text (inr (inr (inr (inr (inr (inr (inr none))))))) = none
-
-no-place : (o : Option ℕ) → ((p : ℕ) → o ≡ Some p → ⊥) → None ≡ o
-no-place None none = refl
-no-place (Some p) none = absurd (none p refl)
-
-place-by : (key : Key) (verb : Verb) (words : List (List ℕ)) (d : Draft) → HasNoText verb → Holds verb words d → place_of (job_by d) key ≡ place d key
-place-by Flat verb words d none held = refl
-place-by Rsrc verb words d none held = refl
-place-by Pef verb words d none held = refl
-place-by Text verb words d none held =
-    no-place (place d Text) (λ p is.
-    let set : Sets verb words p (file Text) = (the-place verb words d Text held).holds p is in
-    none (sets-known verb (word_at words p) (file Text) set.reads))
+named-where : (verb : Verb) (words : List (List ℕ)) (d : Draft) (name : Name) (o : Option ℕ) → Holds verb words d → IsWhere verb words (named name) o → o ≡ place d name
+named-where verb words d name o held is =
+    same-option o (place d name) (λ p same. (the-place verb words d name held).found p ((is p).0 same)) (λ p same. (is p).1 ((the-place verb words d name held).holds p same))
 
 own-program : (flat own : Option ℕ) → (is_some flat || is_some own) ≡ true → IfNone flat (IsSome own)
 own-program None own some = some
@@ -190,33 +160,35 @@ program-own : (flat own : Option ℕ) → IfNone flat (IsSome own) → (is_some 
 program-own None own some = some
 program-own (Some p) own some = refl
 
-asks-job : (verb : Verb) (words : List (List ℕ)) (d : Draft) → HasNoText verb → Holds verb words d → has_program (job_by d) ≡ true → AsksJob verb words (job_by d)
-asks-job verb words d none held has = record {
-  files = λ key p. (
-    λ same. (the-place verb words d key held).holds p (sym (place-by key verb words d none held) ∙ same),
-    λ set. place-by key verb words d none held ∙ (the-place verb words d key held).found p set,
-  );
+asks-steps : (verb : Verb) (words : List (List ℕ)) (d : Draft) → Holds verb words d → IsSetOr verb words (numbered Steps) 1000000 (steps_in d)
+asks-steps verb words d held = asks-value verb words (numbered Steps) (number d Steps) 1000000 (the-number verb words d Steps held)
+
+asked-steps : (verb : Verb) (words : List (List ℕ)) (d : Draft) (steps : ℕ) → Holds verb words d → IsSetOr verb words (numbered Steps) 1000000 steps → steps ≡ steps_in d
+asked-steps verb words d steps held is = asked-value verb words (numbered Steps) (number d Steps) 1000000 steps (the-number verb words d Steps held) is
+
+asks-job : (verb : Verb) (words : List (List ℕ)) (d : Draft) → Holds verb words d → has_program (job_by d) ≡ true → AsksJob verb words (job_by d)
+asks-job verb words d held has = record {
+  flat = where-named verb words d (File Flat) held;
+  rsrc = where-named verb words d (File Rsrc) held;
+  pef = where-named verb words d (File Pef) held;
   main = asks-value verb words (λ s. setting Main (Set s)) (set d Main) (usual_main (job_by d)) (the-set verb words d Main held);
   kib = asks-value verb words (numbered Ram) (number d Ram) 1024 (the-number verb words d Ram held);
-  steps = asks-value verb words (numbered Steps) (number d Steps) 1000000 (the-number verb words d Steps held);
-  program = own-program (place d Flat) (main_file (main_in d) (place d Rsrc) (place d Pef)) has;
+  steps = asks-steps verb words d held;
+  save = where-named verb words d Save held;
+  program = own-program (place d (File Flat)) (main_file (main_in d) (place d (File Rsrc)) (place d (File Pef))) has;
 }
-
-asked-place : (key : Key) (verb : Verb) (words : List (List ℕ)) (d : Draft) (job : Job) → Holds verb words d → AsksJob verb words job → place_of job key ≡ place d key
-asked-place key verb words d job held asks =
-    same-option (place_of job key) (place d key)
-    (λ p same. (the-place verb words d key held).found p ((asks.files key p).0 same)) (λ p same. (asks.files key p).1 ((the-place verb words d key held).holds p same))
 
 asked-job : (verb : Verb) (words : List (List ℕ)) (d : Draft) (job : Job) → Holds verb words d → AsksJob verb words job → (job ≡ job_by d) × (has_program (job_by d) ≡ true)
 asked-job verb words d job held asks =
-    let flat : job.flat ≡ place d Flat = asked-place Flat verb words d job held asks in
-    let rsrc : job.rsrc ≡ place d Rsrc = asked-place Rsrc verb words d job held asks in
-    let pef : job.pef ≡ place d Pef = asked-place Pef verb words d job held asks in
-    let usual : usual_main job ≡ usual_main (job_by d) = ap (λ f. usual_set f job.rsrc) flat ∙ ap (usual_set (place d Flat)) rsrc in
+    let flat : job.flat ≡ place d (File Flat) = named-where verb words d (File Flat) job.flat held asks.flat in
+    let rsrc : job.rsrc ≡ place d (File Rsrc) = named-where verb words d (File Rsrc) job.rsrc held asks.rsrc in
+    let pef : job.pef ≡ place d (File Pef) = named-where verb words d (File Pef) job.pef held asks.pef in
+    let save : job.save ≡ place d Save = named-where verb words d Save job.save held asks.save in
+    let usual : usual_main job ≡ usual_main (job_by d) = ap (λ f. usual_set f job.rsrc) flat ∙ ap (usual_set (place d (File Flat))) rsrc in
     let main : job.main ≡ main_in d = asked-value verb words (λ s. setting Main (Set s)) (set d Main) (usual_main job) job.main (the-set verb words d Main held) asks.main ∙ ap (unwrap_or (set d Main)) usual in
     let kib : job.kib ≡ unwrap_or (number d Ram) 1024 = asked-value verb words (numbered Ram) (number d Ram) 1024 job.kib (the-number verb words d Ram held) asks.kib in
-    let steps : job.steps ≡ unwrap_or (number d Steps) 1000000 = asked-value verb words (numbered Steps) (number d Steps) 1000000 job.steps (the-number verb words d Steps held) asks.steps in
-    let whole : job ≡ record { flat = job.flat; rsrc = job.rsrc; pef = job.pef; main = job.main; kib = job.kib; steps = job.steps } = refl in
+    let steps : job.steps ≡ steps_in d = asked-steps verb words d job.steps held asks.steps in
+    let whole : job ≡ record { flat = job.flat; rsrc = job.rsrc; pef = job.pef; main = job.main; kib = job.kib; steps = job.steps; save = job.save } = refl in
     let same : job ≡ job_by d = cc in
     (same, subst (λ job. has_program job ≡ true) same (program-own job.flat (main_file job.main job.rsrc job.pef) asks.program))
 
@@ -245,12 +217,16 @@ verb_in (Run job) = ToRun
 verb_in (Listing job address count) = ToList
 verb_in (Sample calls depth) = ToSample
 verb_in (Assemble code text address) = ToAssemble
+verb_in (Continue image steps save) = ToContinue
+verb_in (Debug job script) = ToDebug
 
 reads-asked : (words : List (List ℕ)) (command : Command) → Asks words command → AreRead (verb_in command) words
 reads-asked words (Run job) asks = asks.0
 reads-asked words (Listing job address count) asks = asks.0
 reads-asked words (Sample calls depth) asks = asks.0
 reads-asked words (Assemble code text address) asks = asks.0
+reads-asked words (Continue image steps save) asks = asks.0
+reads-asked words (Debug job script) asks = asks.0
 
 -- what the draft makes, the words ask for
 map-some : {A B : Type 0} (f : A → B) (o : Option A) (y : B) → option_map f o ≡ Some y → (x : A) × (o ≡ Some x) × (f x ≡ y)
@@ -265,27 +241,34 @@ job-some : (b : Bool) (d : Draft) (job : Job) → (if b then Some (job_by d) els
 job-some true d job is = (some-same is, refl)
 job-some false d job is = cc
 
-made-job : (verb : Verb) (words : List (List ℕ)) (d : Draft) (job : Job) → HasNoText verb → Holds verb words d → job_of d ≡ Some job → AsksJob verb words job
-made-job verb words d job none held is =
-    let j : (job_by d ≡ job) × (has_program (job_by d) ≡ true) = job-some (has_program (job_by d)) d job is in subst (AsksJob verb words) j.0 (asks-job verb words d none held j.1)
+made-job : (verb : Verb) (words : List (List ℕ)) (d : Draft) (job : Job) → Holds verb words d → job_of d ≡ Some job → AsksJob verb words job
+made-job verb words d job held is =
+    let j : (job_by d ≡ job) × (has_program (job_by d) ≡ true) = job-some (has_program (job_by d)) d job is in subst (AsksJob verb words) j.0 (asks-job verb words d held j.1)
 
 made-asked : (verb : Verb) (words : List (List ℕ)) (d : Draft) (command : Command) → Holds verb words d → made verb d ≡ Some command → Asks words command
-made-asked ToRun words d command held is = let j = map-some Run (job_of d) command is in subst (Asks words) j.2 (held.read, made-job ToRun words d j.0 run-no-text held j.1)
+made-asked ToRun words d command held is = let j = map-some Run (job_of d) command is in subst (Asks words) j.2 (held.read, made-job ToRun words d j.0 held j.1)
 made-asked ToList words d command held is =
     let j = then-some (λ job. option_and_then (λ address. option_map (λ count. Listing job address count) (number d Count)) (number d At)) (job_of d) command is in
     let a = then-some (λ address. option_map (λ count. Listing j.0 address count) (number d Count)) (number d At) command j.2 in
     let n = map-some (λ count. Listing j.0 a.0 count) (number d Count) command a.2 in
-    subst (Asks words) n.2 (held.read, made-job ToList words d j.0 list-no-text held j.1, (the-number ToList words d At held).holds a.0 a.1, (the-number ToList words d Count held).holds n.0 n.1)
+    subst (Asks words) n.2 (held.read, made-job ToList words d j.0 held j.1, (the-number ToList words d At held).holds a.0 a.1, (the-number ToList words d Count held).holds n.0 n.1)
 made-asked ToSample words d command held is =
     let n = then-some (λ calls. option_map (λ depth. Sample calls depth) (number d Depth)) (number d Calls) command is in
     let m = map-some (λ depth. Sample n.0 depth) (number d Depth) command n.2 in
     subst (Asks words) m.2 (held.read, (the-number ToSample words d Calls held).holds n.0 n.1, (the-number ToSample words d Depth held).holds m.0 m.1)
 made-asked ToAssemble words d command held is =
-    let s = then-some (λ code. option_and_then (λ text. option_map (λ address. Assemble code text address) (number d At)) (place d Text)) (set d CodeSet) command is in
-    let t = then-some (λ text. option_map (λ address. Assemble s.0 text address) (number d At)) (place d Text) command s.2 in
+    let s = then-some (λ code. option_and_then (λ text. option_map (λ address. Assemble code text address) (number d At)) (place d (File Text))) (set d CodeSet) command is in
+    let t = then-some (λ text. option_map (λ address. Assemble s.0 text address) (number d At)) (place d (File Text)) command s.2 in
     let a = map-some (λ address. Assemble s.0 t.0 address) (number d At) command t.2 in
     subst (Asks words) a.2
-    (held.read, (the-set ToAssemble words d CodeSet held).holds s.0 s.1, (the-place ToAssemble words d Text held).holds t.0 t.1, (the-number ToAssemble words d At held).holds a.0 a.1)
+    (held.read, (the-set ToAssemble words d CodeSet held).holds s.0 s.1, (the-place ToAssemble words d (File Text) held).holds t.0 t.1, (the-number ToAssemble words d At held).holds a.0 a.1)
+made-asked ToContinue words d command held is =
+    let i = map-some (λ image. Continue image (steps_in d) (place d Save)) (place d (File Image)) command is in
+    subst (Asks words) i.2 (held.read, (the-place ToContinue words d (File Image) held).holds i.0 i.1, asks-steps ToContinue words d held, where-named ToContinue words d Save held)
+made-asked ToDebug words d command held is =
+    let j = then-some (λ job. option_map (Debug job) (place d (File Script))) (job_of d) command is in
+    let s = map-some (Debug j.0) (place d (File Script)) command j.2 in
+    subst (Asks words) s.2 (held.read, made-job ToDebug words d j.0 held j.1, (the-place ToDebug words d (File Script) held).holds s.0 s.1)
 
 -- and what the words ask for, the draft makes
 job-made : (verb : Verb) (words : List (List ℕ)) (d : Draft) (job : Job) → Holds verb words d → AsksJob verb words job → job_of d ≡ Some job
@@ -302,9 +285,17 @@ own-made (Sample calls depth) words d held asks =
     ap (option_and_then (λ calls. option_map (λ depth. Sample calls depth) (number d Depth))) ((the-number ToSample words d Calls held).found calls asks.1)
     ∙ ap (option_map (λ depth. Sample calls depth)) ((the-number ToSample words d Depth held).found depth asks.2)
 own-made (Assemble code text address) words d held asks =
-    ap (option_and_then (λ code. option_and_then (λ text. option_map (λ address. Assemble code text address) (number d At)) (place d Text))) ((the-set ToAssemble words d CodeSet held).found code asks.1)
-    ∙ ap (option_and_then (λ text. option_map (λ address. Assemble code text address) (number d At))) ((the-place ToAssemble words d Text held).found text asks.2)
+    ap (option_and_then (λ code. option_and_then (λ text. option_map (λ address. Assemble code text address) (number d At)) (place d (File Text)))) ((the-set ToAssemble words d CodeSet held).found code asks.1)
+    ∙ ap (option_and_then (λ text. option_map (λ address. Assemble code text address) (number d At))) ((the-place ToAssemble words d (File Text) held).found text asks.2)
     ∙ ap (option_map (λ address. Assemble code text address)) ((the-number ToAssemble words d At held).found address asks.3)
+own-made (Continue image steps save) words d held asks =
+    let one : steps ≡ steps_in d = asked-steps ToContinue words d steps held asks.2 in
+    let two : save ≡ place d Save = named-where ToContinue words d Save save held asks.3 in
+    ap (option_map (λ image. Continue image (steps_in d) (place d Save))) ((the-place ToContinue words d (File Image) held).found image asks.1)
+    ∙ ap (λ n. Some (Continue image n (place d Save))) (sym one) ∙ ap (λ o. Some (Continue image steps o)) (sym two)
+own-made (Debug job script) words d held asks =
+    ap (option_and_then (λ job. option_map (Debug job) (place d (File Script)))) (job-made ToDebug words d job held asks.1)
+    ∙ ap (option_map (Debug job)) ((the-place ToDebug words d (File Script) held).found script asks.2)
 
 asked-made : (verb : Verb) (words : List (List ℕ)) (d : Draft) (command : Command) → Holds verb words d → Asks words command → made verb d ≡ Some command
 asked-made verb words d command held asks =
@@ -332,7 +323,11 @@ read-taken verb words k some read =
       once = λ i j behind below within same.
           let less : j < min k (length words) = inside j within in
           read.once i j behind below (omega arith) (ap key_in (sym (at i (omega arith))) ∙ same ∙ ap key_in (at j (omega arith)));
-      alone = λ flat key other. read.alone (flat.0, sets-taken verb words k flat.0 (file Flat) flat.1) key (other.0, sets-taken verb words k other.0 (file key) other.1);
+      alone = λ flat.
+          let apart = read.alone (flat.0, sets-taken verb words k flat.0 (file Flat) flat.1) in (
+            λ other. apart.0 (other.0, sets-taken verb words k other.0 (file Rsrc) other.1),
+            λ other. apart.1 (other.0, sets-taken verb words k other.0 (file Pef) other.1),
+          );
     }
 
 begin-taken : (words : List (List ℕ)) (k : ℕ) → 0 < k → CanBegin words → CanBegin (take k words)

@@ -12,7 +12,7 @@ use Rattle.job_words.specs.Asks.{word_at, Sets, IsSet, AreRead}
 use Rattle.job_words.proofs.Keys.{file-named, index-apart, index-small, setting-reads, text-apart}
 use Rattle.job_words.specs.declared.job.BadWord.{BadWord}
 use Rattle.job_words.specs.declared.job.Key.{Key}
-use Rattle.job_words.specs.declared.job.Key.TheVariants.{Flat, Rsrc, Pef, Text}
+use Rattle.job_words.specs.declared.job.Key.TheVariants.{Flat, Rsrc, Pef}
 use Rattle.job_words.specs.declared.draft.Draft.{Draft}
 use Rattle.job_words.specs.declared.draft.Given.{Given}
 use Rattle.job_words.specs.declared.setting.Name.{Name}
@@ -72,7 +72,7 @@ some-of {A} (Some x) some = (x, refl)
 pub record Holds (verb : Verb) (words : List (List ℕ)) (d : Draft) : Type 0 where
   pub begun : 0 < length words
   pub read : AreRead verb words
-  pub long : length d.slots ≡ 12
+  pub long : length d.slots ≡ 15
   pub each : (name : Name) (place : ℕ) (value : Value) → (given d name ≡ Some (given_at place value)) ↔ Sets verb words place (setting name value)
 
 some-none : {A : Type 0} (o : Option A) (x : A) → o ≡ Some x → is_none o ≡ true → ⊥
@@ -90,7 +90,7 @@ same-setting : (verb : Verb) (word : List ℕ) (s t : Setting) → setting_of ve
 same-setting verb word s t one two = let same : Some s ≡ Some t = sym one ∙ two in cc
 
 -- the slots after a setting is put
-given-same : (d : Draft) (k : ℕ) (s : Setting) → length d.slots ≡ 12 → given (put d k s) s.name ≡ Some (given_at k s.value)
+given-same : (d : Draft) (k : ℕ) (s : Setting) → length d.slots ≡ 15 → given (put d k s) s.name ≡ Some (given_at k s.value)
 given-same d k s long = let less : index_of s.name < length d.slots = omega (arith, index-small s.name, long) in get_or-set_same d.slots (index_of s.name) (Some (given_at k s.value)) None less
 
 given-other : (d : Draft) (k : ℕ) (s : Setting) (name : Name) → (name ≡ s.name → ⊥) → given (put d k s) name ≡ given d name
@@ -127,34 +127,33 @@ each-next verb done word s d held is room name place value =
       )
     ]
 
--- a flat file among the keys that have room, or among those before, stands alone
-flat-here : (d : Draft) (key : Key) (g : Given) → is_alone d (File Flat) ≡ true → given d (File key) ≡ Some g → key ≡ Flat
-flat-here d Flat g room is = refl
-flat-here d Rsrc g room is = absurd (some-none (given d (File Rsrc)) g is (both (is_open d (File Rsrc)) (is_open d (File Pef) && is_open d (File Text)) room).0)
-flat-here d Pef g room is =
-    let rest : (is_open d (File Pef) && is_open d (File Text)) ≡ true = (both (is_open d (File Rsrc)) (is_open d (File Pef) && is_open d (File Text)) room).1 in
-    absurd (some-none (given d (File Pef)) g is (both (is_open d (File Pef)) (is_open d (File Text)) rest).0)
-flat-here d Text g room is =
-    let rest : (is_open d (File Pef) && is_open d (File Text)) ≡ true = (both (is_open d (File Rsrc)) (is_open d (File Pef) && is_open d (File Text)) room).1 in
-    absurd (some-none (given d (File Text)) g is (both (is_open d (File Pef)) (is_open d (File Text)) rest).1)
+-- a file that does not stand beside a flat one
+record Excludes (d : Draft) (key : Key) : Type 0 where
+  other : File key ≡ File Flat → ⊥
+  flat : is_alone d (File Flat) ≡ true → is_open d (File key) ≡ true
+  own : is_alone d (File key) ≡ true → is_open d (File Flat) ≡ true
 
-flat-before : (d : Draft) (key : Key) (g : Given) → is_alone d (File key) ≡ true → given d (File Flat) ≡ Some g → key ≡ Flat
-flat-before d Flat g room is = refl
-flat-before d Rsrc g room is = absurd (some-none (given d (File Flat)) g is room)
-flat-before d Pef g room is = absurd (some-none (given d (File Flat)) g is room)
-flat-before d Text g room is = absurd (some-none (given d (File Flat)) g is room)
+rsrc-excludes : (d : Draft) → Excludes d Rsrc
+rsrc-excludes d = record { other = λ same. cc; flat = λ room. (both (is_open d (File Rsrc)) (is_open d (File Pef)) room).0; own = λ room. room }
 
-alone-next : (verb : Verb) (done : List (List ℕ)) (word : List ℕ) (s : Setting) (d : Draft) → Holds verb done d → setting_of verb word ≡ Some s → is_alone d s.name ≡ true
-    → IsSet verb (done ++ word ∷ []) (file Flat) → (key : Key) → IsSet verb (done ++ word ∷ []) (file key) → key ≡ Flat
-alone-next verb done word s d held is room flat key other =
+pef-excludes : (d : Draft) → Excludes d Pef
+pef-excludes d = record { other = λ same. cc; flat = λ room. (both (is_open d (File Rsrc)) (is_open d (File Pef)) room).1; own = λ room. room }
+
+apart-next : (verb : Verb) (done : List (List ℕ)) (word : List ℕ) (s : Setting) (d : Draft) (key : Key) → Excludes d key → Holds verb done d → setting_of verb word ≡ Some s → is_alone d s.name ≡ true
+    → (IsSet verb done (file Flat) → ¬ IsSet verb done (file key)) → IsSet verb (done ++ word ∷ []) (file Flat) → ¬ IsSet verb (done ++ word ∷ []) (file key)
+apart-next verb done word s d key excludes held is room before flat other =
     elim (sets-cases verb done word flat.0 (file Flat) flat.1) [
-      | inl before ↦ elim (sets-cases verb done word other.0 (file key) other.1) [
-        | inl also ↦ held.read.alone (flat.0, before) key (other.0, also)
-        | inr last ↦ flat-before d key (given_at flat.0 Named) (subst (λ t. is_alone d t.name ≡ true) (same-setting verb word s (file key) is last.1) room) ((held.each (File Flat) flat.0 Named).1 before)
+      | inl first ↦ elim (sets-cases verb done word other.0 (file key) other.1) [
+        | inl also ↦ before (flat.0, first) (other.0, also)
+        | inr last ↦
+            let free : is_open d (File Flat) ≡ true = excludes.own (subst (λ t. is_alone d t.name ≡ true) (same-setting verb word s (file key) is last.1) room) in
+            some-none (given d (File Flat)) (given_at flat.0 Named) ((held.each (File Flat) flat.0 Named).1 first) free
       ]
       | inr last ↦ elim (sets-cases verb done word other.0 (file key) other.1) [
-        | inl before ↦ flat-here d key (given_at other.0 Named) (subst (λ t. is_alone d t.name ≡ true) (same-setting verb word s (file Flat) is last.1) room) ((held.each (File key) other.0 Named).1 before)
-        | inr also ↦ let same : File key ≡ File Flat = ap (λ t. t.name) (same-setting verb word (file key) (file Flat) also.1 last.1) in cc
+        | inl first ↦
+            let free : is_open d (File key) ≡ true = excludes.flat (subst (λ t. is_alone d t.name ≡ true) (same-setting verb word s (file Flat) is last.1) room) in
+            some-none (given d (File key)) (given_at other.0 Named) ((held.each (File key) other.0 Named).1 first) free
+        | inr also ↦ excludes.other (ap (λ t. t.name) (same-setting verb word (file key) (file Flat) also.1 last.1))
       ]
     ]
 
@@ -183,7 +182,10 @@ read-next verb done word s d held is room =
             room-key verb done d i some.0 s held free.0 (record { behind = behind; inside = within; reads = some.1 })
             (sym (setting-reads verb (word_at done i) some.0 some.1).named ∙ ap key_in (sym (before i within)) ∙ same ∙ ap key_in (last j (omega (arith, length_push done word))) ∙ (setting-reads verb word s is).named)
       ];
-      alone = alone-next verb done word s d held is free.1;
+      alone = λ flat. (
+        apart-next verb done word s d Rsrc (rsrc-excludes d) held is free.1 (λ set. (held.read.alone set).0) flat,
+        apart-next verb done word s d Pef (pef-excludes d) held is free.1 (λ set. (held.read.alone set).1) flat,
+      );
     }
 
 -- and the draft with what it sets holds what the words then set
@@ -215,16 +217,12 @@ beside verb done word d own key v held is some =
 
 not-alone : (name : Name) (verb : Verb) (done : List (List ℕ)) (word : List ℕ) (d : Draft) (v : Value) → Holds verb done d → setting_of verb word ≡ Some (setting name v) → is_alone d name ≡ false → AreRead verb (done ++ word ∷ []) → ⊥
 not-alone (File Flat) verb done word d v held is room read =
-    elim (one-false (is_open d (File Rsrc)) (is_open d (File Pef) && is_open d (File Text)) room) [
-      | inl some ↦ let both = beside verb done word d Flat Rsrc v held is some in let same : Rsrc ≡ Flat = read.alone both.0 Rsrc both.1 in cc
-      | inr other ↦ elim (one-false (is_open d (File Pef)) (is_open d (File Text)) other) [
-        | inl some ↦ let both = beside verb done word d Flat Pef v held is some in let same : Pef ≡ Flat = read.alone both.0 Pef both.1 in cc
-        | inr some ↦ let both = beside verb done word d Flat Text v held is some in let same : Text ≡ Flat = read.alone both.0 Text both.1 in cc
-      ]
+    elim (one-false (is_open d (File Rsrc)) (is_open d (File Pef)) room) [
+      | inl some ↦ let both = beside verb done word d Flat Rsrc v held is some in (read.alone both.0).0 both.1
+      | inr some ↦ let both = beside verb done word d Flat Pef v held is some in (read.alone both.0).1 both.1
     ]
-not-alone (File Rsrc) verb done word d v held is room read = let both = beside verb done word d Rsrc Flat v held is room in let same : Rsrc ≡ Flat = read.alone both.1 Rsrc both.0 in cc
-not-alone (File Pef) verb done word d v held is room read = let both = beside verb done word d Pef Flat v held is room in let same : Pef ≡ Flat = read.alone both.1 Pef both.0 in cc
-not-alone (File Text) verb done word d v held is room read = let both = beside verb done word d Text Flat v held is room in let same : Text ≡ Flat = read.alone both.1 Text both.0 in cc
+not-alone (File Rsrc) verb done word d v held is room read = let both = beside verb done word d Rsrc Flat v held is room in (read.alone both.1).0 both.0
+not-alone (File Pef) verb done word d v held is room read = let both = beside verb done word d Pef Flat v held is room in (read.alone both.1).1 both.0
 not-alone name verb done word d v held is room read = cc
 
 no-room : (verb : Verb) (done : List (List ℕ)) (word : List ℕ) (s : Setting) (d : Draft) → Holds verb done d → setting_of verb word ≡ Some s → has_room d s.name ≡ false → AreRead verb (done ++ word ∷ []) → ⊥

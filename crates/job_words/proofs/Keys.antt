@@ -6,9 +6,9 @@ use Rattle.std.proofs.lemmas.Slice.Eq.{bytes_eq-Decides}
 use Rattle.job_words.specs.Settings.{has_equals, key_in, keys, name_in, setting, setting_in, setting_of, text_of, value_in, value_of}
 use Rattle.job_words.specs.Drafts.{index_of}
 use Rattle.job_words.specs.declared.job.Key.{Key}
-use Rattle.job_words.specs.declared.job.Key.TheVariants.{Flat, Rsrc, Pef, Text}
+use Rattle.job_words.specs.declared.job.Key.TheVariants.{Flat, Rsrc, Pef, Image, Text, Script}
 use Rattle.job_words.specs.declared.setting.Name.{Name}
-use Rattle.job_words.specs.declared.setting.Name.TheVariants.{File, Main, Ram, Steps, At, Count, Calls, Depth, CodeSet}
+use Rattle.job_words.specs.declared.setting.Name.TheVariants.{File, Main, Ram, Steps, At, Count, Calls, Depth, CodeSet, Save}
 use Rattle.job_words.specs.declared.setting.Setting.{Setting}
 use Rattle.job_words.specs.declared.setting.Value.{Value}
 use Rattle.job_words.specs.declared.setting.Value.TheVariants.{Named}
@@ -16,13 +16,13 @@ use Rattle.job_words.specs.declared.setting.Verb.{Verb}
 
 -- all keys, by their numbers
 abbrev all : List Name
-all = File Flat ∷ File Rsrc ∷ File Pef ∷ Main ∷ Ram ∷ Steps ∷ At ∷ Count ∷ Calls ∷ Depth ∷ File Text ∷ CodeSet ∷ []
+all = File Flat ∷ File Rsrc ∷ File Pef ∷ Main ∷ Ram ∷ Steps ∷ At ∷ Count ∷ Calls ∷ Depth ∷ File Text ∷ CodeSet ∷ File Image ∷ File Script ∷ Save ∷ []
 
 -- each is the one of its text, and the one of its number
 record IsOwn (name : Name) : Type 0 where
   text : name_in all (text_of name) ≡ Some name
   number : get_or all (index_of name) Main ≡ name
-  small : index_of name < 12
+  small : index_of name < 15
 
 own : (name : Name) → IsOwn name
 own (File Flat) = record { text = refl; number = refl; small = omega arith }
@@ -37,6 +37,9 @@ own Calls = record { text = refl; number = refl; small = omega arith }
 own Depth = record { text = refl; number = refl; small = omega arith }
 own (File Text) = record { text = refl; number = refl; small = omega arith }
 own CodeSet = record { text = refl; number = refl; small = omega arith }
+own (File Image) = record { text = refl; number = refl; small = omega arith }
+own (File Script) = record { text = refl; number = refl; small = omega arith }
+own Save = record { text = refl; number = refl; small = omega arith }
 
 pub text-apart : (a b : Name) → text_of a ≡ text_of b → a ≡ b
 text-apart a b same = let one : Some a ≡ Some b = sym (own a).text ∙ ap (name_in all) same ∙ (own b).text in cc
@@ -44,7 +47,7 @@ text-apart a b same = let one : Some a ≡ Some b = sym (own a).text ∙ ap (nam
 pub index-apart : (a b : Name) → index_of a ≡ index_of b → a ≡ b
 index-apart a b same = sym (own a).number ∙ ap (λ i. get_or all i Main) same ∙ (own b).number
 
-pub index-small : (name : Name) → index_of name < 12
+pub index-small : (name : Name) → index_of name < 15
 index-small name = (own name).small
 
 -- what a word that sets something reads

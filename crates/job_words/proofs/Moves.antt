@@ -9,22 +9,20 @@ use Rattle.std.proofs.lemmas.Bool.{cases_lt, cases_eq}
 use Rattle.std.proofs.lemmas.Bool.Decides.{nat_tests}
 use Rattle.mix_bits.specs.declared.isa.Isa.{Isa}
 use Rattle.mix_bits.specs.declared.isa.Isa.TheVariants.{M68, Ppc}
-use Rattle.job_words.specs.Settings.{verb_of, key_in, setting_of, setting, file, numbered}
+use Rattle.job_words.specs.Settings.{verb_of, key_in, setting_of, setting, named, file, numbered}
 use Rattle.job_words.specs.Drafts.{main_file}
-use Rattle.job_words.specs.Jobs.{place_of}
-use Rattle.job_words.specs.Asks.{word_at, Sets, IsSet, AreRead, IsSetOr, usual_main, AsksJob, Asks}
+use Rattle.job_words.specs.Asks.{word_at, Sets, IsSet, AreRead, IsSetOr, IsWhere, usual_main, AsksJob, Asks}
 use Rattle.job_words.specs.Laws.{moved_job, moved, Stands, OrderIsFree}
 use Rattle.job_words.proofs.Asked.{no-verb, command-asked}
 use Rattle.job_words.specs.declared.job.Command.{Command}
-use Rattle.job_words.specs.declared.job.Command.TheVariants.{Run, List as Listing, Sample, Assemble}
+use Rattle.job_words.specs.declared.job.Command.TheVariants.{Run, List as Listing, Sample, Assemble, Continue, Debug}
 use Rattle.job_words.specs.declared.job.Job.{Job}
-use Rattle.job_words.specs.declared.job.Key.{Key}
-use Rattle.job_words.specs.declared.job.Key.TheVariants.{Flat, Rsrc, Pef, Text}
+use Rattle.job_words.specs.declared.job.Key.TheVariants.{Flat, Rsrc, Pef, Image, Text, Script}
 use Rattle.job_words.specs.declared.setting.Setting.{Setting}
-use Rattle.job_words.specs.declared.setting.Name.TheVariants.{Main, Ram, Steps, At, Count, Calls, Depth, CodeSet}
+use Rattle.job_words.specs.declared.setting.Name.TheVariants.{Main, Ram, Steps, At, Count, Calls, Depth, CodeSet, Save}
 use Rattle.job_words.specs.declared.setting.Value.TheVariants.{Set}
 use Rattle.job_words.specs.declared.setting.Verb.{Verb}
-use Rattle.job_words.specs.declared.setting.Verb.TheVariants.{ToRun, ToList, ToSample, ToAssemble}
+use Rattle.job_words.specs.declared.setting.Verb.TheVariants.{ToRun, ToList, ToSample, ToAssemble, ToContinue, ToDebug}
 
 -- words in another order, and the place of each in both
 pub record Moved (to back : ℕ → ℕ) (words others : List (List ℕ)) : Type 0 where
@@ -191,18 +189,16 @@ read-moved to back verb words others r read =
           (ap key_in (f.moves.word i one) ∙ same ∙ ap key_in (sym (f.moves.word j less))) in
           let equal : i ≡ j = sym (r.moves.again i) ∙ ap to places ∙ r.moves.again j in
           omega arith;
-      alone = λ flat key other. read.alone (set-back to back verb words others (file Flat) r flat) key (set-back to back verb words others (file key) r other);
+      alone = λ flat.
+          let apart = read.alone (set-back to back verb words others (file Flat) r flat) in (
+            λ other. apart.0 (set-back to back verb words others (file Rsrc) r other),
+            λ other. apart.1 (set-back to back verb words others (file Pef) r other),
+          );
     }
 
 or-moved : {A : Type 0} (to back : ℕ → ℕ) (verb : Verb) (words others : List (List ℕ)) (sets : A → Setting) (default value : A) → Reordered to back words others → IsSetOr verb words sets default value → IsSetOr verb others sets default value
 or-moved {A} to back verb words others sets default value r (inl set) = inl (set-moved to back verb words others (sets value) r set)
 or-moved {A} to back verb words others sets default value r (inr none) = inr (λ x set. none.0 x (set-back to back verb words others (sets x) r set), none.1)
-
-place-moved : (key : Key) (to : ℕ → ℕ) (job : Job) → place_of (moved_job to job) key ≡ option_map to (place_of job key)
-place-moved Flat to job = refl
-place-moved Rsrc to job = refl
-place-moved Pef to job = refl
-place-moved Text to job = refl
 
 still-some : (to : ℕ → ℕ) (o : Option ℕ) → is_some (option_map to o) ≡ is_some o
 still-some to None = refl
@@ -221,19 +217,23 @@ usual-moved : (to : ℕ → ℕ) (job : Job) → usual_main job ≡ usual_main (
 usual-moved to job =
     ap (λ b. if b || is_some job.rsrc then M68 else Ppc) (sym (still-some to job.flat)) ∙ ap (λ b. if is_some (option_map to job.flat) || b then M68 else Ppc) (sym (still-some to job.rsrc))
 
+where-moved : (to back : ℕ → ℕ) (verb : Verb) (words others : List (List ℕ)) (s : Setting) (o : Option ℕ) → Reordered to back words others → IsWhere verb words s o → IsWhere verb others s (option_map to o)
+where-moved to back verb words others s o r is q = (
+  λ same.
+      let there : (p : ℕ) × (o ≡ Some p) × (to p ≡ q) = mapped to o q same in
+      subst (λ k. Sets verb others k s) there.2 (sets-moved to back verb words others there.0 s r ((is there.0).0 there.1)),
+  λ set. ap (option_map to) ((is (back q)).1 (sets-moved back to verb others words q s (back-first to back words others r) set)) ∙ ap Some (r.moves.again q),
+)
+
 job-moved : (to back : ℕ → ℕ) (verb : Verb) (words others : List (List ℕ)) (job : Job) → Reordered to back words others → AsksJob verb words job → AsksJob verb others (moved_job to job)
 job-moved to back verb words others job r asks = record {
-  files = λ key q. (
-    λ is.
-        let there : (p : ℕ) × (place_of job key ≡ Some p) × (to p ≡ q) = mapped to (place_of job key) q (sym (place-moved key to job) ∙ is) in
-        subst (λ k. Sets verb others k (file key)) there.2 (sets-moved to back verb words others there.0 (file key) r ((asks.files key there.0).0 there.1)),
-    λ set.
-        let there : place_of job key ≡ Some (back q) = (asks.files key (back q)).1 (sets-moved back to verb others words q (file key) (back-first to back words others r) set) in
-        place-moved key to job ∙ ap (option_map to) there ∙ ap Some (r.moves.again q),
-  );
+  flat = where-moved to back verb words others (file Flat) job.flat r asks.flat;
+  rsrc = where-moved to back verb words others (file Rsrc) job.rsrc r asks.rsrc;
+  pef = where-moved to back verb words others (file Pef) job.pef r asks.pef;
   main = subst (λ default. IsSetOr verb others (λ s. setting Main (Set s)) default job.main) (usual-moved to job) (or-moved to back verb words others (λ s. setting Main (Set s)) (usual_main job) job.main r asks.main);
   kib = or-moved to back verb words others (numbered Ram) 1024 job.kib r asks.kib;
   steps = or-moved to back verb words others (numbered Steps) 1000000 job.steps r asks.steps;
+  save = where-moved to back verb words others (named Save) job.save r asks.save;
   program = program-moved to job.main job.flat job.rsrc job.pef asks.program;
 }
 
@@ -256,6 +256,14 @@ command-moved to back words others (Assemble code text address) r asks = (
   sets-moved to back ToAssemble words others text (file Text) r asks.2,
   set-moved to back ToAssemble words others (numbered At address) r asks.3,
 )
+command-moved to back words others (Continue image steps save) r asks = (
+  read-moved to back ToContinue words others r asks.0,
+  sets-moved to back ToContinue words others image (file Image) r asks.1,
+  or-moved to back ToContinue words others (numbered Steps) 1000000 steps r asks.2,
+  where-moved to back ToContinue words others (named Save) save r asks.3,
+)
+command-moved to back words others (Debug job script) r asks =
+    (read-moved to back ToDebug words others r asks.0, job-moved to back ToDebug words others job r asks.1, sets-moved to back ToDebug words others script (file Script) r asks.2)
 
 pub order-free : OrderIsFree
 order-free name words others command same is =

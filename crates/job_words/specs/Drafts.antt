@@ -6,21 +6,20 @@ use Rattle.mix_bits.specs.declared.isa.Isa.TheVariants.{M68, Ppc}
 use Rattle.job_words.specs.declared.draft.Draft.{Draft}
 use Rattle.job_words.specs.declared.draft.Given.{Given}
 use Rattle.job_words.specs.declared.job.Job.{Job}
-use Rattle.job_words.specs.declared.job.Key.{Key}
-use Rattle.job_words.specs.declared.job.Key.TheVariants.{Flat, Rsrc, Pef, Text}
+use Rattle.job_words.specs.declared.job.Key.TheVariants.{Flat, Rsrc, Pef, Image, Text, Script}
 use Rattle.job_words.specs.declared.job.Command.{Command}
-use Rattle.job_words.specs.declared.job.Command.TheVariants.{Run, List, Sample, Assemble}
+use Rattle.job_words.specs.declared.job.Command.TheVariants.{Run, List, Sample, Assemble, Continue, Debug}
 use Rattle.job_words.specs.declared.setting.Name.{Name}
-use Rattle.job_words.specs.declared.setting.Name.TheVariants.{File, Main, Ram, Steps, At, Count, Calls, Depth, CodeSet}
+use Rattle.job_words.specs.declared.setting.Name.TheVariants.{File, Main, Ram, Steps, At, Count, Calls, Depth, CodeSet, Save}
 use Rattle.job_words.specs.declared.setting.Setting.{Setting}
 use Rattle.job_words.specs.declared.setting.Value.{Value}
 use Rattle.job_words.specs.declared.setting.Value.TheVariants.{Named, Set, Number}
 use Rattle.job_words.specs.declared.setting.Verb.{Verb}
-use Rattle.job_words.specs.declared.setting.Verb.TheVariants.{ToRun, ToList, ToSample, ToAssemble}
+use Rattle.job_words.specs.declared.setting.Verb.TheVariants.{ToRun, ToList, ToSample, ToAssemble, ToContinue, ToDebug}
 
 -- a draft in which nothing is given
 abbrev pub nothing : Draft
-nothing = record { slots = replicate 12 None }
+nothing = record { slots = replicate 15 None }
 
 -- the number of a key
 abbrev pub index_of : Name → ℕ
@@ -36,6 +35,9 @@ index_of Calls = 8
 index_of Depth = 9
 index_of (File Text) = 10
 index_of CodeSet = 11
+index_of (File Image) = 12
+index_of (File Script) = 13
+index_of Save = 14
 
 -- what is given for a key
 abbrev pub given : Draft → Name → Option Given
@@ -47,12 +49,11 @@ given_at place value = record { place = place; value = value }
 abbrev pub is_open : Draft → Name → Bool
 is_open draft name = is_none (given draft name)
 
--- no key is given that this one excludes: a flat file stands alone
+-- no key is given that this one excludes: beside a flat file stands no other of a program
 abbrev pub is_alone : Draft → Name → Bool
-is_alone draft (File Flat) = is_open draft (File Rsrc) && (is_open draft (File Pef) && is_open draft (File Text))
+is_alone draft (File Flat) = is_open draft (File Rsrc) && is_open draft (File Pef)
 is_alone draft (File Rsrc) = is_open draft (File Flat)
 is_alone draft (File Pef) = is_open draft (File Flat)
-is_alone draft (File Text) = is_open draft (File Flat)
 is_alone draft name = true
 
 abbrev pub has_room : Draft → Name → Bool
@@ -69,13 +70,13 @@ with_setting draft place setting = if has_room draft setting.name then Some (put
 abbrev pub settings_in : Draft → ℕ
 settings_in draft = count_by is_some draft.slots
 
--- the place of the word that names a file
+-- the place of the word that names a file for a key
 abbrev pub named_at : ℕ → Value → Option ℕ
 named_at place Named = Some place
 named_at place value = None
 
-abbrev pub place : Draft → Key → Option ℕ
-place draft key = option_and_then (λ g. named_at g.place g.value) (given draft (File key))
+abbrev pub place : Draft → Name → Option ℕ
+place draft name = option_and_then (λ g. named_at g.place g.value) (given draft name)
 
 -- the number, and the instruction set, that is given for a key
 abbrev pub number_of : Value → Option ℕ
@@ -97,7 +98,7 @@ abbrev pub usual_set : Option ℕ → Option ℕ → Isa
 usual_set flat rsrc = if is_some flat || is_some rsrc then M68 else Ppc
 
 abbrev pub main_in : Draft → Isa
-main_in draft = unwrap_or (set draft Main) (usual_set (place draft Flat) (place draft Rsrc))
+main_in draft = unwrap_or (set draft Main) (usual_set (place draft (File Flat)) (place draft (File Rsrc)))
 
 -- the file that has the main program of a set where no file is flat
 abbrev pub main_file : {A : Type 0} → Isa → A → A → A
@@ -107,15 +108,20 @@ main_file Ppc rsrc pef = pef
 abbrev pub has_program : Job → Bool
 has_program job = is_some job.flat || is_some (main_file job.main job.rsrc job.pef)
 
+-- how many steps are done at most
+abbrev pub steps_in : Draft → ℕ
+steps_in draft = unwrap_or (number draft Steps) 1000000
+
 -- the job of a draft, with the usual numbers where none is given
 abbrev pub job_by : Draft → Job
 job_by draft = record {
-  flat = place draft Flat;
-  rsrc = place draft Rsrc;
-  pef = place draft Pef;
+  flat = place draft (File Flat);
+  rsrc = place draft (File Rsrc);
+  pef = place draft (File Pef);
   main = main_in draft;
   kib = unwrap_or (number draft Ram) 1024;
-  steps = unwrap_or (number draft Steps) 1000000;
+  steps = steps_in draft;
+  save = place draft Save;
 }
 
 -- or none where its program is missing
@@ -127,4 +133,6 @@ abbrev pub made : Verb → Draft → Option Command
 made ToRun draft = option_map Run (job_of draft)
 made ToList draft = option_and_then (λ job. option_and_then (λ address. option_map (λ count. List job address count) (number draft Count)) (number draft At)) (job_of draft)
 made ToSample draft = option_and_then (λ calls. option_map (λ depth. Sample calls depth) (number draft Depth)) (number draft Calls)
-made ToAssemble draft = option_and_then (λ code. option_and_then (λ text. option_map (λ address. Assemble code text address) (number draft At)) (place draft Text)) (set draft CodeSet)
+made ToAssemble draft = option_and_then (λ code. option_and_then (λ text. option_map (λ address. Assemble code text address) (number draft At)) (place draft (File Text))) (set draft CodeSet)
+made ToContinue draft = option_map (λ image. Continue image (steps_in draft) (place draft Save)) (place draft (File Image))
+made ToDebug draft = option_and_then (λ job. option_map (Debug job) (place draft (File Script))) (job_of draft)

@@ -5,7 +5,7 @@ use Rattle.std.specs.Option.{option_map}
 use Rattle.job_words.specs.Asks.{word_at, Asks, IsFirstBad}
 use Rattle.job_words.specs.Words.{bad_at, command_of}
 use Rattle.job_words.specs.declared.job.Command.{Command}
-use Rattle.job_words.specs.declared.job.Command.TheVariants.{Run, List, Sample, Assemble}
+use Rattle.job_words.specs.declared.job.Command.TheVariants.{Run, List, Sample, Assemble, Continue, Debug}
 use Rattle.job_words.specs.declared.job.Job.{Job}
 
 -- a command is read exactly where the words ask for it
@@ -18,13 +18,15 @@ RefusalIsFirst = (words : ListOf (ListOf ℕ)) (place : ℕ) → (command_of wor
 
 -- a job, and a command, with its files at other places
 abbrev pub moved_job : (ℕ → ℕ) → Job → Job
-moved_job to job = record job { flat = option_map to job.flat; rsrc = option_map to job.rsrc; pef = option_map to job.pef }
+moved_job to job = record job { flat = option_map to job.flat; rsrc = option_map to job.rsrc; pef = option_map to job.pef; save = option_map to job.save }
 
 abbrev pub moved : (ℕ → ℕ) → Command → Command
 moved to (Run job) = Run (moved_job to job)
 moved to (List job address count) = List (moved_job to job) address count
 moved to (Sample calls depth) = Sample calls depth
 moved to (Assemble set text address) = Assemble set (to text) address
+moved to (Continue image steps save) = Continue (to image) steps (option_map to save)
+moved to (Debug job script) = Debug (moved_job to job) (to script)
 
 -- each word of one line stands in the other where `to` says
 abbrev pub Stands : (ℕ → ℕ) → ListOf (ListOf ℕ) → ListOf (ListOf ℕ) → Type 0

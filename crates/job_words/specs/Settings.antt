@@ -6,14 +6,14 @@ use Rattle.std.specs.Str.{bytes_eq}
 use Rattle.mix_bits.specs.declared.isa.Isa.TheVariants.{M68, Ppc}
 use Rattle.mix_bits.specs.Numbers.{decimal_number, hexadecimal_number}
 use Rattle.job_words.specs.declared.job.Key.{Key}
-use Rattle.job_words.specs.declared.job.Key.TheVariants.{Flat, Rsrc, Pef, Text}
+use Rattle.job_words.specs.declared.job.Key.TheVariants.{Flat, Rsrc, Pef, Image, Text, Script}
 use Rattle.job_words.specs.declared.setting.Name.{Name}
-use Rattle.job_words.specs.declared.setting.Name.TheVariants.{File, Main, Ram, Steps, At, Count, Calls, Depth, CodeSet}
+use Rattle.job_words.specs.declared.setting.Name.TheVariants.{File, Main, Ram, Steps, At, Count, Calls, Depth, CodeSet, Save}
 use Rattle.job_words.specs.declared.setting.Setting.{Setting}
 use Rattle.job_words.specs.declared.setting.Value.{Value}
 use Rattle.job_words.specs.declared.setting.Value.TheVariants.{Named, Set, Number}
 use Rattle.job_words.specs.declared.setting.Verb.{Verb}
-use Rattle.job_words.specs.declared.setting.Verb.TheVariants.{ToRun, ToList, ToSample, ToAssemble}
+use Rattle.job_words.specs.declared.setting.Verb.TheVariants.{ToRun, ToList, ToSample, ToAssemble, ToContinue, ToDebug}
 
 -- the command that a first word is
 unfoldable pub verb_of : List ℕ → Option Verb
@@ -21,21 +21,27 @@ verb_of word =
     if bytes_eq word (codes "run") then Some ToRun
     else (if bytes_eq word (codes "list") then Some ToList
     else (if bytes_eq word (codes "sample") then Some ToSample
-    else (if bytes_eq word (codes "assemble") then Some ToAssemble else None)))
+    else (if bytes_eq word (codes "assemble") then Some ToAssemble
+    else (if bytes_eq word (codes "continue") then Some ToContinue
+    else (if bytes_eq word (codes "debug") then Some ToDebug else None)))))
 
 -- the keys that each command knows
 abbrev pub keys : Verb → List Name
-keys ToRun = File Flat ∷ (File Rsrc ∷ (File Pef ∷ (Main ∷ (Ram ∷ (Steps ∷ [])))))
+keys ToRun = File Flat ∷ (File Rsrc ∷ (File Pef ∷ (Main ∷ (Ram ∷ (Steps ∷ (Save ∷ []))))))
 keys ToList = File Flat ∷ (File Rsrc ∷ (File Pef ∷ (Main ∷ (Ram ∷ (At ∷ (Count ∷ []))))))
 keys ToSample = Calls ∷ (Depth ∷ [])
 keys ToAssemble = CodeSet ∷ (File Text ∷ (At ∷ []))
+keys ToContinue = File Image ∷ (Steps ∷ (Save ∷ []))
+keys ToDebug = File Flat ∷ (File Rsrc ∷ (File Pef ∷ (Main ∷ (Ram ∷ (File Script ∷ [])))))
 
 -- the text of each key
 abbrev pub key_text : Key → List ℕ
 key_text Flat = codes "flat"
 key_text Rsrc = codes "rsrc"
 key_text Pef = codes "pef"
+key_text Image = codes "image"
 key_text Text = codes "text"
+key_text Script = codes "script"
 
 abbrev pub text_of : Name → List ℕ
 text_of (File key) = key_text key
@@ -47,11 +53,16 @@ text_of Count = codes "count"
 text_of Calls = codes "n"
 text_of Depth = codes "depth"
 text_of CodeSet = codes "set"
+text_of Save = codes "save"
 
 abbrev pub set_of : List ℕ → Option Value
 set_of name =
     if bytes_eq name (codes "68k") then Some (Set M68)
     else (if bytes_eq name (codes "ppc") then Some (Set Ppc) else None)
+
+-- a file has a name that is not empty
+abbrev pub named_by : List ℕ → Option Value
+named_by name = if length name == 0 then None else Some Named
 
 -- a number from `least` to `most`
 abbrev pub kept_within : ℕ → ℕ → ℕ → Option ℕ
@@ -63,9 +74,9 @@ number_within least most text = option_and_then (kept_within least most) (decima
 abbrev pub number_in : Option ℕ → Option Value
 number_in read = option_map Number read
 
--- the values of each key: a file has a name that is not empty, and a number its range
+-- the values of each key
 abbrev pub value_of : Name → List ℕ → Option Value
-value_of (File key) text = if length text == 0 then None else Some Named
+value_of (File key) text = named_by text
 value_of Main text = set_of text
 value_of Ram text = number_in (number_within 128 16384 text)
 value_of Steps text = number_in (decimal_number text)
@@ -74,12 +85,16 @@ value_of Count text = number_in (number_within 1 4096 text)
 value_of Calls text = number_in (number_within 1 1000 text)
 value_of Depth text = number_in (number_within 1 300 text)
 value_of CodeSet text = set_of text
+value_of Save text = named_by text
 
 abbrev pub setting : Name → Value → Setting
 setting name value = record { name = name; value = value }
 
+abbrev pub named : Name → Setting
+named name = setting name Named
+
 abbrev pub file : Key → Setting
-file key = setting (File key) Named
+file key = named (File key)
 
 abbrev pub numbered : Name → ℕ → Setting
 numbered name n = setting name (Number n)

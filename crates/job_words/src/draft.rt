@@ -1,5 +1,6 @@
 ghost use Rattle.std.specs.Prelude.{◌≡◌, ◌+◌, ◌<◌, IfSome, is_none};
-ghost use Rattle.job_words.specs.Drafts.{given as given_of, has_room as has_room_of, index_of, job_of, made, main_in, has_program, nothing, number as number_of, place as place_of, set as set_of, settings_in, with_setting};
+ghost use Rattle.job_words.specs.Drafts.{given as given_of, has_room as has_room_of, index_of, job_of, made, main_in, has_program, nothing, number as number_of, place as place_of, set as set_of, settings_in, steps_in, with_setting};
+ghost use Rattle.job_words.specs.declared.setting.Name.TheVariants.{File};
 
 use super::job::{Command, Job, Key};
 use super::setting::{Name, Setting, Value, Verb};
@@ -15,7 +16,7 @@ pub struct Given {
 /// What the words so far have given, each under the number of its key.
 #[derive(Clone, Copy)]
 pub struct Draft {
-    pub slots: [Option<Given>; 12],
+    pub slots: [Option<Given>; 15],
 }
 
 impl Draft {
@@ -23,7 +24,7 @@ impl Draft {
     pub fn new() -> Draft
         ensures { result ≡ nothing }
     {
-        Draft { slots: [None; 12] }
+        Draft { slots: [None; 15] }
     }
 
     /// The draft with one more setting, unless its key or one that it excludes is given already.
@@ -48,11 +49,11 @@ impl Draft {
         self.slots[index(name)]
     }
 
-    /// The place of the word that names a file.
-    fn place(&self, key: Key) -> Option<u32>
-        ensures { result ≡ place_of self.now key }
+    /// The place of the word that names a file for a key.
+    fn place(&self, name: Name) -> Option<u32>
+        ensures { result ≡ place_of self.now name }
     {
-        match self.given(Name::File(key)) {
+        match self.given(name) {
             Some(
                 Given {
                     place,
@@ -61,6 +62,13 @@ impl Draft {
             ) => Some(place),
             _ => None,
         }
+    }
+
+    /// The place of the word that names a file to fetch.
+    fn file(&self, key: Key) -> Option<u32>
+        ensures { result ≡ place_of self.now (File key) }
+    {
+        self.place(Name::File(key))
     }
 
     /// The number that is given for a key.
@@ -87,7 +95,7 @@ impl Draft {
 /// The number of a key.
 fn index(name: Name) -> usize
     ensures value { result ≡ index_of name }
-    ensures inside { result < 12 }
+    ensures inside { result < 15 }
 {
     match name {
         Name::File(Key::Flat) => 0,
@@ -102,21 +110,23 @@ fn index(name: Name) -> usize
         Name::Depth => 9,
         Name::File(Key::Text) => 10,
         Name::CodeSet => 11,
+        Name::File(Key::Image) => 12,
+        Name::File(Key::Script) => 13,
+        Name::Save => 14,
     }
 }
 
-/// Whether neither a key is given nor one that it excludes: a flat file stands alone.
+/// Whether neither a key is given nor one that it excludes: beside a flat file stands no other of a program.
 fn has_room(draft: &Draft, name: Name) -> bool
     ensures { result ≡ has_room_of draft.now name }
 {
     is_open(draft, name)
         && match name {
             Name::File(Key::Flat) => {
-                is_open(draft, Name::File(Key::Rsrc))
-                    && (is_open(draft, Name::File(Key::Pef))
-                        && is_open(draft, Name::File(Key::Text)))
+                is_open(draft, Name::File(Key::Rsrc)) && is_open(draft, Name::File(Key::Pef))
             }
-            Name::File(_) => is_open(draft, Name::File(Key::Flat)),
+            Name::File(Key::Rsrc) => is_open(draft, Name::File(Key::Flat)),
+            Name::File(Key::Pef) => is_open(draft, Name::File(Key::Flat)),
             _ => true,
         }
 }
@@ -134,7 +144,7 @@ fn main_set(draft: &Draft) -> Isa
 {
     match draft.set(Name::Main) {
         Some(set) => set,
-        None if draft.place(Key::Flat).is_some() || draft.place(Key::Rsrc).is_some() => Isa::M68,
+        None if draft.file(Key::Flat).is_some() || draft.file(Key::Rsrc).is_some() => Isa::M68,
         None => Isa::Ppc,
     }
 }
@@ -150,17 +160,25 @@ fn has_main(job: Job) -> bool
         }
 }
 
+/// How many steps are done at most: as they are given, else a million.
+fn steps(draft: &Draft) -> u32
+    ensures { result ≡ steps_in draft.now }
+{
+    draft.number(Name::Steps).unwrap_or(1_000_000)
+}
+
 /// The job of a draft, unless its main program is missing.
 fn job(draft: &Draft) -> Option<Job>
     ensures { result ≡ job_of draft.now }
 {
     let job = Job {
-        flat: draft.place(Key::Flat),
-        rsrc: draft.place(Key::Rsrc),
-        pef: draft.place(Key::Pef),
+        flat: draft.file(Key::Flat),
+        rsrc: draft.file(Key::Rsrc),
+        pef: draft.file(Key::Pef),
         main: main_set(draft),
         kib: draft.number(Name::Ram).unwrap_or(1024),
-        steps: draft.number(Name::Steps).unwrap_or(1_000_000),
+        steps: steps(draft),
+        save: draft.place(Name::Save),
     };
     if has_main(job) { Some(job) } else { None }
 }
@@ -182,8 +200,14 @@ pub fn make(verb: Verb, draft: &Draft) -> Option<Command>
         )),
         Verb::ToAssemble => Some(Command::Assemble(
             draft.set(Name::CodeSet)?,
-            draft.place(Key::Text)?,
+            draft.file(Key::Text)?,
             draft.number(Name::At)?,
         )),
+        Verb::ToContinue => Some(Command::Continue(
+            draft.file(Key::Image)?,
+            steps(draft),
+            draft.place(Name::Save),
+        )),
+        Verb::ToDebug => Some(Command::Debug(job(draft)?, draft.file(Key::Script)?)),
     }
 }

@@ -1,6 +1,6 @@
 // What a command line can ask for.
 ghost use Rattle.std.specs.Prelude.{◌≡◌, ◌≤◌, length};
-ghost use Rattle.job_words.specs.Jobs.{limit_of, place_in, place_of, text_place as text_place_of};
+ghost use Rattle.job_words.specs.Jobs.{limit_of, place_in, place_of, save_in};
 ghost use Rattle.job_words.specs.Settings.{key_text as key_text_of};
 
 use mix_bits::Isa;
@@ -17,6 +17,11 @@ pub enum Command {
     /// Assembles the lines of a text: in which instruction set, the place of the word that names the text, and the
     /// address of the first line.
     Assemble(Isa, u32, u32),
+    /// Runs a machine that was kept: the place of the word that names its image, how many steps are done at most, and
+    /// the place of the word that names what is kept at the step limit.
+    Continue(u32, u32, Option<u32>),
+    /// Loads a program and does the lines of a script with it: the place of the word that names the script.
+    Debug(Job, u32),
 }
 
 impl Command {
@@ -28,18 +33,30 @@ impl Command {
             Command::Run(job) => job.place(key),
             Command::List(job, _, _) => job.place(key),
             Command::Sample(_, _) => None,
-            Command::Assemble(_, text, _) => text_place(*text, key),
+            Command::Assemble(_, text, _) => match key {
+                Key::Text => Some(*text),
+                _ => None,
+            },
+            Command::Continue(image, _, _) => match key {
+                Key::Image => Some(*image),
+                _ => None,
+            },
+            Command::Debug(job, script) => match key {
+                Key::Script => Some(*script),
+                _ => job.place(key),
+            },
         }
     }
-}
 
-/// The place of the word that names the file of a key, where a text is the only file.
-fn text_place(place: u32, key: Key) -> Option<u32>
-    ensures { result ≡ text_place_of place key }
-{
-    match key {
-        Key::Text => Some(place),
-        _ => None,
+    /// The place of the word that names what is kept at the step limit, if the command keeps anything.
+    pub fn save(&self) -> Option<u32>
+        ensures { result ≡ save_in self.now }
+    {
+        match self {
+            Command::Run(job) => job.save,
+            Command::Continue(_, _, save) => *save,
+            _ => None,
+        }
     }
 }
 
@@ -55,10 +72,12 @@ pub struct Job {
     pub kib: u32,
     /// How many steps are done at most.
     pub steps: u32,
+    /// The place of the word that names what is kept at the step limit.
+    pub save: Option<u32>,
 }
 
 impl Job {
-    /// The place of the word that names the file of a key; a text is no file of a program.
+    /// The place of the word that names the file of a key, if that is a file of a program.
     fn place(&self, key: Key) -> Option<u32>
         ensures { result ≡ place_of self.now key }
     {
@@ -66,7 +85,7 @@ impl Job {
             Key::Flat => self.flat,
             Key::Rsrc => self.rsrc,
             Key::Pef => self.pef,
-            Key::Text => None,
+            _ => None,
         }
     }
 }
@@ -80,24 +99,37 @@ pub enum Key {
     Rsrc,
     /// A container of PowerPC code.
     Pef,
+    /// A machine that was kept.
+    Image,
     /// A text of lines to assemble.
     Text,
+    /// A script of lines for the debugger.
+    Script,
 }
 
 impl Key {
     /// All keys, in the order in which the files of a command are fetched.
-    pub const ALL: [Key; 4] = [Key::Flat, Key::Rsrc, Key::Pef, Key::Text];
+    pub const ALL: [Key; 6] = [
+        Key::Flat,
+        Key::Rsrc,
+        Key::Pef,
+        Key::Image,
+        Key::Text,
+        Key::Script,
+    ];
 
     /// The word's text before the equals sign.
     pub fn text(self) -> &'static str
         ensures text { result.now ≡ key_text_of self }
-        ensures short { length result.now ≤ 4 }
+        ensures short { length result.now ≤ 6 }
     {
         match self {
             Key::Flat => "flat",
             Key::Rsrc => "rsrc",
             Key::Pef => "pef",
+            Key::Image => "image",
             Key::Text => "text",
+            Key::Script => "script",
         }
     }
 
@@ -109,7 +141,9 @@ impl Key {
             Key::Flat => 16_777_216,
             Key::Rsrc => 16_777_216,
             Key::Pef => 16_777_216,
+            Key::Image => 17_825_792,
             Key::Text => 16_777_216,
+            Key::Script => 16_777_216,
         }
     }
 }

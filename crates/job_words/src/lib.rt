@@ -1,8 +1,8 @@
 //! The words of a command line: which command they give, and which word is the first bad one.
 //!
-//! `read_words` answers exactly the one or the other, for `run`, `list`, `sample` and `assemble`;
+//! `read_words` answers exactly the one or the other, for `run`, `list`, `sample`, `assemble`, `continue` and `debug`;
 //! `word_laws` says by what each word sets when that is a command, and which one. Which files a command wants is
-//! `Command::place`, in the order of `Key::ALL`.
+//! `Command::place`, in the order of `Key::ALL`; what it keeps is `Command::save`.
 #![tactic(auto)]
 
 mod draft;

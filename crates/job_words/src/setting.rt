@@ -1,5 +1,5 @@
 ghost use Rattle.std.specs.Prelude.{◌≡◌};
-ghost use Rattle.job_words.specs.Settings.{verb_of, keys as keys_of, text_of, name_in, value_of, set_of, number_in, number_within, setting_of};
+ghost use Rattle.job_words.specs.Settings.{verb_of, keys as keys_of, text_of, name_in, named_by, value_of, set_of, number_in, number_within, setting_of};
 
 use super::job::Key;
 use mix_bits::{Isa, read_decimal, read_hexadecimal};
@@ -11,6 +11,8 @@ pub enum Verb {
     ToList,
     ToSample,
     ToAssemble,
+    ToContinue,
+    ToDebug,
 }
 
 /// What stands before the equals sign of a word.
@@ -25,6 +27,7 @@ pub enum Name {
     Calls,
     Depth,
     CodeSet,
+    Save,
 }
 
 /// What stands behind it.
@@ -44,13 +47,14 @@ pub struct Setting {
 }
 
 /// The keys that `run` knows.
-const RUN: [Name; 6] = [
+const RUN: [Name; 7] = [
     Name::File(Key::Flat),
     Name::File(Key::Rsrc),
     Name::File(Key::Pef),
     Name::Main,
     Name::Ram,
     Name::Steps,
+    Name::Save,
 ];
 
 /// Those of `list`.
@@ -70,6 +74,19 @@ const SAMPLE: [Name; 2] = [Name::Calls, Name::Depth];
 /// Those of `assemble`.
 const ASSEMBLE: [Name; 3] = [Name::CodeSet, Name::File(Key::Text), Name::At];
 
+/// Those of `continue`.
+const CONTINUE: [Name; 3] = [Name::File(Key::Image), Name::Steps, Name::Save];
+
+/// Those of `debug`.
+const DEBUG: [Name; 6] = [
+    Name::File(Key::Flat),
+    Name::File(Key::Rsrc),
+    Name::File(Key::Pef),
+    Name::Main,
+    Name::Ram,
+    Name::File(Key::Script),
+];
+
 /// The command of a first word.
 #[tactic(auto, unfolding(crate::specs::Settings::verb_of))]
 pub fn read_verb(word: &str) -> Option<Verb>
@@ -83,6 +100,10 @@ pub fn read_verb(word: &str) -> Option<Verb>
         Some(Verb::ToSample)
     } else if word == "assemble" {
         Some(Verb::ToAssemble)
+    } else if word == "continue" {
+        Some(Verb::ToContinue)
+    } else if word == "debug" {
+        Some(Verb::ToDebug)
     } else {
         None
     }
@@ -108,6 +129,8 @@ fn keys(verb: Verb) -> &'static [Name]
         Verb::ToList => &LIST,
         Verb::ToSample => &SAMPLE,
         Verb::ToAssemble => &ASSEMBLE,
+        Verb::ToContinue => &CONTINUE,
+        Verb::ToDebug => &DEBUG,
     }
 }
 
@@ -137,6 +160,7 @@ fn text(name: Name) -> &'static str
         Name::Calls => "n",
         Name::Depth => "depth",
         Name::CodeSet => "set",
+        Name::Save => "save",
     }
 }
 
@@ -145,8 +169,7 @@ fn read_value(name: Name, text: &str) -> Option<Value>
     ensures { result ≡ value_of name text.now }
 {
     match name {
-        Name::File(_) if text.is_empty() => None,
-        Name::File(_) => Some(Value::Named),
+        Name::File(_) => read_named(text),
         Name::Main => read_set(text),
         Name::Ram => read_within(128, 16384, text),
         Name::Steps => Some(Value::Number(read_decimal(text.as_bytes())?)),
@@ -155,6 +178,18 @@ fn read_value(name: Name, text: &str) -> Option<Value>
         Name::Calls => read_within(1, 1000, text),
         Name::Depth => read_within(1, 300, text),
         Name::CodeSet => read_set(text),
+        Name::Save => read_named(text),
+    }
+}
+
+/// The name of a file, which is not empty.
+fn read_named(name: &str) -> Option<Value>
+    ensures { result ≡ named_by name.now }
+{
+    if name.is_empty() {
+        None
+    } else {
+        Some(Value::Named)
     }
 }
 

@@ -9,7 +9,7 @@ use Rattle.job_words.specs.Jobs.{keys_in_order, limit_of, place_in, wanted_among
 use Rattle.job_words.specs.Words.{name_at}
 use Rattle.job_words.specs.declared.job.Command.{Command}
 use Rattle.job_words.specs.declared.job.Key.{Key}
-use Rattle.job_words.specs.declared.job.Key.TheVariants.{Flat, Rsrc, Pef, Text}
+use Rattle.job_words.specs.declared.job.Key.TheVariants.{Flat, Rsrc, Pef, Image, Text, Script}
 use Rattle.mix_top.specs.World.{Contents}
 use Rattle.mix_top.specs.Files.{AreFetched, AreFiles, IsNamed, IsOf}
 use Rattle.mix_top.specs.Parts.{Adds, IsCause, Misses, MissesFirst, with_file}
@@ -93,15 +93,17 @@ adds-rest words contents now command (key ∷ keys) other file old mid (Ok new) 
 
 -- all files, by their keys
 abbrev no_files : Fetched
-no_files = record { program = record { flat = None; rsrc = None; pef = None }; text = None }
+no_files = record { program = record { flat = None; rsrc = None; pef = None }; image = None; text = None; script = None }
 
 files-of_keys : (words : List (List ℕ)) (contents : Contents) (command : Command) (files : Fetched) → Adds words contents command keys_in_order no_files files → AreFiles words contents command files
-files-of_keys words contents command files adds Flat = subst (λ f. IsOf words contents command Flat f.program.flat) (sym adds.rest.rest.rest.rest) adds.is
-files-of_keys words contents command files adds Rsrc = subst (λ f. IsOf words contents command Rsrc f.program.rsrc) (sym adds.rest.rest.rest.rest) adds.rest.is
-files-of_keys words contents command files adds Pef = subst (λ f. IsOf words contents command Pef f.program.pef) (sym adds.rest.rest.rest.rest) adds.rest.rest.is
-files-of_keys words contents command files adds Text = subst (λ f. IsOf words contents command Text f.text) (sym adds.rest.rest.rest.rest) adds.rest.rest.rest.is
+files-of_keys words contents command files adds Flat = subst (λ f. IsOf words contents command Flat f.program.flat) (sym adds.rest.rest.rest.rest.rest.rest) adds.is
+files-of_keys words contents command files adds Rsrc = subst (λ f. IsOf words contents command Rsrc f.program.rsrc) (sym adds.rest.rest.rest.rest.rest.rest) adds.rest.is
+files-of_keys words contents command files adds Pef = subst (λ f. IsOf words contents command Pef f.program.pef) (sym adds.rest.rest.rest.rest.rest.rest) adds.rest.rest.is
+files-of_keys words contents command files adds Image = subst (λ f. IsOf words contents command Image f.image) (sym adds.rest.rest.rest.rest.rest.rest) adds.rest.rest.rest.is
+files-of_keys words contents command files adds Text = subst (λ f. IsOf words contents command Text f.text) (sym adds.rest.rest.rest.rest.rest.rest) adds.rest.rest.rest.rest.is
+files-of_keys words contents command files adds Script = subst (λ f. IsOf words contents command Script f.script) (sym adds.rest.rest.rest.rest.rest.rest) adds.rest.rest.rest.rest.rest.is
 
 pub files-fetched : (words : List (List ℕ)) (contents : Contents) (command : Command) (r : Result Fetched Missing)
-    → IfOk r (Adds words contents command keys_in_order (record { program = record { flat = None; rsrc = None; pef = None }; text = None })) → IfOk r (AreFiles words contents command)
+    → IfOk r (Adds words contents command keys_in_order (record { program = record { flat = None; rsrc = None; pef = None }; image = None; text = None; script = None })) → IfOk r (AreFiles words contents command)
 files-fetched words contents command (Ok files) adds = files-of_keys words contents command files adds
 files-fetched words contents command (Err missing) adds = tt

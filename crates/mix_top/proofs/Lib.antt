@@ -1,3 +1,5 @@
 pub mod Counting
 pub mod Fetching
+pub mod Joining
 pub mod Ways
+pub mod Debugging

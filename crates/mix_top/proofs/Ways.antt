@@ -13,46 +13,62 @@ use Rattle.call_trace.specs.Lines.{end_line}
 use Rattle.mixed_machine.specs.State.{State}
 use Rattle.mixed_machine.specs.Step.{step}
 use Rattle.mixed_machine.specs.Machine.{flat}
-use Rattle.mixed_machine.specs.Exec.{How, log, line_of, said_of}
+use Rattle.mixed_machine.specs.Counts.{Blames}
+use Rattle.mixed_machine.specs.Exec.{How, exec, log, line_of, said_of}
+use Rattle.mixed_machine.specs.Exec.End.{Ended}
 use Rattle.mixed_machine.specs.Exec.How.{Limited, Exited, Faulted}
 use Rattle.mixed_machine.specs.Outside.{At, answers_between, around_at, state_of}
 use Rattle.mixed_machine.specs.Runs.{Ran as RanTo, Runs, Stops}
+use Rattle.mixed_machine.proofs.Runs.{limits-last}
 use Rattle.mixed_machine.specs.declared.stop.Stop.{Stop}
 use Rattle.mixed_machine.specs.declared.stop.Stop.TheVariants.{Exit, Fault, Limit, ReadFault, OutFault, TraceFault}
-use Rattle.std.specs.Prelude.{IfNone, IfSome, IsSome, unwrap_or}
+use Rattle.std.specs.Prelude.{IfNone, IfSome, IsSome}
 use Rattle.job_words.specs.Drafts.{main_file}
-use Rattle.job_words.specs.Jobs.{IsProperJob, job_in, keys_in_order, limit_of, place_in, place_of}
+use Rattle.job_words.specs.Jobs.{IsProperJob, job_in, keys_in_order, limit_of, place_in}
 use Rattle.job_words.specs.Words.{bad_at, command_of, name_at}
 use Rattle.job_words.specs.declared.job.Command.{Command}
-use Rattle.job_words.specs.declared.job.Command.TheVariants.{Run, List as Lists, Sample, Assemble}
+use Rattle.job_words.specs.declared.job.Command.TheVariants.{Run, List as Lists, Sample, Assemble, Continue, Debug}
 use Rattle.mix_sample.specs.declared.sampled.Ending.{Ending}
 use Rattle.mix_sample.specs.declared.sampled.Ending.TheVariants.{Exit as ExitEnding, Fault as FaultEnding, Limit as LimitEnding}
 use Rattle.mix_sample.specs.declared.sampled.Sampled.{Sampled}
-use Rattle.std.specs.Option.{option_map}
+use Rattle.std.specs.Option.{option_and_then, option_map}
+use Rattle.std.specs.Result.{result_ok}
+use Rattle.mix_io.specs.Counts.{CountsStay}
 use Rattle.job_words.specs.declared.job.Job.{Job}
 use Rattle.job_words.specs.declared.job.Key.{Key}
-use Rattle.job_words.specs.declared.job.Key.TheVariants.{Flat, Rsrc, Pef, Text}
+use Rattle.job_words.specs.declared.job.Key.TheVariants.{Flat, Rsrc, Pef, Image, Text, Script}
 use Rattle.mix_load.specs.Load.{AreLoadable, HasMain, IsAlone, IsSmall, load_of}
 use Rattle.mix_load.specs.Outcome.{Gives}
 use Rattle.mix_load.specs.declared.files.Files.{Files}
 use Rattle.mix_load.specs.declared.error.LoadError.{LoadError}
 use Rattle.mix_load.specs.declared.error.LoadError.TheVariants.{NoMemory}
+use Rattle.dev_rack.specs.Accounts.{Accounts}
+use Rattle.mix_io.specs.declared.errors.Failed.{Failed as Failure}
+use Rattle.mix_engine.specs.declared.machine.Machine.{Machine}
+use Rattle.mix_image.specs.Restoring.{IsRestored}
+use Rattle.mix_image.specs.Spelling.{HasSpelling, spell}
+use Rattle.mix_image.specs.declared.error.ImageError.{ImageError}
+use Rattle.mix_image.specs.declared.error.ImageError.TheVariants.{NoMemory as NoMachine}
 use Rattle.mix_top.specs.Lines.{load_line, load_refusal, memory_line, words_line}
-use Rattle.mix_top.specs.World.{Beside, World, Accounted, Closes, Contents, Early, EndsIn, OnlyPuts, PutsText, beside}
-use Rattle.mix_top.specs.Files.{AreFiles, IsNamed, ram_size, text_in}
+use Rattle.mix_top.specs.World.{Beside, Keep, World, Accounted, Closes, Contents, Early, EndsIn, OnlyPuts, PutsText, beside}
+use Rattle.mix_top.specs.Files.{AreFiles, IsNamed, bytes_in, ram_size}
 use Rattle.mix_assemble.specs.Assembling.{IsAssembled}
 use Rattle.mix_assemble.specs.Parts.{OfBytes}
 use Rattle.mix_assemble.specs.declared.refused.Refused.{Refused}
 use Rattle.mix_top.specs.Assembling.{AssembleWay, line_refusal}
 use Rattle.mix_top.specs.Assembling.AssembleWay.{assembled, line_refused}
 use Rattle.mix_top.specs.declared.files.Fetched.{Fetched}
-use Rattle.mix_top.specs.Ends.{Ends, IsNext, LoadWay, PutsSample, Ran, RunWay, Way, answers_given, end_of, status_of}
-use Rattle.mix_top.specs.Ends.RunWay.{ended, out_failed, read_failed, trace_failed}
+use Rattle.mix_top.specs.Keeping.{KeepsPart, KeptAt, Spells}
+use Rattle.mix_top.specs.Running.{Ran, RunWay, answers_given, end_of, status_of}
+use Rattle.mix_top.specs.Running.RunWay.{ended, keep_failed, out_failed, read_failed, trace_failed}
+use Rattle.mix_top.specs.Continuing.{ContinueWay, image_refusal}
+use Rattle.mix_top.specs.Continuing.ContinueWay.{image_refused, no_memory as no_machine_memory}
+use Rattle.mix_top.specs.Ends.{Ends, FilesWay, IsNext, LoadWay, PutsSample, Way, saved_by, saved_name}
 use Rattle.mix_top.specs.Ends.LoadWay.{no_memory, refused}
-use Rattle.mix_top.specs.Ends.Way.{bad_words, long_file, no_file, no_memory_for_file}
-use Rattle.mix_top.specs.Parts.{AreFor, Finishes, IsCause, MissesFirst, unfetched_line, unfetched_status, unloaded_line, unloaded_status}
+use Rattle.mix_top.specs.Ends.Way.{bad_words, fetched, long_file, no_file, no_memory_for_file}
+use Rattle.mix_top.specs.Parts.{AreFor, AreShort, Finishes, IsCause, Keeps, MissesFirst, due_at, unfetched_line, unfetched_status, unloaded_line, unloaded_status, unrestored_line, unrestored_status}
 use Rattle.mix_top.specs.declared.files.Missing.{Missing}
-use Rattle.mix_top.proofs.Counting.{IsPlain, accounted-early, accounted-puts, accounted-quiet}
+use Rattle.mix_top.proofs.Counting.{IsPlain, accounted-early, accounted-puts, accounted-quiet, accounted-stop, accounted-unkept, counts_at, ends-quiet, keeps-calm}
 
 -- a last line after the lines of a run
 after-lines : (a b c : Output) (lines line : List ℕ) (status result : ℕ) → Grows a b lines → Closes b c [] line status result → Closes a c lines line status result
@@ -60,68 +76,108 @@ after-lines a b c lines line status result first (inl (grows, same)) = inl (grow
 after-lines a b c lines line status result first (inr (breaks, same)) =
     inr (subst (λ xs. Breaks a c xs line) (append-nil lines) (breaks-after a b c lines [] line first breaks), same)
 
-ended-way : (steps left : ℕ) (start last : State) (around : Around) (how : How) (set : Isa) (old mid new : Beside) (result : ℕ)
+ended-way : (save : Option (List ℕ)) (steps left : ℕ) (start last : State) (around : Around) (how : How) (set : Isa) (old mid new : Beside) (result : ℕ)
     → last.around ≡ around → set ≡ isa_of last.active → new.outside ≡ mid.outside
     → RanTo 0 steps left start last how (record { out = old.outside.out; trace = old.trace }) (record { out = mid.outside.out; trace = mid.trace })
-    → Closes mid.trace new.trace [] (end_line (end_of set how)) (status_of how) result → RunWay steps start around old new result
-ended-way steps left start last around how set old mid new result around_is set_is same ran closes =
+    → KeptAt save how last old.keep new.keep
+    → Closes mid.trace new.trace [] (end_line (end_of set how)) (status_of how) result → RunWay save steps start around old new result
+ended-way save steps left start last around how set old mid new result around_is set_is same ran kept closes =
     ended last how left ran.fewer ran.ends around_is
-    (subst (λ o. Grows old.outside.out o.out (log said_of (steps - left) start)) (sym same) ran.took.said)
+    (subst (λ o. Grows old.outside.out o.out (log said_of (steps - left) start)) (sym same) ran.took.said) kept
     (after-lines old.trace mid.trace new.trace (log line_of (steps - left) start) (end_line (end_of (isa_of last.active) how)) (status_of how) result ran.took.traced
     (subst (λ s. Closes mid.trace new.trace [] (end_line (end_of s how)) (status_of how) result) set_is closes))
 
+-- what is kept of a machine that stands for the last state
+kept-nothing : (save : Option (List ℕ)) (how : How) (last : State) (old new : Keep) → how ≢ Limited → new ≡ old → KeptAt save how last old new
+kept-nothing None how last old new other same = same
+kept-nothing (Some name) Limited last old new other same = absurd (other refl)
+kept-nothing (Some name) (Exited code) last old new other same = same
+kept-nothing (Some name) (Faulted fault) last old new other same = same
+
+spells : (m : Machine) (last : State) → flat m.body m.active last.around ≡ last → HasSpelling m → Spells last (spell m)
+spells m last stands is = record { machine = m; is = is; stands = stands; spelled = refl }
+
+kept-machine : (save : Option (List ℕ)) (m : Machine) (last : State) (old new : Keep) (done : Unit {0}) → flat m.body m.active last.around ≡ last → Keeps save m old new (Ok done) → KeptAt save Limited last old new
+kept-machine None m last old new done stands keeps = keeps
+kept-machine (Some name) m last old new done stands keeps = (spell m, spells m last stands keeps.0, keeps.1)
+
 -- a run that stopped, and what follows it
-way-of_stop : (steps left : ℕ) (start last : State) (around : Around) (set : Isa) (old mid new : Beside) (stop : Stop) (result : ℕ)
+way-of_stop : (save : Option (List ℕ)) (m : Machine) (done : Unit {0}) (steps left : ℕ) (start last : State) (around : Around) (set : Isa) (old mid new : Beside) (stop : Stop) (result : ℕ)
     → last.around ≡ around → set ≡ isa_of last.active → new.outside ≡ mid.outside
     → Stops 0 steps left start last (record { out = old.outside.out; trace = old.trace }) (record { out = mid.outside.out; trace = mid.trace }) stop
-    → Finishes stop set mid.trace new.trace result → RunWay steps start around old new result
-way-of_stop steps left start last around set old mid new (Exit code) result around_is set_is same stops closes =
-    ended-way steps left start last around (Exited code) set old mid new result around_is set_is same stops closes
-way-of_stop steps left start last around set old mid new (Fault fault) result around_is set_is same stops closes =
-    ended-way steps left start last around (Faulted fault) set old mid new result around_is set_is same stops closes
-way-of_stop steps left start last around set old mid new Limit result around_is set_is same stops closes =
-    ended-way steps left start last around Limited set old mid new result around_is set_is same stops closes
-way-of_stop steps left start last around set old mid new ReadFault result around_is set_is same broke closes =
+    → flat m.body m.active last.around ≡ last → Keeps (due_at save stop) m old.keep new.keep (Ok done)
+    → Finishes stop set mid.trace new.trace result → RunWay save steps start around old new result
+way-of_stop save m done steps left start last around set old mid new (Exit code) result around_is set_is same stops stands keeps closes =
+    ended-way save steps left start last around (Exited code) set old mid new result around_is set_is same stops (kept-nothing save (Exited code) last old.keep new.keep (λ is. cc) keeps) closes
+way-of_stop save m done steps left start last around set old mid new (Fault fault) result around_is set_is same stops stands keeps closes =
+    ended-way save steps left start last around (Faulted fault) set old mid new result around_is set_is same stops (kept-nothing save (Faulted fault) last old.keep new.keep (λ is. cc) keeps) closes
+way-of_stop save m done steps left start last around set old mid new Limit result around_is set_is same stops stands keeps closes =
+    ended-way save steps left start last around Limited set old mid new result around_is set_is same stops (kept-machine save m last old.keep new.keep done stands keeps) closes
+way-of_stop save m done steps left start last around set old mid new ReadFault result around_is set_is same broke stands keeps closes =
     let some : 0 < left = broke.some in
     let fewer : left ≤ steps = broke.fewer in
     read_failed last (steps - left) (omega (arith, some, fewer)) broke.leads broke.reads around_is
     (subst (λ o. Grows old.outside.out o.out (log said_of (steps - left) start)) (sym same) broke.took.said)
-    (subst (λ t. Grows old.trace t (log line_of (steps - left) start)) (sym closes.0) broke.took.traced) closes.1
-way-of_stop steps left start last around set old mid new OutFault result around_is set_is same broke closes =
+    (subst (λ t. Grows old.trace t (log line_of (steps - left) start)) (sym closes.0) broke.took.traced) keeps closes.1
+way-of_stop save m done steps left start last around set old mid new OutFault result around_is set_is same broke stands keeps closes =
     let some : 0 < left = broke.some in
     let fewer : left ≤ steps = broke.fewer in
     out_failed last (steps - left) (omega (arith, some, fewer)) broke.leads broke.says around_is
     (subst (λ o. Breaks old.outside.out o.out (log said_of (steps - left) start) (said_of (step last))) (sym same) broke.said)
-    (subst (λ t. Grows old.trace t (log line_of (steps - left) start)) (sym closes.0) broke.traced) closes.1
-way-of_stop steps left start last around set old mid new TraceFault result around_is set_is same broke closes =
+    (subst (λ t. Grows old.trace t (log line_of (steps - left) start)) (sym closes.0) broke.traced) keeps closes.1
+way-of_stop save m done steps left start last around set old mid new TraceFault result around_is set_is same broke stands keeps closes =
     let fewer : left < steps = broke.fewer in
     let one : steps - left ≡ suc (steps - suc left) = omega (arith, fewer) in
     trace_failed broke.last last (steps - suc left) (omega (arith, fewer)) broke.leads broke.goes broke.tells around_is
     (subst (λ o. Grows old.outside.out o.out (log said_of (suc (steps - suc left)) start)) (sym same)
     (subst (λ j. Grows old.outside.out mid.outside.out (log said_of j start)) one broke.said))
-    (subst (λ t. Breaks old.trace t (log line_of (steps - suc left) start) (line_of (step broke.last))) (sym closes.0) broke.traced) closes.1
+    (subst (λ t. Breaks old.trace t (log line_of (steps - suc left) start) (line_of (step broke.last))) (sym closes.0) broke.traced) keeps closes.1
 
--- a machine ran, and the call was closed
-pub ran-of_run : (steps : ℕ) (a b : At) (new : Beside) (set : Isa) (stop : Stop) (result : ℕ) → set ≡ isa_of b.active → new.outside ≡ b.outside
-    → Runs steps a b stop → Finishes stop set b.trace new.trace result → Ran (flat a.body a.active) steps (beside a.outside a.trace) new result
-ran-of_run steps a b new set stop result set_is same runs closes =
-    subst (λ o. Ran (flat a.body a.active) steps (beside a.outside a.trace) (beside o new.trace) result) (sym same)
+-- a machine ran, what is to be kept was kept, and the call was closed
+pub ran-of_run : (save : Option (List ℕ)) (steps : ℕ) (a b : At) (m : Machine) (keep : Keep) (new : Beside) (set : Isa) (stop : Stop) (result : ℕ) (done : Unit {0}) → set ≡ isa_of b.active
+    → m ≡ record { active = b.active; body = b.body } → new.outside ≡ b.outside → Keeps (due_at save stop) m keep new.keep (Ok done)
+    → Runs steps a b stop → Finishes stop set b.trace new.trace result → Ran save (flat a.body a.active) steps (beside a.outside a.trace keep) new result
+ran-of_run save steps a b m keep new set stop result done set_is m_is same keeps runs closes =
+    subst (λ o. Ran save (flat a.body a.active) steps (beside a.outside a.trace keep) (beside o new.trace new.keep) result) (sym same)
     (record {
       taken = runs.run.taken;
       told = runs.run.told;
       each = λ before after rest took.
-          way-of_stop steps runs.left (state_of a before (answers_between a b ++ rest)) (state_of b after rest) (around_at b.outside after rest) set
-          (beside a.outside a.trace) (beside b.outside b.trace) (beside b.outside new.trace) stop result refl set_is refl (runs.run.each before after rest took) closes;
+          way-of_stop save m done steps runs.left (state_of a before (answers_between a b ++ rest)) (state_of b after rest) (around_at b.outside after rest) set
+          (beside a.outside a.trace keep) (beside b.outside b.trace keep) (beside b.outside new.trace new.keep) stop result refl set_is refl (runs.run.each before after rest took)
+          (ap (λ n. flat n.body n.active (around_at b.outside after rest)) m_is) keeps closes;
     })
 
+-- or the keeper failed
+pub ran-unkept : (name : List ℕ) (steps : ℕ) (a b : At) (m : Machine) (keep : Keep) (new : Beside) → m ≡ record { active = b.active; body = b.body } → new.outside ≡ b.outside → new.trace ≡ b.trace
+    → HasSpelling m → KeepsPart name (spell m) keep new.keep → Runs steps a b Limit → Ran (Some name) (flat a.body a.active) steps (beside a.outside a.trace keep) new 8
+ran-unkept name steps a b m keep new m_is same traced is part runs =
+    subst (λ o. Ran (Some name) (flat a.body a.active) steps (beside a.outside a.trace keep) (beside o new.trace new.keep) 8) (sym same)
+    (subst (λ t. Ran (Some name) (flat a.body a.active) steps (beside a.outside a.trace keep) (beside b.outside t new.keep) 8) (sym traced)
+    (record {
+      taken = runs.run.taken;
+      told = runs.run.told;
+      each = λ before after rest took.
+          let ran = runs.run.each before after rest took in
+          let none : runs.left ≡ 0 = limits-last 0 steps runs.left (state_of a before (answers_between a b ++ rest)) (state_of b after rest) ran.ends in
+          let all : steps - runs.left ≡ steps = omega (arith, none) in
+          keep_failed name (spell m) (state_of b after rest) refl
+          (subst (λ n. exec steps (state_of a before (answers_between a b ++ rest)) ≡ Ended Limited (state_of b after rest) n) none ran.ends) refl
+          (spells m (state_of b after rest) (ap (λ n. flat n.body n.active (around_at b.outside after rest)) m_is) is)
+          (subst (λ n. Grows a.outside.out b.outside.out (log said_of n (state_of a before (answers_between a b ++ rest)))) all ran.took.said)
+          (subst (λ n. Grows a.trace b.trace (log line_of n (state_of a before (answers_between a b ++ rest)))) all ran.took.traced)
+          part refl;
+    }))
+
 -- and from the same state for each outside it ran too
-pub ran-from : (start from : Around → State) (steps : ℕ) (old new : Beside) (result : ℕ) → ((around : Around) → start around ≡ from around) → Ran start steps old new result → Ran from steps old new result
-ran-from start from steps old new result same ran =
+pub ran-from : (save : Option (List ℕ)) (start from : Around → State) (steps : ℕ) (old new : Beside) (result : ℕ) → ((around : Around) → start around ≡ from around) → Ran save start steps old new result
+    → Ran save from steps old new result
+ran-from save start from steps old new result same ran =
     record {
       taken = ran.taken;
       told = ran.told;
       each = λ before after rest took.
-          subst (λ s. RunWay steps s (around_at new.outside after rest) old new result) (same (around_at old.outside before (answers_given old new ++ rest))) (ran.each before after rest took);
+          subst (λ s. RunWay save steps s (around_at new.outside after rest) old new result) (same (around_at old.outside before (answers_given old new ++ rest))) (ran.each before after rest took);
     }
 
 -- a refusal that is no want of memory
@@ -139,74 +195,163 @@ closes-refusal NoMemory old new line result ne same closes = absurd (ne refl)
 closes-refusal error old new line result ne same closes = subst (λ l. Closes old new [] l 3 result) same closes
 
 nine-plain : IsPlain 9
-nine-plain = record { input = refl; out = refl; trace = refl }
+nine-plain = record { input = refl; out = refl; trace = refl; keep = refl }
 
 unloaded-plain : (error : LoadError) → IsPlain (unloaded_status error)
 unloaded-plain NoMemory = nine-plain
-unloaded-plain error = record { input = refl; out = refl; trace = refl }
+unloaded-plain error = record { input = refl; out = refl; trace = refl; keep = refl }
 
 -- a program that was not loaded
-way-of_refusal : (job : Job) (files : Files) (Loaded : Program → Beside → Beside → ℕ → Type 0) (old new : Beside) (error : LoadError) (result : ℕ) → new.outside ≡ old.outside
+way-of_refusal : (job : Job) (files : Files) (Loaded : Program → Beside → Beside → ℕ → Type 0) (old new : Beside) (error : LoadError) (result : ℕ) → new.outside ≡ old.outside → new.keep ≡ old.keep
     → Gives (Err error) (load_of files job.main (ram_size job)) → Closes old.trace new.trace [] (unloaded_line error) (unloaded_status error) result → LoadWay job files Loaded old new result
-way-of_refusal job files Loaded old new NoMemory result same gives closes = no_memory (record { outside = same; trace = closes })
-way-of_refusal job files Loaded old new error result same gives closes = refused error (gives (other error tt)) (record { outside = same; trace = closes })
+way-of_refusal job files Loaded old new NoMemory result same kept gives closes = no_memory (record { outside = same; keep = kept; trace = closes })
+way-of_refusal job files Loaded old new error result same kept gives closes = refused error (gives (other error tt)) (record { outside = same; keep = kept; trace = closes })
 
-pub ends-unloaded : (job : Job) (files : Files) (Loaded : Program → Beside → Beside → ℕ → Type 0) (old new : Beside) (error : LoadError) (result : ℕ) → new.outside ≡ old.outside
+pub ends-unloaded : (save : Option (List ℕ)) (job : Job) (files : Files) (Loaded : Program → Beside → Beside → ℕ → Type 0) (old new : Beside) (error : LoadError) (result : ℕ)
+    → new.outside ≡ old.outside → new.keep ≡ old.keep
     → Gives (Err error) (load_of files job.main (ram_size job)) → Closes old.trace new.trace [] (unloaded_line error) (unloaded_status error) result
-    → EndsIn (LoadWay job files Loaded) old new result
-ends-unloaded job files Loaded old new error result same gives closes =
+    → EndsIn save (LoadWay job files Loaded) old new result
+ends-unloaded save job files Loaded old new error result same kept gives closes =
     record {
-      accounted = accounted-early old new (unloaded_line error) (unloaded_status error) result (unloaded-plain error) (record { outside = same; trace = closes });
-      way = way-of_refusal job files Loaded old new error result same gives closes;
+      accounted = accounted-early save old new (unloaded_line error) (unloaded_status error) result (unloaded-plain error) (record { outside = same; keep = kept; trace = closes });
+      way = way-of_refusal job files Loaded old new error result same kept gives closes;
     }
 
-pub accounted-memory : (old new : Beside) (result : ℕ) → new.outside ≡ old.outside → Closes old.trace new.trace [] memory_line 9 result → Accounted old new result
-accounted-memory old new result same closes = accounted-early old new memory_line 9 result nine-plain (record { outside = same; trace = closes })
+accounted-memory : (save : Option (List ℕ)) (old new : Beside) (result : ℕ) → Early old new memory_line 9 result → Accounted save old new result
+accounted-memory save old new result early = accounted-early save old new memory_line 9 result nine-plain early
+
+pub ends-memory : (save : Option (List ℕ)) (Way : Beside → Beside → ℕ → Type 0) → ((old new : Beside) (result : ℕ) → Early old new memory_line 9 result → Way old new result)
+    → (old new : Beside) (result : ℕ) → new.outside ≡ old.outside → new.keep ≡ old.keep → Closes old.trace new.trace [] memory_line 9 result → EndsIn save Way old new result
+ends-memory save Way way old new result same kept closes =
+    let early : Early old new memory_line 9 result = record { outside = same; keep = kept; trace = closes } in record { accounted = accounted-memory save old new result early; way = way old new result early }
+
+-- an image that was not restored
+abbrev IsOtherImage : ImageError → Type 0
+IsOtherImage NoMachine = ⊥
+IsOtherImage error = Unit {0}
+
+other-image : (error : ImageError) → IsOtherImage error → error ≢ NoMachine
+other-image error is same = subst IsOtherImage same is
+
+pub closes-image : (error : ImageError) (old new : Output) (line : List ℕ) (result : ℕ) → error ≢ NoMachine → line ≡ load_line (image_refusal error)
+    → Closes old new [] line 3 result → Closes old new [] (unrestored_line error) (unrestored_status error) result
+closes-image NoMachine old new line result ne same closes = absurd (ne refl)
+closes-image error old new line result ne same closes = subst (λ l. Closes old new [] l 3 result) same closes
+
+unrestored-plain : (error : ImageError) → IsPlain (unrestored_status error)
+unrestored-plain NoMachine = nine-plain
+unrestored-plain error = record { input = refl; out = refl; trace = refl; keep = refl }
+
+way-of_image : (save : Option (List ℕ)) (steps : ℕ) (image : List ℕ) (old new : Beside) (error : ImageError) (result : ℕ) → IsRestored image (Err error)
+    → Early old new (unrestored_line error) (unrestored_status error) result → ContinueWay save steps image old new result
+way-of_image save steps image old new NoMachine result is early = no_machine_memory early
+way-of_image save steps image old new error result is early = image_refused error (other-image error tt) is early
+
+pub ends-unrestored : (save : Option (List ℕ)) (steps : ℕ) (image : List ℕ) (old new : Beside) (error : ImageError) (result : ℕ) → IsRestored image (Err error) → new.outside ≡ old.outside → new.keep ≡ old.keep
+    → Closes old.trace new.trace [] (unrestored_line error) (unrestored_status error) result → EndsIn save (ContinueWay save steps image) old new result
+ends-unrestored save steps image old new error result is same kept closes =
+    let early : Early old new (unrestored_line error) (unrestored_status error) result = record { outside = same; keep = kept; trace = closes } in
+    record {
+      accounted = accounted-early save old new (unrestored_line error) (unrestored_status error) result (unrestored-plain error) early;
+      way = way-of_image save steps image old new error result is early;
+    }
+
+-- the machine ran, and the keeper failed at its spelling
+unkept : (save : Option (List ℕ)) (stop : Stop) (steps : ℕ) (a b : At) (m : Machine) (keep : Keep) (new : Beside) (failed : Failure) → m ≡ record { active = b.active; body = b.body }
+    → new.outside ≡ b.outside → new.trace ≡ b.trace → Keeps (due_at save stop) m keep new.keep (Err failed) → Runs steps a b stop
+    → Blames stop (counts_at (beside a.outside a.trace keep)) (counts_at (beside b.outside b.trace keep)) → Accounts a.outside.rack b.outside.rack
+    → EndsIn save (Ran save (flat a.body a.active) steps) (beside a.outside a.trace keep) new 8
+unkept None Limit steps a b m keep new failed m_is same traced keeps runs calm devices = absurd keeps
+unkept (Some name) Limit steps a b m keep new failed m_is same traced keeps runs calm devices =
+    record {
+      accounted = accounted-unkept name (beside a.outside a.trace keep) (beside b.outside b.trace keep) new calm devices same traced keeps.1.rose;
+      way = ran-unkept name steps a b m keep new m_is same traced keeps.0 keeps.1 runs;
+    }
+unkept save stop steps a b m keep new failed m_is same traced keeps runs calm devices = absurd keeps
+
+pub ends-unkept : (save given : Option (List ℕ)) (stop : Stop) (steps : ℕ) (a b : At) (m : Machine) (keep : Keep) (new : Beside) (failed : Failure) → given ≡ due_at save stop
+    → m ≡ record { active = b.active; body = b.body } → new.outside ≡ b.outside → new.trace ≡ b.trace → Keeps given m keep new.keep (Err failed) → Runs steps a b stop
+    → Blames stop (counts_at (beside a.outside a.trace keep)) (counts_at (beside b.outside b.trace keep)) → Accounts a.outside.rack b.outside.rack
+    → EndsIn save (Ran save (flat a.body a.active) steps) (beside a.outside a.trace keep) new 8
+ends-unkept save given stop steps a b m keep new failed due m_is same traced keeps runs calm devices =
+    unkept save stop steps a b m keep new failed m_is same traced (subst (λ name. Keeps name m keep new.keep (Err failed)) due keeps) runs calm devices
+
+-- or it was kept, or nothing was to be, and the end line was put
+pub ends-run : (save given : Option (List ℕ)) (stop : Stop) (steps : ℕ) (a b : At) (m : Machine) (keep : Keep) (new : Beside) (set : Isa) (result : ℕ) (done : Unit {0}) → given ≡ due_at save stop
+    → m ≡ record { active = b.active; body = b.body } → set ≡ isa_of b.active → new.outside ≡ b.outside → Keeps given m keep new.keep (Ok done) → Runs steps a b stop
+    → Blames stop (counts_at (beside a.outside a.trace keep)) (counts_at (beside b.outside b.trace keep)) → Accounts a.outside.rack b.outside.rack
+    → Finishes stop set b.trace new.trace result → EndsIn save (Ran save (flat a.body a.active) steps) (beside a.outside a.trace keep) new result
+ends-run save given stop steps a b m keep new set result done due m_is set_is same keeps runs blames devices finishes =
+    record {
+      accounted = accounted-stop save (beside a.outside a.trace keep) (beside b.outside b.trace keep) new set stop result blames devices same (keeps-calm given m keep new.keep done keeps) finishes;
+      way = ran-of_run save steps a b m keep new set stop result done set_is m_is same (subst (λ name. Keeps name m keep new.keep (Ok done)) due keeps) runs finishes;
+    }
 
 -- a file that was not fetched
 unfetched-plain : (error : FetchError) → IsPlain (unfetched_status error)
 unfetched-plain NoRoom = nine-plain
-unfetched-plain Failed = record { input = refl; out = refl; trace = refl }
-unfetched-plain (TooLong limit) = record { input = refl; out = refl; trace = refl }
+unfetched-plain Failed = record { input = refl; out = refl; trace = refl; keep = refl }
+unfetched-plain (TooLong limit) = record { input = refl; out = refl; trace = refl; keep = refl }
 
 way-of_cause : (words : List (List ℕ)) (old new : World) (command : Command) (key : Key) (place : ℕ) (error : FetchError) (result : ℕ)
     → command_of words ≡ Ok command → IsNext words old.shelf.contents command key place → IsCause old.shelf.contents (limit_of key) (name_at words place) old.shelf.faults new.shelf.faults error
-    → new.beside.outside ≡ old.beside.outside → Closes old.beside.trace new.beside.trace [] (unfetched_line key error) (unfetched_status error) result → Way words old new result
-way-of_cause words old new command key place NoRoom result is next cause same closes = no_memory_for_file command key place is next cause.0 cause.1 (record { outside = same; trace = closes })
-way-of_cause words old new command key place Failed result is next cause same closes = no_file command key place is next cause (record { outside = same; trace = closes })
-way-of_cause words old new command key place (TooLong limit) result is next cause same closes = long_file command key place is next cause.0 cause.1 (record { outside = same; trace = closes })
+    → Early old.beside new.beside (unfetched_line key error) (unfetched_status error) result → Way words old new result
+way-of_cause words old new command key place NoRoom result is next cause early = no_memory_for_file command key place is next cause.0 cause.1 early
+way-of_cause words old new command key place Failed result is next cause early = no_file command key place is next cause early
+way-of_cause words old new command key place (TooLong limit) result is next cause early = long_file command key place is next cause.0 cause.1 early
 
 pub ends-of_missing : (words : List (List ℕ)) (old new : World) (command : Command) (missing : Missing) (result : ℕ) → command_of words ≡ Ok command → new.shelf.contents ≡ old.shelf.contents
-    → MissesFirst words old.shelf.contents command keys_in_order old.shelf.faults new.shelf.faults missing → new.beside.outside ≡ old.beside.outside
+    → MissesFirst words old.shelf.contents command keys_in_order old.shelf.faults new.shelf.faults missing → new.beside.outside ≡ old.beside.outside → new.beside.keep ≡ old.beside.keep
     → Closes old.beside.trace new.beside.trace [] (unfetched_line missing.key missing.error) (unfetched_status missing.error) result → Ends words old new result
-ends-of_missing words old new command missing result is kept misses same closes =
+ends-of_missing words old new command missing result is kept misses same held closes =
+    let early : Early old.beside new.beside (unfetched_line missing.key missing.error) (unfetched_status missing.error) result = record { outside = same; keep = held; trace = closes } in
     record {
       contents = kept;
-      accounted = accounted-early old.beside new.beside (unfetched_line missing.key missing.error) (unfetched_status missing.error) result (unfetched-plain missing.error) (record { outside = same; trace = closes });
+      accounted = accounted-early (saved_name words) old.beside new.beside (unfetched_line missing.key missing.error) (unfetched_status missing.error) result (unfetched-plain missing.error) early;
       way = way-of_cause words old new command missing.key missing.place missing.error result is
-          (record { before = misses.before; after = misses.after; order = misses.order; fetched = misses.fetched }) misses.cause same closes;
+          (record { before = misses.before; after = misses.after; order = misses.order; fetched = misses.fetched }) misses.cause early;
     }
+
+-- the files that the command wants were fetched
+pub ends-done : (words : List (List ℕ)) (old new : World) (command : Command) (files : Fetched) (save : Option (List ℕ)) (result : ℕ) → command_of words ≡ Ok command → save ≡ saved_by words command
+    → new.shelf.contents ≡ old.shelf.contents → AreFiles words old.shelf.contents command files → CountsStay old.shelf.faults new.shelf.faults
+    → EndsIn save (FilesWay save command files) old.beside new.beside result → Ends words old new result
+ends-done words old new command files save result is save_is kept are stay ends =
+    let named : saved_name words ≡ saved_by words command = ap (λ r. option_and_then (saved_by words) (result_ok r)) is in
+    let own : EndsIn (saved_by words command) (FilesWay (saved_by words command) command files) old.beside new.beside result =
+    subst (λ o. EndsIn o (FilesWay o command files) old.beside new.beside result) save_is ends in
+    record {
+      contents = kept;
+      accounted = subst (λ o. Accounted o old.beside new.beside result) (sym named) own.accounted;
+      way = fetched command files is are stay own.way;
+    }
+
+-- a command that keeps nothing
+pub ends-other : (save : Option (List ℕ)) (command own : Command) (files : Fetched) (old new : Beside) (result : ℕ) → command ≡ own → EndsIn None (FilesWay save own files) old new result
+    → EndsIn save (FilesWay save command files) old new result
+ends-other save command own files old new result is ends =
+    subst (λ c. EndsIn save (FilesWay save c files) old new result) (sym is) (ends-quiet save (FilesWay save own files) old new result ends)
 
 -- words that are no command
 pub ends-of_words : (words : List (List ℕ)) (old new : World) (place : ℕ) (line : List ℕ) (result : ℕ) → command_of words ≡ Err (bad_at place) → line ≡ words_line place → new.shelf ≡ old.shelf
-    → new.beside.outside ≡ old.beside.outside → Closes old.beside.trace new.beside.trace [] line 2 result → Ends words old new result
-ends-of_words words old new place line result bad line_is shelf same closes =
+    → new.beside.outside ≡ old.beside.outside → new.beside.keep ≡ old.beside.keep → Closes old.beside.trace new.beside.trace [] line 2 result → Ends words old new result
+ends-of_words words old new place line result bad line_is shelf same kept closes =
     let told : Early old.beside new.beside (words_line place) 2 result =
-    record { outside = same; trace = subst (λ l. Closes old.beside.trace new.beside.trace [] l 2 result) line_is closes } in
+    record { outside = same; keep = kept; trace = subst (λ l. Closes old.beside.trace new.beside.trace [] l 2 result) line_is closes } in
     record {
       contents = ap (λ s. s.contents) shelf;
-      accounted = accounted-early old.beside new.beside (words_line place) 2 result (record { input = refl; out = refl; trace = refl }) told;
+      accounted = accounted-early (saved_name words) old.beside new.beside (words_line place) 2 result (record { input = refl; out = refl; trace = refl; keep = refl }) told;
       way = bad_words place bad (λ n. ap (λ s. s.faults n) shelf) told;
     }
 
 pub accounted-sample : (old new : Beside) (calls depth : ℕ) (sampled : Sampled) (ending : Ending) (result : ℕ) → OnlyPuts old new
-    → PutsSample calls depth sampled ending old.outside.out new.outside.out result → Accounted old new result
+    → PutsSample calls depth sampled ending old.outside.out new.outside.out result → Accounted None old new result
 accounted-sample old new calls depth sampled (ExitEnding code) result only puts =
-    accounted-puts old new _ 0 result (record { input = refl; out = refl; trace = refl }) only puts
+    accounted-puts old new _ 0 result (record { input = refl; out = refl; trace = refl; keep = refl }) only puts
 accounted-sample old new calls depth sampled (FaultEnding fault) result only puts =
-    accounted-puts old new _ 10 result (record { input = refl; out = refl; trace = refl }) only puts
+    accounted-puts old new _ 10 result (record { input = refl; out = refl; trace = refl; keep = refl }) only puts
 accounted-sample old new calls depth sampled LimitEnding result only puts =
-    accounted-quiet old new 11 result (record { input = refl; out = refl; trace = refl }) only puts.0 puts.1
+    accounted-quiet old new 11 result (record { input = refl; out = refl; trace = refl; keep = refl }) only puts.0 puts.1
 
 -- the files of a job can be loaded
 named-small : (contents : Contents) (name file : Option (List ℕ)) → IsNamed contents 16777216 name file → IsSmall file
@@ -242,12 +387,12 @@ named-alone words contents limit main (Some place) r p None files alone own name
 named-alone words contents limit main (Some place) r p (Some flat) files alone own named rsrc pef =
     (named-no words contents limit r files.rsrc alone.0 rsrc, named-no words contents limit p files.pef alone.1 pef)
 
-job-loadable : (words : List (List ℕ)) (contents : Contents) (command : Command) (job : Job) (files : Fetched) → ((key : Key) → place_in command key ≡ place_of job key) → IsProperJob job
+job-loadable : (words : List (List ℕ)) (contents : Contents) (command : Command) (job : Job) (files : Fetched) → place_in command Flat ≡ job.flat → place_in command Rsrc ≡ job.rsrc → place_in command Pef ≡ job.pef → IsProperJob job
     → AreFiles words contents command files → AreLoadable files.program job.main
-job-loadable words contents command job files places proper are =
-    let flat : IsNamed contents 16777216 (option_map (name_at words) job.flat) files.program.flat = subst (λ o. IsNamed contents 16777216 (option_map (name_at words) o) files.program.flat) (places Flat) (are Flat) in
-    let rsrc : IsNamed contents 16777216 (option_map (name_at words) job.rsrc) files.program.rsrc = subst (λ o. IsNamed contents 16777216 (option_map (name_at words) o) files.program.rsrc) (places Rsrc) (are Rsrc) in
-    let pef : IsNamed contents 16777216 (option_map (name_at words) job.pef) files.program.pef = subst (λ o. IsNamed contents 16777216 (option_map (name_at words) o) files.program.pef) (places Pef) (are Pef) in
+job-loadable words contents command job files flat_is rsrc_is pef_is proper are =
+    let flat : IsNamed contents 16777216 (option_map (name_at words) job.flat) files.program.flat = subst (λ o. IsNamed contents 16777216 (option_map (name_at words) o) files.program.flat) flat_is (are Flat) in
+    let rsrc : IsNamed contents 16777216 (option_map (name_at words) job.rsrc) files.program.rsrc = subst (λ o. IsNamed contents 16777216 (option_map (name_at words) o) files.program.rsrc) rsrc_is (are Rsrc) in
+    let pef : IsNamed contents 16777216 (option_map (name_at words) job.pef) files.program.pef = subst (λ o. IsNamed contents 16777216 (option_map (name_at words) o) files.program.pef) pef_is (are Pef) in
     record {
       named = named-alone words contents 16777216 job.main job.flat job.rsrc job.pef files.program.flat files.program proper.alone proper.own flat rsrc pef;
       flat = named-small contents (option_map (name_at words) job.flat) files.program.flat flat;
@@ -256,27 +401,40 @@ job-loadable words contents command job files places proper are =
     }
 
 pub loadable : (words : List (List ℕ)) (contents : Contents) (command : Command) (files : Fetched) → IfSome (job_in command) IsProperJob → AreFiles words contents command files → AreFor command files.program
-loadable words contents (Run job) files proper are = job-loadable words contents (Run job) job files (λ key. refl) proper are
-loadable words contents (Lists job address count) files proper are = job-loadable words contents (Lists job address count) job files (λ key. refl) proper are
+loadable words contents (Run job) files proper are = job-loadable words contents (Run job) job files refl refl refl proper are
+loadable words contents (Lists job address count) files proper are = job-loadable words contents (Lists job address count) job files refl refl refl proper are
 loadable words contents (Sample calls depth) files proper are = tt
 loadable words contents (Assemble set text address) files proper are = tt
+loadable words contents (Continue image steps to) files proper are = tt
+loadable words contents (Debug job script) files proper are = job-loadable words contents (Debug job script) job files refl refl refl proper are
 
--- a text has its limit
-text-short : (o : Option (List ℕ)) → IsSmall o → length (unwrap_or o []) ≤ 16777216
-text-short None small = omega arith
-text-short (Some text) small = small
+-- a file has its limit
+named-short : (contents : Contents) (limit : ℕ) (name file : Option (List ℕ)) → IsNamed contents limit name file → length (bytes_in file) ≤ limit
+named-short contents limit None None named = omega arith
+named-short contents limit None (Some file) named = absurd named
+named-short contents limit (Some name) None named = absurd named
+named-short None limit (Some name) (Some file) named = named
+named-short (Some held) limit (Some name) (Some file) named = named.1
 
-pub short-text : (words : List (List ℕ)) (contents : Contents) (command : Command) (files : Fetched) → AreFiles words contents command files → length (text_in files) ≤ 16777216
-short-text words contents command files are = text-short files.text (named-small contents (option_map (name_at words) (place_in command Text)) files.text (are Text))
+pub short-files : (words : List (List ℕ)) (contents : Contents) (command : Command) (files : Fetched) → AreFiles words contents command files → AreShort files
+short-files words contents command files are =
+    record {
+      image = named-short contents 17825792 (option_map (name_at words) (place_in command Image)) files.image (are Image);
+      text = named-short contents 16777216 (option_map (name_at words) (place_in command Text)) files.text (are Text);
+      script = named-short contents 16777216 (option_map (name_at words) (place_in command Script)) files.script (are Script);
+    }
 
 -- the ways of a text
 pub ends-assembled : (set : Isa) (at : ℕ) (text : List ℕ) (old new : Beside) (result : ℕ) → OnlyPuts old new
-    → OfBytes set at text (λ bytes. PutsText old.outside.out new.outside.out bytes 0 result) → EndsIn (AssembleWay set at text) old new result
+    → OfBytes set at text (λ bytes. PutsText old.outside.out new.outside.out bytes 0 result) → EndsIn None (AssembleWay set at text) old new result
 ends-assembled set at text old new result only put =
     record {
-      accounted = accounted-puts old new put.bytes 0 result (record { input = refl; out = refl; trace = refl }) only put.puts;
+      accounted = accounted-puts old new put.bytes 0 result (record { input = refl; out = refl; trace = refl; keep = refl }) only put.puts;
       way = assembled put.bytes put.is (record { only = only; out = put.puts });
     }
+
+pub ends-text : (set : Isa) (at : ℕ) (text own : List ℕ) (old new : Beside) (result : ℕ) → text ≡ own → EndsIn None (AssembleWay set at text) old new result → EndsIn None (AssembleWay set at own) old new result
+ends-text set at text own old new result same ends = subst (λ t. EndsIn None (AssembleWay set at t) old new result) same ends
 
 -- the text was put, or not
 pub put-whole : (set : Isa) (at : ℕ) (text : List ℕ) (old new : Output) → OfBytes set at text (Grows old new) → OfBytes set at text (λ bytes. PutsText old new bytes 0 0)
@@ -286,10 +444,10 @@ pub put-part : (set : Isa) (at : ℕ) (text : List ℕ) (old new : Output) → O
 put-part set at text old new put = record { bytes = put.bytes; is = put.is; puts = inr (put.puts, refl) }
 
 pub ends-refused : (set : Isa) (at : ℕ) (text : List ℕ) (old new : Beside) (bad : Refused) (line : List ℕ) (result : ℕ) → IsAssembled set at text (Err bad) → line ≡ load_line (line_refusal bad)
-    → new.outside ≡ old.outside → Closes old.trace new.trace [] line 3 result → EndsIn (AssembleWay set at text) old new result
-ends-refused set at text old new bad line result is line_is same closes =
-    let told : Early old new (load_line (line_refusal bad)) 3 result = record { outside = same; trace = subst (λ l. Closes old.trace new.trace [] l 3 result) line_is closes } in
+    → new.outside ≡ old.outside → new.keep ≡ old.keep → Closes old.trace new.trace [] line 3 result → EndsIn None (AssembleWay set at text) old new result
+ends-refused set at text old new bad line result is line_is same kept closes =
+    let told : Early old new (load_line (line_refusal bad)) 3 result = record { outside = same; keep = kept; trace = subst (λ l. Closes old.trace new.trace [] l 3 result) line_is closes } in
     record {
-      accounted = accounted-early old new (load_line (line_refusal bad)) 3 result (record { input = refl; out = refl; trace = refl }) told;
+      accounted = accounted-early None old new (load_line (line_refusal bad)) 3 result (record { input = refl; out = refl; trace = refl; keep = refl }) told;
       way = line_refused bad is told;
     }

@@ -1,23 +1,12 @@
 -- The ways in which a call of the program ends, each with its cause. This is the whole promise of the public call:
 -- whatever the words, the files, the input, the answers of the devices and the failures of the outside are, one of
 -- these holds.
-use Rattle.std.specs.Prelude.{◌≡◌, ℕ, suc, ◌-◌, ◌<◌, ◌≤◌, ◌==◌, List, ◌∷◌, ◌++◌, Option, Ok, Err, if◌then◌else◌}
-use Rattle.mix_bits.specs.declared.isa.Isa.{Isa}
+use Rattle.std.specs.Prelude.{◌≡◌, ℕ, List, ◌∷◌, ◌++◌, Option, Ok, Err}
+use Rattle.std.specs.Option.{option_and_then, option_map}
+use Rattle.std.specs.Result.{result_ok}
 use Rattle.mix_io.specs.Counts.{CountsStay, CountRose}
-use Rattle.mix_io.specs.Streams.{Output, Grows, Breaks}
+use Rattle.mix_io.specs.Streams.{Output}
 use Rattle.switch_frame.specs.declared.program.Program.{Program}
-use Rattle.switch_frame.specs.Records.{isa_of}
-use Rattle.toolbox.specs.Calls.{Taken, answers_since}
-use Rattle.toolbox.specs.Effects.{Around}
-use Rattle.call_trace.specs.Lines.{end_line}
-use Rattle.call_trace.specs.declared.end.End.{End}
-use Rattle.call_trace.specs.declared.end.End.TheVariants.{Exit, Fault, Limit}
-use Rattle.mixed_machine.specs.State.{State}
-use Rattle.mixed_machine.specs.Step.{step}
-use Rattle.mixed_machine.specs.Exec.{How, exec, Leads, GoesTo, Says, Tells, Reads, log, said_of, line_of}
-use Rattle.mixed_machine.specs.Exec.How.{Limited, Exited, Faulted}
-use Rattle.mixed_machine.specs.Exec.End.{Ended}
-use Rattle.mixed_machine.specs.Outside.{TookAll, ToldAll, around_at}
 use Rattle.mix_engine.specs.Start.{start_of}
 use Rattle.mix_list.specs.Listing.{listing}
 use Rattle.mix_load.specs.Load.{load_of}
@@ -27,77 +16,30 @@ use Rattle.mix_sample.specs.Samples.{IsSample, sample_ram, sample_steps}
 use Rattle.mix_sample.specs.declared.sampled.Ending.{Ending}
 use Rattle.mix_sample.specs.declared.sampled.Ending.TheVariants.{Exit as ExitEnding, Fault as FaultEnding, Limit as LimitEnding}
 use Rattle.mix_sample.specs.declared.sampled.Sampled.{Sampled}
-use Rattle.job_words.specs.Jobs.{limit_of, wants}
+use Rattle.mix_script.specs.Scripts.{script_of}
+use Rattle.mix_script.specs.declared.command.Command.{Command as Commanded}
+use Rattle.job_words.specs.Jobs.{limit_of, save_in, wants}
 use Rattle.job_words.specs.Words.{bad_at, command_of, name_at}
 use Rattle.job_words.specs.declared.job.Command.{Command}
-use Rattle.job_words.specs.declared.job.Command.TheVariants.{Run, List as Lists, Sample, Assemble}
+use Rattle.job_words.specs.declared.job.Command.TheVariants.{Run, List as Lists, Sample, Assemble, Continue, Debug}
 use Rattle.job_words.specs.declared.job.Job.{Job}
 use Rattle.job_words.specs.declared.job.Key.{Key}
 use Rattle.mix_top.specs.Lines.{memory_line, words_line, fetch_line, load_line, long_file as long_refusal, load_refusal}
-use Rattle.mix_top.specs.World.{Beside, Contents, World, Closes, Early, Accounted, Listed, OnlyPuts, PutsText}
+use Rattle.mix_top.specs.World.{Beside, Contents, World, Early, Accounted, Listed, OnlyPuts, PutsText}
+use Rattle.mix_top.specs.Running.{Ran}
 use Rattle.mix_top.specs.SampleLine.{sample_line, exit_text, fault_text}
-use Rattle.mix_top.specs.Files.{IsLong, IsNotLong, AreFetched, AreFiles, ram_size, text_in}
+use Rattle.mix_top.specs.Files.{IsLong, IsNotLong, AreFetched, AreFiles, bytes_in, ram_size}
 use Rattle.mix_top.specs.Assembling.{AssembleWay}
+use Rattle.mix_top.specs.Continuing.{ContinueWay}
+use Rattle.mix_top.specs.Debugging.{ScriptWay, script_refusal}
 use Rattle.mix_top.specs.declared.files.Fetched.{Fetched}
 
--- the end of a run while a set was active, as its line tells it
-abbrev pub end_of : Isa → How → End
-end_of set Limited = Limit
-end_of set (Exited code) = Exit code
-end_of set (Faulted fault) = Fault set fault
-
--- its status: 0 or 1 for an exit, 10 for a fault, 11 for the step limit
-abbrev pub status_of : How → ℕ
-status_of Limited = 11
-status_of (Exited code) = if code == 0 then 0 else 1
-status_of (Faulted fault) = 10
-
--- the ways in which a run of at most so many steps ends that starts in a state, and leaves this around it
-pub data RunWay (steps : ℕ) (start : State) (around : Around) (old new : Beside) (result : ℕ) : Type 0 where
-  -- it came to its end, and the end line was put
-  ended : (last : State) (how : How) (left : ℕ)
-      → left ≤ steps → exec steps start ≡ Ended how last left → last.around ≡ around
-      → Grows old.outside.out new.outside.out (log said_of (steps - left) start)
-      → Closes old.trace new.trace (log line_of (steps - left) start) (end_line (end_of (isa_of last.active) how)) (status_of how) result
-      → RunWay steps start around old new result
-  -- the input failed at a step, of those allowed, that reads it; the step stands, and no end line is written
-  read_failed : (last : State) (done : ℕ)
-      → done < steps → Leads 0 done start last → Reads (step last) → last.around ≡ around
-      → Grows old.outside.out new.outside.out (log said_of done start)
-      → Grows old.trace new.trace (log line_of done start) → result ≡ 5
-      → RunWay steps start around old new result
-  -- the output failed at a step, of those allowed, that puts something; the step stands, and no end line is written
-  out_failed : (last : State) (done : ℕ)
-      → done < steps → Leads 0 done start last → Says (step last) → last.around ≡ around
-      → Breaks old.outside.out new.outside.out (log said_of done start) (said_of (step last))
-      → Grows old.trace new.trace (log line_of done start) → result ≡ 6
-      → RunWay steps start around old new result
-  -- the trace failed at the line of a step, of those allowed; the step is done, and no end line is written
-  trace_failed : (before last : State) (done : ℕ)
-      → done < steps → Leads 0 done start before → GoesTo (step before) last → Tells (step before) → last.around ≡ around
-      → Grows old.outside.out new.outside.out (log said_of (suc done) start)
-      → Breaks old.trace new.trace (log line_of done start) (line_of (step before)) → result ≡ 7
-      → RunWay steps start around old new result
-
--- the answers that the devices gave in the call: those of the journal's new entries
-abbrev pub answers_given : Beside → Beside → List (Option ℕ)
-answers_given old new = answers_since old.outside.rack new.outside.rack
-
--- A machine ran from this state, for each outside. For every input that fits what was taken from it, and whatever
--- answers would come after those that the devices gave, it ran as the definition says: no answer that was given is left
--- over, and none is missing. Some input fits; where the input tells its bytes, these are the ones.
-pub record Ran (start : Around → State) (steps : ℕ) (old new : Beside) (result : ℕ) : Type 0 where
-  pub taken : List Taken
-  pub told : ToldAll taken old.outside.input.left new.outside.input.left
-  pub each : (before after : List ℕ) (rest : List (Option ℕ)) → TookAll taken before after
-      → RunWay steps (start (around_at old.outside before (answers_given old new ++ rest))) (around_at new.outside after rest) old new result
-
 -- the ways to end once a program was loaded
-pub data ProgramWay (program : Program) (steps : ℕ) (old new : Beside) (result : ℕ) : Type 0 where
+pub data ProgramWay (save : Option (List ℕ)) (program : Program) (steps : ℕ) (old new : Beside) (result : ℕ) : Type 0 where
   -- there was no memory for the machine
-  no_machine : Early old new memory_line 9 result → ProgramWay program steps old new result
+  no_machine : Early old new memory_line 9 result → ProgramWay save program steps old new result
   -- it ran
-  ran : Ran (start_of program) steps old new result → ProgramWay program steps old new result
+  ran : Ran save (start_of program) steps old new result → ProgramWay save program steps old new result
 
 -- the ways to end of a command that loads the program of a job, and then ends in one of its own
 pub data LoadWay (job : Job) (files : Files) (Loaded : Program → Beside → Beside → ℕ → Type 0) (old new : Beside) (result : ℕ) : Type 0 where
@@ -110,6 +52,15 @@ pub data LoadWay (job : Job) (files : Files) (Loaded : Program → Beside → Be
   -- the program was loaded
   loaded : (program : Program) → load_of files job.main (ram_size job) ≡ Ok program → Loaded program old new result
       → LoadWay job files Loaded old new result
+
+-- the ways to end of a debugger's script, once it was fetched
+pub data DebugWay (job : Job) (files : Files) (script : List ℕ) (old new : Beside) (result : ℕ) : Type 0 where
+  -- the first line that is no command; the program is not loaded
+  line_refused : (number : ℕ) → script_of script ≡ Err number → Early old new (load_line (script_refusal number)) 3 result
+      → DebugWay job files script old new result
+  -- each line is a command
+  lines_read : (commands : List Commanded) → script_of script ≡ Ok commands → LoadWay job files (ScriptWay commands) old new result
+      → DebugWay job files script old new result
 
 -- the line of a sample, by how it ended; at the step limit nothing is written
 abbrev pub PutsSample : ℕ → ℕ → Sampled → Ending → Output → Output → ℕ → Type 0
@@ -132,18 +83,27 @@ pub data SampleWay (calls depth : ℕ) (old new : Beside) (result : ℕ) : Type 
   sample_ran : SampleRan calls depth old new result → SampleWay calls depth old new result
 
 -- the ways to end of a run, and of a listing
-abbrev pub RunsWay : Job → Files → Beside → Beside → ℕ → Type 0
-RunsWay job files = LoadWay job files (λ program. ProgramWay program job.steps)
+abbrev pub RunsWay : Option (List ℕ) → Job → Files → Beside → Beside → ℕ → Type 0
+RunsWay save job files = LoadWay job files (λ program. ProgramWay save program job.steps)
 
 abbrev pub ListsWay : Job → ℕ → ℕ → Files → Beside → Beside → ℕ → Type 0
 ListsWay job address count files = LoadWay job files (λ program. Listed (listing count job.main program.ram address))
 
+-- the name under which a command keeps what it runs, at the step limit
+abbrev pub saved_by : List (List ℕ) → Command → Option (List ℕ)
+saved_by words command = option_map (name_at words) (save_in command)
+
+abbrev pub saved_name : List (List ℕ) → Option (List ℕ)
+saved_name words = option_and_then (saved_by words) (result_ok (command_of words))
+
 -- the ways to end once the files of a command were fetched
-abbrev pub FilesWay : Command → Fetched → Beside → Beside → ℕ → Type 0
-FilesWay (Run job) files = RunsWay job files.program
-FilesWay (Lists job address count) files = ListsWay job address count files.program
-FilesWay (Sample calls depth) files = SampleWay calls depth
-FilesWay (Assemble set text address) files = AssembleWay set address (text_in files)
+abbrev pub FilesWay : Option (List ℕ) → Command → Fetched → Beside → Beside → ℕ → Type 0
+FilesWay save (Run job) files = RunsWay save job files.program
+FilesWay save (Lists job address count) files = ListsWay job address count files.program
+FilesWay save (Sample calls depth) files = SampleWay calls depth
+FilesWay save (Assemble set text address) files = AssembleWay set address (bytes_in files.text)
+FilesWay save (Continue image steps to) files = ContinueWay save steps (bytes_in files.image)
+FilesWay save (Debug job script) files = DebugWay job files.program (bytes_in files.script)
 
 -- the file of a key, which the word at a place names, is the next to be fetched, after others that were
 pub record IsNext (words : List (List ℕ)) (contents : Contents) (command : Command) (key : Key) (place : ℕ) : Type 0 where
@@ -174,12 +134,12 @@ pub data Way (words : List (List ℕ)) (old new : World) (result : ℕ) : Type 0
       → Way words old new result
   -- the files that the command wants were fetched; a sample wants none
   fetched : (command : Command) (files : Fetched) → command_of words ≡ Ok command → AreFiles words old.shelf.contents command files
-      → CountsStay old.shelf.faults new.shelf.faults → FilesWay command files old.beside new.beside result
+      → CountsStay old.shelf.faults new.shelf.faults → FilesWay (saved_by words command) command files old.beside new.beside result
       → Way words old new result
 
 -- a call of the program: it leaves the shelf's files as they are, accounts for each failure and each device, and ended
 -- in one of the ways
 pub record Ends (words : List (List ℕ)) (old new : World) (result : ℕ) : Type 0 where
   pub contents : new.shelf.contents ≡ old.shelf.contents
-  pub accounted : Accounted old.beside new.beside result
+  pub accounted : Accounted (saved_name words) old.beside new.beside result
   pub way : Way words old new result

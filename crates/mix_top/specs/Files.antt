@@ -6,7 +6,7 @@ use Rattle.job_words.specs.Words.{name_at}
 use Rattle.job_words.specs.declared.job.Command.{Command}
 use Rattle.job_words.specs.declared.job.Job.{Job}
 use Rattle.job_words.specs.declared.job.Key.{Key}
-use Rattle.job_words.specs.declared.job.Key.TheVariants.{Flat, Rsrc, Pef, Text}
+use Rattle.job_words.specs.declared.job.Key.TheVariants.{Flat, Rsrc, Pef, Image, Text, Script}
 use Rattle.mix_top.specs.World.{Contents}
 use Rattle.mix_top.specs.declared.files.Fetched.{Fetched}
 
@@ -45,14 +45,16 @@ abbrev pub file_in : Fetched → Key → Option (List ℕ)
 file_in files Flat = files.program.flat
 file_in files Rsrc = files.program.rsrc
 file_in files Pef = files.program.pef
+file_in files Image = files.image
 file_in files Text = files.text
+file_in files Script = files.script
 
 abbrev pub AreFiles : List (List ℕ) → Contents → Command → Fetched → Type 0
 AreFiles words contents command files = (key : Key) → IsOf words contents command key (file_in files key)
 
--- the bytes of the text, none where there is no text
-abbrev pub text_in : Fetched → List ℕ
-text_in files = unwrap_or files.text []
+-- the bytes of a file, none where there is no file
+abbrev pub bytes_in : Option (List ℕ) → List ℕ
+bytes_in file = unwrap_or file []
 
 -- the bytes of RAM of a job
 abbrev pub ram_size : Job → ℕ

@@ -3,5 +3,10 @@ pub mod World
 pub mod Files
 pub mod SampleLine
 pub mod Assembling
+pub mod Keeping
+pub mod Running
+pub mod Continuing
+pub mod Debugging
 pub mod Ends
+pub mod Laws
 pub mod Parts

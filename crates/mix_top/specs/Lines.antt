@@ -3,7 +3,7 @@ use Rattle.std.specs.Prelude.{ℕ, ℤ, pos, List, ◌++◌, codes}
 use Rattle.std.specs.Fmt.{signed_decimal}
 use Rattle.job_words.specs.Settings.{key_text}
 use Rattle.job_words.specs.declared.job.Key.{Key}
-use Rattle.job_words.specs.declared.job.Key.TheVariants.{Flat, Rsrc, Pef, Text}
+use Rattle.job_words.specs.declared.job.Key.TheVariants.{Flat, Rsrc, Pef, Image, Text, Script}
 use Rattle.rsrc_fork.specs.declared.error.RsrcError.{RsrcError}
 use Rattle.rsrc_fork.specs.declared.error.RsrcError.TheVariants.{NoMemory as NoForkMemory, Short as ForkShort, Overlap, BadOffset, Twice, Compressed}
 use Rattle.pef_head.specs.declared.error.PefError.{PefError}
@@ -44,7 +44,9 @@ abbrev pub key_number : Key → ℕ
 key_number Flat = 0
 key_number Rsrc = 1
 key_number Pef = 2
+key_number Image = 3
 key_number Text = 4
+key_number Script = 5
 
 abbrev pub file_number : File → ℕ
 file_number FlatFile = 0

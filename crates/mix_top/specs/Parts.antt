@@ -1,8 +1,9 @@
 -- What the parts of the public call answer.
-use Rattle.std.specs.Prelude.{◌≡◌, ℕ, List, [], ◌∷◌, ◌++◌, Option, Some, IfSome}
+use Rattle.std.specs.Prelude.{◌≡◌, ℕ, ◌≤◌, List, [], ◌∷◌, ◌++◌, length, Option, Some, None, Result, Ok, Err, IfSome}
 use Rattle.mix_bits.specs.declared.isa.Isa.{Isa}
 use Rattle.mix_io.specs.Counts.{CountsStay, CountRose}
 use Rattle.mix_io.specs.Streams.{Output}
+use Rattle.mix_io.specs.declared.errors.Failed.{Failed as Failure}
 use Rattle.mix_io.specs.declared.errors.FetchError.{FetchError}
 use Rattle.mix_io.specs.declared.errors.FetchError.TheVariants.{NoMemory as NoRoom, Failed, TooLong}
 use Rattle.dev_rack.specs.Rack.{State}
@@ -16,16 +17,22 @@ use Rattle.job_words.specs.Jobs.{job_in, limit_of, place_in, wanted_among}
 use Rattle.job_words.specs.Words.{name_at}
 use Rattle.job_words.specs.declared.job.Command.{Command}
 use Rattle.job_words.specs.declared.job.Key.{Key}
-use Rattle.job_words.specs.declared.job.Key.TheVariants.{Flat, Rsrc, Pef, Text}
+use Rattle.job_words.specs.declared.job.Key.TheVariants.{Flat, Rsrc, Pef, Image, Text, Script}
 use Rattle.mix_load.specs.Load.{AreLoadable}
 use Rattle.mix_load.specs.declared.files.Files.{Files}
 use Rattle.mix_load.specs.declared.error.LoadError.{LoadError}
 use Rattle.mix_load.specs.declared.error.LoadError.TheVariants.{NoMemory}
+use Rattle.mix_engine.specs.declared.machine.Machine.{Machine}
+use Rattle.mix_image.specs.Spelling.{HasSpelling, spell}
+use Rattle.mix_image.specs.declared.error.ImageError.{ImageError}
+use Rattle.mix_image.specs.declared.error.ImageError.TheVariants.{NoMemory as NoMachine}
 use Rattle.mix_top.specs.Lines.{memory_line, fetch_line, load_line, long_file, load_refusal}
 use Rattle.mix_io.specs.Streams.{output}
-use Rattle.mix_top.specs.World.{Beside, Contents, Closes, beside}
-use Rattle.mix_top.specs.Files.{AreFetched, IsLong, IsNotLong, IsOf}
-use Rattle.mix_top.specs.Ends.{end_of, status_of}
+use Rattle.mix_top.specs.World.{Beside, Contents, Closes, Keep, beside}
+use Rattle.mix_top.specs.Files.{AreFetched, IsLong, IsNotLong, IsOf, bytes_in}
+use Rattle.mix_top.specs.Keeping.{KeepsAll, KeepsPart}
+use Rattle.mix_top.specs.Continuing.{image_refusal}
+use Rattle.mix_top.specs.Running.{end_of, status_of}
 use Rattle.mix_top.specs.declared.files.Fetched.{Fetched}
 use Rattle.mix_top.specs.declared.files.Missing.{Missing}
 
@@ -54,7 +61,9 @@ abbrev pub with_file : Fetched → Key → Option (List ℕ) → Fetched
 with_file files Flat file = record files { program = record files.program { flat = file } }
 with_file files Rsrc file = record files { program = record files.program { rsrc = file } }
 with_file files Pef file = record files { program = record files.program { pef = file } }
+with_file files Image file = record files { image = file }
 with_file files Text file = record files { text = file }
+with_file files Script file = record files { script = file }
 
 pub record AddsOne (words : List (List ℕ)) (contents : Contents) (command : Command) (key : Key) (old : Fetched) (Rest : Fetched → Type 0) : Type 0 where
   pub file : Option (List ℕ)
@@ -68,6 +77,12 @@ Adds words contents command (key ∷ keys) old new = AddsOne words contents comm
 -- files from which the program of a command, if any, can be loaded
 abbrev pub AreFor : Command → Files → Type 0
 AreFor command files = IfSome (job_in command) (λ job. AreLoadable files job.main)
+
+-- files that are no longer than their limits
+pub record AreShort (files : Fetched) : Type 0 where
+  pub image : length (bytes_in files.image) ≤ 17825792
+  pub text : length (bytes_in files.text) ≤ 16777216
+  pub script : length (bytes_in files.script) ≤ 16777216
 
 -- the line and the status for a file that was not fetched
 abbrev pub unfetched_line : Key → FetchError → List ℕ
@@ -89,12 +104,21 @@ abbrev pub unloaded_status : LoadError → ℕ
 unloaded_status NoMemory = 9
 unloaded_status error = 3
 
+-- and for an image that was not restored
+abbrev pub unrestored_line : ImageError → List ℕ
+unrestored_line NoMachine = memory_line
+unrestored_line error = load_line (image_refusal error)
+
+abbrev pub unrestored_status : ImageError → ℕ
+unrestored_status NoMachine = 9
+unrestored_status error = 3
+
 -- what the objects that are lent tell
 abbrev pub beside_lent : {I O T D : Type 0} → (I → Option (List ℕ)) → (I → ℕ) → (O → Option (List ℕ)) → (O → ℕ) → (T → Option (List ℕ)) → (T → ℕ) → (D → State)
-    → Outside I O T D → Beside
-beside_lent left read_faults held put_faults traced trace_faults state lent =
+    → Outside I O T D → Keep → Beside
+beside_lent left read_faults held put_faults traced trace_faults state lent keep =
     beside (outside (left lent.input.now) (read_faults lent.input.now) (state lent.rack.now) (held lent.out.now) (put_faults lent.out.now))
-    (output (traced lent.trace.now) (trace_faults lent.trace.now))
+    (output (traced lent.trace.now) (trace_faults lent.trace.now)) keep
 
 -- how a run that stopped while a set was active ends the call: with its line and status, or, where the outside
 -- stopped it, with none
@@ -105,3 +129,15 @@ Finishes Limit set old new result = Closes old new [] (end_line (end_of set Limi
 Finishes ReadFault set old new result = (new ≡ old) × (result ≡ 5)
 Finishes OutFault set old new result = (new ≡ old) × (result ≡ 6)
 Finishes TraceFault set old new result = (new ≡ old) × (result ≡ 7)
+
+-- a machine was kept under a name, if there is one; or the keeper failed
+abbrev pub Keeps : Option (List ℕ) → Machine → Keep → Keep → Result (Unit {0}) Failure → Type 0
+Keeps None m old new (Ok done) = new ≡ old
+Keeps None m old new (Err failed) = ⊥
+Keeps (Some name) m old new (Ok done) = HasSpelling m × KeepsAll name (spell m) old new
+Keeps (Some name) m old new (Err failed) = HasSpelling m × KeepsPart name (spell m) old new
+
+-- the name under which a machine that stopped is to be kept
+abbrev pub due_at : Option (List ℕ) → Stop → Option (List ℕ)
+due_at save Limit = save
+due_at save stop = None

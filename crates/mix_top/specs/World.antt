@@ -1,6 +1,6 @@
 -- The outside of a call: what it tells before and after, and the last line that a call puts.
-use Rattle.std.specs.Prelude.{◌≡◌, ℕ, ◌==◌, ◌⊎◌, List, [], ◌++◌, MatchBool, Option}
-use Rattle.mix_io.specs.Counts.{Rose}
+use Rattle.std.specs.Prelude.{◌≡◌, ℕ, ◌==◌, ◌⊎◌, List, [], ◌++◌, MatchBool, Option, IsSomeAnd}
+use Rattle.mix_io.specs.Counts.{CountRose, CountsStay, Rose}
 use Rattle.mix_io.specs.Streams.{Output, Grows, Breaks, StopsWithin}
 use Rattle.dev_rack.specs.Accounts.{Accounts}
 use Rattle.toolbox.specs.Calls.{Outside}
@@ -14,13 +14,22 @@ pub record Shelf : Type 0 where
   pub contents : Contents
   pub faults : List ℕ → ℕ
 
--- what lies beside it: the input, the devices and the output; and the trace
+-- a keeper: the bytes of each name, where it tells them, and the count of faults of each name
+pub record Keep : Type 0 where
+  pub kept : Option (List ℕ → List ℕ)
+  pub faults : List ℕ → ℕ
+
+abbrev pub keeping : Option (List ℕ → List ℕ) → (List ℕ → ℕ) → Keep
+keeping kept faults = record { kept = kept; faults = faults }
+
+-- what lies beside the shelf: the input, the devices and the output; the trace; and the keeper
 pub record Beside : Type 0 where
   pub outside : Outside
   pub trace : Output
+  pub keep : Keep
 
-abbrev pub beside : Outside → Output → Beside
-beside outside trace = record { outside = outside; trace = trace }
+abbrev pub beside : Outside → Output → Keep → Beside
+beside outside trace keep = record { outside = outside; trace = trace; keep = keep }
 
 pub record World : Type 0 where
   pub shelf : Shelf
@@ -34,20 +43,22 @@ world contents faults beside = record { shelf = record { contents = contents; fa
 abbrev pub Closes : Output → Output → List ℕ → List ℕ → ℕ → ℕ → Type 0
 Closes old new bytes line status result = (Grows old new (bytes ++ line) × (result ≡ status)) ⊎ (Breaks old new bytes line × (result ≡ 7))
 
--- a call that ends before any step: nothing was taken, asked or put on the output, and one line is on the trace
+-- a call that ends before any step: nothing was taken, asked, kept or put on the output, and one line is on the trace
 pub record Early (old new : Beside) (line : List ℕ) (status result : ℕ) : Type 0 where
   pub outside : new.outside ≡ old.outside
+  pub keep : new.keep ≡ old.keep
   pub trace : Closes old.trace new.trace [] line status result
 
 -- the output took a text, and the status is this one; or it failed and holds a beginning of it, and the status is 6
 abbrev pub PutsText : Output → Output → List ℕ → ℕ → ℕ → Type 0
 PutsText old new text status result = (Grows old new text × (result ≡ status)) ⊎ (StopsWithin old new text × (result ≡ 6))
 
--- a call that puts something on the output alone: nothing was taken, asked or traced
+-- a call that puts something on the output alone: nothing was taken, asked, kept or traced
 pub record OnlyPuts (old new : Beside) : Type 0 where
   pub input : new.outside.input ≡ old.outside.input
   pub rack : new.outside.rack ≡ old.outside.rack
   pub trace : new.trace ≡ old.trace
+  pub keep : new.keep ≡ old.keep
 
 -- a text was put, or the output failed and holds a beginning of it
 pub record Listed (text : List ℕ) (old new : Beside) (result : ℕ) : Type 0 where
@@ -58,15 +69,20 @@ pub record Listed (text : List ℕ) (old new : Beside) (result : ℕ) : Type 0 w
 abbrev pub RoseAt : ℕ → ℕ → ℕ → ℕ → Type 0
 RoseAt status result old new = MatchBool (result == status) (Rose old new) (new ≡ old)
 
--- no failure of the input, the output or the trace is passed over, and none is made up; and the journal accounts for
--- each device
-pub record Accounted (old new : Beside) (result : ℕ) : Type 0 where
+-- so did the keeper's count of the name that the call may keep something under; and else its counts of all names stay
+abbrev pub RoseFor : Option (List ℕ) → ℕ → Keep → Keep → Type 0
+RoseFor save result old new = MatchBool (result == 8) (IsSomeAnd save (CountRose old.faults new.faults)) (CountsStay old.faults new.faults)
+
+-- no failure of the input, the output, the trace or the keeper is passed over, and none is made up; and the journal
+-- accounts for each device
+pub record Accounted (save : Option (List ℕ)) (old new : Beside) (result : ℕ) : Type 0 where
   pub input : RoseAt 5 result old.outside.input.faults new.outside.input.faults
   pub out : RoseAt 6 result old.outside.out.faults new.outside.out.faults
   pub trace : RoseAt 7 result old.trace.faults new.trace.faults
+  pub keep : RoseFor save result old.keep new.keep
   pub devices : Accounts old.outside.rack new.outside.rack
 
--- a call that ended in one of these ways, and accounts for each failure and each device
-pub record EndsIn (Way : Beside → Beside → ℕ → Type 0) (old new : Beside) (result : ℕ) : Type 0 where
-  pub accounted : Accounted old new result
+-- a call that may keep something under this name ended in one of these ways, and accounts for each failure and each device
+pub record EndsIn (save : Option (List ℕ)) (Way : Beside → Beside → ℕ → Type 0) (old new : Beside) (result : ℕ) : Type 0 where
+  pub accounted : Accounted save old new result
   pub way : Way old new result

@@ -4,7 +4,7 @@ ghost use Rattle.mix_steps.specs.Beside.{AreSame};
 ghost use Rattle.mix_io.specs.Streams.{output};
 ghost use Rattle.mix_assemble.specs.Assembling.{HasBytes};
 ghost use Rattle.mix_assemble.specs.Parts.{OfBytes};
-ghost use Rattle.mix_top.specs.World.{EndsIn, PutsText};
+ghost use Rattle.mix_top.specs.World.{EndsIn, Keep, PutsText};
 ghost use Rattle.mix_top.specs.Assembling.{AssembleWay};
 ghost use Rattle.mix_top.specs.Parts.{beside_lent};
 
@@ -25,9 +25,9 @@ pub fn assemble_text<'i, 'o, 't, 'd, I: Source, O: Sink, T: Sink, D: Devices>(
     outside: &mut Outside<'i, 'o, 't, 'd, I, O, T, D>,
 ) -> u8
     requires { length text.now ≤ 16777216 }
-    ensures ends { EndsIn (AssembleWay set at text.now)
-        (beside_lent I.left I.faults O.held O.faults T.held T.faults D.state outside.old)
-        (beside_lent I.left I.faults O.held O.faults T.held T.faults D.state outside.new)
+    ensures ends { (k : Keep) → EndsIn None (AssembleWay set at text.now)
+        (beside_lent I.left I.faults O.held O.faults T.held T.faults D.state outside.old k)
+        (beside_lent I.left I.faults O.held O.faults T.held T.faults D.state outside.new k)
         result }
     ensures same { AreSame outside.old outside.new }
 {

@@ -5,15 +5,16 @@ ghost use Rattle.call_trace.specs.Lines.{end_line};
 ghost use Rattle.mix_top.specs.Lines.{memory_line};
 ghost use Rattle.mix_io.specs.Streams.{output};
 ghost use Rattle.mix_top.specs.World.{Closes};
-ghost use Rattle.mix_top.specs.Parts.{Finishes, unfetched_line, unfetched_status, unloaded_line, unloaded_status};
+ghost use Rattle.mix_top.specs.Parts.{Finishes, unfetched_line, unfetched_status, unloaded_line, unloaded_status, unrestored_line, unrestored_status};
 
 use super::files::Missing;
-use super::lines::{fetch_text, load_text, long_text};
+use super::lines::{fetch_text, image_text, load_text, long_text};
 use super::status::{
     FAULTED, INPUT_FAILED, LIMIT_REACHED, NO_MEMORY, NOT_FETCHED, NOT_LOADED, OTHER_CODE,
     OUTPUT_FAILED, SUCCESS, TRACE_FAILED,
 };
 use call_trace::{End, put_end};
+use mix_image::ImageError;
 use mix_io::{FetchError, Sink};
 use mix_load::LoadError;
 use mixed_machine::Stop;
@@ -54,6 +55,16 @@ pub fn close_unloaded<T: Sink>(error: LoadError, trace: &mut T) -> u8
     match error {
         LoadError::NoMemory => close_without_memory(trace),
         _ => close(trace, load_text(error).bytes(), NOT_LOADED),
+    }
+}
+
+/// The line and the status where an image was not restored.
+pub fn close_unrestored<T: Sink>(error: ImageError, trace: &mut T) -> u8
+    ensures { Closes (output (T.held trace.old) (T.faults trace.old)) (output (T.held trace.new) (T.faults trace.new)) [] (unrestored_line error) (unrestored_status error) result }
+{
+    match error {
+        ImageError::NoMemory => close_without_memory(trace),
+        _ => close(trace, image_text(error).bytes(), NOT_LOADED),
     }
 }
 

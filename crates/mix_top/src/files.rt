@@ -3,7 +3,7 @@ ghost use Rattle.std.specs.Prelude.{◌≡◌, IfErr, IfOk, OnOk, map};
 ghost use Rattle.std.specs.String.{string_bytes};
 ghost use Rattle.mix_io.specs.Counts.{CountsStay};
 ghost use Rattle.job_words.specs.Jobs.{NamesFiles, keys_in_order};
-ghost use Rattle.mix_top.specs.Files.{AreFiles, IsOf, text_in};
+ghost use Rattle.mix_top.specs.Files.{AreFiles, IsOf, bytes_in};
 ghost use Rattle.mix_top.specs.Parts.{Adds, Misses, MissesFirst, with_file as with_file_of};
 
 use job_words::{Command, Key, file_name};
@@ -11,11 +11,13 @@ use mix_io::{FetchError, Shelf};
 use mix_load::{FileBytes, Files};
 use std::alloc::Global;
 
-/// The files that a command wants: those of a program, and a text.
+/// The files that a command wants: those of a program, an image, a text, and a script.
 #[derive(Drop)]
 pub struct Fetched {
     pub program: Files,
+    pub image: Option<FileBytes>,
     pub text: Option<FileBytes>,
+    pub script: Option<FileBytes>,
 }
 
 /// A file that was not fetched: its key, the place of the word that names it, and why.
@@ -45,7 +47,9 @@ pub fn fetch_files<F: Shelf>(
             rsrc: None,
             pef: None,
         },
+        image: None,
         text: None,
+        script: None,
     };
     add_files(alloc, words, command, &Key::ALL, none, shelf)
 }
@@ -81,42 +85,67 @@ fn add_files<F: Shelf>(
 fn with_file(files: Fetched, key: Key, file: Option<FileBytes>) -> Fetched
     ensures { result ≡ with_file_of files key file }
 {
-    let Fetched { program, text } = files;
+    let Fetched {
+        program,
+        image,
+        text,
+        script,
+    } = files;
     match key {
         Key::Flat => Fetched {
             program: Files {
                 flat: file,
                 ..program
             },
+            image,
             text,
+            script,
         },
         Key::Rsrc => Fetched {
             program: Files {
                 rsrc: file,
                 ..program
             },
+            image,
             text,
+            script,
         },
         Key::Pef => Fetched {
             program: Files {
                 pef: file,
                 ..program
             },
+            image,
             text,
+            script,
+        },
+        Key::Image => Fetched {
+            program,
+            image: file,
+            text,
+            script,
         },
         Key::Text => Fetched {
             program,
+            image,
             text: file,
+            script,
+        },
+        Key::Script => Fetched {
+            program,
+            image,
+            text,
+            script: file,
         },
     }
 }
 
-/// The bytes of the text, none where there is no text.
-pub fn text_of(files: &Fetched) -> &[u8]
-    ensures { result.now ≡ text_in files.now }
+/// The bytes of a file, none where there is no file.
+pub fn bytes_of(file: &Option<FileBytes>) -> &[u8]
+    ensures { result.now ≡ bytes_in file.now }
 {
-    match &files.text {
-        Some(text) => text.bytes(),
+    match file {
+        Some(file) => file.bytes(),
         None => &[],
     }
 }

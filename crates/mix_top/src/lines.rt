@@ -1,12 +1,15 @@
 // The lines of the trace that a call ends with before it runs a program.
 ghost use Rattle.std.specs.Prelude.{◌≡◌, ◌+◌, ◌≤◌, ◌++◌, length};
 ghost use Rattle.mix_top.specs.Lines.{file_number as file_number_of, fetch_line, fork_refusal, head_refusal, key_number as key_number_of, load_line, load_refusal, long_file, numbered as numbered_line, refusal, reloc_refusal, words_line};
+ghost use Rattle.mix_top.specs.Debugging.{script_refusal};
 ghost use Rattle.mix_top.specs.Assembling.{line_refusal, reason_name as reason_name_of};
+ghost use Rattle.mix_top.specs.Continuing.{image_refusal};
 
 use itoa::Buffer;
 use job_words::Key;
 use mix_assemble::{Reason, Refused};
 use mix_bits::Line;
+use mix_image::ImageError;
 use mix_load::{File, LoadError};
 use pef_head::PefError;
 use pef_reloc::RelocError;
@@ -35,6 +38,13 @@ pub fn long_text(key: Key) -> Line
     ensures { result ≡ load_line (long_file key) }
 {
     refused("long", key_number(key) as i128)
+}
+
+/// The line for a script of which a line is no command.
+pub fn script_text(number: u32) -> Line
+    ensures { result ≡ load_line (script_refusal number) }
+{
+    refused("script", number as i128)
 }
 
 /// The line for a program that was not loaded.
@@ -122,6 +132,28 @@ fn reason_name(reason: Reason) -> &'static str
     }
 }
 
+/// The line for an image that is refused.
+pub fn image_text(error: ImageError) -> Line
+    ensures { result ≡ load_line (image_refusal error) }
+{
+    match error {
+        ImageError::NoMemory => refused("memory", 0),
+        ImageError::Short(length) => refused("image-short", length as i128),
+        ImageError::Magic => refused("image-magic", 0),
+        ImageError::Ram(kib) => refused("image-ram", kib as i128),
+        ImageError::Main(set) => refused("image-main", set as i128),
+        ImageError::StartSp(sp) => refused("image-startsp", sp as i128),
+        ImageError::Heap => refused("image-heap", 0),
+        ImageError::Block(number) => refused("image-block", number as i128),
+        ImageError::Active(set) => refused("image-active", set as i128),
+        ImageError::Ccr(long) => refused("image-ccr", long as i128),
+        ImageError::Page(number) => refused("image-page", number as i128),
+        ImageError::Extra(place) => refused("image-extra", place as i128),
+        ImageError::Gate(address) => refused("image-gate", address as i128),
+        ImageError::Frame(address) => refused("image-frame", address as i128),
+    }
+}
+
 /// `load NAME NUMBER`
 fn refused(name: &str, number: i128) -> Line
     requires { length name.now ≤ 20 }
@@ -152,7 +184,9 @@ fn key_number(key: Key) -> u32
         Key::Flat => 0,
         Key::Rsrc => 1,
         Key::Pef => 2,
+        Key::Image => 3,
         Key::Text => 4,
+        Key::Script => 5,
     }
 }
 

@@ -4,7 +4,7 @@ ghost use Rattle.mix_list.specs.Listing.{listing};
 ghost use Rattle.mix_load.specs.Load.{AreLoadable};
 ghost use Rattle.mix_steps.specs.Beside.{AreSame};
 ghost use Rattle.mix_io.specs.Streams.{output};
-ghost use Rattle.mix_top.specs.World.{EndsIn, PutsText};
+ghost use Rattle.mix_top.specs.World.{EndsIn, Keep, PutsText};
 ghost use Rattle.mix_top.specs.Ends.{ListsWay};
 ghost use Rattle.mix_top.specs.Parts.{beside_lent};
 
@@ -37,9 +37,9 @@ pub fn list_files<'i, 'o, 't, 'd, I: Source, O: Sink, T: Sink, D: Devices>(
 ) -> u8
     requires files { AreLoadable files.now job.main }
     requires job { IsProperJob job }
-    ensures ends { EndsIn (ListsWay job span.at span.count files.now)
-        (beside_lent I.left I.faults O.held O.faults T.held T.faults D.state outside.old)
-        (beside_lent I.left I.faults O.held O.faults T.held T.faults D.state outside.new)
+    ensures ends { (k : Keep) → EndsIn None (ListsWay job span.at span.count files.now)
+        (beside_lent I.left I.faults O.held O.faults T.held T.faults D.state outside.old k)
+        (beside_lent I.left I.faults O.held O.faults T.held T.faults D.state outside.new k)
         result }
     ensures same { AreSame outside.old outside.new }
 {

@@ -1,75 +1,86 @@
-// A program from its files to its end.
+// A program from its files to its end, and a machine from where it is to its end.
+ghost use Rattle.std.specs.Prelude.{option_copied};
 ghost use Rattle.mix_load.specs.Load.{AreLoadable};
 ghost use Rattle.job_words.specs.Jobs.{IsProperJob};
 ghost use Rattle.switch_frame.specs.Program.{IsProgram};
 ghost use Rattle.switch_frame.specs.Records.{isa_of};
 ghost use Rattle.mixed_machine.specs.Machine.{IsWhole, flat};
 ghost use Rattle.mix_steps.specs.Beside.{AreSame};
-ghost use Rattle.mix_top.specs.World.{EndsIn};
-ghost use Rattle.mix_top.specs.Ends.{ProgramWay, Ran, RunsWay};
+ghost use Rattle.mix_top.specs.World.{EndsIn, keeping};
+ghost use Rattle.mix_top.specs.Running.{Ran};
+ghost use Rattle.mix_top.specs.Ends.{ProgramWay, RunsWay};
 ghost use Rattle.mix_top.specs.Parts.{beside_lent};
 
+use super::checkpoint::{due, keep_machine};
 use super::close::{close_unloaded, close_without_memory, finish};
+use super::status::NOT_KEPT;
 use dev_rack::Devices;
 use job_words::Job;
 use mix_engine::{Machine, run};
-use mix_io::{Sink, Source};
+use mix_io::{Keeper, Sink, Source};
 use mix_load::{Files, load};
 use mix_steps::Outside;
 use std::alloc::Global;
 use switch_frame::Program;
 
 /// Loads the files of a job, and runs their program.
-pub fn run_files<'i, 'o, 't, 'd, I: Source, O: Sink, T: Sink, D: Devices>(
+pub fn run_files<'i, 'o, 't, 'd, I: Source, O: Sink, T: Sink, D: Devices, K: Keeper>(
     alloc: Global,
     files: &Files,
     job: Job,
+    save: Option<&str>,
     outside: &mut Outside<'i, 'o, 't, 'd, I, O, T, D>,
+    keep: &mut K,
 ) -> u8
     requires files { AreLoadable files.now job.main }
     requires job { IsProperJob job }
-    ensures ends { EndsIn (RunsWay job files.now)
-        (beside_lent I.left I.faults O.held O.faults T.held T.faults D.state outside.old)
-        (beside_lent I.left I.faults O.held O.faults T.held T.faults D.state outside.new)
+    ensures ends { EndsIn (option_copied save.entry) (RunsWay (option_copied save.entry) job files.now)
+        (beside_lent I.left I.faults O.held O.faults T.held T.faults D.state outside.old (keeping (K.kept keep.old) (K.faults keep.old)))
+        (beside_lent I.left I.faults O.held O.faults T.held T.faults D.state outside.new (keeping (K.kept keep.new) (K.faults keep.new)))
         result }
     ensures same { AreSame outside.old outside.new }
 {
     match load(alloc, files, job.main, job.kib) {
-        Ok(program) => run_program(alloc, program, job.steps, outside),
+        Ok(program) => run_program(alloc, program, job.steps, save, outside, keep),
         Err(error) => close_unloaded(error, outside.trace),
     }
 }
 
 /// Runs a program from its start, for at most `steps` steps.
-fn run_program<'i, 'o, 't, 'd, I: Source, O: Sink, T: Sink, D: Devices>(
+fn run_program<'i, 'o, 't, 'd, I: Source, O: Sink, T: Sink, D: Devices, K: Keeper>(
     alloc: Global,
     program: Program,
     steps: u32,
+    save: Option<&str>,
     outside: &mut Outside<'i, 'o, 't, 'd, I, O, T, D>,
+    keep: &mut K,
 ) -> u8
     requires { IsProgram program }
-    ensures ends { EndsIn (ProgramWay program steps)
-        (beside_lent I.left I.faults O.held O.faults T.held T.faults D.state outside.old)
-        (beside_lent I.left I.faults O.held O.faults T.held T.faults D.state outside.new)
+    ensures ends { EndsIn (option_copied save.entry) (ProgramWay (option_copied save.entry) program steps)
+        (beside_lent I.left I.faults O.held O.faults T.held T.faults D.state outside.old (keeping (K.kept keep.old) (K.faults keep.old)))
+        (beside_lent I.left I.faults O.held O.faults T.held T.faults D.state outside.new (keeping (K.kept keep.new) (K.faults keep.new)))
         result }
     ensures same { AreSame outside.old outside.new }
 {
     match Machine::start(alloc, program) {
-        Ok(mut machine) => run_machine(&mut machine, steps, outside),
+        Ok(mut machine) => run_machine(&mut machine, steps, save, outside, keep),
         Err(_) => close_without_memory(outside.trace),
     }
 }
 
-/// Runs a machine from where it is, for at most `steps` steps, and puts the end line.
-pub fn run_machine<'i, 'o, 't, 'd, I: Source, O: Sink, T: Sink, D: Devices>(
+/// Runs a machine from where it is, for at most `steps` steps, keeps it under a name where these were done, and puts the end
+/// line.
+pub fn run_machine<'i, 'o, 't, 'd, I: Source, O: Sink, T: Sink, D: Devices, K: Keeper>(
     machine: &mut Machine,
     steps: u32,
+    save: Option<&str>,
     outside: &mut Outside<'i, 'o, 't, 'd, I, O, T, D>,
+    keep: &mut K,
 ) -> u8
     requires { IsWhole machine.old.body (isa_of machine.old.active) }
-    ensures ends { EndsIn (Ran (flat machine.old.body machine.old.active) steps)
-        (beside_lent I.left I.faults O.held O.faults T.held T.faults D.state outside.old)
-        (beside_lent I.left I.faults O.held O.faults T.held T.faults D.state outside.new)
+    ensures ends { EndsIn (option_copied save.entry) (Ran (option_copied save.entry) (flat machine.old.body machine.old.active) steps)
+        (beside_lent I.left I.faults O.held O.faults T.held T.faults D.state outside.old (keeping (K.kept keep.old) (K.faults keep.old)))
+        (beside_lent I.left I.faults O.held O.faults T.held T.faults D.state outside.new (keeping (K.kept keep.new) (K.faults keep.new)))
         result }
     ensures same { AreSame outside.old outside.new }
 {
@@ -81,5 +92,8 @@ pub fn run_machine<'i, 'o, 't, 'd, I: Source, O: Sink, T: Sink, D: Devices>(
         outside.rack,
         steps,
     );
-    finish(stop, &machine.active, outside.trace)
+    match keep_machine(machine, due(stop, save), keep) {
+        Ok(()) => finish(stop, &machine.active, outside.trace),
+        Err(_) => NOT_KEPT,
+    }
 }

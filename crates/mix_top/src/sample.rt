@@ -2,7 +2,7 @@
 ghost use Rattle.std.specs.Prelude.{◌≡◌, ◌+◌, ◌≤◌, ◌++◌, length};
 ghost use Rattle.mix_steps.specs.Beside.{AreSame};
 ghost use Rattle.mix_io.specs.Streams.{output};
-ghost use Rattle.mix_top.specs.World.{EndsIn, PutsText};
+ghost use Rattle.mix_top.specs.World.{EndsIn, Keep, PutsText};
 ghost use Rattle.mix_top.specs.SampleLine.{counted, exit_text, fault_text, sample_head, sample_line};
 ghost use Rattle.mix_top.specs.Ends.{PutsSample, SampleWay};
 ghost use Rattle.mix_top.specs.Parts.{beside_lent};
@@ -24,9 +24,9 @@ pub fn write_sample<'i, 'o, 't, 'd, I: Source, O: Sink, T: Sink, D: Devices>(
     depth: u32,
     outside: &mut Outside<'i, 'o, 't, 'd, I, O, T, D>,
 ) -> u8
-    ensures ends { EndsIn (SampleWay calls depth)
-        (beside_lent I.left I.faults O.held O.faults T.held T.faults D.state outside.old)
-        (beside_lent I.left I.faults O.held O.faults T.held T.faults D.state outside.new)
+    ensures ends { (k : Keep) → EndsIn None (SampleWay calls depth)
+        (beside_lent I.left I.faults O.held O.faults T.held T.faults D.state outside.old k)
+        (beside_lent I.left I.faults O.held O.faults T.held T.faults D.state outside.new k)
         result }
     ensures same { AreSame outside.old outside.new }
 {

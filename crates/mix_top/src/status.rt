@@ -7,7 +7,7 @@ pub const OTHER_CODE: u8 = 1;
 /// The words are no command.
 pub const BAD_WORDS: u8 = 2;
 
-/// A file is above the limit or breaks a load rule, or a line of a text is refused.
+/// A file is above the limit or breaks a load rule, an image is refused, or a line of a text is.
 pub const NOT_LOADED: u8 = 3;
 
 /// The shelf failed at a file.
@@ -21,6 +21,9 @@ pub const OUTPUT_FAILED: u8 = 6;
 
 /// The trace failed.
 pub const TRACE_FAILED: u8 = 7;
+
+/// The keeper failed.
+pub const NOT_KEPT: u8 = 8;
 
 /// There was no memory.
 pub const NO_MEMORY: u8 = 9;

@@ -2,7 +2,7 @@
 use super::case::{lines, shelf};
 use super::outside::{CALM, Faults, call, split, standard_rack};
 use dev_rack::Rack;
-use mix_io::{Device, MemShelf, ScriptDevice, StdSink, StdSource};
+use mix_io::{Device, FileKeep, MemShelf, ScriptDevice, StdSink, StdSource};
 use mix_top::mixed_main;
 use std::io;
 use std::test::Fail;
@@ -184,6 +184,8 @@ fn files_above_the_limit_are_long(rt: HostRuntime) -> Result<(), Fail> {
         ("run flat=a", 16_777_216, "load toolarge 16842752", 3),
         ("run flat=a", 720_897, "load toolarge 786433", 3),
         ("run flat=a ram=128", 32_769, "load toolarge 98305", 3),
+        ("continue image=a", 17_825_793, "load long 3", 3),
+        ("continue image=a", 17_825_792, "load image-magic 0", 3),
         ("run flat=a steps=0", 720_896, "limit", 11),
         ("run flat=a ram=128 steps=0", 32_768, "limit", 11),
     ];
@@ -223,6 +225,7 @@ fn an_outside_that_tells_nothing(rt: HostRuntime) -> Result<(), Fail> {
             &mut out,
             &mut trace,
             &mut standard_rack(alloc)?,
+            &mut FileKeep::new(&rt),
         );
         assert_eq!(rt; given, status, "{words}");
     }

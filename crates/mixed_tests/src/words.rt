@@ -63,9 +63,30 @@ assemble set=68k text=a at=00010000 count=1 | |  | words 4 | 2
 run flat=a text=a | |  | words 2 | 2
 run text=a | |  | words 1 | 2
 list flat=a at=00010000 count=1 set=68k | |  | words 4 | 2
-run flat=a save=s | |  | words 2 | 2
-continue image=a | |  | words 0 | 2
-debug flat=a script=a | |  | words 0 | 2
+run flat=a save= | |  | words 2 | 2
+run flat=a save=s save=s | |  | words 3 | 2
+run save=s | |  | words 2 | 2
+run flat=a image=s | |  | words 2 | 2
+run flat=a script=s | |  | words 2 | 2
+list flat=a at=00010000 count=1 save=s | |  | words 4 | 2
+sample n=1 depth=1 save=s | |  | words 3 | 2
+continue | |  | words 1 | 2
+continue steps=5 save=s | |  | words 3 | 2
+continue image= | |  | words 1 | 2
+continue image=s image=s | |  | words 2 | 2
+continue image=s save= | |  | words 2 | 2
+continue image=s save=s save=s | |  | words 3 | 2
+continue image=s steps=01 | |  | words 2 | 2
+continue image=s flat=a | |  | words 2 | 2
+continue image=s ram=1024 | |  | words 2 | 2
+continue image=s main=68k | |  | words 2 | 2
+debug flat=a | |  | words 2 | 2
+debug script=s | |  | words 2 | 2
+debug flat=a script= | |  | words 2 | 2
+debug flat=a script=s script=s | |  | words 3 | 2
+debug flat=a script=s steps=5 | |  | words 3 | 2
+debug flat=a script=s save=s | |  | words 3 | 2
+debug flat=a script=s rsrc=f | |  | words 3 | 2
 run flat=a main=x | |  | words 2 | 2
 run flat=a ram=127 | |  | words 2 | 2
 run flat=a ram=16385 | |  | words 2 | 2

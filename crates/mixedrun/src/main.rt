@@ -1,9 +1,10 @@
 //! The program: words from the command line, files by their paths, the input on standard input, the output
-//! on standard output and the trace on standard error. A counter stands in slot 0 and a tape in slot 1.
+//! on standard output and the trace on standard error, and what is kept in a file. A counter stands in slot 0
+//! and a tape in slot 1.
 #![tactic(auto)]
 
 use dev_rack::Rack;
-use mix_io::{Counter, Device, FileShelf, Sink, StdSink, StdSource, Tape};
+use mix_io::{Counter, Device, FileKeep, FileShelf, Sink, StdSink, StdSource, Tape};
 use mix_top::mixed_main;
 use mix_top::status::{BAD_WORDS, NO_MEMORY, OUTPUT_FAILED, SUCCESS, TRACE_FAILED};
 use std::env;
@@ -14,10 +15,12 @@ use std::process::ExitCode;
 const HELP: &str = "\
 mixedrun runs programs that mix 68K and PowerPC code.
 
-usage: mixedrun run FILES [main=68k|ppc] [ram=KIB] [steps=N]
+usage: mixedrun run FILES [main=68k|ppc] [ram=KIB] [steps=N] [save=IMAGE]
+       mixedrun continue image=IMAGE [steps=N] [save=IMAGE]
        mixedrun list FILES at=ADDRESS count=N [main=68k|ppc] [ram=KIB]
        mixedrun sample n=N depth=D
        mixedrun assemble set=68k|ppc text=FILE at=ADDRESS
+       mixedrun debug FILES script=FILE [main=68k|ppc] [ram=KIB]
 
 FILES is flat=FILE, rsrc=FILE, pef=FILE, or rsrc=FILE pef=FILE.
 
@@ -29,6 +32,8 @@ FILES is flat=FILE, rsrc=FILE, pef=FILE, or rsrc=FILE pef=FILE.
   ram=KIB     the size of RAM, 128 to 16384 KiB (default 1024)
   steps=N     how many steps are done at most, 0 to 4294967295
               (default 1000000)
+  save=IMAGE  where the machine is kept if all these steps were done
+  image=IMAGE a machine that was kept, to run on from there
   at=ADDRESS  where a listing or a text begins, in eight upper-case
               hexadecimal digits
   count=N     how many instructions it has at most, 1 to 4096
@@ -36,12 +41,16 @@ FILES is flat=FILE, rsrc=FILE, pef=FILE, or rsrc=FILE pef=FILE.
   depth=D     how deep each of them goes, 1 to 300
   set=SET     the set of the instructions of a text, 68k or ppc
   text=FILE   a text of lines to assemble, as list writes them
+  script=FILE the commands of a debugger, one a line: step N, over N, go N,
+              back N, break ADDRESS, clear ADDRESS, where
 
-run runs a program; list writes its instructions as text, a line for each;
-sample runs a program of its own whose 68K and PowerPC code call each other,
-and counts what crosses; assemble writes the bytes of a text's instructions,
-or nothing where a line is refused. The words stand in any order behind the
-command. A flat file stands alone; main=68k needs a flat file or a fork, and
+run runs a program; continue runs a machine on that was kept; list writes a
+program's instructions as text, a line for each; sample runs a program of its
+own whose 68K and PowerPC code call each other, and counts what crosses;
+assemble writes the bytes of a text's instructions, or nothing where a line is
+refused; debug does the commands of a script over a program, steps forward and
+back among them. The words stand in any order behind the command. Beside a flat
+file stands no other of a program; main=68k needs a flat file or a fork, and
 main=ppc a flat file or a container.
 
 Input comes from standard input, output goes to standard output, and the trace
@@ -51,16 +60,19 @@ a counter and slot 1 a tape.
 Status:
   0, 1    the program ended with code 0, or with another code
   2       bad words                    3       the program was not loaded,
-                                               or a line was refused
+                                               or an image or a line refused
   4       a file was not read          5       the input failed
   6       the output failed            7       the trace failed
-  9       there was no memory          10      a fault
-  11      all steps were done
+  8       the machine was not kept     9       there was no memory
+  10      a fault                      11      all steps were done
 
 Examples:
   mixedrun run flat=samples/hello.bin
   mixedrun run rsrc=program.rsrc pef=program.pef main=ppc ram=4096 steps=50000
+  mixedrun run flat=program.bin steps=50000 save=program.image
+  mixedrun continue image=program.image
   mixedrun list flat=samples/hello.bin at=00010000 count=4
+  mixedrun debug flat=samples/debug/price.bin script=samples/debug/script
 
 The folder docs/ says what the machine is and what the lines of the trace mean.
 ";
@@ -97,8 +109,9 @@ fn run(rt: &HostRuntime, words: &[String]) -> Option<u8> {
     let counter: Box<dyn Device> = Box::new(alloc, Counter::new(alloc).ok()?).ok()?;
     let tape: Box<dyn Device> = Box::new(alloc, Tape::new(alloc).ok()?).ok()?;
     let mut rack = Rack::new(alloc, vec![in alloc; counter, tape].ok()?).ok()?;
+    let mut keep = FileKeep::new(rt);
     Some(mixed_main(
-        alloc, words, &mut shelf, &mut input, &mut out, &mut trace, &mut rack,
+        alloc, words, &mut shelf, &mut input, &mut out, &mut trace, &mut rack, &mut keep,
     ))
 }
 

@@ -1,12 +1,16 @@
 // What fails outside, and what is short: words such as `in=3`, `shelf=1,2` or `trace=1` for the calls that
-// fail, by their numbers from 1, `out-room=5` and `trace-room=20` for how many bytes a stream holds, and
-// `script=5,-,7` for a device in slot 0 whose second ask fails. Numbers are decimal.
-use mix_io::{MemSink, NoMemory};
+// fail, by their numbers from 1, `out-room=5` and `trace-room=20` for how many bytes a stream holds, `keep=1`,
+// `keep-room=5` and `keep-name=s` for the keeper, and `script=5,-,7` for a device in slot 0 whose second ask
+// fails. Numbers are decimal.
+use mix_io::{MemKeep, MemSink, NoMemory};
 use std::alloc::{AllocError, Global};
 use std::io::{self, ErrorKind};
 
 /// Room for more than a case puts.
 const AMPLE: u32 = 0x1_0000;
+
+/// Room for the image of a machine with 1024 KiB of RAM.
+const IMAGE: u32 = 0x12_0000;
 
 /// The value of a key in a text of words `KEY=VALUE`.
 pub fn value_of<'a>(text: &'a str, key: &str) -> Option<&'a str> {
@@ -39,6 +43,17 @@ pub fn sink(alloc: Global, text: &str, key: &str, room_key: &str) -> io::Result<
     };
     let fails = numbers(alloc, text, key)?;
     MemSink::new(alloc, room, fails).map_err(no_memory)
+}
+
+/// A keeper of one name, which is `s` where the words say none.
+pub fn keeper(alloc: Global, text: &str) -> io::Result<MemKeep> {
+    let name = String::from_str(alloc, value_of(text, "keep-name").unwrap_or("s"))?;
+    let room = match value_of(text, "keep-room") {
+        Some(value) => number(value)?,
+        None => IMAGE,
+    };
+    let fails = numbers(alloc, text, "keep")?;
+    MemKeep::new(alloc, name, room, fails).map_err(no_memory)
 }
 
 /// Answers with commas between; what is no number is a failure.

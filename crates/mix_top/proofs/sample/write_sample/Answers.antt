@@ -1,16 +1,15 @@
 -- The line of the sample, or the want of memory, is a way to end.
-use Rattle.std.proofs.Common.{refl}
+use Rattle.std.proofs.Common.{None, refl}
 use Rattle.mix_top.specs.Ends.SampleWay.{no_room, sample_ran}
-use Rattle.mix_top.proofs.Ways.{accounted-memory, accounted-sample}
+use Rattle.mix_top.proofs.Ways.{accounted-sample, ends-memory}
 use Rattle.mix_top.proofs.sample.write_sample.Goals as goal
 
 pub returns-in-Ok-clause-ends : goal.returns-in-Ok-clause-ends
-returns-in-Ok-clause-ends g c =
+returns-in-Ok-clause-ends g c = λ k.
     record {
-      accounted = accounted-sample _ _ c.args.calls c.args.depth c.in-Ok.sampled c.in-Ok.sampled.end _ (record { input = refl; rack = refl; trace = refl }) c.put_sample.ensures;
-      way = sample_ran (record { sampled = c.in-Ok.sampled; is = c.in-Ok.ensures; only = record { input = refl; rack = refl; trace = refl }; out = c.put_sample.ensures });
+      accounted = accounted-sample _ _ c.args.calls c.args.depth c.in-Ok.sampled c.in-Ok.sampled.end _ (record { input = refl; rack = refl; trace = refl; keep = refl }) c.put_sample.ensures;
+      way = sample_ran (record { sampled = c.in-Ok.sampled; is = c.in-Ok.ensures; only = record { input = refl; rack = refl; trace = refl; keep = refl }; out = c.put_sample.ensures });
     }
 
 pub returns-in-Err-clause-ends : goal.returns-in-Err-clause-ends
-returns-in-Err-clause-ends g c =
-    record { accounted = accounted-memory _ _ _ refl c.close_without_memory.ensures; way = no_room (record { outside = refl; trace = c.close_without_memory.ensures }) }
+returns-in-Err-clause-ends g c = λ k. ends-memory None _ (λ old new result early. no_room early) _ _ _ refl refl c.close_without_memory.ensures

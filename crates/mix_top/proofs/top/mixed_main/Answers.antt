@@ -4,4 +4,4 @@ use Rattle.mix_top.proofs.Ways.{ends-of_words}
 use Rattle.mix_top.proofs.top.mixed_main.Goals as goal
 
 pub returns-in-Err : goal.returns-in-Err
-returns-in-Err g c = ends-of_words _ _ _ c.in-Err.bad.place _ _ (sym c.in-Err.ensures.value) (c.bytes.ensures ∙ c.words_text.ensures) refl refl c.close.ensures
+returns-in-Err g c = ends-of_words _ _ _ c.in-Err.bad.place _ _ (sym c.in-Err.ensures.value) (c.bytes.ensures ∙ c.words_text.ensures) refl refl refl c.close.ensures

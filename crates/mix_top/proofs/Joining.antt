@@ -1,0 +1,209 @@
+-- A run that was cut, kept and continued is the uncut run.
+use Rattle.std.proofs.Common.{◌≡◌, ℕ, zero, suc, ◌+◌, ◌-◌, ◌≤◌, ◌==◌, inl, inr, Bool, true, false, if◌then◌else◌, List, [], ◌∷◌, ◌++◌, map, Option, Some, None, is_some, arith, sym, ap, subst, ◌∙◌, refl, zero-add, append-nil, append_assoc}
+use Rattle.std.specs.Prelude.{IsSomeAnd, bytes_eq}
+use Rattle.std.proofs.lemmas.Slice.Eq.{bytes_eq-Decides}
+use Rattle.mix_io.specs.Kept.{KeepsMore}
+use Rattle.mix_io.specs.Streams.{Output, Grows}
+use Rattle.switch_frame.specs.Records.{isa_of}
+use Rattle.toolbox.specs.Calls.{Taken}
+use Rattle.toolbox.specs.Effects.{Around}
+use Rattle.call_trace.specs.Lines.{end_line}
+use Rattle.call_trace.specs.declared.end.End.TheVariants.{Limit}
+use Rattle.mixed_machine.specs.State.{State}
+use Rattle.mixed_machine.specs.Next.{Next}
+use Rattle.mixed_machine.specs.Next.Next.{Goes, Exits, Faults}
+use Rattle.mixed_machine.specs.Step.{step}
+use Rattle.mixed_machine.specs.Machine.{flat}
+use Rattle.mixed_machine.specs.Exec.{How, exec, exec_to, goes_on, is_back, log, log_then, rests, said_of, line_of}
+use Rattle.mixed_machine.specs.Exec.How.{Limited, Exited, Faulted}
+use Rattle.mixed_machine.specs.Exec.End.{Ended}
+use Rattle.mixed_machine.specs.Outside.{TookAll, ToldAll, around_at}
+use Rattle.mixed_machine.proofs.Runs.{exec-continues, limits-last}
+use Rattle.mix_engine.specs.declared.machine.Machine.{Machine}
+use Rattle.mix_image.specs.Spelling.{HasSpelling, spell}
+use Rattle.mix_image.proofs.Finishing.{spellings_differ}
+use Rattle.mix_top.specs.World.{Beside, Closes, Keep}
+use Rattle.mix_top.specs.Keeping.{KeptAt}
+use Rattle.mix_top.specs.Running.{RunWay, answers_given, end_of, status_of}
+use Rattle.mix_top.specs.Running.RunWay.{ended, keep_failed, out_failed, read_failed, trace_failed}
+use Rattle.mix_top.specs.Continuing.ContinueWay.{continued, image_refused, no_memory}
+use Rattle.mix_top.specs.Laws.{AreOneRun, ContinuedRunsAreOne, IsBetween, IsEnd, TookBoth}
+
+-- what the steps of a run put, and then those of the run that goes on from its last state
+rests-here : (b : Bool) (s t : State) → rests b s ≡ Ended Limited t 0 → s ≡ t
+rests-here true s t leads = cc
+rests-here false s t leads = let same : Ended Limited s 0 ≡ Ended Limited t 0 = leads in cc
+
+no-steps : (s t : State) → exec 0 s ≡ Ended Limited t 0 → s ≡ t
+unfolding exec_to
+no-steps s t leads = rests-here (is_back 0 s) s t leads
+
+log-step : (pick : Next → List ℕ) (b : Bool) (x : Next) (s t : State) (n m : ℕ)
+    → ((u : State) → exec n u ≡ Ended Limited t 0 → log pick (n + m) u ≡ log pick n u ++ log pick m t)
+    → goes_on b x s n (exec_to 0 n) ≡ Ended Limited t 0 → log_then pick x (log pick (n + m)) ≡ log_then pick x (log pick n) ++ log pick m t
+log-step pick true x s t n m rest leads = cc
+log-step pick false (Goes u effects) s t n m rest leads =
+    ap (λ xs. pick (Goes u effects) ++ xs) (rest u leads) ∙ sym (append_assoc (pick (Goes u effects)) (log pick n u) (log pick m t))
+log-step pick false (Exits code) s t n m rest leads = cc
+log-step pick false (Faults fault) s t n m rest leads = cc
+
+suc-more : (n m : ℕ) → suc n + m ≡ suc (n + m)
+suc-more n m = omega arith
+
+log-joins : (pick : Next → List ℕ) (n m : ℕ) (s t : State) → exec n s ≡ Ended Limited t 0 → log pick (n + m) s ≡ log pick n s ++ log pick m t
+unfolding exec_to log
+log-joins pick zero m s t leads = ap (λ k. log pick k s) (zero-add m) ∙ ap (log pick m) (no-steps s t leads)
+log-joins pick (suc n) m s t leads = ap (λ k. log pick k s) (suc-more n m) ∙ log-step pick (is_back 0 s) (step s) s t n m (λ u. log-joins pick n m u t) leads
+
+-- what was taken by two calls
+took-apart : (xs ys : List Taken) (before after : List ℕ) → TookAll (xs ++ ys) before after → (mid : List ℕ) × TookAll xs before mid × TookAll ys mid after
+took-apart [] ys before after took = (before, refl, took)
+took-apart (x ∷ xs) ys before after took = let rest = took-apart xs ys took.0 after took.2 in (rest.0, (took.0, took.1, rest.1), rest.2)
+
+took-both : (xs ys : List Taken) (before mid after : List ℕ) → TookAll xs before mid → TookAll ys mid after → TookAll (xs ++ ys) before after
+took-both [] ys before mid after first next = subst (λ b. TookAll ys b after) (sym first) next
+took-both (x ∷ xs) ys before mid after first next = (first.0, first.1, took-both xs ys first.0 mid after first.2 next)
+
+told-both : (xs ys : List Taken) (a b c : Option (List ℕ)) → ToldAll xs a b → ToldAll ys b c → ToldAll (xs ++ ys) a c
+told-both xs ys a b c first next after is =
+    let second = next after is in
+    let whole = first second.0 second.1 in
+    (whole.0, whole.1, took-both xs ys whole.0 second.0 after whole.2 second.2)
+
+-- a status of an end is none of a failure
+pub record IsCalm (result : ℕ) : Type 0 where
+  pub refused : result ≡ 3 → ⊥
+  pub input : result ≡ 5 → ⊥
+  pub out : result ≡ 6 → ⊥
+  pub trace : result ≡ 7 → ⊥
+  pub keep : result ≡ 8 → ⊥
+  pub memory : result ≡ 9 → ⊥
+
+calm-at : (result status : ℕ) → result ≡ status → IsCalm status → IsCalm result
+calm-at result status same calm = subst IsCalm (sym same) calm
+
+calm-end : (result : ℕ) → IsEnd result → IsCalm result
+calm-end result (inl is) = calm-at result 0 is (record { refused = λ e. omega (arith, e); input = λ e. omega (arith, e); out = λ e. omega (arith, e); trace = λ e. omega (arith, e); keep = λ e. omega (arith, e); memory = λ e. omega (arith, e) })
+calm-end result (inr (inl is)) = calm-at result 1 is (record { refused = λ e. omega (arith, e); input = λ e. omega (arith, e); out = λ e. omega (arith, e); trace = λ e. omega (arith, e); keep = λ e. omega (arith, e); memory = λ e. omega (arith, e) })
+calm-end result (inr (inr (inl is))) =
+    calm-at result 10 is (record { refused = λ e. omega (arith, e); input = λ e. omega (arith, e); out = λ e. omega (arith, e); trace = λ e. omega (arith, e); keep = λ e. omega (arith, e); memory = λ e. omega (arith, e) })
+calm-end result (inr (inr (inr is))) =
+    calm-at result 11 is (record { refused = λ e. omega (arith, e); input = λ e. omega (arith, e); out = λ e. omega (arith, e); trace = λ e. omega (arith, e); keep = λ e. omega (arith, e); memory = λ e. omega (arith, e) })
+
+-- a run that came to its end
+pub record CameToEnd (save : Option (List ℕ)) (steps : ℕ) (start : State) (around : Around) (old new : Beside) (result : ℕ) : Type 0 where
+  pub last : State
+  pub how : How
+  pub left : ℕ
+  pub fewer : left ≤ steps
+  pub ends : exec steps start ≡ Ended how last left
+  pub at : last.around ≡ around
+  pub out : Grows old.outside.out new.outside.out (log said_of (steps - left) start)
+  pub kept : KeptAt save how last old.keep new.keep
+  pub trace : Grows old.trace new.trace (log line_of (steps - left) start ++ end_line (end_of (isa_of last.active) how))
+  pub status : result ≡ status_of how
+
+closed : (old new : Output) (bytes line : List ℕ) (status result : ℕ) → IsCalm result → Closes old new bytes line status result → Grows old new (bytes ++ line) × (result ≡ status)
+closed old new bytes line status result calm (inl done) = done
+closed old new bytes line status result calm (inr failed) = absurd (calm.trace failed.1)
+
+came-to-end : (save : Option (List ℕ)) (steps : ℕ) (start : State) (around : Around) (old new : Beside) (result : ℕ) → IsCalm result → RunWay save steps start around old new result
+    → CameToEnd save steps start around old new result
+came-to-end save steps start around old new result calm (ended last how left fewer ends at out kept closes) =
+    let done = closed old.trace new.trace (log line_of (steps - left) start) (end_line (end_of (isa_of last.active) how)) (status_of how) result calm closes in
+    record { last = last; how = how; left = left; fewer = fewer; ends = ends; at = at; out = out; kept = kept; trace = done.0; status = done.1 }
+came-to-end save steps start around old new result calm (keep_failed name bytes last is ends at spells out trace kept failed) = absurd (calm.keep failed)
+came-to-end save steps start around old new result calm (read_failed last done below leads reads at out trace kept failed) = absurd (calm.input failed)
+came-to-end save steps start around old new result calm (out_failed last done below leads says at out trace kept failed) = absurd (calm.out failed)
+came-to-end save steps start around old new result calm (trace_failed before last done below leads goes tells at out trace kept failed) = absurd (calm.trace failed)
+
+-- one that came to its limit
+exit-status : (b : Bool) (status : ℕ) → status ≡ (if b then 0 else 1) → status ≡ 11 → ⊥
+exit-status true status is same = omega (arith, is, same)
+exit-status false status is same = omega (arith, is, same)
+
+is-limit : (how : How) → 11 ≡ status_of how → how ≡ Limited
+is-limit Limited same = refl
+is-limit (Exited code) same = absurd (exit-status (code == 0) 11 same refl)
+is-limit (Faulted fault) same = absurd (omega (arith, same))
+
+-- what was kept under a name that had nothing is the bytes
+share-own : (b : Bool) (bytes : List ℕ) → b ≡ true → (if b then bytes else []) ≡ bytes
+share-own true bytes is = refl
+share-own false bytes is = cc
+
+kept-is : (old new : Option (List ℕ → List ℕ)) (name bytes image : List ℕ) → KeepsMore old new name bytes → IsSomeAnd old (λ kept. kept name ≡ []) → IsSomeAnd new (λ kept. kept name ≡ image) → bytes ≡ image
+kept-is None new name bytes image more unused is = absurd unused
+kept-is (Some held) None name bytes image more unused is = absurd is
+kept-is (Some held) (Some kept) name bytes image more unused is =
+    let own : bytes_eq name name ≡ true = (bytes_eq-Decides name name).1 refl in
+    let all : kept name ≡ [] ++ bytes = more name ∙ ap (λ xs. xs ++ (if bytes_eq name name then bytes else [])) unused ∙ ap (λ xs. [] ++ xs) (share-own (bytes_eq name name) bytes own) in
+    sym all ∙ is
+
+limit-kept : (name : List ℕ) (how : How) (last : State) (old new : Keep) → how ≡ Limited → KeptAt (Some name) how last old new → KeptAt (Some name) Limited last old new
+limit-kept name how last old new is kept = subst (λ h. KeptAt (Some name) h last old new) is kept
+
+-- the bytes of both runs
+joins : (pick : Next → List ℕ) (n m left : ℕ) (s t u : State) → left ≤ m → exec n s ≡ Ended Limited t 0 → t ≡ u → log pick (n + m - left) s ≡ log pick n s ++ log pick (m - left) u
+joins pick n m left s t u fewer leads same =
+    let count : n + m - left ≡ n + (m - left) = omega (arith, fewer) in
+    ap (λ k. log pick k s) count ∙ log-joins pick n (m - left) s t leads ∙ ap (λ v. log pick n s ++ log pick (m - left) v) same
+
+both-grow : (a b c d : Output) (bytes front back line last_line : List ℕ) → bytes ≡ front ++ back → Grows a b (front ++ line) → Grows c d (back ++ last_line) → TookBoth bytes line last_line a b c d
+both-grow a b c d bytes front back line last_line order first second = record { front = front; back = back; order = order; first = first; second = second }
+
+nothing-more : (a b : Output) (bytes : List ℕ) → Grows a b bytes → Grows a b (bytes ++ [])
+nothing-more a b bytes grows = subst (Grows a b) (sym (append-nil bytes)) grows
+
+-- a run that came to its limit and was kept, and the run of what was kept
+joined : (name image : List ℕ) (save : Option (List ℕ)) (n m : ℕ) (machine : Machine) (a b c d : Beside) (result : ℕ) (s t : State) (between_runs after : Around)
+    → CameToEnd (Some name) n s between_runs a b 11 → IsBetween name image a b c → HasSpelling machine → spell machine ≡ image → t ≡ flat machine.body machine.active between_runs
+    → CameToEnd save m t after c d result → AreOneRun (n + m) s after a b c d result
+joined name image save n m machine a b c d result s t between_runs after first between is spelled same second =
+    let limit : first.how ≡ Limited = is-limit first.how first.status in
+    let stops : exec n s ≡ Ended Limited first.last first.left = subst (λ h. exec n s ≡ Ended h first.last first.left) limit first.ends in
+    let none : first.left ≡ 0 = limits-last 0 n first.left s first.last stops in
+    let leads : exec n s ≡ Ended Limited first.last 0 = subst (λ k. exec n s ≡ Ended Limited first.last k) none stops in
+    let all : n - first.left ≡ n = omega (arith, none) in
+    let kept : KeptAt (Some name) Limited first.last a.keep b.keep = limit-kept name first.how first.last a.keep b.keep limit first.kept in
+    let bytes : kept.0 ≡ image = kept-is a.keep.kept b.keep.kept name kept.0 image kept.2.kept between.unused between.kept in
+    let one : kept.1.machine ≡ machine = spellings_differ kept.1.machine machine kept.1.is is (kept.1.spelled ∙ bytes ∙ sym spelled) in
+    let mid : first.last ≡ t =
+    sym kept.1.stands ∙ ap (λ around. flat kept.1.machine.body kept.1.machine.active around) first.at ∙ ap (λ k. flat k.body k.active between_runs) one ∙ sym same in
+    record {
+      last = second.last;
+      how = second.how;
+      left = second.left;
+      fewer = omega (arith, second.fewer);
+      ends = exec-continues 0 n m s first.last leads ∙ ap (exec m) mid ∙ second.ends;
+      around = second.at;
+      out = both-grow a.outside.out b.outside.out c.outside.out d.outside.out (log said_of (n + m - second.left) s) (log said_of n s) (log said_of (m - second.left) t) [] []
+          (joins said_of n m second.left s first.last t second.fewer leads mid)
+          (nothing-more a.outside.out b.outside.out (log said_of n s) (subst (λ k. Grows a.outside.out b.outside.out (log said_of k s)) all first.out))
+          (nothing-more c.outside.out d.outside.out (log said_of (m - second.left) t) second.out);
+      trace = both-grow a.trace b.trace c.trace d.trace (log line_of (n + m - second.left) s) (log line_of n s) (log line_of (m - second.left) t)
+          (end_line Limit) (end_line (end_of (isa_of second.last.active) second.how)) (joins line_of n m second.left s first.last t second.fewer leads mid)
+          (subst (λ h. Grows a.trace b.trace (log line_of n s ++ end_line (end_of (isa_of first.last.active) h))) limit
+          (subst (λ k. Grows a.trace b.trace (log line_of k s ++ end_line (end_of (isa_of first.last.active) first.how))) all first.trace))
+          second.trace;
+      status = second.status;
+    }
+
+pub continued-one : ContinuedRunsAreOne
+continued-one name image save start n m a b c d result ran between (no_memory early) end =
+    let calm : IsCalm result = calm-end result end in absurd (calm.memory (closed c.trace d.trace [] _ 9 result calm early.trace).1)
+continued-one name image save start n m a b c d result ran between (image_refused error other is early) end =
+    let calm : IsCalm result = calm-end result end in absurd (calm.refused (closed c.trace d.trace [] _ 3 result calm early.trace).1)
+continued-one name image save start n m a b c d result ran between (continued machine is spelled again) end =
+    record {
+      taken = ran.taken ++ again.taken;
+      told = told-both ran.taken again.taken a.outside.input.left b.outside.input.left d.outside.input.left ran.told (subst (λ o. ToldAll again.taken o d.outside.input.left) between.input again.told);
+      each = λ before after rest took.
+          let parts = took-apart ran.taken again.taken before after took in
+          let later : List (Option ℕ) = answers_given c d ++ rest in
+          joined name image save n m machine a b c d result (start (around_at a.outside before (answers_given a b ++ later))) (flat machine.body machine.active (around_at c.outside parts.0 later))
+          (around_at b.outside parts.0 later) (around_at d.outside after rest)
+          (came-to-end (Some name) n _ _ a b 11 (calm-end 11 (inr (inr (inr refl)))) (ran.each before parts.0 later parts.1)) between is spelled
+          (ap (λ rack. flat machine.body machine.active (record { input = parts.0; slots = map is_some rack.slots; asks = rack.journal; answers = later })) between.rack)
+          (came-to-end save m _ _ c d result (calm-end result end) (again.each parts.0 after rest parts.2));
+    }

@@ -1,0 +1,132 @@
+// A script of the debugger over a program, from its first line to its last one.
+ghost use Rattle.std.specs.Prelude.{◌≡◌, ◌≤◌, None, Some, length};
+ghost use Rattle.mix_load.specs.Load.{AreLoadable};
+ghost use Rattle.job_words.specs.Jobs.{IsProperJob};
+ghost use Rattle.switch_frame.specs.Program.{IsProgram};
+ghost use Rattle.switch_frame.specs.Records.{isa_of};
+ghost use Rattle.mixed_machine.specs.Machine.{IsWhole, flat};
+ghost use Rattle.mix_script.specs.Places.{stop_in};
+ghost use Rattle.mix_steps.specs.Beside.{AreSame};
+ghost use Rattle.mix_top.specs.World.{EndsIn, Keep};
+ghost use Rattle.mix_top.specs.Debugging.{MachineWay, ScriptWay, script_status as status_by};
+ghost use Rattle.mix_top.specs.Ends.{DebugWay, LoadWay};
+ghost use Rattle.mix_top.specs.Parts.{beside_lent};
+
+use super::close::{close, close_unloaded, close_without_memory};
+use super::lines::script_text;
+use super::status::{INPUT_FAILED, NOT_LOADED, OUTPUT_FAILED, SUCCESS, TRACE_FAILED};
+use dev_rack::Devices;
+use job_words::Job;
+use mix_debug::Debug;
+use mix_engine::Machine;
+use mix_io::{Sink, Source};
+use mix_load::{Files, load};
+use mix_script::{Script, Stopped, run_script};
+use mix_steps::Outside;
+use std::alloc::Global;
+use switch_frame::Program;
+
+/// Reads a script; where each of its lines is a command, loads the files of a job and does the commands.
+pub fn debug_files<'i, 'o, 't, 'd, I: Source, O: Sink, T: Sink, D: Devices>(
+    alloc: Global,
+    files: &Files,
+    job: Job,
+    text: &[u8],
+    outside: &mut Outside<'i, 'o, 't, 'd, I, O, T, D>,
+) -> u8
+    requires files { AreLoadable files.now job.main }
+    requires job { IsProperJob job }
+    requires text { length text.now ≤ 16777216 }
+    ensures ends { (k : Keep) → EndsIn None (DebugWay job files.now text.now)
+        (beside_lent I.left I.faults O.held O.faults T.held T.faults D.state outside.old k)
+        (beside_lent I.left I.faults O.held O.faults T.held T.faults D.state outside.new k)
+        result }
+    ensures same { AreSame outside.old outside.new }
+{
+    match Script::read(text) {
+        Ok(script) => debug_loaded(alloc, files, job, script, outside),
+        Err(bad) => close(outside.trace, script_text(bad.number).bytes(), NOT_LOADED),
+    }
+}
+
+/// Loads the files of a job, and does the commands of a script with their program.
+fn debug_loaded<'s, 'i, 'o, 't, 'd, I: Source, O: Sink, T: Sink, D: Devices>(
+    alloc: Global,
+    files: &Files,
+    job: Job,
+    script: Script<'s>,
+    outside: &mut Outside<'i, 'o, 't, 'd, I, O, T, D>,
+) -> u8
+    requires files { AreLoadable files.now job.main }
+    requires job { IsProperJob job }
+    ensures ends { (k : Keep) → EndsIn None (LoadWay job files.now (ScriptWay script.entry))
+        (beside_lent I.left I.faults O.held O.faults T.held T.faults D.state outside.old k)
+        (beside_lent I.left I.faults O.held O.faults T.held T.faults D.state outside.new k)
+        result }
+    ensures same { AreSame outside.old outside.new }
+{
+    match load(alloc, files, job.main, job.kib) {
+        Ok(program) => debug_program(alloc, program, script, outside),
+        Err(error) => close_unloaded(error, outside.trace),
+    }
+}
+
+/// Does the commands of a script with a program, from its start.
+fn debug_program<'s, 'i, 'o, 't, 'd, I: Source, O: Sink, T: Sink, D: Devices>(
+    alloc: Global,
+    program: Program,
+    script: Script<'s>,
+    outside: &mut Outside<'i, 'o, 't, 'd, I, O, T, D>,
+) -> u8
+    requires { IsProgram program }
+    ensures ends { (k : Keep) → EndsIn None (ScriptWay script.entry program)
+        (beside_lent I.left I.faults O.held O.faults T.held T.faults D.state outside.old k)
+        (beside_lent I.left I.faults O.held O.faults T.held T.faults D.state outside.new k)
+        result }
+    ensures same { AreSame outside.old outside.new }
+{
+    match Machine::start(alloc, program) {
+        Ok(machine) => debug_machine(alloc, machine, script, outside),
+        Err(_) => close_without_memory(outside.trace),
+    }
+}
+
+/// Does the commands of a script with a machine, from where it is.
+fn debug_machine<'s, 'i, 'o, 't, 'd, I: Source, O: Sink, T: Sink, D: Devices>(
+    alloc: Global,
+    machine: Machine,
+    script: Script<'s>,
+    outside: &mut Outside<'i, 'o, 't, 'd, I, O, T, D>,
+) -> u8
+    requires { IsWhole machine.body (isa_of machine.active) }
+    ensures ends { (k : Keep) → EndsIn None (MachineWay script.entry (flat machine.body machine.active))
+        (beside_lent I.left I.faults O.held O.faults T.held T.faults D.state outside.old k)
+        (beside_lent I.left I.faults O.held O.faults T.held T.faults D.state outside.new k)
+        result }
+    ensures same { AreSame outside.old outside.new }
+{
+    match Debug::new(alloc, machine) {
+        Ok(mut debug) => script_status(run_script(&mut debug, script, outside)),
+        Err(_) => close_without_memory(outside.trace),
+    }
+}
+
+/// The status where a script was done, or something of the outside stopped it.
+fn script_status(done: Result<(), Stopped>) -> u8
+    ensures { result ≡ status_by (stop_in done) }
+{
+    match done {
+        Ok(()) => SUCCESS,
+        Err(stopped) => stopped_status(stopped),
+    }
+}
+
+fn stopped_status(stopped: Stopped) -> u8
+    ensures { result ≡ status_by (Some stopped) }
+{
+    match stopped {
+        Stopped::Input => INPUT_FAILED,
+        Stopped::Output => OUTPUT_FAILED,
+        Stopped::Trace => TRACE_FAILED,
+    }
+}
