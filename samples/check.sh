@@ -23,9 +23,12 @@ for words in samples/*/words; do
     folder=${words%/words}
     input=/dev/null
     [ -f "$folder/stdin" ] && input=$folder/stdin
-    # The words of a command have no blanks in them.
-    "$program" $(cat "$words") <"$input" >"$kept/stdout" 2>"$kept/stderr"
-    echo $? >"$kept/status"
+    : >"$kept/stdout" >"$kept/stderr" >"$kept/status"
+    # Each line is a command, whose words have no blanks in them; IMAGE stands for a file that is kept between them.
+    while read -r line <&3; do
+        "$program" $(echo "$line" | sed "s,IMAGE,$kept/image,g") <"$input" >>"$kept/stdout" 2>>"$kept/stderr"
+        echo $? >>"$kept/status"
+    done 3<"$words"
     result=ok
     for part in stdout stderr status; do
         cmp -s "$kept/$part" "$folder/expected/$part" || result="$result, $part differs"

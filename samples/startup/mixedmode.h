@@ -4,11 +4,27 @@
 #define MIXEDMODE_H
 
 /* The parts of a procInfo word, to be joined by |. */
-enum { PASCAL_CALL = 0, C_CALL = 1, REGISTER_CALL = 2 };
+enum {
+    PASCAL_CALL = 0,
+    C_CALL = 1,
+    REGISTER_CALL = 2,
+    D0_PASCAL_CALL = 8,
+    D0_C_CALL = 9,
+    D1_PASCAL_CALL = 12,
+    STACK_PASCAL_CALL = 14
+};
 enum { NO_VALUE = 0, ONE_BYTE = 1, TWO_BYTES = 2, FOUR_BYTES = 3 };
 #define RESULT(size) ((unsigned long)(size) << 4)
 /* Parameter k, from 1 to 13, of a call by the C or the Pascal convention. */
 #define PARAMETER(k, size) ((unsigned long)(size) << (4 + 2 * (k)))
+/* The selector of a dispatched call, in D0, in D1 or on the stack, and its parameter k, from 1 to 12. */
+#define SELECTOR(size) ((unsigned long)(size) << 6)
+#define DISPATCHED_PARAMETER(k, size) ((unsigned long)(size) << (6 + 2 * (k)))
+/* Parameter k, from 1 to 4, of a register call, in IN_D0 to IN_A3, and the place of its result. */
+enum { IN_D0, IN_D1, IN_D2, IN_D3, IN_A0, IN_A1, IN_A2, IN_A3, IN_D4, IN_D5, IN_D6, IN_D7, IN_A4, IN_A5, IN_A6 };
+enum { IN_CARRY = 16, IN_OVERFLOW, IN_ZERO, IN_NEGATIVE, IN_EXTEND };
+#define REGISTER_PARAMETER(k, size, place) ((unsigned long)((size) | (place) << 2) << (6 + 5 * (k)))
+#define RESULT_PLACE(place) ((unsigned long)(place) << 6)
 
 enum { CODE_68K = 0, CODE_PPC = 1 };
 
