@@ -184,8 +184,6 @@ fn files_above_the_limit_are_long(rt: HostRuntime) -> Result<(), Fail> {
         ("run flat=a", 16_777_216, "load toolarge 16842752", 3),
         ("run flat=a", 720_897, "load toolarge 786433", 3),
         ("run flat=a ram=128", 32_769, "load toolarge 98305", 3),
-        ("continue image=a", 17_825_793, "load long 3", 3),
-        ("continue image=a", 17_825_792, "load image-magic 0", 3),
         ("run flat=a steps=0", 720_896, "limit", 11),
         ("run flat=a ram=128 steps=0", 32_768, "limit", 11),
     ];

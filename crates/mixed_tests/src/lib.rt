@@ -8,11 +8,7 @@ mod case;
 #[cfg(test)]
 mod cfm;
 #[cfg(test)]
-mod checkpoint;
-#[cfg(test)]
 mod crossing;
-#[cfg(test)]
-mod debug;
 #[cfg(test)]
 mod failing;
 #[cfg(test)]

@@ -11,7 +11,6 @@ pub struct Faults<'a> {
     pub input: &'a [u32],
     pub out: &'a [u32],
     pub trace: &'a [u32],
-    pub keep: &'a [u32],
 }
 
 /// No call fails.
@@ -19,15 +18,13 @@ pub const CALM: Faults<'static> = Faults {
     input: &[],
     out: &[],
     trace: &[],
-    keep: &[],
 };
 
-/// What a call gave, what it kept by the name s, and how many asks the journal holds then.
+/// What a call gave, and how many asks the journal holds then.
 #[derive(Drop)]
 pub struct Given {
     pub out: Vec<u8>,
     pub trace: Vec<u8>,
-    pub kept: Vec<u8>,
     pub status: u8,
     pub asks: usize,
 }
@@ -46,18 +43,22 @@ pub fn call(
     let mut input = MemSource::new(bytes.to_vec(alloc)?, faults.input.to_vec(alloc)?);
     let mut out = MemSink::new(alloc, 65536, faults.out.to_vec(alloc)?)?;
     let mut trace = MemSink::new(alloc, 65536, faults.trace.to_vec(alloc)?)?;
-    let name = String::from_str(alloc, "s")?;
-    let mut keep = MemKeep::new(alloc, name, 65536, faults.keep.to_vec(alloc)?)?;
+    let mut keep = keeper(alloc)?;
     let status = mixed_main(
         alloc, &all, &mut shelf, &mut input, &mut out, &mut trace, rack, &mut keep,
     );
     Ok(Given {
         out: out.held().to_vec(alloc)?,
         trace: trace.held().to_vec(alloc)?,
-        kept: keep.kept().to_vec(alloc)?,
         status,
         asks: rack.journal().len(),
     })
+}
+
+/// A keeper of the name s.
+fn keeper(alloc: Global) -> Result<MemKeep, Fail> {
+    let name = String::from_str(alloc, "s")?;
+    Ok(MemKeep::new(alloc, name, 65536, Vec::new(alloc))?)
 }
 
 /// The words of a text.

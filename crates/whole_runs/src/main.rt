@@ -11,12 +11,9 @@
 //!
 //! `NAME | STATUS | OUTPUT | TRACE | JOURNAL | INPUT LEFT`
 //!
-//! where ` /` stands for the end of a line of the trace, and behind it, where something was kept, ` | KEPT`: how
-//! many bytes, and the name of a file that has the same. With `sweep=FIRST..LAST` the program is run for each
+//! where ` /` stands for the end of a line of the trace. With `sweep=FIRST..LAST` the program is run for each
 //! address from the first to the last, with the address as the last four bytes of its input, and the answer
-//! tells which of them end alike. So it is with `lengths=` for the last file cut to each length, with `places=`
-//! for the last file with 1 added to the byte at each place, and with `cuts=` for the run cut after each number
-//! of steps, kept and continued.
+//! tells which of them end alike.
 //!
 //! The answers that are stored beside this program were not made by it. They were worked out from the rules
 //! in `docs/`: by hand the addresses, steps and lines of each small program, and by a reader of forks and
@@ -25,7 +22,6 @@
 #![tactic(auto)]
 
 mod case;
-mod cut;
 mod images;
 mod outside;
 mod run;
@@ -62,7 +58,7 @@ fn answer(alloc: Global, images: &Images, line: &str) -> io::Result<String> {
         None => {
             let input = images.spell(alloc, case.input)?;
             let mut given = run::run(alloc, images, case, input)?;
-            Ok(tell::all_kept(alloc, images, case.name, &mut given)?)
+            Ok(tell::all(alloc, case.name, &mut given)?)
         }
     }
 }

@@ -1,7 +1,6 @@
 // What fails outside, and what is short: words such as `in=3`, `shelf=1,2` or `trace=1` for the calls that
-// fail, by their numbers from 1, `out-room=5` and `trace-room=20` for how many bytes a stream holds, `keep=1`,
-// `keep-room=5` and `keep-name=s` for the keeper, and `script=5,-,7` for a device in slot 0 whose second ask
-// fails. Numbers are decimal.
+// fail, by their numbers from 1, `out-room=5` and `trace-room=20` for how many bytes a stream holds, and
+// `script=5,-,7` for a device in slot 0 whose second ask fails. Numbers are decimal.
 use mix_io::{MemKeep, MemSink, NoMemory};
 use std::alloc::{AllocError, Global};
 use std::io::{self, ErrorKind};
@@ -45,15 +44,10 @@ pub fn sink(alloc: Global, text: &str, key: &str, room_key: &str) -> io::Result<
     MemSink::new(alloc, room, fails).map_err(no_memory)
 }
 
-/// A keeper of one name, which is `s` where the words say none.
-pub fn keeper(alloc: Global, text: &str) -> io::Result<MemKeep> {
-    let name = String::from_str(alloc, value_of(text, "keep-name").unwrap_or("s"))?;
-    let room = match value_of(text, "keep-room") {
-        Some(value) => number(value)?,
-        None => IMAGE,
-    };
-    let fails = numbers(alloc, text, "keep")?;
-    MemKeep::new(alloc, name, room, fails).map_err(no_memory)
+/// A keeper of the name `s`.
+pub fn keeper(alloc: Global) -> io::Result<MemKeep> {
+    let name = String::from_str(alloc, "s")?;
+    MemKeep::new(alloc, name, IMAGE, Vec::new(alloc)).map_err(no_memory)
 }
 
 /// Answers with commas between; what is no number is a failure.

@@ -4,20 +4,19 @@ use crate::images::Images;
 use crate::outside::{keeper, no_memory, numbers, script, sink, value_of};
 use dev_rack::{Asked, Devices, Rack};
 use mix_io::{
-    Counter, Device, MemKeep, MemShelf, MemSink, MemSource, ScriptDevice, Tape, have_distinct_names,
+    Counter, Device, MemShelf, MemSink, MemSource, ScriptDevice, Tape, have_distinct_names,
 };
 use mix_top::mixed_main;
 use std::alloc::{AllocError, Global};
 use std::io::{self, ErrorKind};
 
-/// The shelf, the streams and the keeper of a run.
+/// The shelf and the streams of a run.
 #[derive(Drop)]
 pub struct Streams {
-    pub shelf: MemShelf,
+    shelf: MemShelf,
     pub input: MemSource,
     pub out: MemSink,
     pub trace: MemSink,
-    pub keep: MemKeep,
 }
 
 /// What a run gave.
@@ -31,37 +30,33 @@ pub struct Given {
 /// Runs a case with these bytes for its input.
 pub fn run(alloc: Global, images: &Images, case: Case, input: Vec<u8>) -> io::Result<Given> {
     let streams = Streams::new(alloc, images, case, input)?;
-    let mut rack = rack(alloc, case.outside)?;
-    run_beside(alloc, case.words, streams, &mut rack)
-}
-
-/// The devices of a case: a counter or a script in slot 0, and a tape in slot 1.
-pub fn rack(alloc: Global, outside: &str) -> io::Result<Rack> {
+    let words = split(alloc, case.words)?;
     let tape: Box<dyn Device> = Box::new(alloc, Tape::new(alloc).map_err(no_memory)?)?;
-    let device: Box<dyn Device> = match value_of(outside, "script") {
+    let device: Box<dyn Device> = match value_of(case.outside, "script") {
         Some(answers) => Box::new(alloc, scripted(alloc, answers)?)?,
         None => Box::new(alloc, Counter::new(alloc).map_err(no_memory)?)?,
     };
-    Rack::new(alloc, vec![in alloc; device, tape]?).map_err(no_memory)
+    let mut rack = Rack::new(alloc, vec![in alloc; device, tape]?).map_err(no_memory)?;
+    run_beside(alloc, &words, streams, &mut rack)
 }
 
 /// Runs words beside streams and devices.
-pub fn run_beside<D: Devices>(
+fn run_beside<D: Devices>(
     alloc: Global,
-    words: &str,
+    words: &[String],
     mut streams: Streams,
     rack: &mut D,
 ) -> io::Result<Given> {
-    let words = split(alloc, words)?;
+    let mut keep = keeper(alloc)?;
     let status = mixed_main(
         alloc,
-        &words,
+        words,
         &mut streams.shelf,
         &mut streams.input,
         &mut streams.out,
         &mut streams.trace,
         rack,
-        &mut streams.keep,
+        &mut keep,
     );
     let asks = rack.journal().to_vec(alloc)?;
     Ok(Given {
@@ -77,15 +72,14 @@ fn scripted(alloc: Global, answers: &str) -> io::Result<ScriptDevice> {
 }
 
 impl Streams {
-    /// The shelf, the streams and the keeper of a case.
-    pub fn new(alloc: Global, images: &Images, case: Case, input: Vec<u8>) -> io::Result<Streams> {
+    /// The shelf and the streams of a case.
+    fn new(alloc: Global, images: &Images, case: Case, input: Vec<u8>) -> io::Result<Streams> {
         let text = case.outside;
         Ok(Streams {
             input: MemSource::new(input, numbers(alloc, text, "in")?),
             shelf: shelf(alloc, images, case)?,
             out: sink(alloc, text, "out", "out-room")?,
             trace: sink(alloc, text, "trace", "trace-room")?,
-            keep: keeper(alloc, text)?,
         })
     }
 }

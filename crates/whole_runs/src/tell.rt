@@ -1,5 +1,4 @@
 // What runs gave, as text.
-use crate::images::Images;
 use crate::run::Given;
 use dev_rack::Asked;
 use mix_io::{MemSource, Source};
@@ -7,24 +6,7 @@ use std::alloc::{AllocError, Global};
 use std::io;
 use std::str::from_utf8;
 
-/// All that a run gave: `NAME | STATUS | OUTPUT | TRACE | JOURNAL | INPUT LEFT`, with `-` for nothing, and behind
-/// it, where something was kept, ` | KEPT`: how many bytes, and the name of a file that has the same.
-pub fn all_kept(
-    alloc: Global,
-    images: &Images,
-    name: &str,
-    given: &mut Given,
-) -> Result<String, AllocError> {
-    let mut text = all(alloc, name, given)?;
-    let kept = given.streams.keep.kept();
-    if !kept.is_empty() {
-        let (length, file) = (kept.len(), images.name_of(kept).unwrap_or("-"));
-        write!(text, " | {length} {file}")?;
-    }
-    Ok(text)
-}
-
-/// The same without what was kept.
+/// All that a run gave: `NAME | STATUS | OUTPUT | TRACE | JOURNAL | INPUT LEFT`, with `-` for nothing.
 pub fn all(alloc: Global, name: &str, given: &mut Given) -> Result<String, AllocError> {
     let mut text = String::from_str(alloc, name)?;
     let status = given.status;
@@ -49,24 +31,6 @@ pub fn end(alloc: Global, given: &Given, address: u32) -> io::Result<String> {
         .replace(alloc, digits.as_str(), "ADDRESS")?;
     let line = field(line.as_str());
     Ok(format!(in alloc; "{status} {line}")?)
-}
-
-/// Why the files of a run were refused: the status and the line, with `NUMBER` for this number; or that they
-/// were not.
-pub fn refusal(alloc: Global, given: &Given, number: u32) -> io::Result<String> {
-    let status = given.status;
-    let line = from_utf8(given.streams.trace.held()).unwrap_or("").trim();
-    if !line.starts_with("load ") {
-        return Ok(String::from_str(alloc, "runs")?);
-    }
-    let (name, last) = line.rsplit_once(' ').unwrap_or((line, ""));
-    let digits = format!(in alloc; "{number}")?;
-    let last = if last == digits.as_str() {
-        "NUMBER"
-    } else {
-        last
-    };
-    Ok(format!(in alloc; "{status} {name} {last}")?)
 }
 
 /// Adds a field to a line.
