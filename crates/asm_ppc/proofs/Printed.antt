@@ -5,7 +5,7 @@ use Rattle.std.proofs.lemmas.Slice.Eq.{bytes_eq-Decides}
 use Rattle.std.specs.List.{list_any}
 use Rattle.std.specs.Str.{bytes_eq}
 use Rattle.ppc_isa.specs.declared.instruction.InstrPpc.{InstrPpc}
-use Rattle.ppc_isa.specs.Rows.{decoded}
+use Rattle.ppc_isa.specs.Rows.{decoded, operation}
 use Rattle.ppc_isa.specs.Words.{word_of}
 use Rattle.ppc_text.specs.Listed.{names, shapes}
 use Rattle.ppc_text.specs.Names.{name}
@@ -26,11 +26,11 @@ all_print [] = true
 all_print (i ∷ is) = if prints_name (word_of i) (name i) then all_print is else false
 
 shapes_print : all_print shapes ≡ true
-unfolding shapes decoded
+unfolding shapes decoded operation
 shapes_print = refl
 
 long_prints : prints_name 0 (codes ".long") ≡ true
-unfolding decoded
+unfolding decoded operation
 long_prints = refl
 
 both : (b c : Bool) → (if b then c else false) ≡ true → (b ≡ true) × (c ≡ true)

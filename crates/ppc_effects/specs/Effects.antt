@@ -14,8 +14,8 @@ use Rattle.ppc_isa.specs.Fields.{fields_of}
 use Rattle.ppc_isa.specs.Rows.{decoded}
 use Rattle.ppc_alu.specs.Traps.{traps_on}
 use Rattle.ppc_alu.specs.Xer.{string_length_of}
-use Rattle.ppc_ops.specs.declared.op.OpPpc.{OpPpc}
-use Rattle.ppc_ops.specs.Ops.{made}
+use Rattle.ppc_isa.specs.declared.op.OpPpc.{OpPpc}
+use Rattle.ppc_isa.specs.Made.{made}
 use Rattle.ppc_effects.specs.File.{base_of, gpr_of, onto_next}
 use Rattle.ppc_effects.specs.Arithmetic.{add, add_extended, add_immediate, add_immediate_carrying, divide, immediate_of, multiply_high, multiply_low, multiply_low_immediate, negate, subtract_from, subtract_from_extended, subtract_from_immediate_carrying}
 use Rattle.ppc_effects.specs.Logical.{logical, logical_immediate, unary}

@@ -4,8 +4,7 @@ ghost use Rattle.ppc_effects.specs.File.{base_of};
 ghost use Rattle.ppc_effects.specs.Storage.{index_address as index_address_of, offset_address as offset_address_of};
 
 use mix_bits::onward;
-use ppc_isa::RegsPpc;
-use ppc_ops::{a_of, b_of, offset_of};
+use ppc_isa::{RegsPpc, a_of, b_of, offset_of};
 
 /// (A|0): register `a`, or 0 for register 0.
 #[inline(always)]

@@ -4,7 +4,7 @@ ghost use Rattle.mix_bits.specs.declared.fault.Fault.{Fault};
 ghost use Rattle.big_memory.specs.Memory.{Memory};
 ghost use Rattle.big_memory.specs.Steps.{Does};
 ghost use Rattle.ppc_isa.specs.Fields.{fields_of};
-ghost use Rattle.ppc_isa.specs.Rows.{displacement_of};
+ghost use Rattle.ppc_isa.specs.Made.{displacement_of};
 ghost use Rattle.ppc_isa.specs.declared.instruction.InstrPpc.TheVariants.{Branch, BranchConditional, BranchConditionalToRegister};
 ghost use Rattle.ppc_effects.specs.Branches.{branch_where, condition_allows as condition_allows_of, count_allows as count_allows_of, counted};
 ghost use Rattle.ppc_effects.specs.Effects.{runs};
@@ -12,8 +12,7 @@ ghost use Rattle.ppc_effects.specs.Effects.{runs};
 use big_memory::Did;
 use mix_bits::{aligned, onward};
 use ppc_alu::cr_bit;
-use ppc_isa::{BranchRegister, RegsPpc, branch_target};
-use ppc_ops::{a_of, d_of, far_displacement_of, is_absolute, is_last, near_displacement_of};
+use ppc_isa::{BranchRegister, RegsPpc, a_of, branch_target, d_of, far_displacement_of, is_absolute, is_last, near_displacement_of};
 
 /// b.
 #[inline(always)]

@@ -11,8 +11,7 @@ ghost use Rattle.ppc_effects.specs.Effects.{runs};
 use super::ending::finish_result;
 use big_memory::Did;
 use mix_bits::{Size, sext};
-use ppc_isa::{ImmediateOp, LogicalOp, RegsPpc, UnaryOp};
-use ppc_ops::{a_of, b_of, d_of, is_last, low_of};
+use ppc_isa::{ImmediateOp, LogicalOp, RegsPpc, UnaryOp, a_of, b_of, d_of, is_last, low_of};
 
 /// ori, oris, xori, xoris, andi. and andis.
 #[inline(always)]

@@ -12,8 +12,7 @@ use super::ending::{finish, finish_arith, finish_result};
 use big_memory::Did;
 use ppc_alu::{insert, rotate_mask, shift_left, shift_right, shift_right_logical};
 use ppc_effects::put_result;
-use ppc_isa::{MaskUse, RegsPpc};
-use ppc_ops::{a_of, b_of, d_of, is_last, mask_begin_of, mask_end_of, shift_of};
+use ppc_isa::{MaskUse, RegsPpc, a_of, b_of, d_of, is_last, mask_begin_of, mask_end_of, shift_of};
 
 /// rlwimi and rlwinm.
 #[inline(always)]

@@ -10,8 +10,7 @@ ghost use Rattle.ppc_effects.specs.Effects.{runs};
 use super::ending::finish;
 use big_memory::Did;
 use ppc_alu::xer_kept;
-use ppc_isa::{RegsPpc, SpecialRegister};
-use ppc_ops::d_of;
+use ppc_isa::{RegsPpc, SpecialRegister, d_of};
 
 /// mfspr.
 #[inline(always)]

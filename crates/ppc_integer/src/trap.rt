@@ -10,8 +10,7 @@ use super::ending::finish;
 use big_memory::{Did, stop};
 use mix_bits::{Fault, FaultKind};
 use ppc_alu::traps;
-use ppc_isa::RegsPpc;
-use ppc_ops::{a_of, b_of, d_of, offset_of};
+use ppc_isa::{RegsPpc, a_of, b_of, d_of, offset_of};
 
 /// tw.
 #[inline(never)]

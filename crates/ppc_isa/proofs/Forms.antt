@@ -1,5 +1,5 @@
 -- The fields of words in the manual's formats.
-use Rattle.std.proofs.Common.{◌≡◌, inl, inr, ℕ, ◌+◌, ◌*◌, ◌/◌, ◌%◌, ◌^◌, ◌<◌, Bool, true, false, ◌==◌, Some, arith, ◌∙◌, ap}
+use Rattle.std.proofs.Common.{◌≡◌, inl, inr, ℕ, ◌+◌, ◌*◌, ◌/◌, ◌%◌, ◌^◌, ◌<◌, Bool, true, false, ◌==◌, Option, Some, arith, ◌∙◌, ap}
 use Rattle.std.proofs.lemmas.Bool.Decides.{nat_tests}
 use Rattle.std.specs.Int.{from_bool}
 use Rattle.mix_bits.specs.Digits.{digit_of}
@@ -8,7 +8,12 @@ use Rattle.ppc_isa.specs.declared.fields.Fields.{Fields}
 use Rattle.ppc_isa.specs.Fields.{fields_of, word_with}
 use Rattle.ppc_isa.specs.Words.{immediate_form, extended_form}
 use Rattle.ppc_isa.specs.Valid.{IsDisplacement}
-use Rattle.ppc_isa.specs.Rows.{displacement_of, row_of}
+use Rattle.ppc_isa.specs.Made.{displacement_of, made}
+use Rattle.ppc_isa.specs.Rows.{found, table}
+
+-- the instruction of fields
+abbrev pub read : Fields → Option InstrPpc
+read f = made (found table f) f
 
 -- a word is the word of its fields
 pub whole : (w : ℕ) → w < 2 ^ 32 → word_with (fields_of w) ≡ w
@@ -56,12 +61,12 @@ fields_of-extended op d a b xo false hop hd ha hb hxo =
     let e7 : digit_of w 0 16 ≡ b * 2 ^ 11 + xo * 2 + 0 = omega arith in
     cc
 
--- the row of such a word
-pub at_immediate : (op d a low : ℕ) (i : InstrPpc) → op < 64 → d < 32 → a < 32 → low < 2 ^ 16 → row_of (immediate_fields op d a low) ≡ Some i → row_of (fields_of (immediate_form op d a low)) ≡ Some i
-at_immediate op d a low i hop hd ha hlow e = ap row_of (fields_of-immediate op d a low hop hd ha hlow) ∙ e
+-- what such a word is read as
+pub at_immediate : (op d a low : ℕ) (i : InstrPpc) → op < 64 → d < 32 → a < 32 → low < 2 ^ 16 → read (immediate_fields op d a low) ≡ Some i → read (fields_of (immediate_form op d a low)) ≡ Some i
+at_immediate op d a low i hop hd ha hlow e = ap read (fields_of-immediate op d a low hop hd ha hlow) ∙ e
 
-pub at_extended : (op d a b xo : ℕ) (last : Bool) (i : InstrPpc) → op < 64 → d < 32 → a < 32 → b < 32 → xo < 1024 → row_of (extended_fields op d a b xo last) ≡ Some i → row_of (fields_of (extended_form op d a b xo last)) ≡ Some i
-at_extended op d a b xo last i hop hd ha hb hxo e = ap row_of (fields_of-extended op d a b xo last hop hd ha hb hxo) ∙ e
+pub at_extended : (op d a b xo : ℕ) (last : Bool) (i : InstrPpc) → op < 64 → d < 32 → a < 32 → b < 32 → xo < 1024 → read (extended_fields op d a b xo last) ≡ Some i → read (fields_of (extended_form op d a b xo last)) ≡ Some i
+at_extended op d a b xo last i hop hd ha hb hxo e = ap read (fields_of-extended op d a b xo last hop hd ha hb hxo) ∙ e
 
 -- a displacement is the signed number of its low bits
 pub displacement_back_16 : (n : ℕ) → IsDisplacement 16 n → displacement_of 16 (n % 2 ^ 16) ≡ n

@@ -1,5 +1,6 @@
+pub mod Apart
 pub mod Filled
 pub mod Forms
+pub mod Found
 pub mod Laws
 pub mod Longs
-pub mod Found

@@ -3,6 +3,7 @@ pub mod Longs
 pub mod Fields
 pub mod Words
 pub mod Valid
+pub mod Made
 pub mod Rows
 pub mod Laws
 pub mod Targets

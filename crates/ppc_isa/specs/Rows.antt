@@ -1,318 +1,262 @@
--- The table of instructions, by the fields of a word.
-use Rattle.std.specs.Prelude.{ℕ, ◌+◌, ◌-◌, ◌*◌, ◌/◌, ◌%◌, ◌^◌, List, [], ◌∷◌, Bool, true, false, not, ◌&&◌, ◌==◌, nat_lt, Option, Some, None, if◌then◌else◌}
-use Rattle.std.specs.Option.{option_or}
-use Rattle.ppc_isa.specs.declared.instruction.CarryUse.TheVariants.{Plain, Carrying, Extended}
-use Rattle.ppc_isa.specs.declared.instruction.ExtendedOperand.TheVariants.{Zero as ZeroOperand, MinusOne}
-use Rattle.ppc_isa.specs.declared.instruction.ImmediateOp.TheVariants.{Or as ImmediateOr, OrShifted, Xor as ImmediateXor, XorShifted, And as ImmediateAnd, AndShifted}
-use Rattle.ppc_isa.specs.declared.instruction.LogicalOp.TheVariants.{And, Or, Xor, Nand, Nor, Equivalent, AndComplement, OrComplement}
-use Rattle.ppc_isa.specs.declared.instruction.UnaryOp.{UnaryOp}
-use Rattle.ppc_isa.specs.declared.instruction.UnaryOp.TheVariants.{ExtendSignByte, ExtendSignHalf, CountLeadingZeros}
-use Rattle.ppc_isa.specs.declared.instruction.ShiftOp.TheVariants.{Left, Right, RightAlgebraic}
-use Rattle.ppc_isa.specs.declared.instruction.MaskUse.TheVariants.{Insert, Clear}
-use Rattle.ppc_isa.specs.declared.instruction.LoadKind.TheVariants.{Word as LoadWord, Byte as LoadByte, Half as LoadHalf, HalfAlgebraic}
-use Rattle.ppc_isa.specs.declared.instruction.StoreKind.TheVariants.{Word as StoreWord, Byte as StoreByte, Half as StoreHalf}
-use Rattle.ppc_isa.specs.declared.instruction.ReversedKind.TheVariants.{Word as ReversedWord, Half as ReversedHalf}
-use Rattle.ppc_isa.specs.declared.instruction.BranchRegister.TheVariants.{Link as LinkTarget, Count as CountTarget}
-use Rattle.ppc_isa.specs.declared.instruction.SpecialRegister.TheVariants.{Xer, Link as LinkSpecial, Count as CountSpecial}
+-- The table of instructions: which words each operation has (PowerPC 601 RISC Microprocessor User's Manual, chapter 10
+-- and appendix A).
+use Rattle.std.specs.Prelude.{ℕ, ◌+◌, ◌*◌, ◌/◌, ◌%◌, List, [], ◌∷◌, ◌++◌, Bool, true, false, not, ◌&&◌, ◌==◌, nat_lt, Option, if◌then◌else◌}
+use Rattle.std.specs.List.{list_any}
 use Rattle.ppc_isa.specs.declared.instruction.InstrPpc.{InstrPpc}
-use Rattle.ppc_isa.specs.declared.instruction.InstrPpc.TheVariants.{TrapWordImmediate, MultiplyLowImmediate, SubtractFromImmediateCarrying, CompareImmediate, AddImmediateCarrying, AddImmediate, BranchConditional, Branch, RotateLeftImmediate, RotateLeft, LogicalImmediate, Load, Store, LoadMultiple, StoreMultiple, MoveConditionField, BranchConditionalToRegister, ConditionLogical, InstructionSynchronize, Add, AddExtended, SubtractFrom, SubtractFromExtended, Negate, MultiplyLow, MultiplyHigh, Divide, Logical, Unary, Shift, ShiftRightAlgebraicImmediate, Compare, TrapWord, LoadIndexed, StoreIndexed, LoadReversed, StoreReversed, LoadStringImmediate, StoreStringImmediate, LoadStringIndexed, StoreStringIndexed, MoveFromConditionRegister, MoveToConditionFields, MoveXerToConditionField, MoveFromSpecial, MoveToSpecial, Synchronize}
 use Rattle.ppc_isa.specs.declared.fields.Fields.{Fields}
+use Rattle.ppc_isa.specs.declared.op.OpPpc.{OpPpc}
+use Rattle.ppc_isa.specs.declared.op.OpPpc.TheVariants.{Twi, Mulli, Subfic, Cmpli, Cmpi, Addic, AddicRecord, Addi, Addis, Bc, B, Mcrf, Bclr, Crnor, Crandc, Isync, Crxor, Crnand, Crand, Creqv, Crorc, Cror, Bcctr, Rlwimi, Rlwinm, Rlwnm, Ori, Oris, Xori, Xoris, Andi, Andis, Cmp, Tw, Subfc, Addc, Mulhwu, Mfcr, Lwzx, Slw, Cntlzw, And, Cmpl, Subf, Lwzux, Andc, Mulhw, Lbzx, Neg, Lbzux, Nor, Subfe, Adde, Mtcrf, Stwx, Stwux, Subfze, Addze, Stbx, Subfme, Addme, Mullw, Stbux, Add, Lhzx, Eqv, Lhzux, Xor, Mfxer, Mflr, Mfctr, Lhax, Lhaux, Sthx, Orc, Sthux, Or, Divwu, Mtxer, Mtlr, Mtctr, Nand, Divw, Mcrxr, Lswx, Lwbrx, Srw, Lswi, Sync, Stswx, Stwbrx, Stswi, Lhbrx, Sraw, Srawi, Sthbrx, Extsh, Extsb, Lwz, Lwzu, Lbz, Lbzu, Stw, Stwu, Stb, Stbu, Lhz, Lhzu, Lha, Lhau, Sth, Sthu, Lmw, Stmw, Invalid}
 use Rattle.ppc_isa.specs.Fields.{fields_of}
-use Rattle.ppc_isa.specs.Valid.{is_valid}
+use Rattle.ppc_isa.specs.Made.{made}
+use Rattle.ppc_isa.specs.Valid.{is_base, registers_from, string_registers}
 
--- a test of the fields, and the instruction where it holds
+-- what tells a row from the others with its opcode: nothing, where it is the only one; an extended opcode; or that and
+-- the number of a special purpose register
+pub data Key : Type 0 where
+  Whole : Key
+  Extended : ℕ → Key
+  Special : ℕ → ℕ → Key
+
+-- the bits that a row leaves to the program besides its operands
+pub data Marks : Type 0 where
+  Unmarked : Marks
+  Rc : Marks
+  OeRc : Marks
+  Lk : Marks
+  AaLk : Marks
+
+-- an opcode, a key, marks, the rule that a word has to meet besides, and the operation
 pub data Row : Type 0 where
-  row : (Fields → Bool) → (Fields → InstrPpc) → Row
+  row : ℕ → Key → Marks → (Fields → Bool) → OpPpc → Row
 
--- the instruction of the first row whose test holds
-abbrev pub first : List Row → Fields → Option InstrPpc
-first [] f = None
-first (row fits instruction ∷ rows) f = if fits f then Some (instruction f) else first rows f
+abbrev pub has_oe : Marks → Bool
+has_oe OeRc = true
+has_oe marks = false
 
--- Tests that several rows share.
+-- an extended opcode has ten bits, or nine with OE before them; the halves of a special register's number are swapped
+abbrev pub has_key : Key → Marks → Fields → Bool
+has_key Whole marks f = true
+has_key (Extended n) marks f = (if has_oe marks then f.xo % 512 else f.xo) == n
+has_key (Special n number) marks f = (f.xo == n) && ((f.b * 32 + f.a) == number)
 
--- an extended opcode, without Rc or LK
-abbrev pub plain : ℕ → Fields → Bool
-plain xo f = (f.xo == xo) && not f.last
+-- whether a word is in a row
+abbrev pub is_in : Row → Fields → Bool
+is_in (row op key marks rule operation) f = (f.op == op) && has_key key marks f
 
--- no third register
-abbrev pub two : Fields → Bool
-two f = f.b == 0
+-- behind an extended opcode the last bit is 0 where it is neither Rc nor LK
+abbrev pub has_marks : Key → Marks → Fields → Bool
+has_marks Whole marks f = true
+has_marks key Unmarked f = not f.last
+has_marks key marks f = true
 
--- a field of the condition register in the place of a register, with zeros behind it
+-- Rules: bits that are 0, and the forms that the manual calls invalid.
+
+abbrev pub any : Fields → Bool
+any f = true
+
+-- the number of a field of the condition register in the place of a register
 abbrev pub is_field : ℕ → Bool
 is_field n = (n % 4) == 0
 
--- Rows by their operands.
+abbrev pub to_field : Fields → Bool
+to_field f = is_field f.d
 
--- D, A and sixteen bits
-abbrev pub immediate_row : ℕ → (ℕ → ℕ → ℕ → InstrPpc) → Row
-immediate_row op make = row (λ f. f.op == op) (λ f. make f.d f.a f.low)
+abbrev pub no_b : Fields → Bool
+no_b f = f.b == 0
 
--- A, S and sixteen bits
-abbrev pub logical_immediate_row : ℕ → (ℕ → ℕ → ℕ → InstrPpc) → Row
-logical_immediate_row op make = row (λ f. f.op == op) (λ f. make f.a f.d f.low)
+abbrev pub one_register : Fields → Bool
+one_register f = (f.a == 0) && no_b f
 
--- a field of the condition register, A and sixteen bits
-abbrev pub compare_immediate_row : ℕ → Bool → Row
-compare_immediate_row op signed = row (λ f. (f.op == op) && is_field f.d) (λ f. CompareImmediate signed (f.d / 4) f.a f.low)
+abbrev pub one_field : Fields → Bool
+one_field f = to_field f && one_register f
 
--- A, S, a count or B, the mask's ends and Rc
-abbrev pub rotate_row : ℕ → (ℕ → ℕ → ℕ → ℕ → ℕ → Bool → InstrPpc) → Row
-rotate_row op make = row (λ f. f.op == op) (λ f. make f.a f.d f.b (f.xo / 32) (f.xo % 32) f.last)
+abbrev pub two_fields : Fields → Bool
+two_fields f = to_field f && is_field f.a && no_b f
 
--- three registers or numbers of bits, with neither Rc nor LK
-abbrev pub plain_row : ℕ → (ℕ → ℕ → ℕ → InstrPpc) → Row
-plain_row xo make = row (plain xo) (λ f. make f.d f.a f.b)
+abbrev pub bare : Fields → Bool
+bare f = (f.d == 0) && one_register f
 
--- BO, BI and LK
-abbrev pub register_branch_row : ℕ → (ℕ → ℕ → Bool → InstrPpc) → Row
-register_branch_row xo make = row (λ f. (f.xo == xo) && two f) (λ f. make f.d f.a f.last)
+-- a mask of eight bits between two bits that are 0
+abbrev pub mask_move : Fields → Bool
+mask_move f = ((f.a / 16) == 0) && ((f.b % 2) == 0)
 
--- no operand
-abbrev pub bare_row : ℕ → InstrPpc → Row
-bare_row xo instruction = row (λ f. plain xo f && (f.d == 0) && (f.a == 0) && two f) (λ f. instruction)
+-- a branch to the count register does not count it down
+abbrev pub count_branch : Fields → Bool
+count_branch f = no_b f && ((f.d / 4 % 2) == 1)
 
--- D, A, B, OE and Rc
-abbrev pub sum_row : ℕ → (ℕ → ℕ → ℕ → Bool → Bool → InstrPpc) → Row
-sum_row xo make = row (λ f. (f.xo % 512) == xo) (λ f. make f.d f.a f.b ((f.xo / 512) == 1) f.last)
+-- an update has a base, and a load with it does not go to the base
+abbrev pub store_update : Fields → Bool
+store_update f = is_base f.a
 
--- D, A, OE and Rc
-abbrev pub short_sum_row : ℕ → (ℕ → ℕ → Bool → Bool → InstrPpc) → Row
-short_sum_row xo make = row (λ f. ((f.xo % 512) == xo) && two f) (λ f. make f.d f.a ((f.xo / 512) == 1) f.last)
+abbrev pub load_update : Fields → Bool
+load_update f = is_base f.a && not (f.a == f.d)
 
--- D, A, B and Rc
-abbrev pub product_row : ℕ → (ℕ → ℕ → ℕ → Bool → InstrPpc) → Row
-product_row xo make = row (λ f. f.xo == xo) (λ f. make f.d f.a f.b f.last)
+-- loads of several registers leave the base alone
+abbrev pub multiple_load : Fields → Bool
+multiple_load f = nat_lt f.a f.d
 
--- A, S, B and Rc
-abbrev pub logical_row : ℕ → (ℕ → ℕ → ℕ → Bool → InstrPpc) → Row
-logical_row xo make = row (λ f. f.xo == xo) (λ f. make f.a f.d f.b f.last)
+abbrev pub string_load : Fields → Bool
+string_load f = not (list_any (λ r. r == f.a) (registers_from f.d (string_registers f.b)))
 
--- A, S and Rc
-abbrev pub unary_row : ℕ → UnaryOp → Row
-unary_row xo op = row (λ f. (f.xo == xo) && two f) (λ f. Unary op f.a f.d f.last)
+abbrev pub is_allowed : Row → Fields → Bool
+is_allowed (row op key marks rule operation) f = has_marks key marks f && rule f
 
--- a field of the condition register, A and B
-abbrev pub compare_row : ℕ → Bool → Row
-compare_row xo signed = row (λ f. plain xo f && is_field f.d) (λ f. Compare signed (f.d / 4) f.a f.b)
-
--- a special purpose register and a general one; the halves of the former's number are swapped
-abbrev pub special_row : ℕ → ℕ → (ℕ → InstrPpc) → Row
-special_row xo number make = row (λ f. plain xo f && ((f.b * 32 + f.a) == number)) (λ f. make f.d)
-
--- a signed number of `bits` bits as a pattern of 32 bits
-abbrev pub displacement_of : ℕ → ℕ → ℕ
-displacement_of bits n = if nat_lt n (2 ^ (bits - 1)) then n else n + (2 ^ 32 - 2 ^ bits)
+abbrev pub operation_in : Row → OpPpc
+operation_in (row op key marks rule operation) = operation
 
 -- The rows by opcode and extended opcode.
 
--- sums and products with sixteen bits
-abbrev pub immediate_sum_rows : List Row
-immediate_sum_rows =
-    immediate_row 7 MultiplyLowImmediate
-    ∷ immediate_row 8 SubtractFromImmediateCarrying
-    ∷ immediate_row 12 (AddImmediateCarrying false)
-    ∷ immediate_row 13 (AddImmediateCarrying true)
-    ∷ immediate_row 14 (AddImmediate false)
-    ∷ immediate_row 15 (AddImmediate true)
-    ∷ []
-
--- comparisons, traps and logic with sixteen bits
-abbrev pub immediate_logical_rows : List Row
-immediate_logical_rows =
-    immediate_row 3 TrapWordImmediate
-    ∷ compare_immediate_row 10 false
-    ∷ compare_immediate_row 11 true
-    ∷ logical_immediate_row 24 (LogicalImmediate ImmediateOr)
-    ∷ logical_immediate_row 25 (LogicalImmediate OrShifted)
-    ∷ logical_immediate_row 26 (LogicalImmediate ImmediateXor)
-    ∷ logical_immediate_row 27 (LogicalImmediate XorShifted)
-    ∷ logical_immediate_row 28 (LogicalImmediate ImmediateAnd)
-    ∷ logical_immediate_row 29 (LogicalImmediate AndShifted)
-    ∷ []
-
--- operations on a register and sixteen bits
-abbrev pub immediate_rows : Fields → Option InstrPpc
-immediate_rows f = option_or (first immediate_sum_rows f) (first immediate_logical_rows f)
-
--- branches by a distance
-abbrev pub branch_rows : List Row
-branch_rows =
-    row (λ f. f.op == 16) (λ f. BranchConditional f.d f.a (displacement_of 16 (f.low / 4 * 4)) ((f.low / 2 % 2) == 1) f.last)
-    ∷ row (λ f. f.op == 18) (λ f. Branch (displacement_of 26 (f.d * 2 ^ 21 + f.a * 2 ^ 16 + f.low / 4 * 4)) ((f.low / 2 % 2) == 1) f.last)
-    ∷ []
-
--- rotations under a mask
-abbrev pub rotate_rows : List Row
-rotate_rows =
-    rotate_row 20 (RotateLeftImmediate Insert)
-    ∷ rotate_row 21 (RotateLeftImmediate Clear)
-    ∷ rotate_row 23 RotateLeft
-    ∷ []
-
-abbrev pub memory_rows : List Row
-memory_rows =
-    immediate_row 32 (Load LoadWord false)
-    ∷ immediate_row 33 (Load LoadWord true)
-    ∷ immediate_row 34 (Load LoadByte false)
-    ∷ immediate_row 35 (Load LoadByte true)
-    ∷ immediate_row 36 (Store StoreWord false)
-    ∷ immediate_row 37 (Store StoreWord true)
-    ∷ immediate_row 38 (Store StoreByte false)
-    ∷ immediate_row 39 (Store StoreByte true)
-    ∷ immediate_row 40 (Load LoadHalf false)
-    ∷ immediate_row 41 (Load LoadHalf true)
-    ∷ immediate_row 42 (Load HalfAlgebraic false)
-    ∷ immediate_row 43 (Load HalfAlgebraic true)
-    ∷ immediate_row 44 (Store StoreHalf false)
-    ∷ immediate_row 45 (Store StoreHalf true)
-    ∷ immediate_row 46 LoadMultiple
-    ∷ immediate_row 47 StoreMultiple
+-- opcodes 3 to 18
+abbrev pub rows_to_18 : List Row
+rows_to_18 =
+    row 3 Whole Unmarked any Twi
+    ∷ row 7 Whole Unmarked any Mulli
+    ∷ row 8 Whole Unmarked any Subfic
+    ∷ row 10 Whole Unmarked to_field Cmpli
+    ∷ row 11 Whole Unmarked to_field Cmpi
+    ∷ row 12 Whole Unmarked any Addic
+    ∷ row 13 Whole Unmarked any AddicRecord
+    ∷ row 14 Whole Unmarked any Addi
+    ∷ row 15 Whole Unmarked any Addis
+    ∷ row 16 Whole AaLk any Bc
+    ∷ row 18 Whole AaLk any B
     ∷ []
 
 -- opcode 19
-abbrev pub condition_rows : List Row
-condition_rows =
-    row (λ f. plain 0 f && is_field f.d && is_field f.a && two f) (λ f. MoveConditionField (f.d / 4) (f.a / 4))
-    ∷ register_branch_row 16 (BranchConditionalToRegister LinkTarget)
-    ∷ plain_row 33 (ConditionLogical Nor)
-    ∷ plain_row 129 (ConditionLogical AndComplement)
-    ∷ bare_row 150 InstructionSynchronize
-    ∷ plain_row 193 (ConditionLogical Xor)
-    ∷ plain_row 225 (ConditionLogical Nand)
-    ∷ plain_row 257 (ConditionLogical And)
-    ∷ plain_row 289 (ConditionLogical Equivalent)
-    ∷ plain_row 417 (ConditionLogical OrComplement)
-    ∷ plain_row 449 (ConditionLogical Or)
-    ∷ register_branch_row 528 (BranchConditionalToRegister CountTarget)
+abbrev pub rows_19 : List Row
+rows_19 =
+    row 19 (Extended 0) Unmarked two_fields Mcrf
+    ∷ row 19 (Extended 16) Lk no_b Bclr
+    ∷ row 19 (Extended 33) Unmarked any Crnor
+    ∷ row 19 (Extended 129) Unmarked any Crandc
+    ∷ row 19 (Extended 150) Unmarked bare Isync
+    ∷ row 19 (Extended 193) Unmarked any Crxor
+    ∷ row 19 (Extended 225) Unmarked any Crnand
+    ∷ row 19 (Extended 257) Unmarked any Crand
+    ∷ row 19 (Extended 289) Unmarked any Creqv
+    ∷ row 19 (Extended 417) Unmarked any Crorc
+    ∷ row 19 (Extended 449) Unmarked any Cror
+    ∷ row 19 (Extended 528) Lk count_branch Bcctr
     ∷ []
 
--- opcode 31: sums
-abbrev pub sum_rows : List Row
-sum_rows =
-    sum_row 10 (Add Carrying)
-    ∷ sum_row 138 (Add Extended)
-    ∷ short_sum_row 202 (AddExtended ZeroOperand)
-    ∷ short_sum_row 234 (AddExtended MinusOne)
-    ∷ sum_row 266 (Add Plain)
+-- opcodes 20 to 29
+abbrev pub rows_to_29 : List Row
+rows_to_29 =
+    row 20 Whole Rc any Rlwimi
+    ∷ row 21 Whole Rc any Rlwinm
+    ∷ row 23 Whole Rc any Rlwnm
+    ∷ row 24 Whole Unmarked any Ori
+    ∷ row 25 Whole Unmarked any Oris
+    ∷ row 26 Whole Unmarked any Xori
+    ∷ row 27 Whole Unmarked any Xoris
+    ∷ row 28 Whole Unmarked any Andi
+    ∷ row 29 Whole Unmarked any Andis
     ∷ []
-
--- opcode 31: differences
-abbrev pub difference_rows : List Row
-difference_rows =
-    sum_row 8 (SubtractFrom Carrying)
-    ∷ sum_row 40 (SubtractFrom Plain)
-    ∷ short_sum_row 104 Negate
-    ∷ sum_row 136 (SubtractFrom Extended)
-    ∷ short_sum_row 200 (SubtractFromExtended ZeroOperand)
-    ∷ short_sum_row 232 (SubtractFromExtended MinusOne)
-    ∷ []
-
--- opcode 31: products and quotients
-abbrev pub product_rows : List Row
-product_rows =
-    product_row 11 (MultiplyHigh false)
-    ∷ product_row 75 (MultiplyHigh true)
-    ∷ sum_row 235 MultiplyLow
-    ∷ sum_row 459 (Divide false)
-    ∷ sum_row 491 (Divide true)
-    ∷ []
-
--- opcode 31: arithmetic
-abbrev pub arithmetic : Fields → Option InstrPpc
-arithmetic f = option_or (first sum_rows f) (option_or (first difference_rows f) (first product_rows f))
-
--- opcode 31: logic and shifts
-abbrev pub logical_rows : List Row
-logical_rows =
-    logical_row 24 (Shift Left)
-    ∷ unary_row 26 CountLeadingZeros
-    ∷ logical_row 28 (Logical And)
-    ∷ logical_row 60 (Logical AndComplement)
-    ∷ logical_row 124 (Logical Nor)
-    ∷ logical_row 284 (Logical Equivalent)
-    ∷ logical_row 316 (Logical Xor)
-    ∷ logical_row 412 (Logical OrComplement)
-    ∷ logical_row 444 (Logical Or)
-    ∷ logical_row 476 (Logical Nand)
-    ∷ logical_row 536 (Shift Right)
-    ∷ logical_row 792 (Shift RightAlgebraic)
-    ∷ logical_row 824 ShiftRightAlgebraicImmediate
-    ∷ unary_row 922 ExtendSignHalf
-    ∷ unary_row 954 ExtendSignByte
-    ∷ []
-
--- opcode 31: loads
-abbrev pub indexed_load_rows : List Row
-indexed_load_rows =
-    plain_row 23 (LoadIndexed LoadWord false)
-    ∷ plain_row 55 (LoadIndexed LoadWord true)
-    ∷ plain_row 87 (LoadIndexed LoadByte false)
-    ∷ plain_row 119 (LoadIndexed LoadByte true)
-    ∷ plain_row 279 (LoadIndexed LoadHalf false)
-    ∷ plain_row 311 (LoadIndexed LoadHalf true)
-    ∷ plain_row 343 (LoadIndexed HalfAlgebraic false)
-    ∷ plain_row 375 (LoadIndexed HalfAlgebraic true)
-    ∷ plain_row 533 LoadStringIndexed
-    ∷ plain_row 534 (LoadReversed ReversedWord)
-    ∷ plain_row 597 LoadStringImmediate
-    ∷ plain_row 790 (LoadReversed ReversedHalf)
-    ∷ []
-
--- opcode 31: stores
-abbrev pub indexed_store_rows : List Row
-indexed_store_rows =
-    plain_row 151 (StoreIndexed StoreWord false)
-    ∷ plain_row 183 (StoreIndexed StoreWord true)
-    ∷ plain_row 215 (StoreIndexed StoreByte false)
-    ∷ plain_row 247 (StoreIndexed StoreByte true)
-    ∷ plain_row 407 (StoreIndexed StoreHalf false)
-    ∷ plain_row 439 (StoreIndexed StoreHalf true)
-    ∷ plain_row 661 StoreStringIndexed
-    ∷ plain_row 662 (StoreReversed ReversedWord)
-    ∷ plain_row 725 StoreStringImmediate
-    ∷ plain_row 918 (StoreReversed ReversedHalf)
-    ∷ []
-
--- opcode 31: memory
-abbrev pub indexed : Fields → Option InstrPpc
-indexed f = option_or (first indexed_load_rows f) (first indexed_store_rows f)
-
--- opcode 31: comparisons, traps and special registers
-abbrev pub special_rows : List Row
-special_rows =
-    compare_row 0 true
-    ∷ plain_row 4 TrapWord
-    ∷ row (λ f. plain 19 f && (f.a == 0) && two f) (λ f. MoveFromConditionRegister f.d)
-    ∷ compare_row 32 false
-    ∷ row (λ f. plain 144 f && ((f.a / 16) == 0) && ((f.b % 2) == 0)) (λ f. MoveToConditionFields (f.a * 16 + f.b / 2) f.d)
-    ∷ special_row 339 1 (λ d. MoveFromSpecial d Xer)
-    ∷ special_row 339 8 (λ d. MoveFromSpecial d LinkSpecial)
-    ∷ special_row 339 9 (λ d. MoveFromSpecial d CountSpecial)
-    ∷ special_row 467 1 (MoveToSpecial Xer)
-    ∷ special_row 467 8 (MoveToSpecial LinkSpecial)
-    ∷ special_row 467 9 (MoveToSpecial CountSpecial)
-    ∷ row (λ f. plain 512 f && is_field f.d && (f.a == 0) && two f) (λ f. MoveXerToConditionField (f.d / 4))
-    ∷ bare_row 598 Synchronize
-    ∷ []
-
--- the opcodes with one instruction each
-abbrev pub primary : Fields → Option InstrPpc
-primary f = option_or (immediate_rows f) (option_or (first branch_rows f) (option_or (first rotate_rows f) (first memory_rows f)))
 
 -- opcode 31
-abbrev pub extended : Fields → Option InstrPpc
-extended f = option_or (arithmetic f) (option_or (first logical_rows f) (option_or (indexed f) (first special_rows f)))
+abbrev pub rows_31 : List Row
+rows_31 =
+    row 31 (Extended 0) Unmarked to_field Cmp
+    ∷ row 31 (Extended 4) Unmarked any Tw
+    ∷ row 31 (Extended 8) OeRc any Subfc
+    ∷ row 31 (Extended 10) OeRc any Addc
+    ∷ row 31 (Extended 11) Rc any Mulhwu
+    ∷ row 31 (Extended 19) Unmarked one_register Mfcr
+    ∷ row 31 (Extended 23) Unmarked any Lwzx
+    ∷ row 31 (Extended 24) Rc any Slw
+    ∷ row 31 (Extended 26) Rc no_b Cntlzw
+    ∷ row 31 (Extended 28) Rc any And
+    ∷ row 31 (Extended 32) Unmarked to_field Cmpl
+    ∷ row 31 (Extended 40) OeRc any Subf
+    ∷ row 31 (Extended 55) Unmarked load_update Lwzux
+    ∷ row 31 (Extended 60) Rc any Andc
+    ∷ row 31 (Extended 75) Rc any Mulhw
+    ∷ row 31 (Extended 87) Unmarked any Lbzx
+    ∷ row 31 (Extended 104) OeRc no_b Neg
+    ∷ row 31 (Extended 119) Unmarked load_update Lbzux
+    ∷ row 31 (Extended 124) Rc any Nor
+    ∷ row 31 (Extended 136) OeRc any Subfe
+    ∷ row 31 (Extended 138) OeRc any Adde
+    ∷ row 31 (Extended 144) Unmarked mask_move Mtcrf
+    ∷ row 31 (Extended 151) Unmarked any Stwx
+    ∷ row 31 (Extended 183) Unmarked store_update Stwux
+    ∷ row 31 (Extended 200) OeRc no_b Subfze
+    ∷ row 31 (Extended 202) OeRc no_b Addze
+    ∷ row 31 (Extended 215) Unmarked any Stbx
+    ∷ row 31 (Extended 232) OeRc no_b Subfme
+    ∷ row 31 (Extended 234) OeRc no_b Addme
+    ∷ row 31 (Extended 235) OeRc any Mullw
+    ∷ row 31 (Extended 247) Unmarked store_update Stbux
+    ∷ row 31 (Extended 266) OeRc any Add
+    ∷ row 31 (Extended 279) Unmarked any Lhzx
+    ∷ row 31 (Extended 284) Rc any Eqv
+    ∷ row 31 (Extended 311) Unmarked load_update Lhzux
+    ∷ row 31 (Extended 316) Rc any Xor
+    ∷ row 31 (Special 339 1) Unmarked any Mfxer
+    ∷ row 31 (Special 339 8) Unmarked any Mflr
+    ∷ row 31 (Special 339 9) Unmarked any Mfctr
+    ∷ row 31 (Extended 343) Unmarked any Lhax
+    ∷ row 31 (Extended 375) Unmarked load_update Lhaux
+    ∷ row 31 (Extended 407) Unmarked any Sthx
+    ∷ row 31 (Extended 412) Rc any Orc
+    ∷ row 31 (Extended 439) Unmarked store_update Sthux
+    ∷ row 31 (Extended 444) Rc any Or
+    ∷ row 31 (Extended 459) OeRc any Divwu
+    ∷ row 31 (Special 467 1) Unmarked any Mtxer
+    ∷ row 31 (Special 467 8) Unmarked any Mtlr
+    ∷ row 31 (Special 467 9) Unmarked any Mtctr
+    ∷ row 31 (Extended 476) Rc any Nand
+    ∷ row 31 (Extended 491) OeRc any Divw
+    ∷ row 31 (Extended 512) Unmarked one_field Mcrxr
+    ∷ row 31 (Extended 533) Unmarked any Lswx
+    ∷ row 31 (Extended 534) Unmarked any Lwbrx
+    ∷ row 31 (Extended 536) Rc any Srw
+    ∷ row 31 (Extended 597) Unmarked string_load Lswi
+    ∷ row 31 (Extended 598) Unmarked bare Sync
+    ∷ row 31 (Extended 661) Unmarked any Stswx
+    ∷ row 31 (Extended 662) Unmarked any Stwbrx
+    ∷ row 31 (Extended 725) Unmarked any Stswi
+    ∷ row 31 (Extended 790) Unmarked any Lhbrx
+    ∷ row 31 (Extended 792) Rc any Sraw
+    ∷ row 31 (Extended 824) Rc any Srawi
+    ∷ row 31 (Extended 918) Unmarked any Sthbrx
+    ∷ row 31 (Extended 922) Rc no_b Extsh
+    ∷ row 31 (Extended 954) Rc no_b Extsb
+    ∷ []
 
--- the whole table
-abbrev pub row_of : Fields → Option InstrPpc
-row_of f = if f.op == 19 then first condition_rows f else if f.op == 31 then extended f else primary f
+-- opcodes 32 to 47
+abbrev pub rows_to_47 : List Row
+rows_to_47 =
+    row 32 Whole Unmarked any Lwz
+    ∷ row 33 Whole Unmarked load_update Lwzu
+    ∷ row 34 Whole Unmarked any Lbz
+    ∷ row 35 Whole Unmarked load_update Lbzu
+    ∷ row 36 Whole Unmarked any Stw
+    ∷ row 37 Whole Unmarked store_update Stwu
+    ∷ row 38 Whole Unmarked any Stb
+    ∷ row 39 Whole Unmarked store_update Stbu
+    ∷ row 40 Whole Unmarked any Lhz
+    ∷ row 41 Whole Unmarked load_update Lhzu
+    ∷ row 42 Whole Unmarked any Lha
+    ∷ row 43 Whole Unmarked load_update Lhau
+    ∷ row 44 Whole Unmarked any Sth
+    ∷ row 45 Whole Unmarked store_update Sthu
+    ∷ row 46 Whole Unmarked multiple_load Lmw
+    ∷ row 47 Whole Unmarked any Stmw
+    ∷ []
 
-abbrev pub kept : Option InstrPpc → Option InstrPpc
-kept None = None
-kept (Some i) = if is_valid i then Some i else None
+abbrev pub table : List Row
+table = rows_to_18 ++ rows_19 ++ rows_to_29 ++ rows_31 ++ rows_to_47
+
+-- the operation of the row that a word is in; Invalid, where it is in none, or not allowed there
+abbrev pub found : List Row → Fields → OpPpc
+found [] f = Invalid
+found (r ∷ rows) f = if is_in r f then (if is_allowed r f then operation_in r else Invalid) else found rows f
+
+-- the operation of a word
+unfoldable pub operation : ℕ → OpPpc
+operation w = found table (fields_of w)
 
 -- the instruction of a word
 unfoldable pub decoded : ℕ → Option InstrPpc
-decoded w = kept (row_of (fields_of w))
+decoded w = made (operation w) (fields_of w)

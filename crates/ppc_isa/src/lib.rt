@@ -1,30 +1,34 @@
-//! The PowerPC 601 as an integer program sees it: its registers, and its instructions as words.
+//! The PowerPC 601 as an integer program sees it: its registers, its instructions as words, and their
+//! operations without fields, which a step takes from the word where it uses them.
 #![tactic(auto)]
 
-mod arithmetic;
-mod branch;
-mod condition;
 mod decode;
 mod fields;
-mod immediate;
-mod indexed;
 mod instruction;
-mod logical;
-mod memory;
+mod made;
+mod op;
+mod operation;
 mod register_longs;
 mod registers;
-mod rotate;
-mod special;
+mod reserved;
+mod shapes;
 mod strings;
 mod target;
-mod validity;
+mod word;
 
 pub use decode::{decode_ppc, word_laws};
 pub use instruction::{
     BranchRegister, CarryUse, ExtendedOperand, ImmediateOp, InstrPpc, LoadKind, LogicalOp, MaskUse,
     ReversedKind, ShiftOp, SpecialRegister, StoreKind, UnaryOp,
 };
+pub use op::OpPpc;
+pub use operation::op_of;
 pub use register_longs::long_laws;
 pub use registers::RegsPpc;
 pub use strings::is_filled;
 pub use target::branch_target;
+pub use word::{
+    a_of, b_of, d_of, far_displacement_of, field_of, from_field_of, is_absolute, is_last,
+    is_overflow, low_of, mask_begin_of, mask_end_of, mask_of, near_displacement_of, offset_of,
+    shift_of,
+};

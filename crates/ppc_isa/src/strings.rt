@@ -1,6 +1,6 @@
-ghost use Rattle.std.specs.Prelude.{◌≡◌, ◌<◌, ◌==◌};
+ghost use Rattle.std.specs.Prelude.{◌≡◌, ◌<◌, ◌≤◌, ◌==◌};
 ghost use Rattle.std.specs.List.{list_any};
-ghost use Rattle.ppc_isa.specs.Valid.{registers_from};
+ghost use Rattle.ppc_isa.specs.Valid.{registers_from, string_registers as string_registers_of};
 
 /// Whether a register is among the `count` registers that a string fills from register `first` on,
 /// where register 0 follows on register 31.
@@ -12,4 +12,15 @@ pub fn is_filled(register: usize, first: usize, count: usize) -> bool
     ensures { result ≡ list_any (λ r. r == register) (registers_from first count) }
 {
     (register + 32 - first) % 32 < count
+}
+
+/// How many registers a string of `nb` bytes fills, where 0 stands for 32 bytes.
+#[inline(always)]
+pub fn string_registers(nb: usize) -> usize
+    requires { nb < 32 }
+    ensures is { result ≡ string_registers_of nb }
+    ensures below { result ≤ 8 }
+{
+    let bytes = if nb == 0 { 32 } else { nb };
+    (bytes + 3) / 4
 }

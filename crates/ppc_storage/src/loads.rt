@@ -9,8 +9,7 @@ ghost use Rattle.ppc_isa.specs.declared.instruction.InstrPpc.TheVariants.{Load, 
 use big_memory::{Did, Ram, refuse};
 use mix_bits::{Fault, Size, sext};
 use ppc_effects::{advance, index_address, offset_address};
-use ppc_isa::{LoadKind, RegsPpc};
-use ppc_ops::{a_of, d_of};
+use ppc_isa::{LoadKind, RegsPpc, a_of, d_of};
 
 /// lwz, lbz, lhz and lha, and with `update` lwzu, lbzu, lhzu and lhau.
 #[inline(always)]

@@ -12,8 +12,7 @@ ghost use Rattle.ppc_storage.specs.Tested.{WordsTested, WordsThere};
 use big_memory::{Access, Did, Ram, refuse};
 use mix_bits::{Fault, Size, onward};
 use ppc_effects::{advance, offset_address};
-use ppc_isa::RegsPpc;
-use ppc_ops::d_of;
+use ppc_isa::{RegsPpc, d_of};
 
 /// lmw.
 #[inline(never)]

@@ -11,8 +11,7 @@ ghost use Rattle.big_memory.specs.Stores.{Stores, stored_value};
 use big_memory::{Access, Did, Ram, refuse};
 use mix_bits::Fault;
 use ppc_effects::{advance, index_address};
-use ppc_isa::{RegsPpc, ReversedKind};
-use ppc_ops::d_of;
+use ppc_isa::{RegsPpc, ReversedKind, d_of};
 
 /// lwbrx and lhbrx.
 #[inline(never)]

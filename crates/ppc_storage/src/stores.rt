@@ -10,8 +10,7 @@ ghost use Rattle.ppc_effects.specs.File.{onto_next};
 use big_memory::{Did, Ram, refuse};
 use mix_bits::{Fault, Size};
 use ppc_effects::{advance, index_address, offset_address};
-use ppc_isa::{RegsPpc, StoreKind};
-use ppc_ops::{a_of, d_of};
+use ppc_isa::{RegsPpc, StoreKind, a_of, d_of};
 
 /// stw, stb and sth, and with `update` stwu, stbu and sthu.
 #[inline(always)]

@@ -13,8 +13,7 @@ use big_memory::{Access, Did, Ram, refuse, stop};
 use mix_bits::{Fault, FaultKind, Size, digit, onward, with_digit};
 use ppc_alu::xer_string_length;
 use ppc_effects::{advance, base, index_address};
-use ppc_isa::{RegsPpc, is_filled};
-use ppc_ops::{a_of, b_of, d_of, shift_of};
+use ppc_isa::{RegsPpc, a_of, b_of, d_of, is_filled, shift_of};
 
 /// lswi.
 #[inline(never)]

@@ -1,6 +1,9 @@
-use Rattle.ppc_isa.proofs.Laws.{stands}
+use Rattle.std.proofs.Common.{sym, ◌∙◌}
+use Rattle.ppc_isa.proofs.Found.{answer_in_range, answer_stands}
 use Rattle.ppc_isa.proofs.decode.decode_ppc.Goals as goal
 
 pub returns-clause-stands : goal.returns-clause-stands
-returns-clause-stands c =
-    stands _ _ _ _ c.ranges.word.fits c.fields_of.ensures.exact c.decode_fields.ensures.exact c.decode_fields.ensures.found c.keep_valid.ensures.exact
+returns-clause-stands c = answer_stands _ _ c.ranges.word.fits (c.instruction_of.ensures ∙ sym c.op_of.ensures.makes)
+
+pub returns-clause-in_range : goal.returns-clause-in_range
+returns-clause-in_range c = answer_in_range _ _ c.ranges.word.fits (c.instruction_of.ensures ∙ sym c.op_of.ensures.makes)

@@ -1,21 +1,31 @@
 ghost use Rattle.std.specs.Prelude.{◌≡◌, false};
 ghost use Rattle.ppc_isa.specs.Fields.{fields_of};
-ghost use Rattle.ppc_ops.specs.Ops.{Reads};
+ghost use Rattle.ppc_isa.specs.Made.{made};
+ghost use Rattle.ppc_isa.specs.Rows.{decoded, operation};
 
-use super::fields::{a_of, b_of, d_of, extended_of, is_last, primary_of, special_of};
 use super::op::OpPpc;
 use super::reserved::{
     is_bare, is_comparison, is_count_branch, is_field, is_load_base, is_load_update, is_mask_move,
     is_multiple_load, is_one_field, is_one_register, is_store_update, is_string_load,
     is_two_fields,
 };
+use super::word::{a_of, b_of, d_of, extended_of, is_last, primary_of, special_of};
 
-/// The operation of a word: that of the instruction which the word stands for, or Invalid where it
-/// stands for none.
+/// The operation of a word, or Invalid where it stands for no instruction.
 #[inline(always)]
-#[tactic(auto, unfolding(ppc_isa::specs::Rows::decoded))]
+#[tactic(auto, unfolding(crate::specs::Rows::decoded))]
 pub fn op_of(word: u32) -> OpPpc
-    ensures { Reads result word }
+    ensures table { result ≡ operation word }
+    ensures makes { decoded word ≡ made result (fields_of word) }
+{
+    by_opcode(word)
+}
+
+/// The operation by the opcode.
+#[inline(always)]
+#[tactic(auto, unfolding(crate::specs::Rows::operation))]
+fn by_opcode(word: u32) -> OpPpc
+    ensures { result ≡ operation word }
 {
     match primary_of(word) {
         0 => OpPpc::Invalid,
@@ -128,10 +138,10 @@ pub fn op_of(word: u32) -> OpPpc
 
 /// Opcode 19.
 #[inline(always)]
-#[tactic(auto, unfolding(ppc_isa::specs::Rows::decoded))]
+#[tactic(auto, unfolding(crate::specs::Rows::operation))]
 fn op_19(word: u32) -> OpPpc
     requires { (fields_of word).op ≡ 19 }
-    ensures { Reads result word }
+    ensures { result ≡ operation word }
 {
     match extended_of(word) {
         0 if is_two_fields(word) => OpPpc::Mcrf,
@@ -152,10 +162,10 @@ fn op_19(word: u32) -> OpPpc
 
 /// Opcode 31.
 #[inline(always)]
-#[tactic(auto, unfolding(ppc_isa::specs::Rows::decoded))]
+#[tactic(auto, unfolding(crate::specs::Rows::operation))]
 fn op_31(word: u32) -> OpPpc
     requires { (fields_of word).op ≡ 31 }
-    ensures { Reads result word }
+    ensures { result ≡ operation word }
 {
     match extended_of(word) {
         0 if is_comparison(word) => OpPpc::Cmp,
@@ -239,12 +249,12 @@ fn op_31(word: u32) -> OpPpc
 }
 
 /// A move from a special purpose register.
-#[tactic(auto, unfolding(ppc_isa::specs::Rows::decoded))]
+#[tactic(auto, unfolding(crate::specs::Rows::operation))]
 fn from_special(word: u32) -> OpPpc
     requires op { (fields_of word).op ≡ 31 }
     requires extended { (fields_of word).xo ≡ 339 }
     requires plain { (fields_of word).last ≡ false }
-    ensures { Reads result word }
+    ensures { result ≡ operation word }
 {
     match special_of(word) {
         1 => OpPpc::Mfxer,
@@ -255,12 +265,12 @@ fn from_special(word: u32) -> OpPpc
 }
 
 /// A move to a special purpose register.
-#[tactic(auto, unfolding(ppc_isa::specs::Rows::decoded))]
+#[tactic(auto, unfolding(crate::specs::Rows::operation))]
 fn to_special(word: u32) -> OpPpc
     requires op { (fields_of word).op ≡ 31 }
     requires extended { (fields_of word).xo ≡ 467 }
     requires plain { (fields_of word).last ≡ false }
-    ensures { Reads result word }
+    ensures { result ≡ operation word }
 {
     match special_of(word) {
         1 => OpPpc::Mtxer,

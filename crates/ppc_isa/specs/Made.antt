@@ -1,6 +1,5 @@
--- The operations of the 601's table of instructions, without their fields, and the instruction that each
--- makes of a word's fields (PowerPC 601 RISC Microprocessor User's Manual, chapter 10 and appendix A).
-use Rattle.std.specs.Prelude.{◌≡◌, ℕ, ◌+◌, ◌*◌, ◌/◌, ◌%◌, ◌^◌, ◌==◌, true, false, Option, Some, None}
+-- The instruction that an operation makes of a word's fields.
+use Rattle.std.specs.Prelude.{ℕ, ◌+◌, ◌-◌, ◌*◌, ◌/◌, ◌%◌, ◌^◌, ◌==◌, nat_lt, true, false, Option, Some, None, if◌then◌else◌}
 use Rattle.ppc_isa.specs.declared.instruction.CarryUse.TheVariants.{Plain, Carrying, Extended}
 use Rattle.ppc_isa.specs.declared.instruction.ExtendedOperand.TheVariants.{Zero as ZeroOperand, MinusOne}
 use Rattle.ppc_isa.specs.declared.instruction.ImmediateOp.TheVariants.{Or as ImmediateOr, OrShifted, Xor as ImmediateXor, XorShifted, And as ImmediateAnd, AndShifted}
@@ -16,10 +15,12 @@ use Rattle.ppc_isa.specs.declared.instruction.SpecialRegister.TheVariants.{Xer, 
 use Rattle.ppc_isa.specs.declared.instruction.InstrPpc.{InstrPpc}
 use Rattle.ppc_isa.specs.declared.instruction.InstrPpc.TheVariants.{Add as AddWords, AddExtended, AddImmediate, AddImmediateCarrying, Branch, BranchConditional, BranchConditionalToRegister, Compare, CompareImmediate, ConditionLogical, Divide, InstructionSynchronize, Load, LoadIndexed, LoadMultiple, LoadReversed, LoadStringImmediate, LoadStringIndexed, Logical, LogicalImmediate, MoveConditionField, MoveFromConditionRegister, MoveFromSpecial, MoveToConditionFields, MoveToSpecial, MoveXerToConditionField, MultiplyHigh, MultiplyLow, MultiplyLowImmediate, Negate, RotateLeft, RotateLeftImmediate, Shift, ShiftRightAlgebraicImmediate, Store, StoreIndexed, StoreMultiple, StoreReversed, StoreStringImmediate, StoreStringIndexed, SubtractFrom, SubtractFromExtended, SubtractFromImmediateCarrying, Synchronize, TrapWord, TrapWordImmediate, Unary}
 use Rattle.ppc_isa.specs.declared.fields.Fields.{Fields}
-use Rattle.ppc_isa.specs.Fields.{fields_of}
-use Rattle.ppc_isa.specs.Rows.{decoded, displacement_of}
-use Rattle.ppc_ops.specs.declared.op.OpPpc.{OpPpc}
-use Rattle.ppc_ops.specs.declared.op.OpPpc.TheVariants.{Twi, Mulli, Subfic, Cmpli, Cmpi, Addic, AddicRecord, Addi, Addis, Bc, B, Rlwimi, Rlwinm, Rlwnm, Ori, Oris, Xori, Xoris, Andi, Andis, Lwz, Lwzu, Lbz, Lbzu, Stw, Stwu, Stb, Stbu, Lhz, Lhzu, Lha, Lhau, Sth, Sthu, Lmw, Stmw, Mcrf, Bclr, Crnor, Crandc, Isync, Crxor, Crnand, Crand, Creqv, Crorc, Cror, Bcctr, Cmp, Tw, Subfc, Addc, Mulhwu, Mfcr, Lwzx, Slw, Cntlzw, And, Cmpl, Subf, Lwzux, Andc, Mulhw, Lbzx, Neg, Lbzux, Nor, Subfe, Adde, Mtcrf, Stwx, Stwux, Subfze, Addze, Stbx, Subfme, Addme, Mullw, Stbux, Add, Lhzx, Eqv, Lhzux, Xor, Mfxer, Mflr, Mfctr, Lhax, Lhaux, Sthx, Orc, Sthux, Or, Divwu, Mtxer, Mtlr, Mtctr, Nand, Divw, Mcrxr, Lswx, Lwbrx, Srw, Lswi, Sync, Stswx, Stwbrx, Stswi, Lhbrx, Sraw, Srawi, Sthbrx, Extsh, Extsb, Invalid}
+use Rattle.ppc_isa.specs.declared.op.OpPpc.{OpPpc}
+use Rattle.ppc_isa.specs.declared.op.OpPpc.TheVariants.{Twi, Mulli, Subfic, Cmpli, Cmpi, Addic, AddicRecord, Addi, Addis, Bc, B, Rlwimi, Rlwinm, Rlwnm, Ori, Oris, Xori, Xoris, Andi, Andis, Lwz, Lwzu, Lbz, Lbzu, Stw, Stwu, Stb, Stbu, Lhz, Lhzu, Lha, Lhau, Sth, Sthu, Lmw, Stmw, Mcrf, Bclr, Crnor, Crandc, Isync, Crxor, Crnand, Crand, Creqv, Crorc, Cror, Bcctr, Cmp, Tw, Subfc, Addc, Mulhwu, Mfcr, Lwzx, Slw, Cntlzw, And, Cmpl, Subf, Lwzux, Andc, Mulhw, Lbzx, Neg, Lbzux, Nor, Subfe, Adde, Mtcrf, Stwx, Stwux, Subfze, Addze, Stbx, Subfme, Addme, Mullw, Stbux, Add, Lhzx, Eqv, Lhzux, Xor, Mfxer, Mflr, Mfctr, Lhax, Lhaux, Sthx, Orc, Sthux, Or, Divwu, Mtxer, Mtlr, Mtctr, Nand, Divw, Mcrxr, Lswx, Lwbrx, Srw, Lswi, Sync, Stswx, Stwbrx, Stswi, Lhbrx, Sraw, Srawi, Sthbrx, Extsh, Extsb, Invalid}
+
+-- a signed number of `bits` bits as a pattern of 32 bits
+abbrev pub displacement_of : ℕ → ℕ → ℕ
+displacement_of bits n = if nat_lt n (2 ^ (bits - 1)) then n else n + (2 ^ 32 - 2 ^ bits)
 
 -- the instruction of an operation with these fields
 abbrev pub made : OpPpc → Fields → Option InstrPpc
@@ -138,7 +139,3 @@ made Sthbrx f = Some (StoreReversed ReversedHalf f.d f.a f.b)
 made Extsh f = Some (Unary ExtendSignHalf f.a f.d f.last)
 made Extsb f = Some (Unary ExtendSignByte f.a f.d f.last)
 made Invalid f = None
-
--- the word is this operation's: with its fields it makes the word's instruction
-abbrev pub Reads : OpPpc → ℕ → Type 0
-Reads op w = decoded w ≡ made op (fields_of w)

@@ -1,17 +1,15 @@
 // What a word has to meet besides its opcodes: reserved bits are 0, and it is no invalid form.
-ghost use Rattle.std.specs.Prelude.{◌≡◌, ◌+◌, ◌/◌, ◌%◌, ◌<◌, ◌≤◌, ◌==◌, ◌&&◌, nat_lt, not};
-ghost use Rattle.std.specs.List.{list_any};
+ghost use Rattle.std.specs.Prelude.{◌≡◌, ◌&&◌, not};
 ghost use Rattle.ppc_isa.specs.Fields.{fields_of};
-ghost use Rattle.ppc_isa.specs.Rows.{is_field as is_field_lem};
-ghost use Rattle.ppc_isa.specs.Valid.{is_base, registers_from, string_registers as string_registers_lem};
+ghost use Rattle.ppc_isa.specs.Rows.{bare, count_branch, is_field as is_field_of, load_update, mask_move, multiple_load, one_field, one_register, store_update, string_load, to_field, two_fields};
 
-use super::fields::{a_of, b_of, d_of, is_last};
-use ppc_isa::is_filled;
+use super::strings::{is_filled, string_registers};
+use super::word::{a_of, b_of, d_of, is_last};
 
 /// Whether a number of five bits is that of a field of the condition register, with zeros behind it.
 #[inline(always)]
 pub fn is_field(n: usize) -> bool
-    ensures { result ≡ is_field_lem n }
+    ensures { result ≡ is_field_of n }
 {
     n % 4 == 0
 }
@@ -19,7 +17,7 @@ pub fn is_field(n: usize) -> bool
 /// A comparison of two registers.
 #[inline(always)]
 pub fn is_comparison(word: u32) -> bool
-    ensures { result ≡ (not (fields_of word).last && is_field_lem (fields_of word).d) }
+    ensures { result ≡ (not (fields_of word).last && to_field (fields_of word)) }
 {
     !is_last(word) && is_field(d_of(word))
 }
@@ -27,7 +25,7 @@ pub fn is_comparison(word: u32) -> bool
 /// No operand.
 #[inline(always)]
 pub fn is_bare(word: u32) -> bool
-    ensures { result ≡ (not (fields_of word).last && ((fields_of word).d == 0) && ((fields_of word).a == 0) && ((fields_of word).b == 0)) }
+    ensures { result ≡ (not (fields_of word).last && bare (fields_of word)) }
 {
     !is_last(word) && d_of(word) == 0 && a_of(word) == 0 && b_of(word) == 0
 }
@@ -35,7 +33,7 @@ pub fn is_bare(word: u32) -> bool
 /// Two fields of the condition register.
 #[inline(always)]
 pub fn is_two_fields(word: u32) -> bool
-    ensures { result ≡ (not (fields_of word).last && is_field_lem (fields_of word).d && is_field_lem (fields_of word).a && ((fields_of word).b == 0)) }
+    ensures { result ≡ (not (fields_of word).last && two_fields (fields_of word)) }
 {
     !is_last(word) && is_field(d_of(word)) && is_field(a_of(word)) && b_of(word) == 0
 }
@@ -43,7 +41,7 @@ pub fn is_two_fields(word: u32) -> bool
 /// One field of the condition register.
 #[inline(always)]
 pub fn is_one_field(word: u32) -> bool
-    ensures { result ≡ (not (fields_of word).last && is_field_lem (fields_of word).d && ((fields_of word).a == 0) && ((fields_of word).b == 0)) }
+    ensures { result ≡ (not (fields_of word).last && one_field (fields_of word)) }
 {
     !is_last(word) && is_field(d_of(word)) && a_of(word) == 0 && b_of(word) == 0
 }
@@ -51,7 +49,7 @@ pub fn is_one_field(word: u32) -> bool
 /// One register.
 #[inline(always)]
 pub fn is_one_register(word: u32) -> bool
-    ensures { result ≡ (not (fields_of word).last && ((fields_of word).a == 0) && ((fields_of word).b == 0)) }
+    ensures { result ≡ (not (fields_of word).last && one_register (fields_of word)) }
 {
     !is_last(word) && a_of(word) == 0 && b_of(word) == 0
 }
@@ -59,7 +57,7 @@ pub fn is_one_register(word: u32) -> bool
 /// A register and a mask of eight bits.
 #[inline(always)]
 pub fn is_mask_move(word: u32) -> bool
-    ensures { result ≡ (not (fields_of word).last && ((fields_of word).a / 16 == 0) && ((fields_of word).b % 2 == 0)) }
+    ensures { result ≡ (not (fields_of word).last && mask_move (fields_of word)) }
 {
     !is_last(word) && a_of(word) / 16 == 0 && b_of(word) % 2 == 0
 }
@@ -67,7 +65,7 @@ pub fn is_mask_move(word: u32) -> bool
 /// A branch to the count register, which may not count it down.
 #[inline(always)]
 pub fn is_count_branch(word: u32) -> bool
-    ensures { result ≡ (((fields_of word).b == 0) && ((fields_of word).d / 4 % 2 == 1)) }
+    ensures { result ≡ count_branch (fields_of word) }
 {
     b_of(word) == 0 && d_of(word) / 4 % 2 == 1
 }
@@ -75,7 +73,7 @@ pub fn is_count_branch(word: u32) -> bool
 /// Whether a load may update register A.
 #[inline(always)]
 pub fn is_load_base(word: u32) -> bool
-    ensures { result ≡ (is_base (fields_of word).a && not ((fields_of word).a == (fields_of word).d)) }
+    ensures { result ≡ load_update (fields_of word) }
 {
     a_of(word) != 0 && a_of(word) != d_of(word)
 }
@@ -83,7 +81,7 @@ pub fn is_load_base(word: u32) -> bool
 /// A load of several registers that leaves register A alone.
 #[inline(always)]
 pub fn is_multiple_load(word: u32) -> bool
-    ensures { result ≡ nat_lt (fields_of word).a (fields_of word).d }
+    ensures { result ≡ multiple_load (fields_of word) }
 {
     a_of(word) < d_of(word)
 }
@@ -91,7 +89,7 @@ pub fn is_multiple_load(word: u32) -> bool
 /// A load at an index that updates register A.
 #[inline(always)]
 pub fn is_load_update(word: u32) -> bool
-    ensures { result ≡ (not (fields_of word).last && is_base (fields_of word).a && not ((fields_of word).a == (fields_of word).d)) }
+    ensures { result ≡ (not (fields_of word).last && load_update (fields_of word)) }
 {
     !is_last(word) && is_load_base(word)
 }
@@ -99,7 +97,7 @@ pub fn is_load_update(word: u32) -> bool
 /// A store at an index that updates register A.
 #[inline(always)]
 pub fn is_store_update(word: u32) -> bool
-    ensures { result ≡ (not (fields_of word).last && is_base (fields_of word).a) }
+    ensures { result ≡ (not (fields_of word).last && store_update (fields_of word)) }
 {
     !is_last(word) && a_of(word) != 0
 }
@@ -107,18 +105,7 @@ pub fn is_store_update(word: u32) -> bool
 /// A load of a string of fixed length that leaves register A alone.
 #[inline(always)]
 pub fn is_string_load(word: u32) -> bool
-    ensures { result ≡ (not (fields_of word).last && not (list_any (λ r. r == (fields_of word).a) (registers_from (fields_of word).d (string_registers_lem (fields_of word).b)))) }
+    ensures { result ≡ (not (fields_of word).last && string_load (fields_of word)) }
 {
     !is_last(word) && !is_filled(a_of(word), d_of(word), string_registers(b_of(word)))
-}
-
-/// How many registers a string of `nb` bytes fills, where 0 stands for 32 bytes.
-#[inline(always)]
-pub fn string_registers(nb: usize) -> usize
-    requires { nb < 32 }
-    ensures is { result ≡ string_registers_lem nb }
-    ensures below { result ≤ 8 }
-{
-    let bytes = if nb == 0 { 32 } else { nb };
-    (bytes + 3) / 4
 }

@@ -1,11 +1,11 @@
 use Rattle.std.proofs.Common.{◌≡◌, ◌%◌, ◌<◌, ◌==◌, false, arith, refl}
 use Rattle.mix_bits.specs.Digits.{digit_of}
-use Rattle.ppc_isa.specs.Rows.{decoded}
-use Rattle.ppc_ops.proofs.Apart.{apart, apart_both}
-use Rattle.ppc_ops.proofs.read.op_31.Goals as goal
+use Rattle.ppc_isa.specs.Rows.{operation}
+use Rattle.ppc_isa.proofs.Apart.{apart, apart_both}
+use Rattle.ppc_isa.proofs.operation.op_31.Goals as goal
 
 pub returns-in_default-45 : goal.returns-in_default-45
-unfolding decoded
+unfolding operation
 returns-in_default-45 c =
     let small : digit_of c.args.word 1 10 < 1024 = omega arith in
     let n8 : ((digit_of c.args.word 1 10 % 512) == 8) ≡ false = apart_both (digit_of c.args.word 1 10) 8 small (omega arith) (omega arith) (omega arith) in
