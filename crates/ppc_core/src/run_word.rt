@@ -14,7 +14,10 @@ use ppc_integer::{
     shift_word_right_algebraic, subtract_from, subtract_from_extended,
     subtract_from_immediate_carrying, synchronize, trap_word, trap_word_immediate, unary,
 };
-use ppc_isa::{BranchRegister, CarryUse, ExtendedOperand, ImmediateOp, LoadKind, LogicalOp, MaskUse, OpPpc, RegsPpc, ReversedKind, SpecialRegister, StoreKind, UnaryOp, op_of};
+use ppc_isa::{
+    BranchRegister, CarryUse, ExtendedOperand, ImmediateOp, LoadKind, LogicalOp, MaskUse, OpPpc,
+    RegsPpc, ReversedKind, SpecialRegister, StoreKind, UnaryOp, op_of,
+};
 use ppc_storage::{
     load, load_indexed, load_multiple, load_reversed, load_string_immediate, load_string_indexed,
     store, store_indexed, store_multiple, store_reversed, store_string_immediate,

@@ -16,7 +16,9 @@ use big_memory::Did;
 use mix_bits::onward;
 use ppc_alu::{Arith, add3, divide, mul_high, mul_low, xer_ca};
 use ppc_effects::base;
-use ppc_isa::{CarryUse, ExtendedOperand, RegsPpc, a_of, b_of, d_of, is_last, is_overflow, low_of, offset_of};
+use ppc_isa::{
+    CarryUse, ExtendedOperand, RegsPpc, a_of, b_of, d_of, is_last, is_overflow, low_of, offset_of,
+};
 
 /// add, addc and adde.
 #[inline(always)]

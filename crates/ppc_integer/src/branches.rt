@@ -12,7 +12,10 @@ ghost use Rattle.ppc_effects.specs.Effects.{runs};
 use big_memory::Did;
 use mix_bits::{aligned, onward};
 use ppc_alu::cr_bit;
-use ppc_isa::{BranchRegister, RegsPpc, a_of, branch_target, d_of, far_displacement_of, is_absolute, is_last, near_displacement_of};
+use ppc_isa::{
+    BranchRegister, RegsPpc, a_of, branch_target, d_of, far_displacement_of, is_absolute, is_last,
+    near_displacement_of,
+};
 
 /// b.
 #[inline(always)]

@@ -14,7 +14,9 @@ use ppc_alu::{
     CrOp, compare, cr_bit, cr_field, cr_logic, field_mask, insert, with_cr_bit, with_cr_field,
     xer_so, xer_top, xer_without_top,
 };
-use ppc_isa::{LogicalOp, RegsPpc, a_of, b_of, d_of, field_of, from_field_of, low_of, mask_of, offset_of};
+use ppc_isa::{
+    LogicalOp, RegsPpc, a_of, b_of, d_of, field_of, from_field_of, low_of, mask_of, offset_of,
+};
 
 /// cmp and cmpl.
 #[inline(always)]
