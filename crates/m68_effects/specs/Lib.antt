@@ -11,3 +11,5 @@ pub mod Rows
 pub mod Step
 pub mod Ops
 pub mod Operations
+pub mod Laws
+pub mod MovemLaws

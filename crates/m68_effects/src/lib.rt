@@ -4,11 +4,13 @@
 #![tactic(auto)]
 
 mod changes;
+mod laws;
 mod operation;
 mod registers;
 
 pub use changes::{
     change, change_by_immediate, change_by_register, change_operand, change_register, change_sized,
 };
+pub use laws::effect_laws;
 pub use operation::{Operation, apply};
 pub use registers::{take_operand, take_register};

@@ -1,0 +1,6 @@
+pub mod Twice
+pub mod Pushed
+pub mod Called
+pub mod Stood
+pub mod Refilled
+pub mod Restored
