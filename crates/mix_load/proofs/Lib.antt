@@ -12,3 +12,4 @@ pub mod Forks
 pub mod Placed
 pub mod Vectors
 pub mod Cuts
+pub mod Lying

@@ -7,3 +7,4 @@ pub mod ContainerImage
 pub mod Start
 pub mod Load
 pub mod Loaded
+pub mod Laws

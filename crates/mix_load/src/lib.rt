@@ -16,6 +16,7 @@ mod gate;
 mod header;
 mod image;
 mod imports;
+mod laws;
 mod loader;
 mod program;
 mod relocations;
@@ -26,5 +27,6 @@ mod vector;
 
 pub use error::{File, LoadError};
 pub use files::{FileBytes, Files};
+pub use laws::load_laws;
 pub use loader::load;
 pub use switch_frame::Program;
