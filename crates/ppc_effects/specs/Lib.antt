@@ -9,3 +9,4 @@ pub mod Storage
 pub mod Strings
 pub mod Effects
 pub mod Laws
+pub mod StorageLaws

@@ -7,5 +7,5 @@ mod laws;
 mod results;
 
 pub use addresses::{base, index_address, offset_address};
-pub use laws::effect_laws;
+pub use laws::{effect_laws, storage_laws};
 pub use results::{advance, put_arith, put_result};
