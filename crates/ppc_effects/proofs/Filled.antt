@@ -1,10 +1,9 @@
 -- What a string leaves in registers.
-use Rattle.std.proofs.Common.{◌≡◌, ◌≢◌, ◌⊎◌, ℕ, zero, suc, ◌+◌, ◌-◌, ◌*◌, ◌/◌, ◌%◌, ◌^◌, ◌<◌, ◌≤◌, ◌∙◌, Bool, true, false, List, length, drop, take, get_or, min, Result, Ok, Err, inl, inr, ⊎_elim, refl, sym, ap, subst, arith, get_or-set_same, get_or-set_other}
-use Rattle.std.specs.Prelude.{◌==◌, ◌||◌, if◌then◌else◌, slice_index}
+use Rattle.std.proofs.Common.{◌≡◌, ◌≢◌, ◌⊎◌, ℕ, zero, suc, ◌+◌, ◌-◌, ◌*◌, ◌/◌, ◌%◌, ◌^◌, ◌<◌, ◌≤◌, ◌∙◌, Bool, true, false, List, length, drop, get_or, Result, Ok, Err, inl, inr, ⊎_elim, refl, sym, ap, subst, arith, get_or-set_same, get_or-set_other}
+use Rattle.std.specs.Prelude.{◌==◌, ◌||◌, if◌then◌else◌}
 use Rattle.std.proofs.Math.ListN.{set}
 use Rattle.std.proofs.lemmas.List.{get_or-drop, get_or-take, get_or_past, length-set, length-take}
-use Rattle.std.proofs.lemmas.Bool.{cases_eq, cases_lt}
-use Rattle.std.proofs.lemmas.Bool.Decides.{nat_tests}
+use Rattle.std.proofs.lemmas.Bool.{cases_lt}
 use Rattle.mix_bits.specs.declared.size.Size.TheVariants.{One}
 use Rattle.mix_bits.specs.declared.fault.FaultKind.TheVariants.{BadInstr}
 use Rattle.mix_bits.specs.Addresses.{onward}
@@ -20,9 +19,9 @@ use Rattle.big_memory.specs.Steps.After.{Goes, Stops}
 use Rattle.ppc_isa.specs.declared.registers.RegsPpc.{RegsPpc}
 use Rattle.ppc_alu.specs.Xer.{string_length_of}
 use Rattle.ppc_effects.specs.File.{base_of, gpr_of, onto_next}
-use Rattle.ppc_effects.specs.Storage.{after_load, index_address}
+use Rattle.ppc_effects.specs.Storage.{index_address}
 use Rattle.ppc_effects.specs.StorageLaws.{IndexedStringsFill, IsFilled, StringsFill}
-use Rattle.ppc_effects.specs.Strings.{fills, in_order, length_of, load_byte, load_string, string_register, with_string_byte}
+use Rattle.ppc_effects.specs.Strings.{fills, in_order, length_of, load_byte, load_string, with_string_byte}
 use Rattle.ppc_effects.proofs.Reversed.{lies-within, loaded-then, number-of}
 
 -- four elements of a list as digits to the base 256

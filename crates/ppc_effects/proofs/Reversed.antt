@@ -1,22 +1,22 @@
 -- Bytes in the other order.
-use Rattle.std.proofs.Common.{◌≡◌, ℕ, suc, ◌+◌, ◌*◌, ◌/◌, ◌%◌, ◌^◌, ◌<◌, ◌≤◌, ◌∙◌, Bool, true, false, List, [], ◌∷◌, length, drop, take, get_or, Option, Some, None, Result, Ok, Err, refl, sym, ap, subst, arith, get_or-set_same}
-use Rattle.std.specs.Prelude.{nat_le, if◌then◌else◌, slice_index}
+use Rattle.std.proofs.Common.{◌≡◌, ℕ, ◌+◌, ◌*◌, ◌<◌, ◌≤◌, ◌∙◌, Bool, true, false, List, [], ◌∷◌, length, drop, take, Option, Some, None, Result, Ok, Err, refl, sym, ap, subst, arith, get_or-set_same}
+use Rattle.std.specs.Prelude.{if◌then◌else◌}
 use Rattle.std.proofs.lemmas.List.{get_or-drop, length-drop}
 use Rattle.std.proofs.lemmas.Bool.Decides.{nat_tests}
 use Rattle.mix_bits.specs.declared.size.Size.{Size}
-use Rattle.mix_bits.specs.declared.size.Size.TheVariants.{Zero, One, Two, Four}
+use Rattle.mix_bits.specs.declared.size.Size.TheVariants.{Two, Four}
 use Rattle.mix_bits.specs.Sizes.{bytes_of, truncated}
 use Rattle.big_memory.specs.declared.refusals.Access.{Access}
 use Rattle.big_memory.specs.declared.refusals.Access.TheVariants.{Outside}
 use Rattle.big_memory.specs.Lists.{part}
 use Rattle.big_memory.specs.Memory.{Memory, in_memory, loaded, refusal, stored}
 use Rattle.big_memory.specs.Numbers.{AreBytes, number_at}
-use Rattle.big_memory.specs.Steps.{After, after_store}
-use Rattle.big_memory.specs.Steps.After.{Goes, Stops}
+use Rattle.big_memory.specs.Steps.{after_store}
+use Rattle.big_memory.specs.Steps.After.{Goes}
 use Rattle.big_memory.specs.Stores.{stored_unless, stored_value}
 use Rattle.big_memory.proofs.Guarded.{loads_back, passes}
 use Rattle.ppc_isa.specs.declared.registers.RegsPpc.{RegsPpc}
-use Rattle.ppc_isa.specs.declared.instruction.InstrPpc.TheVariants.{LoadReversed, StoreReversed}
+use Rattle.ppc_isa.specs.declared.instruction.InstrPpc.TheVariants.{LoadReversed}
 use Rattle.ppc_isa.specs.declared.instruction.ReversedKind.{ReversedKind}
 use Rattle.ppc_isa.specs.declared.instruction.ReversedKind.TheVariants.{Word, Half}
 use Rattle.ppc_effects.specs.Effects.{runs}
