@@ -13,3 +13,4 @@ pub mod Placed
 pub mod Vectors
 pub mod Cuts
 pub mod Lying
+pub mod Jumping

@@ -16,7 +16,8 @@ use Rattle.rsrc_fork.specs.declared.error.RsrcError.{RsrcError}
 use Rattle.rsrc_fork.specs.References.{resources_of}
 use Rattle.rsrc_fork.specs.Resources.{Resource}
 use Rattle.switch_frame.specs.declared.program.Program.{Program}
-use Rattle.switch_frame.specs.Program.{program_start}
+use Rattle.switch_frame.specs.Pieces.{puts}
+use Rattle.switch_frame.specs.Program.{gate_longs, program_start}
 use Rattle.mix_load.specs.declared.error.File.{File}
 use Rattle.mix_load.specs.declared.error.File.TheVariants.{Flat, Rsrc, Pef}
 use Rattle.mix_load.specs.declared.error.LoadError.{LoadError}
@@ -25,15 +26,17 @@ use Rattle.mix_load.specs.declared.files.Files.{Files}
 use Rattle.mix_load.specs.declared.header.CodeHeader.{CodeHeader}
 use Rattle.mix_load.specs.declared.image.Image.{Image}
 use Rattle.mix_load.specs.ContainerImage.{container_image, container_refusal, with_container, with_head, with_sections}
-use Rattle.mix_load.specs.ForkImage.{fork_end, fork_image, fork_refusal, segments_refusal, table_refusal, too_large, with_codes, with_fork, with_resources}
+use Rattle.mix_load.specs.ForkImage.{fork_end, fork_image, fork_memory, fork_refusal, segments_refusal, table_refusal, too_large, with_codes, with_fork, with_resources}
 use Rattle.mix_load.specs.Laws.{ForkLies, Leads, LieInOrder, PiecesLie, SectionsLie, SegmentsLie}
 use Rattle.mix_load.specs.Load.{AreLoadable, IsAlone, flat_image, load_of, no_image, with_file, with_flat}
 use Rattle.mix_load.specs.Outcome.{unless}
-use Rattle.mix_load.specs.Sections.{section_base, sections_end, total_at}
-use Rattle.mix_load.specs.Segments.{a5_of, code_at, entry_count, entry_place, has_table, header_of, id_count, is_bad_entry, is_unloaded, jump_target, offset_in, reaches, segment_at, segment_in, segment_place, segment_places, segments_end, segments_start, table_start, with_segment}
+use Rattle.mix_load.specs.Sections.{relocated_bytes, section_base, sections_end, total_at}
+use Rattle.mix_load.specs.Segments.{a5_of, code_at, entry_count, entry_place, has_table, header_of, id_count, is_bad_entry, is_unloaded, jump_target, offset_in, reaches, segment_at, segment_in, segment_pieces, segment_place, segment_places, segments_end, segments_start, table_start, with_segment}
 use Rattle.mix_load.specs.Start.{program_of}
 use Rattle.mix_load.proofs.Ends.{end_within, section_above, section_within, sections_apart, start_within, ends_grow}
 use Rattle.mix_load.proofs.Forks.{ids-are}
+use Rattle.mix_load.proofs.Images.{segments-length, table-length}
+use Rattle.mix_load.proofs.Jumping.{Alike, alike-then, entry-jumps, gate-over, pieces-alike, pieces-grow, same-long, stack-alike}
 use Rattle.mix_load.proofs.Numbered.{numbered-at}
 
 -- what a chain of parts gives, and what is not refused
@@ -143,42 +146,74 @@ leads resources code0 start i small good =
 table-within : (h : CodeHeader) (n : ℕ) → h.table_offset + h.table_len ≤ h.above → n ≡ 8 * (h.table_len / 8) → table_start h + n ≤ segments_start h
 table-within h n within is = omega (arith, within, is, up h.above, entries-long h.table_len)
 
+world-holds : (code0 : List ℕ) → has_table code0 ≡ true → (header_of code0).table_offset + (header_of code0).table_len ≤ (header_of code0).above
+world-holds code0 has = at-least ((header_of code0).table_offset + (header_of code0).table_len) (header_of code0).above (last-of _ _ has)
+
+-- a fork as it is placed, with room behind it
+record IsForkPlaced (bytes : List ℕ) (image : Image) : Type 0 where
+  lies : ForkLies bytes image.ram.bytes image.end
+  high : 0x2000 ≤ image.end
+  low : image.end + 4 ≤ length image.ram.bytes
+
+fork-long : (resources : List Resource) (code0 : List ℕ) (image : Image) → segments_end resources (segments_start (header_of code0)) id_count ≤ length image.ram.bytes
+    → table_start (header_of code0) + 8 * entry_count code0 ≤ length image.ram.bytes → length (fork_memory id_count resources code0 image.ram).bytes ≡ length image.ram.bytes
+fork-long resources code0 image within table =
+    let start : ℕ = segments_start (header_of code0) in
+    let segments : List ℕ = puts (segment_pieces resources start id_count) image.ram.bytes in
+    let long : length segments ≡ length image.ram.bytes = segments-length resources start id_count image.ram.bytes within in
+    table-length (segment_places resources start id_count) (table_start (header_of code0)) code0 (entry_count code0) segments (omega (arith, long, table)) ∙ long
+
 placed-fork : (bytes code0 : List ℕ) (resources : List Resource) (image next : Image) → resources_of bytes ≡ Ok resources → code_at resources 0 ≡ Some code0 → floor_of image.ram ≤ 2 ^ 24
-    → unless (fork_refusal id_count (floor_of image.ram) resources code0) (fork_image id_count resources code0 image) ≡ Ok next → ForkLies bytes next.end
+    → unless (fork_refusal id_count (floor_of image.ram) resources code0) (fork_image id_count resources code0 image) ≡ Ok next → IsForkPlaced bytes next
 placed-fork bytes code0 resources image next read first small is =
     let h : CodeHeader = header_of code0 in
     let done = unrefused (fork_refusal id_count (floor_of image.ram) resources code0) (fork_image id_count resources code0 image) next is in
-    let end-is : next.end ≡ segments_end resources (segments_start h) id_count = ap (λ (i : Image). i.end) done.1 in
     let parts = neither (segments_refusal id_count resources or table_refusal resources code0) (too_large (floor_of image.ram) (fork_end id_count resources h)) done.0 in
     let before = neither (segments_refusal id_count resources) (table_refusal resources code0) parts.0 in
     let table = neither (refused (not (has_table code0)) (JumpTable 0)) (option_map (λ i. JumpTable (entry_place i)) (least (is_bad_entry resources code0) (entry_count code0))) before.1 in
     let has : has_table code0 ≡ true = negated (has_table code0) (not-here (not (has_table code0)) (JumpTable 0) table.0) in
-    let above : h.table_offset + h.table_len ≤ h.above = at-least (h.table_offset + h.table_len) h.above (last-of _ _ has) in
+    let above : h.table_offset + h.table_len ≤ h.above = world-holds code0 has in
     let entries = unmapped (λ i. JumpTable (entry_place i)) (least (is_bad_entry resources code0) (entry_count code0)) table.1 in
     let room : rounded_up 16 (fork_end id_count resources h) ≤ floor_of image.ram = at-most (floor_of image.ram) (rounded_up 16 (fork_end id_count resources h)) (not-here _ _ parts.1) in
     let low : segments_end resources (segments_start h) id_count ≤ 2 ^ 24 = omega (arith, room, small, up (fork_end id_count resources h)) in
-    record {
-      resources = resources;
-      code0 = code0;
-      read = read;
-      first = first;
-      world = omega (arith, up h.below);
-      table = table-within h (8 * entry_count code0) above refl;
-      segments = subst (SegmentsLie resources (segments_start h)) (sym end-is) (segments-lie resources (segments_start h));
-      entries = λ i below. leads resources code0 (segments_start h) i low (least-none (is_bad_entry resources code0) (entry_count code0) i below entries);
-    }
+    let end : ℕ = fork_end id_count resources h in
+    let start : ℕ = segments_start h in
+    let table-low : table_start h + 8 * entry_count code0 ≤ start = table-within h (8 * entry_count code0) above refl in
+    let grown : start ≤ end = ends_grow resources start 0 id_count (omega arith) in
+    let origin : 0x10000 ≤ start = omega (arith, up h.below, up h.above) in
+    let fits : end ≤ length image.ram.bytes = omega (arith, room, up end) in
+    let segments : List ℕ = puts (segment_pieces resources start id_count) image.ram.bytes in
+    let segments-long : length segments ≡ length image.ram.bytes = segments-length resources start id_count image.ram.bytes fits in
+    let long : length (fork_memory id_count resources code0 image.ram).bytes ≡ length image.ram.bytes = fork-long resources code0 image fits (omega (arith, table-low, grown, fits)) in
+    let placed : IsForkPlaced bytes (fork_image id_count resources code0 image) = record {
+      high = omega (arith, origin, grown);
+      low = omega (arith, long, room, up end, origin, grown);
+      lies = record {
+        resources = resources;
+        code0 = code0;
+        read = read;
+        first = first;
+        world = omega (arith, up h.below);
+        table = table-low;
+        segments = segments-lie resources start;
+        room = grown;
+        entries = λ i below. leads resources code0 start i low (least-none (is_bad_entry resources code0) (entry_count code0) i below entries);
+        jumps = λ i below. entry-jumps (segment_places resources start id_count) (table_start h) code0 (entry_count code0) i segments below (omega (arith, segments-long, table-low, grown, fits));
+      };
+    } in
+    subst (IsForkPlaced bytes) (sym done.1) placed
 
 from-codes : (bytes : List ℕ) (resources : List Resource) (found : Option (List ℕ)) (image next : Image) → resources_of bytes ≡ Ok resources → code_at resources 0 ≡ found → floor_of image.ram ≤ 2 ^ 24
-    → with_codes id_count resources found image ≡ Ok next → ForkLies bytes next.end
+    → with_codes id_count resources found image ≡ Ok next → IsForkPlaced bytes next
 from-codes bytes resources None image next read first small is = absurd (cc)
 from-codes bytes resources (Some code0) image next read first small is = placed-fork bytes code0 resources image next read first small is
 
 from-resources : (bytes : List ℕ) (read : Result (List Resource) RsrcError) (image next : Image) → resources_of bytes ≡ read → floor_of image.ram ≤ 2 ^ 24
-    → with_resources id_count read image ≡ Ok next → ForkLies bytes next.end
+    → with_resources id_count read image ≡ Ok next → IsForkPlaced bytes next
 from-resources bytes (Ok resources) image next read small is = from-codes bytes resources (code_at resources 0) image next read refl small is
 from-resources bytes (Err e) image next read small is = absurd (cc)
 
-fork-lies : (bytes : List ℕ) (image next : Image) → floor_of image.ram ≤ 2 ^ 24 → with_fork bytes image ≡ Ok next → ForkLies bytes next.end
+fork-lies : (bytes : List ℕ) (image next : Image) → floor_of image.ram ≤ 2 ^ 24 → with_fork bytes image ≡ Ok next → IsForkPlaced bytes next
 unfolding with_fork
 fork-lies bytes image next small is = from-resources bytes (resources_of bytes) image next refl small is
 
@@ -205,6 +240,21 @@ container-lies : (main : Isa) (bytes : List ℕ) (image next : Image) → with_c
 unfolding with_container
 container-lies main bytes image next is = from-head main bytes (refusal_of bytes) image next is
 
+over-head : (main : Isa) (bytes : List ℕ) (head : Option PefError) (image next : Image) → image.end ≤ length image.ram.bytes → with_head head (with_sections main bytes image) ≡ Ok next
+    → Alike 0x2000 image.end next.ram.bytes image.ram.bytes × (length image.ram.bytes ≤ length next.ram.bytes)
+over-head main bytes (Some e) image next fits is = absurd (cc)
+over-head main bytes None image next fits is =
+    let done = unrefused (container_refusal main (floor_of image.ram) bytes image.end) (container_image bytes image) next is in
+    subst (λ (i : Image). Alike 0x2000 image.end i.ram.bytes image.ram.bytes × (length image.ram.bytes ≤ length i.ram.bytes)) (sym done.1) (
+      pieces-alike (section_base bytes image.end) (relocated_bytes bytes image.end) (instantiated_count bytes) 0x2000 image.end image.ram.bytes (section_above bytes image.end) fits,
+      pieces-grow (section_base bytes image.end) (relocated_bytes bytes image.end) (instantiated_count bytes) image.ram.bytes,
+    )
+
+container-over : (main : Isa) (bytes : List ℕ) (image next : Image) → image.end ≤ length image.ram.bytes → with_container main bytes image ≡ Ok next
+    → Alike 0x2000 image.end next.ram.bytes image.ram.bytes × (length image.ram.bytes ≤ length next.ram.bytes)
+unfolding with_container
+container-over main bytes image next fits is = over-head main bytes (refusal_of bytes) image next fits is
+
 -- a file that is given, and one that is not
 given : (file : File) (add : List ℕ → Image → Result Image LoadError) (bytes : List ℕ) (empty : Bool) (image next : Image)
     → (if empty then Err (Empty file) else add bytes image) ≡ Ok next → add bytes image ≡ Ok next
@@ -222,7 +272,7 @@ flat-placed files main len (Some bytes) image small alone is =
     ((alone.0, ap (λ (i : Image). i.end) (sym done.1)), λ none. absurd (cc))
 
 fork-placed : (rsrc : Option (List ℕ)) (image next : Image) → IfSome rsrc (λ bytes. floor_of image.ram ≤ 2 ^ 24) → with_file Rsrc with_fork rsrc image ≡ Ok next
-    → IfSome rsrc (λ bytes. ForkLies bytes next.end) × ((rsrc ≡ None) → next ≡ image)
+    → IfSome rsrc (λ bytes. IsForkPlaced bytes next) × ((rsrc ≡ None) → next ≡ image)
 fork-placed None image next small is = (tt, λ none. let same : image ≡ next = cc in sym same)
 fork-placed (Some bytes) image next small is = (fork-lies bytes image next small (given Rsrc with_fork bytes (length bytes == 0) image next is), λ none. absurd (cc))
 
@@ -248,6 +298,46 @@ flat-by (Some bytes) rsrc image next alone same =
     let is : next.end ≡ image.end = ap (λ (i : Image). i.end) (same alone.0) in
     omega (arith, is, alone.1)
 
+-- what is put after a fork leaves it
+container-alike : (main : Isa) (pef : Option (List ℕ)) (image next : Image) → image.end ≤ length image.ram.bytes → with_file Pef (with_container main) pef image ≡ Ok next
+    → Alike 0x2000 image.end next.ram.bytes image.ram.bytes × (length image.ram.bytes ≤ length next.ram.bytes)
+container-alike main None image next fits is =
+    let same : image ≡ next = cc in
+    subst (λ (i : Image). Alike 0x2000 image.end i.ram.bytes image.ram.bytes × (length image.ram.bytes ≤ length i.ram.bytes)) same (λ k above below. refl, omega arith)
+container-alike main (Some bytes) image next fits is = container-over main bytes image next fits (given Pef (with_container main) bytes (length bytes == 0) image next is)
+
+program-alike : (main : Isa) (image : Image) (high : ℕ) → 0x2000 ≤ high → high + 4 ≤ length image.ram.bytes → Alike 0x2000 high (program_of main image).ram.bytes image.ram.bytes
+program-alike main image high above below =
+    let gate = gate-over image.entry image.vector image.a5 (length image.ram.bytes) high image.ram.bytes (omega arith) in
+    let gated : List ℕ = puts (gate_longs image.entry image.vector image.a5 (length image.ram.bytes)) image.ram.bytes in
+    alike-then 0x2000 high (program_of main image).ram.bytes gated image.ram.bytes (stack-alike main (length image.ram.bytes) 0x2000 high gated (omega arith) (omega (arith, gate.long))) gate.alike
+
+still-lies : (bytes memory old : List ℕ) (end : ℕ) → Alike 0x2000 end memory old → ForkLies bytes old end → ForkLies bytes memory end
+still-lies bytes memory old end alike lies = record {
+  resources = lies.resources;
+  code0 = lies.code0;
+  read = lies.read;
+  first = lies.first;
+  world = lies.world;
+  table = lies.table;
+  segments = lies.segments;
+  room = lies.room;
+  entries = lies.entries;
+  jumps = λ i below.
+      let low = lies.table in
+      let high = lies.room in
+      same-long (table_start (header_of lies.code0) + 8 * i + 4) 0x2000 end memory old (omega arith) (omega (arith, low, high, below)) alike ∙ lies.jumps i below;
+}
+
+fork-stays : (main : Isa) (rsrc pef : Option (List ℕ)) (image next : Image) → IfSome rsrc (λ bytes. IsForkPlaced bytes image) → with_file Pef (with_container main) pef image ≡ Ok next
+    → IfSome rsrc (λ bytes. ForkLies bytes (program_of main next).ram.bytes image.end)
+fork-stays main None pef image next placed is = tt
+fork-stays main (Some bytes) pef image next placed is =
+    let low : image.end + 4 ≤ length image.ram.bytes = placed.low in
+    let behind = container-alike main pef image next (omega arith) is in
+    still-lies bytes (program_of main next).ram.bytes image.ram.bytes image.end
+    (alike-then 0x2000 image.end (program_of main next).ram.bytes next.ram.bytes image.ram.bytes (program-alike main next image.end placed.high (omega (arith, low, behind.1))) behind.0) placed.lies
+
 abbrev after_container : Isa → Image → Result Program LoadError
 after_container main image = Ok (program_of main image)
 
@@ -271,7 +361,7 @@ pieces_lie files main len p loadable small is =
     record {
       middle = two.0.end;
       flat = flat-by files.flat files.rsrc one.0 two.0 flat.0 fork.1;
-      fork = fork.0;
+      fork = subst (λ (q : Program). IfSome files.rsrc (λ bytes. ForkLies bytes q.ram.bytes two.0.end)) program-is (fork-stays main files.rsrc files.pef two.0 three.0 fork.0 three.1.0);
       container = subst (λ low. IfSome files.pef (λ bytes. SectionsLie bytes two.0.end low)) (sym heap) container.0;
       heap = omega (arith, heap, container.1, up three-end);
     }

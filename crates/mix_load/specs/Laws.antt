@@ -1,6 +1,7 @@
 -- Where the pieces of a loaded program lie.
 use Rattle.std.specs.Prelude.{◌≡◌, ℕ, ◌+◌, ◌*◌, ◌<◌, ◌≤◌, ◌^◌, List, length, Ok, Some, IfSome}
 use Rattle.mix_bits.specs.declared.isa.Isa.{Isa}
+use Rattle.big_memory.specs.Numbers.{long_at}
 use Rattle.pef_head.specs.Container.{instantiated_count}
 use Rattle.rsrc_fork.specs.References.{resources_of}
 use Rattle.rsrc_fork.specs.Resources.{Resource}
@@ -24,8 +25,9 @@ pub record Leads (resources : List Resource) (code0 : List ℕ) (start i : ℕ) 
   pub behind : segment_place resources start (segment_in code0 i) + 4 ≤ jump_target (segment_places resources start id_count) code0 i
   pub within : jump_target (segment_places resources start id_count) code0 i ≤ segment_place resources start (segment_in code0 i) + length segment
 
--- a fork lies in order below `end`: the world below A5, the jump table above it, and the segments
-pub record ForkLies (bytes : List ℕ) (end : ℕ) : Type 0 where
+-- a fork lies in order below `end`: the world below A5, the jump table above it, and the segments; and in memory each
+-- entry of the table has where it leads
+pub record ForkLies (bytes memory : List ℕ) (end : ℕ) : Type 0 where
   pub resources : List Resource
   pub code0 : List ℕ
   pub read : resources_of bytes ≡ Ok resources
@@ -33,7 +35,10 @@ pub record ForkLies (bytes : List ℕ) (end : ℕ) : Type 0 where
   pub world : program_start + (header_of code0).below ≤ a5_of (header_of code0)
   pub table : table_start (header_of code0) + 8 * entry_count code0 ≤ segments_start (header_of code0)
   pub segments : SegmentsLie resources (segments_start (header_of code0)) end
+  pub room : segments_start (header_of code0) ≤ end
   pub entries : (i : ℕ) → i < entry_count code0 → Leads resources code0 (segments_start (header_of code0)) i
+  pub jumps : (i : ℕ) → i < entry_count code0
+      → long_at (table_start (header_of code0) + 8 * i + 4) memory ≡ jump_target (segment_places resources (segments_start (header_of code0)) id_count) code0 i
 
 -- the sections of a container lie behind `start` and below `end`, each behind those before it
 pub record SectionsLie (bytes : List ℕ) (start end : ℕ) : Type 0 where
@@ -46,7 +51,7 @@ pub record SectionsLie (bytes : List ℕ) (start end : ℕ) : Type 0 where
 pub record LieInOrder (files : Files) (p : Program) : Type 0 where
   pub middle : ℕ
   pub flat : IfSome files.flat (λ bytes. program_start + length bytes ≤ middle)
-  pub fork : IfSome files.rsrc (λ bytes. ForkLies bytes middle)
+  pub fork : IfSome files.rsrc (λ bytes. ForkLies bytes p.ram.bytes middle)
   pub container : IfSome files.pef (λ bytes. SectionsLie bytes middle p.heap_lo)
   pub heap : middle ≤ p.heap_lo
 
