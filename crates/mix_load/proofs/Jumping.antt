@@ -1,5 +1,5 @@
 -- The jump table in the memory in which a program starts.
-use Rattle.std.proofs.Common.{◌≡◌, ℕ, zero, suc, ◌+◌, ◌-◌, ◌*◌, ◌/◌, ◌%◌, ◌^◌, ◌<◌, ◌≤◌, ◌∙◌, List, [], ◌∷◌, length, drop, take, get_or, inl, inr, refl, sym, ap, subst, arith}
+use Rattle.std.proofs.Common.{◌≡◌, ℕ, zero, suc, ◌+◌, ◌-◌, ◌*◌, ◌%◌, ◌^◌, ◌<◌, ◌≤◌, ◌∙◌, List, length, drop, take, get_or, inl, inr, refl, sym, ap, arith}
 use Rattle.std.proofs.lemmas.List.{get_or-drop, get_or-take, get_or_append_left, length-append, length-drop, length-take}
 use Rattle.std.proofs.lemmas.Bool.{cases_lt}
 use Rattle.byteorder.specs.Endian.{big_bytes}
@@ -10,7 +10,7 @@ use Rattle.big_memory.specs.Map.{exit_gate, host_code_at, host_functions, host_v
 use Rattle.big_memory.specs.Numbers.{long_at}
 use Rattle.big_memory.proofs.Lists.{get_or-put_outside, length-put}
 use Rattle.big_memory.proofs.Numbers.{long_reads_back}
-use Rattle.switch_frame.specs.Pieces.{Piece, puts}
+use Rattle.switch_frame.specs.Pieces.{puts}
 use Rattle.switch_frame.specs.Program.{gate_longs, told, vectors}
 use Rattle.mix_load.specs.Pieces.{numbered_pieces}
 use Rattle.mix_load.specs.Segments.{jump_target, segment_in, table_pieces}

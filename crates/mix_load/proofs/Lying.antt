@@ -1,6 +1,6 @@
 -- The pieces of a loaded program lie in order.
-use Rattle.std.proofs.Common.{◌≡◌, ◌⊎◌, ℕ, zero, suc, ◌+◌, ◌-◌, ◌*◌, ◌/◌, ◌%◌, ◌^◌, ◌<◌, ◌≤◌, ◌∙◌, Bool, true, false, not, ◌==◌, ◌&&◌, ◌||◌, nat_lt, nat_le, List, length, get_or, Option, Some, None, option_map, Result, Ok, Err, inl, inr, refl, sym, ap, subst, arith}
-use Rattle.std.specs.Prelude.{IfSome, if◌then◌else◌, slice_index}
+use Rattle.std.proofs.Common.{◌≡◌, ℕ, zero, suc, ◌+◌, ◌*◌, ◌/◌, ◌%◌, ◌^◌, ◌<◌, ◌≤◌, ◌∙◌, Bool, true, false, not, ◌==◌, ◌&&◌, ◌||◌, nat_lt, nat_le, List, length, get_or, Option, Some, None, option_map, Result, Ok, Err, inl, inr, refl, sym, ap, subst, arith}
+use Rattle.std.specs.Prelude.{IfSome, if◌then◌else◌}
 use Rattle.std.proofs.lemmas.List.{length-replicate}
 use Rattle.std.proofs.lemmas.Bool.{cases_lt}
 use Rattle.std.proofs.lemmas.Bool.Decides.{nat_tests}
@@ -27,11 +27,11 @@ use Rattle.mix_load.specs.declared.header.CodeHeader.{CodeHeader}
 use Rattle.mix_load.specs.declared.image.Image.{Image}
 use Rattle.mix_load.specs.ContainerImage.{container_image, container_refusal, with_container, with_head, with_sections}
 use Rattle.mix_load.specs.ForkImage.{fork_end, fork_image, fork_memory, fork_refusal, segments_refusal, table_refusal, too_large, with_codes, with_fork, with_resources}
-use Rattle.mix_load.specs.Laws.{ForkLies, Leads, LieInOrder, PiecesLie, SectionsLie, SegmentsLie}
-use Rattle.mix_load.specs.Load.{AreLoadable, IsAlone, flat_image, load_of, no_image, with_file, with_flat}
+use Rattle.mix_load.specs.Laws.{ForkLies, Leads, PiecesLie, SectionsLie, SegmentsLie}
+use Rattle.mix_load.specs.Load.{IsAlone, flat_image, no_image, with_file, with_flat}
 use Rattle.mix_load.specs.Outcome.{unless}
-use Rattle.mix_load.specs.Sections.{relocated_bytes, section_base, sections_end, total_at}
-use Rattle.mix_load.specs.Segments.{a5_of, code_at, entry_count, entry_place, has_table, header_of, id_count, is_bad_entry, is_unloaded, jump_target, offset_in, reaches, segment_at, segment_in, segment_pieces, segment_place, segment_places, segments_end, segments_start, table_start, with_segment}
+use Rattle.mix_load.specs.Sections.{relocated_bytes, section_base, sections_end}
+use Rattle.mix_load.specs.Segments.{code_at, entry_count, entry_place, has_table, header_of, id_count, is_bad_entry, is_unloaded, jump_target, offset_in, reaches, segment_at, segment_in, segment_pieces, segment_place, segment_places, segments_end, segments_start, table_start, with_segment}
 use Rattle.mix_load.specs.Start.{program_of}
 use Rattle.mix_load.proofs.Ends.{end_within, section_above, section_within, sections_apart, start_within, ends_grow}
 use Rattle.mix_load.proofs.Forks.{ids-are}

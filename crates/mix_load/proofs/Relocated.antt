@@ -1,9 +1,8 @@
 -- A section that is relocated in memory.
-use Rattle.std.proofs.Common.{◌≡◌, ap, ◌∙◌, sym, ℕ, ◌+◌, ◌%◌, ◌^◌, ◌<◌, ◌≤◌, true, List, length, drop, get_or, arith}
+use Rattle.std.proofs.Common.{◌≡◌, ap, ◌∙◌, ℕ, ◌+◌, ◌%◌, ◌^◌, ◌<◌, ◌≤◌, true, List, length, get_or, arith}
 use Rattle.std.proofs.lemmas.Bool.Decides.{nat_tests}
-use Rattle.std.proofs.lemmas.List.{places}
 use Rattle.big_memory.specs.Lists.{part}
-use Rattle.big_memory.specs.Memory.{Memory, in_memory, with_bytes}
+use Rattle.big_memory.specs.Memory.{Memory, in_memory}
 use Rattle.big_memory.proofs.Lists.{length-put}
 use Rattle.byteorder.specs.Endian.{big_bytes}
 use Rattle.big_memory.specs.Numbers.{long_at}
