@@ -26,7 +26,8 @@ use Rattle.args_m68.specs.Gather.{selector_in, values_at}
 use Rattle.args_m68.specs.Deliver.{callee_base, callee_registers, callee_sp, delivered, fresh, pascal_slot, selector_slot, slots, stack_of, with_arguments, with_selector}
 use Rattle.args_m68.specs.Laws.{BeginsAtItsStack, ComesBack, MayBeHanded, SelectorComesBack, TouchesNothingElse}
 use Rattle.args_m68.proofs.Stacks.{above-back, bytes-width, c-back, length-selector, length-slot, length-stack, pascal-back, slot-back}
-use Rattle.args_m68.proofs.Files.{AllHeld, IsFile, arguments-keep_sp, c-leaves, file-kept, low-back, pascal-leaves, registers-back, selector-keeps_sp}
+use Rattle.args_m68.specs.ResultLaws.{IsFile}
+use Rattle.args_m68.proofs.Files.{AllHeld, arguments-keep_sp, c-leaves, file-kept, low-back, pascal-leaves, registers-back, selector-keeps_sp}
 
 -- parameters in registers are in registers, each in one of its own
 abbrev AreApart : Route → List Param → Type 0

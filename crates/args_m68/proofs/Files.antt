@@ -21,6 +21,7 @@ use Rattle.args_m68.specs.Places.{IsThere, place_numbered, place_of, selector_pl
 use Rattle.args_m68.specs.Values.{value_at, with_value}
 use Rattle.args_m68.specs.Gather.{values_at}
 use Rattle.args_m68.specs.Deliver.{with_arguments, with_selector}
+use Rattle.args_m68.specs.ResultLaws.{IsFile}
 use Rattle.args_m68.proofs.Stacks.{in-front}
 
 -- A7 stays where a value goes to a place
@@ -85,11 +86,6 @@ low-back One old v = omega arith
 low-back Two old v = omega arith
 low-back Four old v = omega arith
 
--- a register file has eight registers of each kind
-pub record IsFile (r : Regs68) : Type 0 where
-  pub data_registers : length r.d ≡ 8
-  pub address_registers : length r.a ≡ 8
-
 pub file-kept : (place : Place) (s : Size) (v : ℕ) (r : Regs68) → IsFile r → IsFile (with_value place s v r)
 file-kept (Stack from) s v r file = file
 file-kept (Data n) s v r file = record { data_registers = length-set r.d n _ ∙ file.data_registers; address_registers = file.address_registers }
@@ -122,16 +118,16 @@ other-back code other s t v r m held there apart = elim (cases_lt code 4) [
 unfoldable pub AllHeld : List Param → Type 0
 AllHeld ps = (k : ℕ) (d : Param) → k < length ps → (get_or ps k d).reg < 8
 
-rest-held : (p : Param) (ps : List Param) → AllHeld (p ∷ ps) → AllHeld ps
+pub rest-held : (p : Param) (ps : List Param) → AllHeld (p ∷ ps) → AllHeld ps
 unfolding AllHeld
 rest-held p ps held k d within = held (suc k) d (omega (arith, within))
 
 -- a test that fails of a whole list fails of its first element and of the others
-none-first : (a b : Bool) → (a || b) ≡ false → a ≡ false
+pub none-first : (a b : Bool) → (a || b) ≡ false → a ≡ false
 none-first true b none = cc
 none-first false b none = refl
 
-none-later : (a b : Bool) → (a || b) ≡ false → b ≡ false
+pub none-later : (a b : Bool) → (a || b) ≡ false → b ≡ false
 none-later true b none = cc
 none-later false b none = none
 

@@ -2,3 +2,5 @@ pub mod Chains
 pub mod Stacks
 pub mod Files
 pub mod Back
+pub mod Given
+pub mod Spots

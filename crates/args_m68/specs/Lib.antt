@@ -4,3 +4,5 @@ pub mod Gather
 pub mod Deliver
 pub mod Results
 pub mod Laws
+pub mod ResultLaws
+pub mod Apart

@@ -15,6 +15,6 @@ mod words;
 
 pub use deliver::{below68, deliver68};
 pub use gather::{gather68, select68};
-pub use laws::args68_laws;
+pub use laws::{args68_laws, place68_laws, result68_laws};
 pub use results::{popped, put_result68, removed68, result68};
 pub use words::Words;

@@ -1,3 +1,4 @@
 pub mod Chains
 pub mod Frames
 pub mod Back
+pub mod Apart

@@ -2,3 +2,4 @@ pub mod Words
 pub mod Deliver
 pub mod Results
 pub mod Laws
+pub mod Apart

@@ -1,4 +1,5 @@
 ghost use Rattle.args_ppc.specs.Laws.{BeginsAtItsStack, ComesBack, FillsItsStack, SelectorComesBack, TouchesNothingElse};
+ghost use Rattle.args_ppc.specs.Apart.{ParametersAreWords, WordsAreApart, WordsAreInTheFrame, WordsAreThere};
 
 /// What follows from the definitions of what a callee is handed. It does nothing: the clauses are its
 /// point.
@@ -8,4 +9,13 @@ pub fn args_ppc_laws()
     ensures length { FillsItsStack }
     ensures top { BeginsAtItsStack }
     ensures beside { TouchesNothingElse }
+{}
+
+/// The same of the places of a call's words: they are read at theirs, a parameter is one word, and no two words
+/// share a register or a byte.
+pub fn place_ppc_laws()
+    ensures read { WordsAreThere }
+    ensures parameters { ParametersAreWords }
+    ensures apart { WordsAreApart }
+    ensures frame { WordsAreInTheFrame }
 {}

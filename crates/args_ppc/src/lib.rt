@@ -12,6 +12,6 @@ mod words;
 
 pub use deliver::{below_ppc, deliver_ppc, start_ppc};
 pub use gather::{gather_ppc, select_ppc};
-pub use laws::args_ppc_laws;
+pub use laws::{args_ppc_laws, place_ppc_laws};
 pub use results::{put_result_ppc, result_ppc};
 pub use words::PpcWords;

@@ -7,3 +7,5 @@ mod container;
 mod fork;
 #[cfg(test)]
 mod relocations;
+#[cfg(test)]
+mod shared;

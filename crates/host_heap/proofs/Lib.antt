@@ -6,3 +6,4 @@ pub mod Walk
 pub mod Undo
 pub mod Placing
 pub mod Appending
+pub mod InUse

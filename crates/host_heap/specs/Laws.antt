@@ -1,5 +1,5 @@
 -- What holds of blocks that are placed and given up.
-use Rattle.std.specs.Prelude.{◌≡◌, ◌≢◌, ◌↔◌, ℕ, ◌<◌, ◌≤◌, [], ◌∷◌, ◌++◌, length, Some, IsTrue, false, All}
+use Rattle.std.specs.Prelude.{◌≡◌, ◌≢◌, ◌↔◌, ◌⊎◌, ℕ, ◌+◌, ◌<◌, ◌≤◌, [], ◌∷◌, ◌++◌, length, Some, IsTrue, false, All}
 use Rattle.std.specs.List.{Contains}
 use Rattle.host_heap.specs.declared.block.Block.{Block}
 use Rattle.host_heap.specs.Space.{Space, block_limit, rounded, HasRoom}
@@ -50,3 +50,34 @@ abbrev pub LastTells : Type 0
 LastTells =
     (s : Space) (size address : ℕ) → IsSound s → length s.blocks < block_limit →
     can_append s size address ≡ may_follow (last_end s.low s.blocks) s.high size address
+
+-- the bytes of a block
+abbrev pub HasByte : Block → ℕ → Type 0
+HasByte b byte = (b.address ≤ byte) × (byte < b.address + b.size)
+
+-- the block that `get` makes
+abbrev pub got : ℕ → ℕ → Block
+got size address = record { address = address; size = rounded size }
+
+-- no byte of it is one of a block that is in use
+abbrev pub TakesFreeBytes : Type 0
+TakesFreeBytes =
+    (s : Space) (size address : ℕ) (b : Block) (byte : ℕ) → place_for s size ≡ Some address → Contains s.blocks b → HasByte b byte →
+    ¬ HasByte (got size address) byte
+
+-- after `get` the blocks are those that were, and it
+abbrev pub TakingAddsOne : Type 0
+TakingAddsOne =
+    (s : Space) (size address : ℕ) (b : Block) → IsSound s → place_for s size ≡ Some address →
+    Contains (taken s size).blocks b ↔ ((b ≡ got size address) ⊎ Contains s.blocks b)
+
+-- after `free` they are those that were, but for the one at the address
+abbrev pub FreeingTakesOne : Type 0
+FreeingTakesOne =
+    (s : Space) (address : ℕ) (b : Block) → Contains (freed s address).blocks b ↔ (Contains s.blocks b × (b.address ≢ address))
+
+-- once a block is given up, `get` has its bytes again: a block of that size or less goes there or lower
+abbrev pub FreedBytesAreThere : Type 0
+FreedBytesAreThere =
+    (s : Space) (b : Block) (size : ℕ) → IsSound s → Contains s.blocks b → rounded size ≤ b.size →
+    (address : ℕ) × (place_for (freed s b.address) size ≡ Some address) × (address ≤ b.address)

@@ -3,7 +3,7 @@ ghost use Rattle.std.specs.Prelude.{◌≡◌, ℕ, ◌%◌, ◌≤◌, ◌↔�
 ghost use Rattle.host_heap.specs.Space.{Space, IsLowest, HasNone};
 ghost use Rattle.host_heap.specs.Place.{IsPlace, lowest_fit, place_for, taken, freed};
 ghost use Rattle.host_heap.specs.Sound.{IsSound};
-ghost use Rattle.host_heap.specs.Laws.{FreeingNothing, FreeingUndoesPlacing, LastTells, PlacesAreTested, PlacingAppends, PlacingKeepsSound, PlacingUndoesFreeing, RoomBeginsNone, TakingPlaces};
+ghost use Rattle.host_heap.specs.Laws.{FreedBytesAreThere, FreeingNothing, FreeingTakesOne, FreeingUndoesPlacing, LastTells, PlacesAreTested, PlacingAppends, PlacingKeepsSound, PlacingUndoesFreeing, RoomBeginsNone, TakesFreeBytes, TakingAddsOne, TakingPlaces};
 
 /// The value `lowest_fit` is the lowest address with room, and None exactly where there is none.
 pub fn lowest_fit_is_lowest()
@@ -51,4 +51,12 @@ pub fn placing_laws()
     ensures freeing { FreeingUndoesPlacing }
     ensures again { PlacingUndoesFreeing }
     ensures nothing { FreeingNothing }
+{}
+
+/// Which blocks and bytes are in use after `get` and `free`.
+pub fn block_laws()
+    ensures bytes { TakesFreeBytes }
+    ensures taking { TakingAddsOne }
+    ensures freeing { FreeingTakesOne }
+    ensures again { FreedBytesAreThere }
 {}

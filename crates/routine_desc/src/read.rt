@@ -1,9 +1,9 @@
 // Reading a descriptor.
-ghost use Rattle.std.specs.Prelude.{◌≡◌, ◌≤◌, ◌+◌, length, IfNone, IfOk, IsSome};
+ghost use Rattle.std.specs.Prelude.{◌≡◌, ◌≤◌, ◌+◌, ◌-◌, length, drop, replicate, IfNone, IfOk, IsSome};
 ghost use Rattle.std.specs.List.{list_all};
 ghost use Rattle.mix_bits.specs.Sizes.{bytes_of};
 ghost use Rattle.big_memory.specs.Numbers.{number_at};
-ghost use Rattle.routine_desc.specs.Layout.{are_good_flags, bad_header, bad_record, code_at, record_at, target_of};
+ghost use Rattle.routine_desc.specs.Layout.{are_good_flags, bad_header, bad_record, code_at, no_routine, record_at, target_of};
 ghost use Rattle.proc_info.specs.Codes.{conv_at};
 ghost use Rattle.proc_info.specs.Views.{signature};
 ghost use Rattle.routine_desc.specs.Views.{answered, routine, routines};
@@ -25,9 +25,11 @@ const HEADER_BYTES: u32 = 12;
 /// How many bytes a record has.
 const RECORD_BYTES: u32 = 20;
 
-/// The descriptor at an address, or the first rule that it breaks. Guards do not matter.
+/// The descriptor at an address, or the first rule that it breaks. Guards do not matter. Past the last
+/// record it holds `Rec::empty()`.
 pub fn read_desc(ram: &Ram, a: u32) -> Result<Desc, BadDesc>
-    ensures { Reads ram.now a result }
+    ensures value { Reads ram.now a result }
+    ensures rest { IfOk result (λ desc. routines (drop desc.count desc.recs) ≡ replicate (64 - desc.count) no_routine) }
 {
     match broken_header(ram, a) {
         Some(bad) => Err(bad),
@@ -74,7 +76,8 @@ pub fn read_all(ram: &Ram, a: u32, recs: &mut [Rec]) -> Result<(), BadDesc>
 fn read_body(ram: &Ram, a: u32) -> Result<Desc, BadDesc>
     requires header { a + 12 ≤ length ram.now.bytes }
     requires few { number_at (a + 10) 2 ram.now.bytes ≤ 63 }
-    ensures { ReadsBody ram.now a result }
+    ensures value { ReadsBody ram.now a result }
+    ensures rest { IfOk result (λ desc. routines (drop desc.count desc.recs) ≡ replicate (64 - desc.count) no_routine) }
 {
     ram.meets_invariant();
     let count = number(ram, a + 10, Size::Two) + 1;

@@ -51,7 +51,7 @@ impl Rec {
     }
 }
 
-/// A routine descriptor: its address and the first `count` records.
+/// A routine descriptor: its address and its records, the first `count` of `recs`.
 #[derive(Clone, Copy)]
 pub struct Desc {
     pub at: u32,

@@ -4,3 +4,4 @@ pub mod NextId
 pub mod Listing
 pub mod Small
 mod Walk
+pub mod Counts

@@ -21,17 +21,17 @@ use Rattle.rsrc_fork.specs.References.{data_at, id_at, is_compressed, with_refer
 use Rattle.rsrc_fork.specs.Listing.{Reference, reference_in, references_in, references_below, list_at, numbered_entry, name_at, start_at, end_at, resource_at, IsSound, HasAreas, AreSound, IsFork}
 
 -- what an answer says of the tests and steps before it
-if_ok : {A : Type 0} (b : Bool) (e : RsrcError) (r : Result A RsrcError) (x : A)
+pub if_ok : {A : Type 0} (b : Bool) (e : RsrcError) (r : Result A RsrcError) (x : A)
     → (if b then Err e else r) ≡ Ok x → (b ≡ false) × (r ≡ Ok x)
 if_ok true e r x h = absurd (cc)
 if_ok false e r x h = (refl, h)
 
-bind_ok : {A B : Type 0} (r : Result A RsrcError) (next : A → Result B RsrcError) (y : B)
+pub bind_ok : {A B : Type 0} (r : Result A RsrcError) (next : A → Result B RsrcError) (y : B)
     → (r >>= next) ≡ Ok y → (x : A) × (r ≡ Ok x) × (next x ≡ Ok y)
 bind_ok (Ok x) next y h = (x, refl, h)
 bind_ok (Err e) next y h = absurd (cc)
 
-ok_is : {A : Type 0} (x y : A) → (let left : Result A RsrcError = Ok x in left ≡ Ok y) → x ≡ y
+pub ok_is : {A : Type 0} (x y : A) → (let left : Result A RsrcError = Ok x in left ≡ Ok y) → x ≡ y
 ok_is x y h = cc
 
 -- three tests of orders, all of them false
@@ -47,7 +47,7 @@ fits_from limit end h = grind (arith, nat_tests)
 fits_tells : (limit end : ℕ) → end ≤ limit → nat_lt limit end ≡ false
 fits_tells limit end h = grind (arith, nat_tests)
 
-keeps : {A : Type 0} (step : A → ℕ → Result A RsrcError) (start : A) (P : ℕ → A → Type 0) → P 0 start
+pub keeps : {A : Type 0} (step : A → ℕ → Result A RsrcError) (start : A) (P : ℕ → A → Type 0) → P 0 start
     → ((k : ℕ) (t u : A) → P k t → step t k ≡ Ok u → P (suc k) u)
     → (n : ℕ) (u : A) → each_below step start n ≡ Ok u → P n u
 keeps step start P first more zero u h = subst (P 0) (cc) first

@@ -24,16 +24,17 @@ impl<'a> Model for Fork<'a> {
 }
 
 impl<'a> Fork<'a> {
-    ghost use Rattle.std.specs.Prelude.{◌≡◌, ◌≢◌, ◌^◌, ◌≤◌, List, length, option_map, IfOk, IfErr, IfSome};
+    ghost use Rattle.std.specs.Prelude.{◌≡◌, ◌≢◌, ◌^◌, ◌≤◌, ◌<◌, List, length, option_map, IfOk, IfErr, IfSome};
     ghost use Rattle.rsrc_fork.specs.Outcome.{Gives};
     ghost use Rattle.rsrc_fork.specs.Listing.{IsFork};
-    ghost use Rattle.rsrc_fork.specs.References.{resources_of};
+    ghost use Rattle.rsrc_fork.specs.References.{reference_count, reference_limit, resources_of};
     ghost use Rattle.rsrc_fork.specs.Resources.{Resource, bytes_of, named, next_id, IsNextId};
     ghost use Rattle.rsrc_fork.specs.Walk.{ComesToEnd, FindsAll};
 
     /// Reads the fork in a file's bytes. A refusal is the first in this order: the header, the place
     /// of the type list, and then each type and its references in turn, as they are listed. It keeps an entry for
-    /// each resource, and copies no bytes.
+    /// each resource, and copies no bytes. Where the type list says that there are more than 1398101 references, it
+    /// is out of memory before it keeps any.
     pub fn read(alloc: Global, bytes: &'a [u8]) -> Result<Fork<'a>, RsrcError>
         requires { length bytes.now ≤ 2 ^ 24 }
         ensures is { Gives (λ fork. fork) result (resources_of bytes.now) }
@@ -42,6 +43,9 @@ impl<'a> Fork<'a> {
         ensures fork { IfOk result (IsFork bytes.now) }
         ensures refused { IfErr result (λ e. e ≢ RsrcError.NoMemory →
             (resources : List Resource) → ¬ IsFork bytes.now resources) }
+
+        ensures few { IfOk result (λ fork. length fork ≤ reference_limit) }
+        ensures many { IfOk (reference_count bytes.now) (λ count. reference_limit < count → result ≡ Err RsrcError.NoMemory) }
     {
         let resources = resources_of(alloc, bytes)?;
         Ok(Fork { resources })

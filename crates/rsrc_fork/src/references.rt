@@ -3,7 +3,7 @@ ghost use Rattle.std.specs.Result.{result_map_both};
 ghost use Rattle.rsrc_fork.specs.Header.{IsWithin};
 ghost use Rattle.rsrc_fork.specs.Outcome.{Gives};
 ghost use Rattle.rsrc_fork.specs.Resources.{seen, with_resource};
-ghost use Rattle.rsrc_fork.specs.References.{data_at, entry_at, id_at, resources_of, with_reference, with_references, with_type, with_types};
+ghost use Rattle.rsrc_fork.specs.References.{count_below as count_below_lem, count_in as count_in_lem, data_at, entry_at, id_at, reference_count, reference_limit, resources_of, with_reference, with_references, with_type, with_types};
 
 use crate::error::RsrcError;
 use crate::header::{Areas, areas_of, list_of};
@@ -12,6 +12,10 @@ use byteorder::{BigEndian, ByteOrder};
 use file_fields::{long_at, three_at, word_at};
 use indexmap::IndexMap;
 use std::alloc::Global;
+
+/// How many references a fork may have: as many as fill the largest file, with 12 bytes for each. Types may
+/// share references, so that a small file could else have billions of them.
+const REFERENCE_LIMIT: u32 = 1_398_101;
 
 /// The resources so far, in the order of the type list.
 pub type Resources<'a> = IndexMap<Name, &'a [u8]>;
@@ -167,14 +171,46 @@ fn add_types<'a>(
     Ok(())
 }
 
+/// How many references a type has, as its entry says. An entry that leaves the map says nothing.
+fn count_in(bytes: &[u8], areas: Areas, list: u32, k: u16) -> u32
+    requires within { IsWithin areas (length bytes.now) }
+    requires near { list ≤ 2 ^ 24 }
+    ensures is { result ≡ count_in_lem bytes.now areas list k }
+    ensures few { result ≤ 65536 }
+{
+    let place = list + 2 + 8 * k as u32;
+    if areas.map_end < place + 8 {
+        return 0;
+    }
+    entry_at(bytes, list, place).count
+}
+
+/// How many references the first types have together.
+fn count_below(bytes: &[u8], areas: Areas, list: u32, count: u16) -> u32
+    requires within { IsWithin areas (length bytes.now) }
+    requires near { list ≤ 2 ^ 24 }
+    ensures { result ≡ count_below_lem bytes.now areas list count }
+{
+    let mut total = 0;
+    for k in 0..count {
+        total += count_in(bytes, areas, list, k);
+    }
+    total
+}
+
 /// The resources of the fork in a file's bytes.
 pub fn resources_of<'a>(alloc: Global, bytes: &'a [u8]) -> Result<Resources<'a>, RsrcError>
     requires { length bytes.now ≤ 2 ^ 24 }
-    ensures { Gives (λ resources. seen resources.entries) result (resources_of bytes.now) }
+    ensures is { Gives (λ resources. seen resources.entries) result (resources_of bytes.now) }
+    ensures few { IfOk result (λ resources. length resources.entries ≤ reference_limit) }
+    ensures many { IfOk (reference_count bytes.now) (λ count. reference_limit < count → result ≡ Err RsrcError.NoMemory) }
 {
     let areas = areas_of(bytes)?;
     let list = list_of(bytes, areas)?;
     let count = word_at(bytes, list).wrapping_add(1);
+    if REFERENCE_LIMIT < count_below(bytes, areas, list, count) {
+        return Err(RsrcError::NoMemory);
+    }
     let mut resources = IndexMap::new(alloc);
     add_types(&mut resources, bytes, areas, list, count)?;
     Ok(resources)
