@@ -1,6 +1,6 @@
 -- What a callee was handed reads back.
 use Rattle.std.proofs.Common.{◌≡◌, inl, inr, ℕ, ◌+◌, ◌*◌, ◌%◌, ◌^◌, ◌<◌, ◌≤◌, List, [], ◌∷◌, ◌++◌, length, drop, get_or, Option, Some, None, Result, Ok, Err, is_some, arith, refl, sym, ap, ◌∙◌, length-drop}
-use Rattle.std.proofs.lemmas.List.{drop-drop, get_or-drop}
+use Rattle.std.proofs.lemmas.List.{drop-drop, get_or-drop, get_or-set_same}
 use Rattle.std.proofs.lemmas.Bool.{cases_lt, lt-ltb, le-ltb}
 use Rattle.byteorder.specs.Endian.{big_bytes}
 use Rattle.mix_bits.specs.Results.{◌>>=◌}
@@ -16,7 +16,8 @@ use Rattle.proc_info.specs.Cut.{cut}
 use Rattle.proc_info.specs.Signature.{Signature}
 use Rattle.args_ppc.specs.Words.{value_at, values_at, word_at}
 use Rattle.args_ppc.specs.Deliver.{callee_sp, callee_words, delivered, first_param, frame_bytes, frame_of, registers_with}
-use Rattle.args_ppc.specs.Laws.{ComesBack, SelectorComesBack, TouchesNothingElse}
+use Rattle.args_ppc.specs.Results.{with_sized}
+use Rattle.args_ppc.specs.Laws.{ComesBack, ResultComesBack, SelectorComesBack, TouchesNothingElse}
 use Rattle.args_ppc.proofs.Frames.{frame-from, length-frame, length-stack, length-words, loads, long-back, top-back, word-back_registers}
 
 -- cut values are words, and are as they are where they are cut again
@@ -103,3 +104,13 @@ touches-nothing sig selector values lo m handed =
       bytes = λ a apart. get_or-put_outside sp a frame m.bytes 0 (omega (arith, handed.room, handed.inside, length-is))
           (elim apart [ inl before ↦ inl before | inr behind ↦ inr (omega (arith, handed.room, behind, length-is)) ]);
     }
+
+-- a result reads back from r3
+sized-back : (s : Size) (v : ℕ) (r : RegsPpc) → length r.gpr ≡ 32 → truncated (get_or (with_sized s v r).gpr 3 0) s ≡ truncated v s
+sized-back Zero v r file = omega arith
+sized-back One v r file = ap (λ w. truncated w One) (get_or-set_same r.gpr 3 (truncated v One) 0 (omega (arith, file))) ∙ cut-twice v One
+sized-back Two v r file = ap (λ w. truncated w Two) (get_or-set_same r.gpr 3 (truncated v Two) 0 (omega (arith, file))) ∙ cut-twice v Two
+sized-back Four v r file = ap (λ w. truncated w Four) (get_or-set_same r.gpr 3 (truncated v Four) 0 (omega (arith, file))) ∙ cut-twice v Four
+
+pub result-comes-back : ResultComesBack
+result-comes-back sig v r file = sized-back sig.result v r file

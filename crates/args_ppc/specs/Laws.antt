@@ -4,7 +4,9 @@ use Rattle.mix_bits.specs.Sizes.{truncated}
 use Rattle.big_memory.specs.Memory.{Memory, IsRam}
 use Rattle.proc_info.specs.Cut.{cut}
 use Rattle.proc_info.specs.Signature.{Signature}
+use Rattle.ppc_isa.specs.declared.registers.RegsPpc.{RegsPpc}
 use Rattle.args_ppc.specs.Words.{value_at, values_at}
+use Rattle.args_ppc.specs.Results.{result_in, with_result}
 use Rattle.args_ppc.specs.Deliver.{below, callee_registers, callee_sp, callee_words, delivered, first_param, frame_of}
 
 -- a callee may be handed these values, and a selector if one is passed, on a stack that ends at lo
@@ -48,3 +50,7 @@ TouchesNothingElse =
 abbrev pub BeginsAtItsStack : Type 0
 BeginsAtItsStack =
     (sig : Signature) (selector : Option ℕ) (values : List ℕ) (sp code toc : ℕ) → slice_index (callee_registers sig selector values sp code toc).gpr 1 ≡ sp
+
+-- a result that a caller is given is the one that it finds, cut to its size
+abbrev pub ResultComesBack : Type 0
+ResultComesBack = (sig : Signature) (v : ℕ) (r : RegsPpc) → length r.gpr ≡ 32 → result_in sig (with_result sig v r) ≡ truncated v sig.result

@@ -1,4 +1,4 @@
-ghost use Rattle.args_ppc.specs.Laws.{BeginsAtItsStack, ComesBack, FillsItsStack, SelectorComesBack, TouchesNothingElse};
+ghost use Rattle.args_ppc.specs.Laws.{BeginsAtItsStack, ComesBack, FillsItsStack, ResultComesBack, SelectorComesBack, TouchesNothingElse};
 ghost use Rattle.args_ppc.specs.Apart.{ParametersAreWords, WordsAreApart, WordsAreInTheFrame, WordsAreThere};
 
 /// What follows from the definitions of what a callee is handed. It does nothing: the clauses are its
@@ -9,6 +9,7 @@ pub fn args_ppc_laws()
     ensures length { FillsItsStack }
     ensures top { BeginsAtItsStack }
     ensures beside { TouchesNothingElse }
+    ensures result { ResultComesBack }
 {}
 
 /// The same of the places of a call's words: they are read at theirs, a parameter is one word, and no two words

@@ -1,6 +1,7 @@
 //! Forks whose types share one list of references.
 use rsrc_fork::{Fork, RsrcError};
 use std::alloc::{AllocError, Global};
+use std::process::Abort;
 use std::test::Fail;
 
 /// A fork of so many types, which share so many references. All of them name one resource without bytes.
@@ -27,10 +28,16 @@ fn shared(alloc: Global, types: u16, count: u16) -> Result<Vec<u8>, AllocError> 
     Ok(file)
 }
 
+/// Reads a fork of at most 16777216 bytes.
+fn read<'a>(rt: &impl Abort, alloc: Global, file: &'a [u8]) -> Result<Fork<'a>, RsrcError> {
+    assert!(rt; file.len() <= 0x100_0000);
+    Fork::read(alloc, file)
+}
+
 #[test]
 fn reads_references_that_types_share(rt: HostRuntime) -> Result<(), Fail> {
     let file = shared(rt.alloc(), 300, 20)?;
-    let fork = Fork::read(rt.alloc(), &file)?;
+    let fork = read(&rt, rt.alloc(), &file)?;
     assert_eq!(rt; fork.get(0, 19), Some(b"".as_slice()));
     assert_eq!(rt; fork.get(299, 0), Some(b"".as_slice()));
     assert_eq!(rt; fork.get(299, 20), None);
@@ -44,12 +51,12 @@ fn keeps_as_many_resources_as_fill_the_largest_file(rt: HostRuntime) -> Result<(
     let file = shared(rt.alloc(), 8191, 170)?;
     assert_eq!(rt; file.len(), 67618);
     assert_eq!(rt;
-        Fork::read(rt.alloc(), &file)?.get(8190, 169),
+        read(&rt, rt.alloc(), &file)?.get(8190, 169),
         Some(b"".as_slice())
     );
     let file = shared(rt.alloc(), 8191, 171)?;
     assert_eq!(rt;
-        Fork::read(rt.alloc(), &file).err(),
+        read(&rt, rt.alloc(), &file).err(),
         Some(RsrcError::NoMemory)
     );
     Ok(())
@@ -60,13 +67,13 @@ fn an_entry_behind_the_map_counts_for_none(rt: HostRuntime) -> Result<(), Fail> 
     // 22 types with 65536 references each are too many; where the map ends in the 22nd entry, it leaves the map
     let mut file = shared(rt.alloc(), 22, 0)?;
     assert_eq!(rt;
-        Fork::read(rt.alloc(), &file).err(),
+        read(&rt, rt.alloc(), &file).err(),
         Some(RsrcError::NoMemory)
     );
     assert!(rt; 15 < file.len() && file[15] == 206);
     file[15] = 205;
     assert_eq!(rt;
-        Fork::read(rt.alloc(), &file).err(),
+        read(&rt, rt.alloc(), &file).err(),
         Some(RsrcError::BadOffset(226))
     );
     Ok(())

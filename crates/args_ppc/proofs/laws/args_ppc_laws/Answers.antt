@@ -1,5 +1,5 @@
 use Rattle.args_ppc.proofs.Frames.{length-stack, top-back}
-use Rattle.args_ppc.proofs.Back.{comes-back, selector-comes-back, touches-nothing}
+use Rattle.args_ppc.proofs.Back.{comes-back, result-comes-back, selector-comes-back, touches-nothing}
 use Rattle.args_ppc.specs.Deliver.{callee_words}
 use Rattle.args_ppc.proofs.laws.args_ppc_laws.Goals as goal
 
@@ -17,3 +17,6 @@ returns-clause-beside c = touches-nothing
 
 pub returns-clause-top : goal.returns-clause-top
 returns-clause-top c sig selector values sp code toc = top-back (callee_words sig selector values) sp code toc
+
+pub returns-clause-result : goal.returns-clause-result
+returns-clause-result c = result-comes-back
