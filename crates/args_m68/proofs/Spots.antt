@@ -1,5 +1,5 @@
 -- No two values of a call share anything.
-use Rattle.std.proofs.Common.{◌≡◌, ◌≢◌, inl, inr, ◌⊎◌, ℕ, ◌+◌, ◌-◌, ◌*◌, ◌<◌, ◌≤◌, Bool, true, false, true≢false, ◌==◌, ◌||◌, List, [], ◌∷◌, ◌++◌, length, get_or, Result, Ok, arith, refl, sym, ap, ◌∙◌, subst}
+use Rattle.std.proofs.Common.{◌≡◌, ◌≢◌, inl, inr, ℕ, ◌+◌, ◌-◌, ◌*◌, ◌<◌, ◌≤◌, Bool, true, false, true≢false, ◌==◌, List, [], ◌∷◌, ◌++◌, length, get_or, Result, Ok, arith, refl, sym, ap, ◌∙◌, subst}
 use Rattle.std.specs.List.{list_any, All, AllPairs}
 use Rattle.std.proofs.lemmas.Bool.{cases_lt, lt-ltb, le-ltb, eqb-false}
 use Rattle.std.proofs.lemmas.List.{append-nil}
@@ -22,7 +22,7 @@ use Rattle.args_m68.specs.declared.places.Place.TheVariants.{Stack, Data, Addres
 use Rattle.args_m68.specs.declared.places.Route.TheVariants.{PascalStack, CStack, Registers}
 use Rattle.args_m68.specs.Places.{next_base, place_numbered, place_of, width, widths}
 use Rattle.args_m68.specs.Values.{value_at}
-use Rattle.args_m68.specs.Apart.{AreReadThere, HasByte, IsApart, IsRegister, PlacesAreApart, Spot, call_spots, param_spots, values_in}
+use Rattle.args_m68.specs.Apart.{AreReadThere, HasByte, IsApart, PlacesAreApart, Spot, call_spots, param_spots}
 use Rattle.args_m68.proofs.Stacks.{bytes-few, bytes-width}
 use Rattle.args_m68.proofs.Files.{AllHeld, none-first, none-later, rest-held}
 

@@ -1,5 +1,5 @@
 -- The bytes of a callee's stack, and what they read back as.
-use Rattle.std.proofs.Common.{◌≡◌, ℕ, ◌+◌, ◌-◌, ◌*◌, ◌<◌, ◌≤◌, List, [], ◌∷◌, ◌++◌, length, drop, get_or, replicate, Option, Some, None, Result, Ok, Err, is_some, if◌then◌else◌, arith, refl, sym, ap, ◌∙◌, append_assoc, length-append}
+use Rattle.std.proofs.Common.{◌≡◌, ℕ, ◌+◌, ◌-◌, ◌*◌, ◌≤◌, List, [], ◌∷◌, ◌++◌, length, drop, get_or, replicate, Option, Some, None, Result, Ok, Err, is_some, if◌then◌else◌, arith, refl, sym, ap, ◌∙◌, append_assoc, length-append}
 use Rattle.std.proofs.lemmas.List.{drop-drop, drop_at, length-replicate}
 use Rattle.byteorder.specs.Endian.{big_bytes, big_number}
 use Rattle.mix_bits.specs.Results.{◌>>=◌}
@@ -13,13 +13,12 @@ use Rattle.proc_info.specs.declared.conv.Conv.{Conv}
 use Rattle.proc_info.specs.declared.conv.Conv.TheVariants.{Pascal, C, Register, D0Pascal, D0C, D1Pascal, StackPascal}
 use Rattle.proc_info.specs.declared.param.Param.{Param}
 use Rattle.proc_info.specs.Cut.{cut}
-use Rattle.proc_info.specs.Signature.{Signature}
 use Rattle.args_m68.specs.declared.places.Route.{Route}
 use Rattle.args_m68.specs.declared.places.Route.TheVariants.{PascalStack, CStack, Registers}
 use Rattle.args_m68.specs.Places.{params_bytes, result_bytes, route_of, selector_width, width, widths}
 use Rattle.args_m68.specs.Values.{above_sp}
 use Rattle.args_m68.specs.Gather.{values_at}
-use Rattle.args_m68.specs.Deliver.{below, pascal_slot, selector_slot, slots, stack_of}
+use Rattle.args_m68.specs.Deliver.{pascal_slot, selector_slot, slots}
 use Rattle.args_m68.specs.Laws.{FillsItsStack}
 
 -- lengths of the parts of a stack

@@ -1,12 +1,8 @@
 -- Where the words of a call stand.
-use Rattle.std.proofs.Common.{◌≡◌, ◌≢◌, ℕ, zero, suc, ◌+◌, ◌*◌, ◌<◌, ◌≤◌, Bool, true, false, List, [], ◌∷◌, length, get_or, Result, Ok, Err, arith, refl, sym, ap, ◌∙◌, subst}
+use Rattle.std.proofs.Common.{◌≡◌, ℕ, zero, suc, ◌+◌, ◌<◌, true, false, List, [], ◌∷◌, length, get_or, Result, Ok, Err, arith, refl, sym, ap, ◌∙◌}
 use Rattle.std.proofs.lemmas.Bool.{lt-ltb, le-ltb}
 use Rattle.mix_bits.specs.Results.{◌>>=◌}
-use Rattle.mix_bits.specs.declared.size.Size.{Size}
 use Rattle.big_memory.specs.declared.refusals.Access.{Access}
-use Rattle.big_memory.specs.Memory.{Memory}
-use Rattle.ppc_isa.specs.declared.registers.RegsPpc.{RegsPpc}
-use Rattle.proc_info.specs.declared.param.Param.{Param}
 use Rattle.args_ppc.specs.Words.{value_at, values_at}
 use Rattle.args_ppc.specs.Apart.{ParametersAreWords, WordsAreApart, WordsAreInTheFrame, WordsAreThere}
 
