@@ -1,14 +1,13 @@
 -- Which blocks and bytes are in use after `get` and `free`.
-use Rattle.std.proofs.Common.{◌≡◌, ◌≢◌, ◌⊎◌, inl, inr, ⊎_elim, ℕ, zero, suc, ◌+◌, ◌<◌, ◌≤◌, Bool, true, false, not, Option, Some, None, List, [], ◌∷◌, ◌++◌, length, get_or, refl, sym, ap, ◌∙◌, subst, arith}
+use Rattle.std.proofs.Common.{◌≡◌, ◌≢◌, ◌⊎◌, inl, inr, ⊎_elim, ℕ, zero, suc, ◌<◌, ◌≤◌, Bool, true, not, Option, Some, None, List, [], ◌∷◌, length, get_or, refl, sym, ap, ◌∙◌, subst, arith}
 use Rattle.std.specs.Prelude.{◌↔◌, ◌==◌, nat_lt, All, filter}
 use Rattle.std.specs.List.{Contains}
 use Rattle.std.proofs.lemmas.Bool.{both_ways, cases_Bool, cases_lt, eq-eqb, lt-ltb, ne_eqb}
 use Rattle.std.proofs.lemmas.List.Elements.{All-contains, All-contains_itself, All-filter, Contains-append_cases, Contains-append_left, Contains-append_right, filter_passes}
 use Rattle.host_heap.specs.declared.block.Block.{Block}
 use Rattle.host_heap.specs.Space.{Space, block_limit, rounded, IsApart, HasRoom}
-use Rattle.host_heap.specs.Place.{CanPlace, IsPlace, place_for, placed, taken, with_block, freed}
-use Rattle.host_heap.specs.Sound.{IsSound}
-use Rattle.host_heap.specs.Laws.{FreedBytesAreThere, FreeingTakesOne, HasByte, TakesFreeBytes, TakingAddsOne, got}
+use Rattle.host_heap.specs.Place.{IsPlace, place_for, placed, taken, with_block, freed}
+use Rattle.host_heap.specs.Laws.{FreedBytesAreThere, FreeingTakesOne, TakesFreeBytes, TakingAddsOne, got}
 use Rattle.host_heap.proofs.Lowest.{IsPlace-from, place_for-place}
 use Rattle.host_heap.proofs.Keeps.{none_begins, rounded-least, taken-some}
 use Rattle.host_heap.proofs.Undo.{CanPlace-freed}
