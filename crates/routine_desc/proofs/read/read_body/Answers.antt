@@ -1,5 +1,5 @@
 -- Past the records that were read, the list is as it was made.
-use Rattle.std.proofs.Common.{◌≡◌, ℕ, suc, zero, ◌+◌, ◌-◌, ◌≤◌, List, ◌∷◌, ◌++◌, length, take, drop, replicate, map, arith, refl, ap, ◌∙◌}
+use Rattle.std.proofs.Common.{◌≡◌, ℕ, suc, zero, ◌+◌, ◌-◌, ◌≤◌, List, ◌∷◌, ◌++◌, length, take, drop, replicate, arith, refl, ap, ◌∙◌}
 use Rattle.std.proofs.lemmas.List.{drop_at, drop-replicate, take-replicate, length-replicate}
 use Rattle.routine_desc.specs.declared.record.Rec.{Rec}
 use Rattle.routine_desc.specs.Layout.{no_routine}
