@@ -1,10 +1,15 @@
 -- The calls of an object in memory, and which of them fail.
-use Rattle.std.specs.Prelude.{ℕ, ◌+◌, ◌-◌, ◌^◌, ◌==◌, min, Bool, List, if◌then◌else◌}
+use Rattle.std.specs.Prelude.{ℕ, ◌+◌, ◌-◌, ◌^◌, ◌==◌, min, Bool, List, Option, if◌then◌else◌}
 use Rattle.std.specs.List.{list_any}
+use Rattle.std.specs.Option.{option_map}
 
 -- a count with one more, which stands still at the last value of 64 bits
 abbrev pub counted : ℕ → ℕ
 counted count = min (count + 1) (2 ^ 64 - 1)
+
+-- a count that may be told, with one more
+abbrev pub one_more : Option ℕ → Option ℕ
+one_more count = option_map counted count
 
 -- a count after a call that failed, or did not
 abbrev pub counted_if : Bool → ℕ → ℕ

@@ -1,6 +1,6 @@
 // A sink in memory, with room for a given number of bytes.
 ghost use Rattle.std.specs.Prelude.{◌≡◌, ◌≤◌, ◌+◌, ◌++◌, [], Some, IfOk, length, is_ok, vec_capacity, vec_len};
-ghost use Rattle.mix_io.specs.Calls.{calls_from_one};
+ghost use Rattle.mix_io.specs.Calls.{calls_from_one, one_more};
 ghost use Rattle.mix_io.specs.Counts.{HasCause};
 ghost use Rattle.mix_io.specs.Told.{Puts};
 ghost use Rattle.mix_io.specs.Memory.{MemorySink, takes_piece, after_put, passed_by};
@@ -40,6 +40,7 @@ impl MemSink {
         ensures made { IfOk result (λ s. s ≡ record { bytes = []; room = room; calls = calls_from_one fails.items; faults = 0 }) }
         ensures held { IfOk result (λ s. ⟦<MemSink as Sink>⟧.held s ≡ Some []) }
         ensures faults { IfOk result (λ s. ⟦<MemSink as Sink>⟧.faults s ≡ 0) }
+        ensures puts { IfOk result (λ s. ⟦<MemSink as Sink>⟧.puts s ≡ Some 1) }
     {
         Ok(MemSink {
             bytes: Vec::with_capacity(alloc, room as usize)?,
@@ -70,9 +71,12 @@ impl Sink for MemSink {
 
     ghost faults = { λ s. s.faults };
 
+    ghost puts = { λ s. Some s.calls.next };
+
     fn put(&mut self, piece: &[u8]) -> Result<(), Failed>
         ensures bytes { Puts (Some self.old.bytes) (Some self.new.bytes) piece.now result }
         ensures cause { HasCause self.old.faults self.new.faults result }
+        ensures count { Some self.new.calls.next ≡ one_more (Some self.old.calls.next) }
         ensures exact { is_ok result ≡ takes_piece self.old piece.now }
         ensures after { self.new ≡ after_put self.old piece.now }
     {

@@ -1,5 +1,5 @@
 // A source over a reader of std.
-ghost use Rattle.std.specs.Prelude.{◌≡◌, Option, None, Some, [], Ok, if◌then◌else◌};
+ghost use Rattle.std.specs.Prelude.{◌≡◌, ◌↔◌, Option, None, Some, [], Ok, IsTrue, if◌then◌else◌};
 ghost use Rattle.std.specs.Bool.{OnFalse, OnTrue};
 ghost use Rattle.mix_io.specs.Counts.{HasCause};
 ghost use Rattle.mix_io.specs.Told.{Reads, Takes};
@@ -44,6 +44,8 @@ impl<R: Read + Drop> Source for StdSource<R> {
         // What the reader tells to have left, if it does, is what is taken from it.
         ensures passed { OnFalse self.old.ended (Reads (R.remaining self.old.from) (R.remaining self.new.from) result) }
         ensures ended { OnTrue self.old.ended ((result ≡ Ok None) × (self.new ≡ self.old)) }
+        // A read of no byte is the end, and nothing else is.
+        ensures raised { IsTrue self.new.ended ↔ (result ≡ Ok None) }
         ensures cause { HasCause self.old.faults self.new.faults result }
     {
         if self.ended {

@@ -1,7 +1,8 @@
 // The five traits by which the machine meets the outside. An object may tell what it holds, for proofs
 // alone: a member that is `None` tells nothing. Each keeps a count of its faults, in 64 bits, which
 // never falls and stands still at its last value.
-ghost use Rattle.std.specs.Prelude.{◌≡◌, ℕ, ◌≤◌, List, Option, length, IfOk, is_err};
+ghost use Rattle.std.specs.Prelude.{◌≡◌, ℕ, ◌≤◌, List, Option, None, length, IfOk, is_err};
+ghost use Rattle.mix_io.specs.Calls.{one_more};
 ghost use Rattle.mix_io.specs.Counts.{HasCause, FetchCause, NamedCause};
 ghost use Rattle.mix_io.specs.Kept.{Saves};
 ghost use Rattle.mix_io.specs.Told.{Takes, Puts, Fetches, Hears};
@@ -36,16 +37,20 @@ pub trait Source {
         ensures cause { HasCause (faults self.old) (faults self.new) result };
 }
 
-/// A stream of bytes that goes out. It may tell the bytes that it holds.
+/// A stream of bytes that goes out. It may tell the bytes that it holds, and it may count its puts.
 pub trait Sink {
     ghost held: { Self → Option (List ℕ) };
 
     ghost faults: { Self → ℕ };
 
+    ghost puts: { Self → Option ℕ } = { λ _. None };
+
     /// Puts the whole piece, or fails with a part of it put.
     fn put(&mut self, piece: &[u8]) -> Result<(), Failed>
         ensures bytes { Puts (held self.old) (held self.new) piece.now result }
-        ensures cause { HasCause (faults self.old) (faults self.new) result };
+        ensures cause { HasCause (faults self.old) (faults self.new) result }
+        // Each put counts, whatever it answers.
+        ensures count { puts self.new ≡ one_more (puts self.old) };
 }
 
 /// What answers a word with a word. It may tell its conversation: each word that it was asked, in
