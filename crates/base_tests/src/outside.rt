@@ -5,6 +5,7 @@ use mix_io::{
     Counter, Device, Failed, FetchError, FileKeep, FileShelf, Keeper, MemKeep, MemShelf, MemSink,
     MemSource, ScriptDevice, Shelf, Sink, Source, StdSink, StdSource, Tape, have_distinct_names,
 };
+use std::alloc::{AllocError, Global};
 use std::io::{self, Read, Write};
 use std::test::Fail;
 use std::{fs, process};
@@ -103,6 +104,38 @@ fn files_of_the_system(rt: HostRuntime) -> Result<(), Fail> {
         Err(FetchError::Failed)
     );
     Ok(())
+}
+
+/// A file that takes several reads, of which the last is full or not; and a shelf that failed before it.
+#[test]
+fn a_file_of_several_chunks(rt: HostRuntime) -> Result<(), Fail> {
+    let alloc = rt.alloc();
+    let id = process::id(rt.process());
+    let path = format!(in alloc; "/tmp/mix_io-chunks-{id}")?;
+    let mut shelf = FileShelf::new(&rt);
+    for size in [8192, 10_000] {
+        assert_eq!(rt;
+            shelf.fetch(alloc, path.as_str(), size),
+            Err(FetchError::Failed)
+        );
+        let file = every_byte(alloc, size)?;
+        fs::write(&rt, path.as_str(), file.as_slice())?;
+        assert_eq!(rt;
+            shelf.fetch(alloc, path.as_str(), size)?.as_slice(),
+            file.as_slice()
+        );
+        assert_eq!(rt;
+            shelf.fetch(alloc, path.as_str(), size - 1),
+            Err(FetchError::TooLong(size - 1))
+        );
+        fs::remove_file(&rt, path.as_str())?;
+    }
+    Ok(())
+}
+
+/// So many bytes, which go through all values again and again.
+fn every_byte(alloc: Global, size: u32) -> Result<Vec<u8>, AllocError> {
+    (0..size).map(|at| (at % 256) as u8).collect(alloc)
 }
 
 #[test]
@@ -232,5 +265,76 @@ fn a_stream_that_breaks(rt: HostRuntime) -> Result<(), Fail> {
     let mut sink = StdSink::new(Breaking { left: 3 });
     assert_eq!(rt; sink.put(b"four"), Ok(()));
     assert_eq!(rt; sink.put(b"four"), Err(Failed));
+    Ok(())
+}
+
+/// Passes at most seven bytes at a time, and breaks at its third call alone.
+#[derive(Drop)]
+struct Limping<S: Drop> {
+    stream: S,
+    calls: u32,
+}
+
+impl<S: Drop> Limping<S> {
+    fn over(stream: S) -> Limping<S> {
+        Limping { stream, calls: 0 }
+    }
+
+    /// How many bytes this call may pass, of which there are so many.
+    fn call(&mut self, room: usize) -> io::Result<usize>
+        ensures { IfOk result (λ n. n ≤ room) }
+    {
+        self.calls = self.calls.wrapping_add(1);
+        if self.calls == 3 {
+            return Err(io::Error::from(io::ErrorKind::BrokenPipe));
+        }
+        Ok(room.min(7))
+    }
+}
+
+impl<R: Read + Drop> Read for Limping<R> {
+    fn read(&mut self, buf: &mut [u8]) -> io::Result<usize> {
+        let most = self.call(buf.len())?;
+        self.stream.read(&mut buf[..most])
+    }
+}
+
+impl<W: Write + Drop> Write for Limping<W> {
+    fn write(&mut self, buf: &[u8]) -> io::Result<usize> {
+        let most = self.call(buf.len())?;
+        self.stream.write(&buf[..most])
+    }
+
+    fn flush(&mut self) -> io::Result<()> {
+        self.stream.flush()
+    }
+}
+
+#[test]
+fn each_byte_comes_in_after_a_failure(rt: HostRuntime) -> Result<(), Fail> {
+    let bytes = every_byte(rt.alloc(), 512)?;
+    let mut source = StdSource::new(Limping::over(bytes.as_slice()));
+    let (before, after) = bytes.split_at(2);
+    for byte in before {
+        assert_eq!(rt; source.take(), Ok(Some(*byte)));
+    }
+    assert_eq!(rt; source.take(), Err(Failed));
+    for byte in after {
+        assert_eq!(rt; source.take(), Ok(Some(*byte)));
+    }
+    assert_eq!(rt; source.take(), Ok(None));
+    Ok(())
+}
+
+#[test]
+fn a_long_piece_goes_out_after_a_failure(rt: HostRuntime) -> Result<(), Fail> {
+    let piece = every_byte(rt.alloc(), 10_000)?;
+    let mut held = Vec::new(rt.alloc());
+    let mut sink = StdSink::new(Limping::over(&mut held));
+    assert_eq!(rt; sink.put(&piece), Err(Failed));
+    assert_eq!(rt; sink.put(&piece), Ok(()));
+    drop(sink);
+    assert_eq!(rt; &held[..14], &piece[..14]);
+    assert_eq!(rt; &held[14..], piece.as_slice());
     Ok(())
 }
