@@ -26,7 +26,7 @@ pub record IsCall (index : ℕ) (regs : Active) (f : Function) (o : Operands) : 
   pub function : f ≡ function_at index
   pub operands : o ≡ operands_of f regs
 
-call-is : (index : ℕ) (regs : Active) (f : Function) (o : Operands) (r : Resources) → IsCall index regs f o → host_at index regs r ≡ settled f regs (effect f o r)
+pub call-is : (index : ℕ) (regs : Active) (f : Function) (o : Operands) (r : Resources) → IsCall index regs f o → host_at index regs r ≡ settled f regs (effect f o r)
 call-is index regs f o r call = host-is index regs r ∙ rw (call.operands, call.function) refl
 
 pub goes : (index : ℕ) (regs next : Active) (f : Function) (o : Operands) (x : Results) (asked : Option Ask) (old new : Place) → IsCall index regs f o →

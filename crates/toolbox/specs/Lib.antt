@@ -6,3 +6,4 @@ pub mod Registers
 pub mod Host
 pub mod Calls
 pub mod Performs
+pub mod Puts

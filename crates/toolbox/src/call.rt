@@ -1,7 +1,10 @@
-ghost use Rattle.std.specs.Prelude.{◌<◌};
+ghost use Rattle.std.specs.Prelude.{◌≡◌, ◌<◌};
 ghost use Rattle.big_memory.specs.Stores.{OnlyFree};
 ghost use Rattle.dev_rack.specs.Accounts.{Accounts};
-ghost use Rattle.toolbox.specs.Calls.{Blames, HeapLies, Hosts, KeepsBounds, outside, place};
+ghost use Rattle.toolbox.specs.Calls.{Blames, HeapLies, Hosts, KeepsBounds, host_at, outside, place};
+ghost use Rattle.toolbox.specs.Effects.{Around};
+ghost use Rattle.toolbox.specs.Performs.{resources};
+ghost use Rattle.toolbox.specs.Puts.{puts_of, said_in};
 
 use crate::HostOut;
 use crate::function::Function;
@@ -35,6 +38,8 @@ pub fn host_call<I: Source, O: Sink, D: Devices>(
     ensures blames { Blames result
         (outside (I.left input.old) (I.faults input.old) (D.state rack.old) (O.held out.old) (O.faults out.old))
         (outside (I.left input.new) (I.faults input.new) (D.state rack.new) (O.held out.new) (O.faults out.new)) }
+    // One put for what the call says, however it ends.
+    ensures count { (around : Around) → O.puts out.new ≡ puts_of (said_in (host_at index active.old (resources ram.old heap.old around))) (O.puts out.old) }
     ensures devices { Accounts (D.state rack.old) (D.state rack.new) }
     ensures bounds { KeepsBounds heap.old heap.new }
     ensures free { OnlyFree ram.old ram.new }

@@ -1,9 +1,11 @@
 // What each function does beside the registers.
+ghost use Rattle.std.specs.Prelude.{◌≡◌};
 ghost use Rattle.big_memory.specs.Memory.{Memory};
 ghost use Rattle.host_heap.specs.Space.{Space};
 ghost use Rattle.mix_io.specs.Streams.{Output};
 ghost use Rattle.toolbox.specs.Calls.{HeapLies, Input, Outside, outside, place, with_rack};
 ghost use Rattle.toolbox.specs.Performs.{Performs};
+ghost use Rattle.toolbox.specs.Puts.{piece_of, puts_of};
 
 use crate::blocks::{dispose, new_block, new_cleared_block, new_descriptor};
 use crate::function::Function;
@@ -27,9 +29,10 @@ pub fn perform<I: Source, O: Sink, D: Devices>(
     out: &mut O,
 ) -> Outcome
     requires { HeapLies heap.old ram.old }
-    ensures { Performs function operands result
+    ensures does { Performs function operands result
         (place ram.old heap.old (outside (I.left input.old) (I.faults input.old) (D.state rack.old) (O.held out.old) (O.faults out.old)))
         (place ram.new heap.new (outside (I.left input.new) (I.faults input.new) (D.state rack.new) (O.held out.new) (O.faults out.new))) }
+    ensures count { O.puts out.new ≡ puts_of (piece_of function operands ram.old) (O.puts out.old) }
 {
     laws();
     let Operands {

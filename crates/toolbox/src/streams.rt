@@ -3,10 +3,12 @@ ghost use Rattle.std.specs.Prelude.{◌≡◌};
 ghost use Rattle.big_memory.specs.Memory.{Memory};
 ghost use Rattle.dev_rack.specs.Rack.{State};
 ghost use Rattle.host_heap.specs.Space.{Space};
+ghost use Rattle.mix_io.specs.Calls.{one_more};
 ghost use Rattle.mix_io.specs.Streams.{Output};
 ghost use Rattle.toolbox.specs.Calls.{Input, place, with_input, with_output};
 ghost use Rattle.toolbox.specs.Effects.{Around, effect, says};
 ghost use Rattle.toolbox.specs.Performs.{Performs, resources};
+ghost use Rattle.toolbox.specs.Puts.{piece_of, puts_of};
 ghost use Rattle.toolbox.specs.declared.function.Function.{Function};
 ghost use Rattle.toolbox.specs.declared.function.Function.TheVariants.{GetByte, PutBlock, PutByte};
 ghost use Rattle.toolbox.specs.declared.values.Operands.{Operands as AllOperands};
@@ -20,20 +22,22 @@ use mix_io::{Failed, Sink, Source};
 
 /// PutByte: puts the operand's low byte.
 pub fn put_byte<O: Sink>(operands: Operands, out: &mut O) -> Outcome
-    ensures { (memory : Memory) (heap : Space) (input : Input) (rack : State) →
+    ensures does { (memory : Memory) (heap : Space) (input : Input) (rack : State) →
         Performs PutByte operands result
         (place memory heap (with_output input rack (O.held out.old) (O.faults out.old)))
         (place memory heap (with_output input rack (O.held out.new) (O.faults out.new))) }
+    ensures count { O.puts out.new ≡ one_more (O.puts out.old) }
 {
     say(out, &[(operands.first % 256) as u8])
 }
 
 /// PutBlock: puts the bytes at an address, of which there are so many.
 pub fn put_block<O: Sink>(operands: Operands, ram: &Ram, out: &mut O) -> Outcome
-    ensures { (heap : Space) (input : Input) (rack : State) →
+    ensures does { (heap : Space) (input : Input) (rack : State) →
         Performs PutBlock operands result
         (place ram.now heap (with_output input rack (O.held out.old) (O.faults out.old)))
         (place ram.now heap (with_output input rack (O.held out.new) (O.faults out.new))) }
+    ensures count { O.puts out.new ≡ puts_of (piece_of PutBlock operands ram.now) (O.puts out.old) }
 {
     laws();
     match ram.span(operands.first, operands.second) {
@@ -44,11 +48,12 @@ pub fn put_block<O: Sink>(operands: Operands, ram: &Ram, out: &mut O) -> Outcome
 
 /// Puts a piece for a function that says it, and nothing for an empty one.
 fn say<O: Sink>(out: &mut O, piece: &[u8]) -> Outcome
-    ensures { (function : Function) (operands : AllOperands) (memory : Memory) (heap : Space) (input : Input) (rack : State) →
+    ensures does { (function : Function) (operands : AllOperands) (memory : Memory) (heap : Space) (input : Input) (rack : State) →
         ((around : Around) → effect function operands (resources memory heap around) ≡ says (resources memory heap around) piece.now) →
         Performs function operands result
         (place memory heap (with_output input rack (O.held out.old) (O.faults out.old)))
         (place memory heap (with_output input rack (O.held out.new) (O.faults out.new))) }
+    ensures count { O.puts out.new ≡ puts_of piece.now (O.puts out.old) }
 {
     laws();
     if piece.is_empty() {

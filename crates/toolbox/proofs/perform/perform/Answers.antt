@@ -5,37 +5,37 @@ use Rattle.toolbox.proofs.Carried.{quietly_as}
 use Rattle.toolbox.proofs.Devices.{ejected_as}
 use Rattle.toolbox.proofs.perform.perform.Goals as goal
 
-pub returns-in-NewRoutineDescriptor : goal.returns-in-NewRoutineDescriptor
-returns-in-NewRoutineDescriptor g c =
+pub returns-in-NewRoutineDescriptor-clause-does : goal.returns-in-NewRoutineDescriptor-clause-does
+returns-in-NewRoutineDescriptor-clause-does g c =
     let new = c.new_descriptor.ensures in quietly_as c.laws.ensures c.args.function NewRoutineDescriptor c.in-NewRoutineDescriptor.is c.args.operands c.new_descriptor.result _ _ _ _ _ new.block new.bounds new.free
 
-pub returns-in-NewFatRoutineDescriptor : goal.returns-in-NewFatRoutineDescriptor
-returns-in-NewFatRoutineDescriptor g c =
+pub returns-in-NewFatRoutineDescriptor-clause-does : goal.returns-in-NewFatRoutineDescriptor-clause-does
+returns-in-NewFatRoutineDescriptor-clause-does g c =
     let new = c.new_descriptor-in-NewFatRoutineDescriptor.ensures in
     quietly_as c.laws.ensures c.args.function NewFatRoutineDescriptor c.in-NewFatRoutineDescriptor.is c.args.operands c.new_descriptor-in-NewFatRoutineDescriptor.result _ _ _ _ _ new.block new.bounds new.free
 
-pub returns-in-DisposeRoutineDescriptor : goal.returns-in-DisposeRoutineDescriptor
-returns-in-DisposeRoutineDescriptor g c =
+pub returns-in-DisposeRoutineDescriptor-clause-does : goal.returns-in-DisposeRoutineDescriptor-clause-does
+returns-in-DisposeRoutineDescriptor-clause-does g c =
     let given = c.dispose.ensures in
     quietly_as c.laws.ensures c.args.function DisposeRoutineDescriptor c.in-DisposeRoutineDescriptor.is c.args.operands c.dispose.result c.args.ram.now _ _ _ _ (given.block c.args.ram.now) given.bounds (c.laws.ensures.nothing _)
 
-pub returns-in-NewPtr : goal.returns-in-NewPtr
-returns-in-NewPtr g c =
+pub returns-in-NewPtr-clause-does : goal.returns-in-NewPtr-clause-does
+returns-in-NewPtr-clause-does g c =
     let new = c.new_block.ensures in
     quietly_as c.laws.ensures c.args.function NewPtr c.in-NewPtr.is c.args.operands c.new_block.result c.args.ram.now _ _ _ _ (new.block c.args.ram.now) new.bounds (c.laws.ensures.nothing _)
 
-pub returns-in-NewPtrClear : goal.returns-in-NewPtrClear
-returns-in-NewPtrClear g c =
+pub returns-in-NewPtrClear-clause-does : goal.returns-in-NewPtrClear-clause-does
+returns-in-NewPtrClear-clause-does g c =
     let new = c.new_cleared_block.ensures in quietly_as c.laws.ensures c.args.function NewPtrClear c.in-NewPtrClear.is c.args.operands c.new_cleared_block.result _ _ _ _ _ new.block new.bounds new.free
 
-pub returns-in-DisposePtr : goal.returns-in-DisposePtr
-returns-in-DisposePtr g c =
+pub returns-in-DisposePtr-clause-does : goal.returns-in-DisposePtr-clause-does
+returns-in-DisposePtr-clause-does g c =
     let given = c.dispose-in-DisposePtr.ensures in
     quietly_as c.laws.ensures c.args.function DisposePtr c.in-DisposePtr.is c.args.operands c.dispose-in-DisposePtr.result c.args.ram.now _ _ _ _ (given.block c.args.ram.now) given.bounds (c.laws.ensures.nothing _)
 
-pub returns-in-EjectDevice : goal.returns-in-EjectDevice
-returns-in-EjectDevice g c = ejected_as c.laws.ensures c.args.function c.in-EjectDevice.is c.args.operands c.of_eject.result _ _ _ _ _ _ c.eject.result c.of_eject.ensures c.eject.ensures
+pub returns-in-EjectDevice-clause-does : goal.returns-in-EjectDevice-clause-does
+returns-in-EjectDevice-clause-does g c = ejected_as c.laws.ensures c.args.function c.in-EjectDevice.is c.args.operands c.of_eject.result _ _ _ _ _ _ c.eject.result c.of_eject.ensures c.eject.ensures
 
-pub returns-in-UnloadSeg : goal.returns-in-UnloadSeg
-returns-in-UnloadSeg g c =
+pub returns-in-UnloadSeg-clause-does : goal.returns-in-UnloadSeg-clause-does
+returns-in-UnloadSeg-clause-does g c =
     quietly_as c.laws.ensures c.args.function UnloadSeg c.in-UnloadSeg.is c.args.operands c.one.result c.args.ram.now _ c.args.heap.now _ _ (λ around. rw c.one.ensures refl) (record { low = refl; high = refl }) (c.laws.ensures.nothing _)

@@ -1,0 +1,69 @@
+-- What a function puts on the output is what its call says.
+use Rattle.std.proofs.Common.{◌≡◌, ℕ, ◌%◌, Bool, true, false, List, [], ◌∷◌, length, Option, Some, None, cond, refl, sym, ◌∙◌, ap}
+use Rattle.big_memory.specs.declared.refusals.Access.{Access}
+use Rattle.big_memory.specs.declared.refusals.Access.TheVariants.{Outside}
+use Rattle.big_memory.specs.Lists.{part}
+use Rattle.big_memory.specs.Memory.{Memory, with_bytes, in_memory, filled, copied, copy_refusal}
+use Rattle.routine_desc.specs.Build.{image}
+use Rattle.host_heap.specs.Place.{place_for}
+use Rattle.switch_frame.specs.declared.active.Active.{Active}
+use Rattle.toolbox.specs.declared.values.Operands.{Operands}
+use Rattle.toolbox.specs.declared.function.Function.{Function}
+use Rattle.toolbox.specs.declared.function.Function.TheVariants.{NewRoutineDescriptor, NewFatRoutineDescriptor, DisposeRoutineDescriptor, CallUniversalProc, NewPtr, NewPtrClear, DisposePtr, BlockMove, ExitToShell, PutByte, GetByte, PutBlock, AskDevice, EjectDevice, ExitWith, UnloadSeg}
+use Rattle.toolbox.specs.Effects.{Resources, Effect, effect, made_at, moved_unless, says, takes_from}
+use Rattle.toolbox.specs.Effects.Effect.{Gives, Crosses, Leaves, Refuses}
+use Rattle.toolbox.specs.Host.{settled}
+use Rattle.toolbox.specs.Calls.{host_at}
+use Rattle.toolbox.specs.Puts.{piece_of, puts_of, said_by, said_in}
+use Rattle.toolbox.proofs.Settled.{IsCall, call-is}
+
+made-says : (r : Resources) (size : ℕ) (memory : ℕ → Memory) (at : Option ℕ) → said_by (made_at r size memory at) ≡ []
+made-says r size memory None = refl
+made-says r size memory (Some a) = refl
+
+moved-says : (r : Resources) (moved : Memory) (refusal : Option Access) → said_by (moved_unless r moved refusal) ≡ []
+moved-says r moved None = refl
+moved-says r moved (Some e) = refl
+
+taken-says : (r : Resources) (input : List ℕ) → said_by (takes_from r input) ≡ []
+taken-says r [] = refl
+taken-says r (byte ∷ left) = refl
+
+block-says : (r : Resources) (a : ℕ) (piece : List ℕ) (lies : Bool) → said_by (cond lies (says r piece) (Refuses (Outside a))) ≡ cond lies piece []
+block-says r a piece true = refl
+block-says r a piece false = refl
+
+effect-says : (f : Function) (o : Operands) (r : Resources) → said_by (effect f o r) ≡ piece_of f o r.memory
+effect-says NewRoutineDescriptor o r =
+    let bytes = image o.second None (o.third % 256) o.first in
+    made-says r (length bytes) (λ a. with_bytes a bytes r.memory) (place_for r.heap (length bytes))
+effect-says NewFatRoutineDescriptor o r =
+    let bytes = image o.third (Some o.first) 1 o.second in
+    made-says r (length bytes) (λ a. with_bytes a bytes r.memory) (place_for r.heap (length bytes))
+effect-says DisposeRoutineDescriptor o r = refl
+effect-says CallUniversalProc o r = refl
+effect-says NewPtr o r = made-says r o.first (λ a. r.memory) (place_for r.heap o.first)
+effect-says NewPtrClear o r = made-says r o.first (λ a. filled r.memory a o.first) (place_for r.heap o.first)
+effect-says DisposePtr o r = refl
+effect-says BlockMove o r = moved-says r (copied r.memory o.first o.second o.third) (copy_refusal r.memory o.first o.second o.third)
+effect-says ExitToShell o r = refl
+effect-says PutByte o r = refl
+effect-says GetByte o r = taken-says r r.around.input
+effect-says PutBlock o r = block-says r o.first (part o.first o.second r.memory.bytes) (in_memory r.memory o.first o.second)
+effect-says AskDevice o r = refl
+effect-says EjectDevice o r = refl
+effect-says ExitWith o r = refl
+effect-says UnloadSeg o r = refl
+
+settled-says : (f : Function) (active : Active) (x : Effect) → said_in (settled f active x) ≡ said_by x
+settled-says f active (Gives r results effects) = refl
+settled-says f active (Crosses pointer info) = refl
+settled-says f active (Leaves code) = refl
+settled-says f active (Refuses access) = refl
+
+-- a count of puts that goes on by what a function puts goes on by what its call says
+pub counts : (index : ℕ) (regs : Active) (f : Function) (o : Operands) (r : Resources) (old new : Option ℕ) → IsCall index regs f o →
+    new ≡ puts_of (piece_of f o r.memory) old → new ≡ puts_of (said_in (host_at index regs r)) old
+counts index regs f o r old new call count =
+    let says : said_in (host_at index regs r) ≡ piece_of f o r.memory = ap said_in (call-is index regs f o r call) ∙ settled-says f regs (effect f o r) ∙ effect-says f o r in
+    count ∙ ap (λ piece. puts_of piece old) (sym says)
