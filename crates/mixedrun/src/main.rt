@@ -3,8 +3,11 @@
 //! and a tape in slot 1.
 #![tactic(auto)]
 
+ghost use Rattle.std.specs.Prelude.{IfOk, map, string_bytes};
+ghost use Rattle.mixedrun.specs.Runs.{Runs};
+
 use dev_rack::Rack;
-use mix_io::{Counter, Device, FileKeep, FileShelf, Sink, StdSink, StdSource, Tape};
+use mix_io::{Counter, Device, FileKeep, FileShelf, NoMemory, Sink, StdSink, StdSource, Tape};
 use mix_top::mixed_main;
 use mix_top::status::{BAD_WORDS, NO_MEMORY, OUTPUT_FAILED, SUCCESS, TRACE_FAILED};
 use std::env;
@@ -99,18 +102,23 @@ fn words(rt: &HostRuntime) -> io::Result<Vec<String>> {
 }
 
 /// Runs the words over the real files and streams, with a counter in slot 0 and a tape in slot 1, and answers
-/// the status, or none for want of memory.
-fn run(rt: &HostRuntime, words: &[String]) -> Option<u8> {
+/// the status, or that there was no memory to begin.
+fn run(rt: &HostRuntime, words: &[String]) -> Result<u8, NoMemory>
+    ensures { IfOk result (λ status. Runs (map string_bytes words.now) status) }
+{
     let alloc = rt.alloc();
+    let Ok(reader) = BufReader::new(alloc, rt.stdin()) else {
+        return Err(NoMemory);
+    };
+    let counter: Box<dyn Device> = Box::new(alloc, Counter::new(alloc)?)?;
+    let tape: Box<dyn Device> = Box::new(alloc, Tape::new(alloc)?)?;
+    let mut rack = Rack::new(alloc, vec![in alloc; counter, tape]?)?;
     let mut shelf = FileShelf::new(rt);
-    let mut input = StdSource::new(BufReader::new(alloc, rt.stdin()).ok()?);
+    let mut input = StdSource::new(reader);
     let mut out = StdSink::new(rt.stdout());
     let mut trace = StdSink::new(rt.stderr());
-    let counter: Box<dyn Device> = Box::new(alloc, Counter::new(alloc).ok()?).ok()?;
-    let tape: Box<dyn Device> = Box::new(alloc, Tape::new(alloc).ok()?).ok()?;
-    let mut rack = Rack::new(alloc, vec![in alloc; counter, tape].ok()?).ok()?;
     let mut keep = FileKeep::new(rt);
-    Some(mixed_main(
+    Ok(mixed_main(
         alloc, words, &mut shelf, &mut input, &mut out, &mut trace, &mut rack, &mut keep,
     ))
 }
