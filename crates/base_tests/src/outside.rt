@@ -314,12 +314,10 @@ impl<W: Write + Drop> Write for Limping<W> {
 fn each_byte_comes_in_after_a_failure(rt: HostRuntime) -> Result<(), Fail> {
     let bytes = every_byte(rt.alloc(), 512)?;
     let mut source = StdSource::new(Limping::over(bytes.as_slice()));
-    let (before, after) = bytes.split_at(2);
-    for byte in before {
-        assert_eq!(rt; source.take(), Ok(Some(*byte)));
-    }
-    assert_eq!(rt; source.take(), Err(Failed));
-    for byte in after {
+    for (at, byte) in bytes.iter().enumerate() {
+        if at == 2 {
+            assert_eq!(rt; source.take(), Err(Failed));
+        }
         assert_eq!(rt; source.take(), Ok(Some(*byte)));
     }
     assert_eq!(rt; source.take(), Ok(None));
@@ -334,7 +332,8 @@ fn a_long_piece_goes_out_after_a_failure(rt: HostRuntime) -> Result<(), Fail> {
     assert_eq!(rt; sink.put(&piece), Err(Failed));
     assert_eq!(rt; sink.put(&piece), Ok(()));
     drop(sink);
-    assert_eq!(rt; &held[..14], &piece[..14]);
-    assert_eq!(rt; &held[14..], piece.as_slice());
+    let mut expected = every_byte(rt.alloc(), 14)?;
+    expected.extend_from_slice(&piece)?;
+    assert_eq!(rt; held.as_slice(), expected.as_slice());
     Ok(())
 }
