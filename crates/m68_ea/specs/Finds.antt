@@ -52,6 +52,16 @@ abbrev pub FindsControl : Regs68 → ℕ → Operand → Option ℕ → ℕ → 
 FindsControl r first e (Some a) next cell = (e.good ≡ true) × (address_of r e.ea ≡ a) × (next ≡ e.next)
 FindsControl r first e None next cell = (e.good ≡ false) × (cell ≡ fault_at r.pc Illegal first)
 
+-- an operand e that stands in memory at `a`, changes no register, and has `next` behind its words
+pub record IsAt (r : Regs68) (s : Size) (e : Operand) (a next : ℕ) : Type 0 where
+  pub good : e.good ≡ true
+  pub stands : placed r e.ea s ≡ (r, Mem a)
+  pub onward : next ≡ e.next
+
+abbrev pub FindsAt : Regs68 → ℕ → Size → Operand → Option ℕ → ℕ → Fault → Type 0
+FindsAt r first s e (Some a) next cell = IsAt r s e a next
+FindsAt r first s e None next cell = (e.good ≡ false) × (cell ≡ fault_at r.pc Illegal first)
+
 -- the address that an index word gives with a base
 abbrev pub FindsIndexed : Regs68 → ℕ → ℕ → ℕ → Option ℕ → Fault → Type 0
 FindsIndexed r first word base (Some a) cell = (is_index word ≡ true) × (a ≡ indexed r base (index_of word))
@@ -96,6 +106,11 @@ pub record KeepsControl (r q : Regs68) : Type 0 where
 abbrev pub Puts : Regs68 → Memory → Size → Target → ℕ → Bool → Fault → Regs68 → Memory → Type 0
 Puts r m s t v true cell q n = (written_at r m t.place s v ≡ Ok (q, n)) × OnlyFree m n × KeepsControl r q
 Puts r m s t v false cell q n = (written_at r m t.place s v ≡ Err cell) × (q ≡ before r t) × (n ≡ m)
+
+-- a value that is written where an operand was found in memory; or nothing is changed
+abbrev pub PutsAt : Result (Regs68 × Memory) Fault → Bool → Fault → Regs68 → Memory → Memory → Type 0
+PutsAt all true cell r m n = (all ≡ Ok (r, n)) × OnlyFree m n
+PutsAt all false cell r m n = (all ≡ Err cell) × (n ≡ m)
 
 -- a long that is pushed, and a value that is popped; a refused one changes nothing
 abbrev pub Pushes : Result (Regs68 × Memory) Fault → Bool → Fault → Regs68 → Regs68 → Memory → Memory → Type 0

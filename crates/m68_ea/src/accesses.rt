@@ -40,7 +40,7 @@ pub fn write_at(regs: &mut Regs68, ram: &mut Ram, p: Place68, s: Size, v: u32) -
             Ok(())
         }
         Place68::Mem(a) => ram.store_value(a, s, v),
-        Place68::Imm(_) => Ok(()),
+        Place68::Imm(_) => unreachable!(),
     }
 }
 

@@ -16,7 +16,7 @@ mod words;
 
 pub use accesses::{load, read_at, store, write_at};
 pub use laws::tried_laws;
-pub use operands::{Target, control, find, put, source, value};
+pub use operands::{Target, control, data_address, find, put, put_at, source, value};
 pub use places::{Place68, backward, place};
 pub use stack::{pop, push, push_onto};
 pub use usual::{

@@ -3,9 +3,10 @@ ghost use Rattle.mix_bits.specs.Faults.{fault_at};
 ghost use Rattle.m68_isa.specs.Classes.{in_class};
 ghost use Rattle.m68_isa.specs.Operands.{operand_at, special_at};
 ghost use Rattle.m68_isa.specs.declared.classes.Class.TheVariants.{Control};
-ghost use Rattle.mix_bits.specs.declared.size.Size.TheVariants.{Two, Four};
-ghost use Rattle.m68_ea.specs.Finds.{Finds, FindsAddress, FindsControl, FindsIndexed, FindsPlace, HasFound, HasTarget, Puts, Reads, Takes};
+ghost use Rattle.mix_bits.specs.declared.size.Size.TheVariants.{One, Two, Four};
+ghost use Rattle.m68_ea.specs.Finds.{Finds, FindsAddress, FindsAt, FindsControl, FindsIndexed, FindsPlace, HasFound, HasTarget, Puts, PutsAt, Reads, Takes};
 ghost use Rattle.mix_bits.specs.declared.fault.FaultKind.TheVariants.{Illegal};
+ghost use Rattle.m68_ea.specs.Operands.{written_at};
 ghost use Rattle.m68_ea.specs.Places.{placed, with_address};
 ghost use Rattle.m68_ea.specs.Words.{words_at};
 ghost use Rattle.m68_ea.specs.declared.places.Place68.TheVariants.{Mem};
@@ -173,6 +174,21 @@ pub fn put(
     }
 }
 
+/// Stores a value where an operand was found in memory, and tells whether it did; or its fault is in the cell.
+#[inline(always)]
+pub fn put_at(
+    regs: &Regs68,
+    ram: &mut Ram,
+    fault: &mut Fault,
+    at: u32,
+    size: Size,
+    value: u32,
+) -> bool
+    ensures { PutsAt (written_at regs.now ram.old (Mem at) size value) result fault.new regs.now ram.old ram.new }
+{
+    store(ram, fault, regs.pc, at, size, value)
+}
+
 /// The value of an operand of any mode, with its increment or decrement applied.
 #[inline(always)]
 pub fn source(
@@ -211,6 +227,28 @@ pub fn control(
     requires control { in_class Control mode lower ≡ true }
     ensures word { FindsControl regs.now word (operand_at (words_at ram.now regs.now.pc) next.old Two mode lower) result next.new fault.new }
     ensures long { FindsControl regs.now word (operand_at (words_at ram.now regs.now.pc) next.old Four mode lower) result next.new fault.new }
+    ensures near { next.new ≤ next.old + 2 }
+{
+    address(regs, ram, fault, word, next, mode, lower)
+}
+
+/// The same, for data of any size.
+#[inline(always)]
+pub fn data_address(
+    regs: &Regs68,
+    ram: &Ram,
+    fault: &mut Fault,
+    word: u32,
+    next: &mut u32,
+    mode: u32,
+    lower: usize,
+) -> Option<u32>
+    requires number { lower < 8 }
+    requires first { next.old < 4 }
+    requires control { in_class Control mode lower ≡ true }
+    ensures byte { FindsAt regs.now word One (operand_at (words_at ram.now regs.now.pc) next.old One mode lower) result next.new fault.new }
+    ensures word { FindsAt regs.now word Two (operand_at (words_at ram.now regs.now.pc) next.old Two mode lower) result next.new fault.new }
+    ensures long { FindsAt regs.now word Four (operand_at (words_at ram.now regs.now.pc) next.old Four mode lower) result next.new fault.new }
     ensures near { next.new ≤ next.old + 2 }
 {
     address(regs, ram, fault, word, next, mode, lower)
