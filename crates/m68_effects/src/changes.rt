@@ -1,16 +1,20 @@
 // Operands that an operation changes.
-ghost use Rattle.std.specs.Prelude.{◌≡◌, ◌≢◌, ◌+◌, ◌<◌, slice_index};
+ghost use Rattle.std.specs.Prelude.{◌≡◌, ◌≢◌, ◌+◌, ◌<◌, ◌≤◌, slice_index};
 ghost use Rattle.mix_bits.specs.declared.size.Size.TheVariants.{Zero};
 ghost use Rattle.m68_isa.specs.First.{first_of, size_of};
-ghost use Rattle.m68_isa.specs.Operands.{immediate_at as immediate_at_of, immediate_words as immediate_words_of};
+ghost use Rattle.m68_isa.specs.Operands.{immediate_at as immediate_at_of, immediate_words as immediate_words_of, operand_at};
 ghost use Rattle.big_memory.specs.Steps.{Does};
+ghost use Rattle.m68_ea.specs.Finds.{IsAt};
 ghost use Rattle.m68_ea.specs.Usual.{Tries};
 ghost use Rattle.m68_ea.specs.Words.{words_at};
 ghost use Rattle.m68_effects.specs.Operations.{changed_at, changed_by};
 
 use super::operation::{Operation, apply};
 use big_memory::{Did, Ram};
-use m68_ea::{find, find_usual, go_on, immediate_at, immediate_words, put, put_usual, value};
+use m68_ea::{
+    data_address, find, find_usual, go_on, immediate_at, immediate_words, load, put, put_at,
+    put_usual, value,
+};
 use m68_isa::Regs68;
 use m68_ops::{lower_of, mode_of, size_bits_of, upper_of};
 use mix_bits::{Fault, Size, trunc, with_low};
@@ -93,11 +97,104 @@ pub fn change_operand(
 ) -> Did
     ensures { Does (changed_by op 1 by word regs.old ram.old) result fault.new regs.old regs.new ram.old ram.new }
 {
-    if change_usual(regs, ram, word, op, by) {
+    if mode_of(word) > 5 {
+        change_elsewhere(regs, ram, fault, word, op, by)
+    } else if change_usual(regs, ram, word, op, by) {
         Did::Next
     } else {
         change_other(regs, ram, fault, word, op, by)
     }
+}
+
+/// The same of an operand of mode 6 or 7. The operations that programs do there most have a body each.
+#[inline(always)]
+fn change_elsewhere(
+    regs: &mut Regs68,
+    ram: &mut Ram,
+    fault: &mut Fault,
+    word: u32,
+    op: Operation,
+    by: u32,
+) -> Did
+    ensures { Does (changed_by op 1 by word regs.old ram.old) result fault.new regs.old regs.new ram.old ram.new }
+{
+    match op {
+        Operation::Add => add_elsewhere(regs, ram, fault, word, by),
+        Operation::Sub => sub_elsewhere(regs, ram, fault, word, by),
+        _ => change_other(regs, ram, fault, word, op, by),
+    }
+}
+
+/// A number to an operand of mode 6 or 7.
+#[inline(never)]
+fn add_elsewhere(regs: &mut Regs68, ram: &mut Ram, fault: &mut Fault, word: u32, by: u32) -> Did
+    ensures { Does (changed_by Operation.Add 1 by word regs.old ram.old) result fault.new regs.old regs.new ram.old ram.new }
+{
+    change_far(regs, ram, fault, word, Operation::Add, by)
+}
+
+/// A number from an operand of mode 6 or 7.
+#[inline(never)]
+fn sub_elsewhere(regs: &mut Regs68, ram: &mut Ram, fault: &mut Fault, word: u32, by: u32) -> Did
+    ensures { Does (changed_by Operation.Sub 1 by word regs.old ram.old) result fault.new regs.old regs.new ram.old ram.new }
+{
+    change_far(regs, ram, fault, word, Operation::Sub, by)
+}
+
+/// The same by one operation. An address is found before the size is matched, since it doesn't depend on it.
+#[inline(always)]
+fn change_far(
+    regs: &mut Regs68,
+    ram: &mut Ram,
+    fault: &mut Fault,
+    word: u32,
+    op: Operation,
+    by: u32,
+) -> Did
+    ensures { Does (changed_by op 1 by word regs.old ram.old) result fault.new regs.old regs.new ram.old ram.new }
+{
+    let (mode, lower) = (mode_of(word), lower_of(word));
+    if mode != 6 && (mode != 7 || lower > 1) {
+        return change_other(regs, ram, fault, word, op, by);
+    }
+    let mut next = 1;
+    let Some(at) = data_address(regs, ram, fault, word, &mut next, mode, lower) else {
+        return Did::Stop;
+    };
+    match size_bits_of(word) {
+        0 => change_at(regs, ram, fault, word, Size::One, op, by, at, next),
+        1 => change_at(regs, ram, fault, word, Size::Two, op, by, at, next),
+        _ => change_at(regs, ram, fault, word, Size::Four, op, by, at, next),
+    }
+}
+
+/// Changes an operand of this size in memory, where it was found, by an operation with a number.
+#[inline(always)]
+fn change_at(
+    regs: &mut Regs68,
+    ram: &mut Ram,
+    fault: &mut Fault,
+    word: u32,
+    size: Size,
+    op: Operation,
+    by: u32,
+    at: u32,
+    next: u32,
+) -> Did
+    requires some { size ≢ Zero }
+    requires near { next ≤ 5 }
+    requires found { IsAt regs.old size (operand_at (words_at ram.old regs.old.pc) 1 size (first_of word).mode (first_of word).lower) at next }
+    ensures { Does (changed_at size op 1 by word regs.old ram.old) result fault.new regs.old regs.new ram.old ram.new }
+{
+    let Some(old) = load(ram, fault, regs.pc, at, size) else {
+        return Did::Stop;
+    };
+    let out = apply(op, size, old, by, regs.ccr);
+    if !put_at(regs, ram, fault, at, size, out.value) {
+        return Did::Stop;
+    }
+    regs.ccr = out.ccr;
+    go_on(regs, next)
 }
 
 /// The same by the data register of bits 11 to 9.
@@ -122,27 +219,29 @@ fn change_usual(regs: &mut Regs68, ram: &mut Ram, word: u32, op: Operation, by: 
     ensures { Tries (changed_by op 1 by word regs.old ram.old) result regs.old regs.new ram.old ram.new }
 {
     match size_bits_of(word) {
-        0 => change_in_memory(regs, ram, word, Size::One, op, by),
-        1 => change_in_memory(regs, ram, word, Size::Two, op, by),
-        _ => change_in_memory(regs, ram, word, Size::Four, op, by),
+        0 => change_in_memory(regs, ram, word, 1, Size::One, op, by),
+        1 => change_in_memory(regs, ram, word, 1, Size::Two, op, by),
+        _ => change_in_memory(regs, ram, word, 1, Size::Four, op, by),
     }
 }
 
-/// The same of this size.
+/// The same of this size. The operand's extension words begin with word `first`.
 #[inline(always)]
 fn change_in_memory(
     regs: &mut Regs68,
     ram: &mut Ram,
     word: u32,
+    first: u32,
     size: Size,
     op: Operation,
     by: u32,
 ) -> bool
-    requires { size ≢ Zero }
-    ensures { Tries (changed_at size op 1 by word regs.old ram.old) result regs.old regs.new ram.old ram.new }
+    requires some { size ≢ Zero }
+    requires first { first < 4 }
+    ensures { Tries (changed_at size op first by word regs.old ram.old) result regs.old regs.new ram.old ram.new }
 {
     let lower = lower_of(word);
-    let Some((to, old)) = find_usual(regs, ram, 1, size, mode_of(word), lower) else {
+    let Some((to, old)) = find_usual(regs, ram, first, size, mode_of(word), lower) else {
         return false;
     };
     let out = apply(op, size, old, by, regs.ccr);
@@ -197,8 +296,159 @@ fn change_low(
 }
 
 /// Changes an operand of the size in bits 7 and 6 by an operation with immediate data, whose words come first.
+/// A data register is changed here; of memory, the operations that programs do there most have a body each.
 #[inline(always)]
 pub fn change_by_immediate(
+    regs: &mut Regs68,
+    ram: &mut Ram,
+    fault: &mut Fault,
+    word: u32,
+    op: Operation,
+) -> Did
+    ensures { let size = size_of (first_of word).size in
+        Does (changed_at size op (1 + immediate_words_of size) (immediate_at_of (words_at ram.old regs.old.pc) 1 size) word regs.old ram.old) result fault.new regs.old regs.new ram.old ram.new }
+{
+    if mode_of(word) == 0 {
+        return change_register_by_data(regs, ram, fault, word, op);
+    }
+    match op {
+        Operation::Add => add_data(regs, ram, fault, word),
+        Operation::Sub => sub_data(regs, ram, fault, word),
+        Operation::And => and_data(regs, ram, fault, word),
+        Operation::Or => or_data(regs, ram, fault, word),
+        _ => change_other_by_data(regs, ram, fault, word, op),
+    }
+}
+
+/// Changes the data register of bits 2 to 0 by an operation with immediate data.
+#[inline(always)]
+fn change_register_by_data(
+    regs: &mut Regs68,
+    ram: &Ram,
+    fault: &mut Fault,
+    word: u32,
+    op: Operation,
+) -> Did
+    requires { (first_of word).mode ≡ 0 }
+    ensures { let size = size_of (first_of word).size in
+        Does (changed_at size op (1 + immediate_words_of size) (immediate_at_of (words_at ram.now regs.old.pc) 1 size) word regs.old ram.now) result fault.new regs.old regs.new ram.now ram.now }
+{
+    match size_bits_of(word) {
+        0 => change_low_by_data(regs, ram, fault, word, Size::One, op),
+        1 => change_low_by_data(regs, ram, fault, word, Size::Two, op),
+        _ => change_low_by_data(regs, ram, fault, word, Size::Four, op),
+    }
+}
+
+/// The same of this size.
+#[inline(always)]
+fn change_low_by_data(
+    regs: &mut Regs68,
+    ram: &Ram,
+    fault: &mut Fault,
+    word: u32,
+    size: Size,
+    op: Operation,
+) -> Did
+    requires some { size ≢ Zero }
+    requires register { (first_of word).mode ≡ 0 }
+    ensures { Does (changed_at size op (1 + immediate_words_of size) (immediate_at_of (words_at ram.now regs.old.pc) 1 size) word regs.old ram.now) result fault.new regs.old regs.new ram.now ram.now }
+{
+    let lower = lower_of(word);
+    let by = immediate_at(ram, regs.pc, 1, size);
+    let out = apply(op, size, trunc(regs.d[lower], size), by, regs.ccr);
+    regs.d[lower] = with_low(regs.d[lower], out.value, size);
+    regs.ccr = out.ccr;
+    go_on(regs, 1 + immediate_words(size))
+}
+
+/// Immediate data to memory.
+#[inline(never)]
+fn add_data(regs: &mut Regs68, ram: &mut Ram, fault: &mut Fault, word: u32) -> Did
+    ensures { let size = size_of (first_of word).size in
+        Does (changed_at size Operation.Add (1 + immediate_words_of size) (immediate_at_of (words_at ram.old regs.old.pc) 1 size) word regs.old ram.old) result fault.new regs.old regs.new ram.old ram.new }
+{
+    change_memory_by_data(regs, ram, fault, word, Operation::Add)
+}
+
+/// Immediate data from memory.
+#[inline(never)]
+fn sub_data(regs: &mut Regs68, ram: &mut Ram, fault: &mut Fault, word: u32) -> Did
+    ensures { let size = size_of (first_of word).size in
+        Does (changed_at size Operation.Sub (1 + immediate_words_of size) (immediate_at_of (words_at ram.old regs.old.pc) 1 size) word regs.old ram.old) result fault.new regs.old regs.new ram.old ram.new }
+{
+    change_memory_by_data(regs, ram, fault, word, Operation::Sub)
+}
+
+/// Immediate data into memory, by AND.
+#[inline(never)]
+fn and_data(regs: &mut Regs68, ram: &mut Ram, fault: &mut Fault, word: u32) -> Did
+    ensures { let size = size_of (first_of word).size in
+        Does (changed_at size Operation.And (1 + immediate_words_of size) (immediate_at_of (words_at ram.old regs.old.pc) 1 size) word regs.old ram.old) result fault.new regs.old regs.new ram.old ram.new }
+{
+    change_memory_by_data(regs, ram, fault, word, Operation::And)
+}
+
+/// Immediate data into memory, by OR.
+#[inline(never)]
+fn or_data(regs: &mut Regs68, ram: &mut Ram, fault: &mut Fault, word: u32) -> Did
+    ensures { let size = size_of (first_of word).size in
+        Does (changed_at size Operation.Or (1 + immediate_words_of size) (immediate_at_of (words_at ram.old regs.old.pc) 1 size) word regs.old ram.old) result fault.new regs.old regs.new ram.old ram.new }
+{
+    change_memory_by_data(regs, ram, fault, word, Operation::Or)
+}
+
+/// Changes memory by an operation with immediate data: a usual mode is tried first.
+#[inline(always)]
+fn change_memory_by_data(
+    regs: &mut Regs68,
+    ram: &mut Ram,
+    fault: &mut Fault,
+    word: u32,
+    op: Operation,
+) -> Did
+    ensures { let size = size_of (first_of word).size in
+        Does (changed_at size op (1 + immediate_words_of size) (immediate_at_of (words_at ram.old regs.old.pc) 1 size) word regs.old ram.old) result fault.new regs.old regs.new ram.old ram.new }
+{
+    if change_usual_by_data(regs, ram, word, op) {
+        Did::Next
+    } else {
+        change_other_by_data(regs, ram, fault, word, op)
+    }
+}
+
+/// Tries to change an operand in memory of a usual mode by immediate data, and tells whether it is done.
+#[inline(always)]
+fn change_usual_by_data(regs: &mut Regs68, ram: &mut Ram, word: u32, op: Operation) -> bool
+    ensures { let size = size_of (first_of word).size in
+        Tries (changed_at size op (1 + immediate_words_of size) (immediate_at_of (words_at ram.old regs.old.pc) 1 size) word regs.old ram.old) result regs.old regs.new ram.old ram.new }
+{
+    match size_bits_of(word) {
+        0 => change_in_memory_by_data(regs, ram, word, Size::One, op),
+        1 => change_in_memory_by_data(regs, ram, word, Size::Two, op),
+        _ => change_in_memory_by_data(regs, ram, word, Size::Four, op),
+    }
+}
+
+/// The same of this size.
+#[inline(always)]
+fn change_in_memory_by_data(
+    regs: &mut Regs68,
+    ram: &mut Ram,
+    word: u32,
+    size: Size,
+    op: Operation,
+) -> bool
+    requires { size ≢ Zero }
+    ensures { Tries (changed_at size op (1 + immediate_words_of size) (immediate_at_of (words_at ram.old regs.old.pc) 1 size) word regs.old ram.old) result regs.old regs.new ram.old ram.new }
+{
+    let by = immediate_at(ram, regs.pc, 1, size);
+    change_in_memory(regs, ram, word, 1 + immediate_words(size), size, op, by)
+}
+
+/// Changes any operand by an operation with immediate data, by one body for all operations.
+#[inline(never)]
+fn change_other_by_data(
     regs: &mut Regs68,
     ram: &mut Ram,
     fault: &mut Fault,
