@@ -88,7 +88,9 @@ fn do_move<W: Width>(regs: &mut Regs68, ram: &mut Ram, fault: &mut Fault, word: 
     ensures { Does (moves W.SIZE regs.old ram.old word) result fault.new regs.old regs.new ram.old ram.new }
 {
     if move_mode_of(word) == 0 {
-        if move_in(regs, ram, word, W::SIZE) {
+        if mode_of(word) > 5 {
+            move_in_other::<W>(regs, ram, fault, word)
+        } else if move_in(regs, ram, word, W::SIZE) {
             Did::Next
         } else {
             move_any::<W>(regs, ram, fault, word)
@@ -108,8 +110,37 @@ fn move_register<W: Width>(regs: &mut Regs68, ram: &mut Ram, fault: &mut Fault, 
     requires { (first_of word).mode < 2 }
     ensures { Does (moves W.SIZE regs.old ram.old word) result fault.new regs.old regs.new ram.old ram.new }
 {
-    if move_out(regs, ram, word, W::SIZE) {
+    if move_mode_of(word) > 5 {
+        move_out_other::<W>(regs, ram, fault, word)
+    } else if move_out(regs, ram, word, W::SIZE) {
         Did::Next
+    } else {
+        move_any::<W>(regs, ram, fault, word)
+    }
+}
+
+/// A move of an operand of mode 6 or 7 into a data register. Other modes, which don't come here, would be done as well.
+#[inline(never)]
+fn move_in_other<W: Width>(regs: &mut Regs68, ram: &mut Ram, fault: &mut Fault, word: u32) -> Did
+    requires { move_mode (first_of word) ≡ 0 }
+    ensures { Does (moves W.SIZE regs.old ram.old word) result fault.new regs.old regs.new ram.old ram.new }
+{
+    let from = (mode_of(word), lower_of(word));
+    if from.0 > 5 {
+        move_to_register(regs, ram, fault, word, W::SIZE, from, upper_of(word))
+    } else {
+        move_any::<W>(regs, ram, fault, word)
+    }
+}
+
+/// A move of a register to an operand of mode 6 or 7. Other modes, which don't come here, would be done as well.
+#[inline(never)]
+fn move_out_other<W: Width>(regs: &mut Regs68, ram: &mut Ram, fault: &mut Fault, word: u32) -> Did
+    ensures { Does (moves W.SIZE regs.old ram.old word) result fault.new regs.old regs.new ram.old ram.new }
+{
+    let to = (move_mode_of(word), upper_of(word));
+    if mode_of(word) == 0 && to.0 > 5 {
+        move_from_register(regs, ram, fault, word, W::SIZE, lower_of(word), to)
     } else {
         move_any::<W>(regs, ram, fault, word)
     }

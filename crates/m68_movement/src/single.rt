@@ -1,10 +1,11 @@
 // Instructions of one operand.
-ghost use Rattle.std.specs.Prelude.{◌≡◌, ◌<◌};
+ghost use Rattle.std.specs.Prelude.{◌≡◌, ◌<◌, ◌≤◌};
 ghost use Rattle.m68_isa.specs.declared.instructions.Instr68.TheVariants.{Clr, Tst};
 ghost use Rattle.m68_isa.specs.First.{first_of};
 ghost use Rattle.m68_isa.specs.Operands.{operand_at};
 ghost use Rattle.m68_isa.specs.Rows.{taken};
 ghost use Rattle.big_memory.specs.Steps.{Does};
+ghost use Rattle.m68_ea.specs.Finds.{IsAt};
 ghost use Rattle.m68_ea.specs.Usual.{Tries};
 ghost use Rattle.m68_ea.specs.Words.{words_at};
 ghost use Rattle.m68_effects.specs.Ops.{by_op, runs_made};
@@ -12,7 +13,7 @@ ghost use Rattle.m68_effects.specs.Ops.{by_op, runs_made};
 use super::parts::write;
 use big_memory::{Did, Ram};
 use m68_alu::result_flags;
-use m68_ea::{find, go_on, put, source, usual_source, value};
+use m68_ea::{data_address, find, go_on, load, put, put_at, source, usual_source, value};
 use m68_isa::{Regs68, holds};
 use m68_ops::{Op68, condition_of, lower_of, mode_of, size_bits_of};
 use mix_bits::{Fault, Size, with_low};
@@ -22,10 +23,11 @@ use mix_bits::{Fault, Size, with_low};
 pub fn do_clr(regs: &mut Regs68, ram: &mut Ram, fault: &mut Fault, word: u32) -> Did
     ensures { Does (by_op Op68.Clr regs.old ram.old word) result fault.new regs.old regs.new ram.old ram.new }
 {
-    if mode_of(word) == 0 {
-        clr_register(regs, ram, fault, word)
-    } else {
-        clr_operand(regs, ram, fault, word)
+    match mode_of(word) {
+        0 => clr_register(regs, ram, fault, word),
+        6 => clr_elsewhere(regs, ram, fault, word),
+        7 => clr_elsewhere(regs, ram, fault, word),
+        _ => clr_operand(regs, ram, fault, word),
     }
 }
 
@@ -41,6 +43,50 @@ fn clr_register(regs: &mut Regs68, ram: &Ram, fault: &mut Fault, word: u32) -> D
         1 => clear_in_register(regs, ram, fault, word, Size::Two, lower),
         _ => clear_in_register(regs, ram, fault, word, Size::Four, lower),
     }
+}
+
+/// clr of an operand of mode 6 or 7. An address is found before the size is matched, since it doesn't depend on it.
+#[inline(never)]
+fn clr_elsewhere(regs: &mut Regs68, ram: &mut Ram, fault: &mut Fault, word: u32) -> Did
+    ensures { Does (by_op Op68.Clr regs.old ram.old word) result fault.new regs.old regs.new ram.old ram.new }
+{
+    let (mode, lower) = (mode_of(word), lower_of(word));
+    if mode != 6 && (mode != 7 || lower > 1) {
+        return clr_operand(regs, ram, fault, word);
+    }
+    let mut next = 1;
+    let Some(at) = data_address(regs, ram, fault, word, &mut next, mode, lower) else {
+        return Did::Stop;
+    };
+    match size_bits_of(word) {
+        0 => clear_at(regs, ram, fault, word, Size::One, at, next),
+        1 => clear_at(regs, ram, fault, word, Size::Two, at, next),
+        _ => clear_at(regs, ram, fault, word, Size::Four, at, next),
+    }
+}
+
+/// Zeros of this size into memory, where the operand was found.
+#[inline(always)]
+fn clear_at(
+    regs: &mut Regs68,
+    ram: &mut Ram,
+    fault: &mut Fault,
+    word: u32,
+    size: Size,
+    at: u32,
+    next: u32,
+) -> Did
+    requires near { next ≤ 5 }
+    requires found { IsAt regs.old size (operand_at (words_at ram.old regs.old.pc) 1 size (first_of word).mode (first_of word).lower) at next }
+    ensures { let f = first_of word in
+        let to = operand_at (words_at ram.old regs.old.pc) 1 size f.mode f.lower in
+        Does (runs_made regs.old ram.old word (taken (Clr size to.ea) to)) result fault.new regs.old regs.new ram.old ram.new }
+{
+    if !put_at(regs, ram, fault, at, size, 0) {
+        return Did::Stop;
+    }
+    regs.ccr = result_flags(size, 0, regs.ccr);
+    go_on(regs, next)
 }
 
 /// clr of any other operand.
@@ -103,11 +149,57 @@ fn clear(
 pub fn do_tst(regs: &mut Regs68, ram: &Ram, fault: &mut Fault, word: u32) -> Did
     ensures { Does (by_op Op68.Tst regs.old ram.now word) result fault.new regs.old regs.new ram.now ram.now }
 {
-    if tst_usual(regs, ram, word) {
+    if mode_of(word) > 5 {
+        tst_elsewhere(regs, ram, fault, word)
+    } else if tst_usual(regs, ram, word) {
         Did::Next
     } else {
         tst_operand(regs, ram, fault, word)
     }
+}
+
+/// tst of an operand of mode 6 or 7. An address is found before the size is matched, since it doesn't depend on it.
+#[inline(never)]
+fn tst_elsewhere(regs: &mut Regs68, ram: &Ram, fault: &mut Fault, word: u32) -> Did
+    ensures { Does (by_op Op68.Tst regs.old ram.now word) result fault.new regs.old regs.new ram.now ram.now }
+{
+    let (mode, lower) = (mode_of(word), lower_of(word));
+    if mode != 6 && (mode != 7 || lower > 3) {
+        return tst_operand(regs, ram, fault, word);
+    }
+    let mut next = 1;
+    let Some(at) = data_address(regs, ram, fault, word, &mut next, mode, lower) else {
+        return Did::Stop;
+    };
+    match size_bits_of(word) {
+        0 => test_at(regs, ram, fault, word, Size::One, at, next),
+        1 => test_at(regs, ram, fault, word, Size::Two, at, next),
+        _ => test_at(regs, ram, fault, word, Size::Four, at, next),
+    }
+}
+
+/// The flags of an operand of this size in memory, where it was found.
+#[inline(always)]
+fn test_at(
+    regs: &mut Regs68,
+    ram: &Ram,
+    fault: &mut Fault,
+    word: u32,
+    size: Size,
+    at: u32,
+    next: u32,
+) -> Did
+    requires near { next ≤ 5 }
+    requires found { IsAt regs.old size (operand_at (words_at ram.now regs.old.pc) 1 size (first_of word).mode (first_of word).lower) at next }
+    ensures { let f = first_of word in
+        let of = operand_at (words_at ram.now regs.old.pc) 1 size f.mode f.lower in
+        Does (runs_made regs.old ram.now word (taken (Tst size of.ea) of)) result fault.new regs.old regs.new ram.now ram.now }
+{
+    let Some(value) = load(ram, fault, regs.pc, at, size) else {
+        return Did::Stop;
+    };
+    regs.ccr = result_flags(size, value, regs.ccr);
+    go_on(regs, next)
 }
 
 /// Tries a tst of a register or of memory of a usual mode, and tells whether it is done.
