@@ -3,6 +3,7 @@ ghost use Rattle.std.specs.Prelude.{◌≡◌, ◌<◌};
 ghost use Rattle.m68_isa.specs.First.{first_of, long_or_word};
 ghost use Rattle.m68_isa.specs.Operands.{operand_at};
 ghost use Rattle.big_memory.specs.Steps.{Does};
+ghost use Rattle.m68_ea.specs.Usual.{Tries};
 ghost use Rattle.m68_ea.specs.Words.{words_at};
 ghost use Rattle.m68_effects.specs.Operations.{runs_with};
 ghost use Rattle.m68_effects.specs.Ops.{by_op};
@@ -10,7 +11,7 @@ ghost use Rattle.m68_arithmetic.specs.Parts.{into_address as into_address_of};
 
 use super::ways::{Way, away};
 use big_memory::{Did, Ram};
-use m68_ea::{go_on, source};
+use m68_ea::{go_on, source, usual_source};
 use m68_isa::Regs68;
 use m68_ops::{Op68, bit8_of, lower_of, mode_of, upper_of};
 use mix_bits::{Fault, Size, sext};
@@ -31,9 +32,59 @@ pub fn do_suba(regs: &mut Regs68, ram: &Ram, fault: &mut Fault, word: u32) -> Di
     adda_or_suba(regs, ram, fault, word, Way::Backward)
 }
 
-/// An address register goes one way by an operand of the size in bit 8.
+/// An address register goes one way by an operand of the size in bit 8. A register, and memory of a usual mode, are
+/// tried first.
 #[inline(always)]
 fn adda_or_suba(regs: &mut Regs68, ram: &Ram, fault: &mut Fault, word: u32, way: Way) -> Did
+    ensures { let f = first_of word in
+        let size = long_or_word f.bit8 in
+        let from = operand_at (words_at ram.now regs.old.pc) 1 size f.mode f.lower in
+        Does (runs_with regs.old word from (λ next. into_address_of way regs.old ram.now next size from.ea f.upper)) result fault.new regs.old regs.new ram.now ram.now }
+{
+    if mode_of(word) > 5 {
+        by_operand(regs, ram, fault, word, way)
+    } else if by_usual(regs, ram, word, way) {
+        Did::Next
+    } else {
+        by_operand(regs, ram, fault, word, way)
+    }
+}
+
+/// Tries to let an address register go one way by a register, or by memory of a usual mode.
+#[inline(always)]
+fn by_usual(regs: &mut Regs68, ram: &Ram, word: u32, way: Way) -> bool
+    ensures { let f = first_of word in
+        let size = long_or_word f.bit8 in
+        let from = operand_at (words_at ram.now regs.old.pc) 1 size f.mode f.lower in
+        Tries (runs_with regs.old word from (λ next. into_address_of way regs.old ram.now next size from.ea f.upper)) result regs.old regs.new ram.now ram.now }
+{
+    if bit8_of(word) == 0 {
+        by_usual_sized(regs, ram, word, Size::Two, way)
+    } else {
+        by_usual_sized(regs, ram, word, Size::Four, way)
+    }
+}
+
+/// The same of this size.
+#[inline(always)]
+fn by_usual_sized(regs: &mut Regs68, ram: &Ram, word: u32, size: Size, way: Way) -> bool
+    ensures { let f = first_of word in
+        let from = operand_at (words_at ram.now regs.old.pc) 1 size f.mode f.lower in
+        Tries (runs_with regs.old word from (λ next. into_address_of way regs.old ram.now next size from.ea f.upper)) result regs.old regs.new ram.now ram.now }
+{
+    let upper = upper_of(word);
+    let mut next = 1;
+    let Some(value) = usual_source(regs, ram, &mut next, size, mode_of(word), lower_of(word)) else {
+        return false;
+    };
+    regs.a[upper] = away(way, regs.a[upper], sext(value, size));
+    go_on(regs, next);
+    true
+}
+
+/// An address register goes one way by any operand of the size in bit 8.
+#[inline(never)]
+fn by_operand(regs: &mut Regs68, ram: &Ram, fault: &mut Fault, word: u32, way: Way) -> Did
     ensures { let f = first_of word in
         let size = long_or_word f.bit8 in
         let from = operand_at (words_at ram.now regs.old.pc) 1 size f.mode f.lower in

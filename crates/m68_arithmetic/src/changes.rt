@@ -4,8 +4,8 @@ ghost use Rattle.m68_effects.specs.Ops.{by_op};
 
 use big_memory::{Did, Ram};
 use m68_effects::{
-    Operation, change, change_by_immediate, change_by_register, change_sized, take_operand,
-    take_register,
+    Operation, change, change_by_immediate, change_by_register, change_register, change_sized,
+    take_operand, take_register,
 };
 use m68_isa::Regs68;
 use m68_ops::{Op68, mode_of};
@@ -70,6 +70,18 @@ pub fn do_subi(regs: &mut Regs68, ram: &mut Ram, fault: &mut Fault, word: u32) -
 /// neg: 0 less an operand.
 #[inline(never)]
 pub fn do_neg(regs: &mut Regs68, ram: &mut Ram, fault: &mut Fault, word: u32) -> Did
+    ensures { Does (by_op Op68.Neg regs.old ram.old word) result fault.new regs.old regs.new ram.old ram.new }
+{
+    if mode_of(word) == 0 {
+        change_register(regs, ram, fault, word, Operation::Neg, 0)
+    } else {
+        neg_in_memory(regs, ram, fault, word)
+    }
+}
+
+/// neg of memory.
+#[inline(never)]
+fn neg_in_memory(regs: &mut Regs68, ram: &mut Ram, fault: &mut Fault, word: u32) -> Did
     ensures { Does (by_op Op68.Neg regs.old ram.old word) result fault.new regs.old regs.new ram.old ram.new }
 {
     change_sized(regs, ram, fault, word, Operation::Neg, 0)

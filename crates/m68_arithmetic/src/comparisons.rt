@@ -133,6 +133,49 @@ fn with_register(regs: &mut Regs68, ram: &Ram, fault: &mut Fault, word: u32, siz
 pub fn do_cmpa(regs: &mut Regs68, ram: &Ram, fault: &mut Fault, word: u32) -> Did
     ensures { Does (by_op Op68.Cmpa regs.old ram.now word) result fault.new regs.old regs.new ram.now ram.now }
 {
+    if mode_of(word) > 5 {
+        address_with_operand(regs, ram, fault, word)
+    } else if address_with_usual(regs, ram, word) {
+        Did::Next
+    } else {
+        address_with_operand(regs, ram, fault, word)
+    }
+}
+
+/// Tries a cmpa of an address register and a register, or memory of a usual mode, and tells whether it is done.
+#[inline(always)]
+fn address_with_usual(regs: &mut Regs68, ram: &Ram, word: u32) -> bool
+    ensures { Tries (by_op Op68.Cmpa regs.old ram.now word) result regs.old regs.new ram.now ram.now }
+{
+    if bit8_of(word) == 0 {
+        address_sized(regs, ram, word, Size::Two)
+    } else {
+        address_sized(regs, ram, word, Size::Four)
+    }
+}
+
+/// The same of this size.
+#[inline(always)]
+fn address_sized(regs: &mut Regs68, ram: &Ram, word: u32, size: Size) -> bool
+    ensures { let f = first_of word in
+        let from = operand_at (words_at ram.now regs.old.pc) 1 size f.mode f.lower in
+        Tries (runs_with regs.old word from (λ next. cmpa regs.old ram.now next size from.ea f.upper)) result regs.old regs.new ram.now ram.now }
+{
+    let upper = upper_of(word);
+    let mut next = 1;
+    let Some(value) = usual_source(regs, ram, &mut next, size, mode_of(word), lower_of(word)) else {
+        return false;
+    };
+    regs.ccr = compare(Size::Four, regs.a[upper], sext(value, size), regs.ccr);
+    go_on(regs, next);
+    true
+}
+
+/// cmpa of an address register and any operand.
+#[inline(never)]
+fn address_with_operand(regs: &mut Regs68, ram: &Ram, fault: &mut Fault, word: u32) -> Did
+    ensures { Does (by_op Op68.Cmpa regs.old ram.now word) result fault.new regs.old regs.new ram.now ram.now }
+{
     if bit8_of(word) == 0 {
         with_address(regs, ram, fault, word, Size::Two)
     } else {
@@ -159,6 +202,51 @@ fn with_address(regs: &mut Regs68, ram: &Ram, fault: &mut Fault, word: u32, size
 /// cmpi: an operand less immediate data.
 #[inline(never)]
 pub fn do_cmpi(regs: &mut Regs68, ram: &Ram, fault: &mut Fault, word: u32) -> Did
+    ensures { Does (by_op Op68.Cmpi regs.old ram.now word) result fault.new regs.old regs.new ram.now ram.now }
+{
+    if mode_of(word) > 5 {
+        operand_with_data(regs, ram, fault, word)
+    } else if with_data(regs, ram, word) {
+        Did::Next
+    } else {
+        operand_with_data(regs, ram, fault, word)
+    }
+}
+
+/// Tries a cmpi of a register, or of memory of a usual mode, and tells whether it is done.
+#[inline(always)]
+fn with_data(regs: &mut Regs68, ram: &Ram, word: u32) -> bool
+    ensures { Tries (by_op Op68.Cmpi regs.old ram.now word) result regs.old regs.new ram.now ram.now }
+{
+    match size_bits_of(word) {
+        0 => with_data_sized(regs, ram, word, Size::One),
+        1 => with_data_sized(regs, ram, word, Size::Two),
+        _ => with_data_sized(regs, ram, word, Size::Four),
+    }
+}
+
+/// The same of this size.
+#[inline(always)]
+fn with_data_sized(regs: &mut Regs68, ram: &Ram, word: u32, size: Size) -> bool
+    requires { size ≢ Zero }
+    ensures { let f = first_of word in
+        let ws = words_at ram.now regs.old.pc in
+        let from = operand_at ws (1 + immediate_words_of size) size f.mode f.lower in
+        Tries (runs_with regs.old word from (λ next. cmpi regs.old ram.now next size (immediate_at_of ws 1 size) from.ea)) result regs.old regs.new ram.now ram.now }
+{
+    let data = immediate_at(ram, regs.pc, 1, size);
+    let mut next = 1 + immediate_words(size);
+    let Some(value) = usual_source(regs, ram, &mut next, size, mode_of(word), lower_of(word)) else {
+        return false;
+    };
+    regs.ccr = compare(size, value, data, regs.ccr);
+    go_on(regs, next);
+    true
+}
+
+/// cmpi of any operand.
+#[inline(never)]
+fn operand_with_data(regs: &mut Regs68, ram: &Ram, fault: &mut Fault, word: u32) -> Did
     ensures { Does (by_op Op68.Cmpi regs.old ram.now word) result fault.new regs.old regs.new ram.now ram.now }
 {
     match size_bits_of(word) {

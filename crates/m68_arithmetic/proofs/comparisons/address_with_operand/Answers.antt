@@ -2,7 +2,7 @@ use Rattle.std.proofs.Common.{◌≡◌, arith}
 use Rattle.std.proofs.lemmas.Bool.Decides.{nat_tests}
 use Rattle.mix_bits.specs.declared.size.Size.TheVariants.{Four}
 use Rattle.m68_isa.specs.First.{long_or_word}
-use Rattle.m68_arithmetic.proofs.comparisons.do_cmpa.Goals as goal
+use Rattle.m68_arithmetic.proofs.comparisons.address_with_operand.Goals as goal
 
 pub returns-else-bit8_of-eq0 : goal.returns-else-bit8_of-eq0
 returns-else-bit8_of-eq0 c =

@@ -2,7 +2,7 @@ use Rattle.std.proofs.Common.{◌≡◌, arith}
 use Rattle.std.proofs.lemmas.Bool.Decides.{nat_tests}
 use Rattle.mix_bits.specs.declared.size.Size.TheVariants.{Four}
 use Rattle.m68_isa.specs.First.{size_of}
-use Rattle.m68_arithmetic.proofs.comparisons.do_cmpi.Goals as goal
+use Rattle.m68_arithmetic.proofs.comparisons.operand_with_data.Goals as goal
 
 pub returns-in-0 : goal.returns-in-0
 returns-in-0 c = rw (← c.size_bits_of.ensures.is, c.in-0.is) c.with_immediate.ensures
