@@ -1,4 +1,4 @@
-//! Tests of the engine: whole programs, runs that are cut, callers that wait while their callees write, and
+//! Tests of the engine: runs that are cut, callers that wait while their callees write, and
 //! an outside that fails, over objects in memory.
 #![tactic(auto)]
 
@@ -12,8 +12,6 @@ mod failing;
 mod frames;
 #[cfg(test)]
 mod images;
-#[cfg(test)]
-mod programs;
 #[cfg(test)]
 mod text;
 #[cfg(test)]

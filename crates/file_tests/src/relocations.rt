@@ -18,130 +18,118 @@ fn unpacks(from: &[u8], n: usize, answer: Result<(), RelocError>, written: &[u8]
         && room[n..].starts_with(&[0xEE; 4])
 }
 
+/// Pattern data, the room for it, the answer, and what is written first.
+type Unpacking<'a> = (&'a [u8], usize, Result<(), RelocError>, &'a [u8]);
+
+/// Each row unpacks as it says.
+fn check_unpacking(rt: &impl Abort, rows: &[Unpacking]) {
+    for (from, room, answer, written) in rows {
+        assert!(rt; unpacks(from, *room, *answer, written), "{from:?}");
+    }
+}
+
 #[test]
 fn each_opcode_writes_its_piece(rt: HostRuntime) {
-    let zeros = [0x03];
-    assert!(rt; unpacks(&zeros, 3, Ok(()), &[0, 0, 0]));
-    let block = [0x22, 0xAB, 0xCD];
-    assert!(rt; unpacks(&block, 2, Ok(()), &[0xAB, 0xCD]));
-    let again = [0x42, 0x02, 0xAB, 0xCD];
-    assert!(rt; unpacks(&again, 6, Ok(()), &[0xAB, 0xCD, 0xAB, 0xCD, 0xAB, 0xCD]));
-    let mixed = [0x62, 0x01, 0x02, 0x11, 0x12, 0xAA, 0xBB];
-    assert!(rt;
-        unpacks(
-            &mixed,
+    let rows: [Unpacking; 8] = [
+        (b"\x03", 3, Ok(()), b"\0\0\0"),
+        (b"\x22\xAB\xCD", 2, Ok(()), b"\xAB\xCD"),
+        (b"\x42\x02\xAB\xCD", 6, Ok(()), b"\xAB\xCD\xAB\xCD\xAB\xCD"),
+        (
+            b"\x62\x01\x02\x11\x12\xAA\xBB",
             8,
             Ok(()),
-            &[0x11, 0x12, 0xAA, 0x11, 0x12, 0xBB, 0x11, 0x12]
-        )
-    );
-    let mixed_zeros = [0x82, 0x01, 0x03, 0xAA, 0xBB, 0xCC];
-    assert!(rt;
-        unpacks(
-            &mixed_zeros,
+            b"\x11\x12\xAA\x11\x12\xBB\x11\x12",
+        ),
+        (
+            b"\x82\x01\x03\xAA\xBB\xCC",
             11,
             Ok(()),
-            &[0, 0, 0xAA, 0, 0, 0xBB, 0, 0, 0xCC, 0, 0]
-        )
-    );
-    let other = [0xA0];
-    assert!(rt; unpacks(&other, 0, Err(RelocError::Pattern(0)), &[]));
-    let several = [0x02, 0x21, 0x77, 0x41, 0x01, 0x55];
-    assert!(rt; unpacks(&several, 5, Ok(()), &[0, 0, 0x77, 0x55, 0x55]));
-    assert!(rt; unpacks(&[], 0, Ok(()), &[]));
+            b"\0\0\xAA\0\0\xBB\0\0\xCC\0\0",
+        ),
+        (b"\xA0", 0, Err(RelocError::Pattern(0)), b""),
+        (b"\x02\x21\x77\x41\x01\x55", 5, Ok(()), b"\0\0\x77\x55\x55"),
+        (b"", 0, Ok(()), b""),
+    ];
+    check_unpacking(&rt, &rows);
 }
 
 #[test]
 fn a_count_of_zero_follows_as_a_number(rt: HostRuntime) {
-    // 130 is 1 and 2 in groups of seven bits; groups of 0 may lead
-    let long = [0x00, 0x81, 0x02];
-    assert!(rt; unpacks(&long, 20, Err(RelocError::Pattern(0)), &[0xEE]));
-    let led = [0x00, 0x80, 0x80, 0x80, 0x80, 0x80, 0x80, 0x03];
-    assert!(rt; unpacks(&led, 3, Ok(()), &[0, 0, 0]));
-    let block = [0x20, 0x02, 0x0A, 0x0B];
-    assert!(rt; unpacks(&block, 2, Ok(()), &[0x0A, 0x0B]));
-}
-
-#[test]
-fn a_number_has_at_most_32_bits(rt: HostRuntime) {
-    // a block of no bytes, so often: nothing is written
-    let largest = [0x40, 0x00, 0x8F, 0xFF, 0xFF, 0xFF, 0x7F];
-    assert!(rt; unpacks(&largest, 0, Ok(()), &[]));
-    let above = [0x40, 0x00, 0x90, 0x80, 0x80, 0x80, 0x00];
-    assert!(rt; unpacks(&above, 0, Err(RelocError::Pattern(0)), &[]));
-    let behind_another = [0x01, 0x40, 0x00, 0x90, 0x80, 0x80, 0x80, 0x00];
-    assert!(rt; unpacks(&behind_another, 1, Err(RelocError::Pattern(1)), &[0]));
+    let rows: [Unpacking; 6] = [
+        // 130 is 1 and 2 in groups of seven bits; groups of 0 may lead
+        (b"\x00\x81\x02", 20, Err(RelocError::Pattern(0)), b"\xEE"),
+        (b"\x00\x80\x80\x80\x80\x80\x80\x03", 3, Ok(()), b"\0\0\0"),
+        (b"\x20\x02\x0A\x0B", 2, Ok(()), b"\x0A\x0B"),
+        // at most 32 bits; a block of no bytes, so often: nothing is written
+        (b"\x40\x00\x8F\xFF\xFF\xFF\x7F", 0, Ok(()), b""),
+        (
+            b"\x40\x00\x90\x80\x80\x80\x00",
+            0,
+            Err(RelocError::Pattern(0)),
+            b"",
+        ),
+        (
+            b"\x01\x40\x00\x90\x80\x80\x80\x00",
+            1,
+            Err(RelocError::Pattern(1)),
+            b"\0",
+        ),
+    ];
+    check_unpacking(&rt, &rows);
 }
 
 #[test]
 fn parts_and_blocks_without_bytes_are_soon_written(rt: HostRuntime) {
-    let mixed = [0x60, 0x00, 0x00, 0x8F, 0xFF, 0xFF, 0xFF, 0x7F];
-    assert!(rt; unpacks(&mixed, 0, Ok(()), &[]));
-    let zeros = [0x80, 0x00, 0x00, 0x8F, 0xFF, 0xFF, 0xFF, 0x7F];
-    assert!(rt; unpacks(&zeros, 0, Ok(()), &[]));
-    let common = [0x82, 0x00, 0x8F, 0xFF, 0xFF, 0xFF, 0x7F];
-    assert!(rt; unpacks(&common, 20, Err(RelocError::Pattern(0)), &[0xEE]));
+    let rows: [Unpacking; 3] = [
+        (b"\x60\x00\x00\x8F\xFF\xFF\xFF\x7F", 0, Ok(()), b""),
+        (b"\x80\x00\x00\x8F\xFF\xFF\xFF\x7F", 0, Ok(()), b""),
+        (
+            b"\x82\x00\x8F\xFF\xFF\xFF\x7F",
+            20,
+            Err(RelocError::Pattern(0)),
+            b"\xEE",
+        ),
+    ];
+    check_unpacking(&rt, &rows);
 }
 
 #[test]
 fn as_many_bytes_are_written_as_there_is_room_for(rt: HostRuntime) {
-    let again = [0x42, 0x02, 0xAB, 0xCD];
-    assert!(rt; unpacks(&again, 5, Err(RelocError::Pattern(0)), &[0xEE]));
-    assert!(rt;
-        unpacks(
-            &again,
+    let rows: [Unpacking; 5] = [
+        (b"\x42\x02\xAB\xCD", 5, Err(RelocError::Pattern(0)), b"\xEE"),
+        (
+            b"\x42\x02\xAB\xCD",
             7,
             Err(RelocError::Pattern(4)),
-            &[0xAB, 0xCD, 0xAB, 0xCD, 0xAB, 0xCD, 0xEE]
-        )
-    );
-    let second = [0x01, 0x22, 0xAB, 0xCD];
-    assert!(rt; unpacks(&second, 2, Err(RelocError::Pattern(1)), &[0, 0xEE]));
-    let nothing_behind = [0x01, 0x40, 0x00, 0x00];
-    assert!(rt; unpacks(&nothing_behind, 1, Ok(()), &[0]));
-    let one_behind = [0x01, 0x01];
-    assert!(rt; unpacks(&one_behind, 1, Err(RelocError::Pattern(1)), &[0]));
+            b"\xAB\xCD\xAB\xCD\xAB\xCD\xEE",
+        ),
+        (
+            b"\x01\x22\xAB\xCD",
+            2,
+            Err(RelocError::Pattern(1)),
+            b"\0\xEE",
+        ),
+        (b"\x01\x40\x00\x00", 1, Ok(()), b"\0"),
+        (b"\x01\x01", 1, Err(RelocError::Pattern(1)), b"\0"),
+    ];
+    check_unpacking(&rt, &rows);
 }
 
 #[test]
 fn an_instruction_that_is_cut_is_refused(rt: HostRuntime) {
-    assert!(rt; unpacks(&[0x01, 0x22, 0xAB], 3, Err(RelocError::Pattern(1)), &[0]));
-    assert!(rt; unpacks(&[0x01, 0x20], 3, Err(RelocError::Pattern(1)), &[0]));
-    assert!(rt; unpacks(&[0x01, 0x00, 0x81], 3, Err(RelocError::Pattern(1)), &[0]));
-    assert!(rt; unpacks(&[0x01, 0x42], 3, Err(RelocError::Pattern(1)), &[0]));
-    assert!(rt;
-        unpacks(
-            &[0x01, 0x42, 0x01, 0xAB],
-            5,
-            Err(RelocError::Pattern(1)),
-            &[0]
-        )
-    );
-    assert!(rt;
-        unpacks(
-            &[0x62, 0x01, 0x02, 0x11, 0x12, 0xAA],
-            8,
-            Err(RelocError::Pattern(0)),
-            &[0xEE]
-        )
-    );
-    assert!(rt;
-        unpacks(
-            &[0x62, 0x01, 0x02, 0x11],
-            8,
-            Err(RelocError::Pattern(0)),
-            &[0xEE]
-        )
-    );
-    assert!(rt;
-        unpacks(
-            &[0x82, 0x01, 0x03, 0xAA, 0xBB],
-            11,
-            Err(RelocError::Pattern(0)),
-            &[0xEE]
-        )
-    );
-    assert!(rt; unpacks(&[0x82, 0x01], 11, Err(RelocError::Pattern(0)), &[0xEE]));
+    let (first, second) = (Err(RelocError::Pattern(0)), Err(RelocError::Pattern(1)));
+    let rows: [Unpacking; 9] = [
+        (b"\x01\x22\xAB", 3, second, b"\0"),
+        (b"\x01\x20", 3, second, b"\0"),
+        (b"\x01\x00\x81", 3, second, b"\0"),
+        (b"\x01\x42", 3, second, b"\0"),
+        (b"\x01\x42\x01\xAB", 5, second, b"\0"),
+        (b"\x62\x01\x02\x11\x12\xAA", 8, first, b"\xEE"),
+        (b"\x62\x01\x02\x11", 8, first, b"\xEE"),
+        (b"\x82\x01\x03\xAA\xBB", 11, first, b"\xEE"),
+        (b"\x82\x01", 11, first, b"\xEE"),
+    ];
+    check_unpacking(&rt, &rows);
 }
 
 /// Where sections 0 and 1 stand. Section 1 is relocated.
@@ -188,118 +176,101 @@ fn relocated(
     Ok((answer, longs))
 }
 
-/// Whether words that are not refused leave these longs, and behind them 0.
-fn leaves(rt: &impl Abort, alloc: Global, words: &[u16], wanted: &[u32]) -> Result<bool, Fail> {
-    let (answer, longs) = relocated(rt, alloc, words)?;
-    let first = longs.starts_with(wanted);
-    Ok(answer.is_ok() && first && longs.iter().skip(wanted.len()).all(|long| *long == 0))
+/// Words that are not refused leave these longs, and behind them 0.
+fn check_left(rt: &impl Abort, alloc: Global, rows: &[(&[u16], &[u32])]) -> Result<(), Fail> {
+    for (words, wanted) in rows {
+        let (answer, longs) = relocated(rt, alloc, words)?;
+        assert_eq!(rt; answer, Ok(()), "{words:?}");
+        assert!(rt; longs.starts_with(wanted), "{words:?}");
+        let mut rest = longs.iter().skip(wanted.len());
+        assert!(rt; rest.all(|long| *long == 0), "{words:?}");
+    }
+    Ok(())
 }
 
-/// Whether words are refused so.
-fn refuses(rt: &impl Abort, alloc: Global, words: &[u16], error: RelocError) -> Result<bool, Fail> {
-    let (answer, _) = relocated(rt, alloc, words)?;
-    Ok(answer == Err(error))
+/// Words are refused so.
+fn check_refused(
+    rt: &impl Abort,
+    alloc: Global,
+    rows: &[(&[u16], RelocError)],
+) -> Result<(), Fail> {
+    for (words, error) in rows {
+        let (answer, _) = relocated(rt, alloc, words)?;
+        assert_eq!(rt; answer, Err(*error), "{words:?}");
+    }
+    Ok(())
 }
 
 #[test]
 fn each_row_has_its_effect(rt: HostRuntime) -> Result<(), Fail> {
-    let alloc = rt.alloc();
     let (c, d) = (0x1_0000, 0x1_0100);
-    // BySectDWithSkip: over one long, then D twice
-    assert!(rt; leaves(&rt, alloc, &[0x0042], &[0, d, d])?);
-    // BySectC, BySectD
-    assert!(rt; leaves(&rt, alloc, &[0x4001, 0x4200], &[c, c, d])?);
-    // TVector12, TVector8
-    assert!(rt; leaves(&rt, alloc, &[0x4401, 0x4000], &[c, d, 0, c, d, 0, c])?);
-    assert!(rt; leaves(&rt, alloc, &[0x4601, 0x4000], &[c, d, c, d, c])?);
-    // VTable8
-    assert!(rt; leaves(&rt, alloc, &[0x4801, 0x4000], &[d, 0, d, 0, c])?);
-    // ImportRun, twice two imports: the index goes on
-    assert!(rt; leaves(&rt, alloc, &[0x4A00, 0x4A01], &[0x1448, 0x1450, 0x1458])?);
-    // SmByImport 1, and the import behind it
-    assert!(rt; leaves(&rt, alloc, &[0x6001, 0x4A00], &[0x1450, 0x1458])?);
-    // SmSetSectC 1, SmSetSectD 0, SmBySection
-    assert!(rt; leaves(&rt, alloc, &[0x6201, 0x4000], &[d])?);
-    assert!(rt; leaves(&rt, alloc, &[0x6400, 0x4200], &[c])?);
-    assert!(rt; leaves(&rt, alloc, &[0x6600, 0x6601], &[c, d])?);
-    // IncrPosition 8
-    assert!(rt; leaves(&rt, alloc, &[0x8007, 0x4000], &[0, 0, c])?);
-    // SmRepeat: one word two further times, two words one further time
-    assert!(rt; leaves(&rt, alloc, &[0x4200, 0x9001], &[d, d, d])?);
-    assert!(rt; leaves(&rt, alloc, &[0x4000, 0x4200, 0x9100], &[c, d, c, d])?);
-    // SetPosition 8, and back
-    assert!(rt;
-        leaves(
-            &rt,
-            alloc,
+    let rows: [(&[u16], &[u32]); 18] = [
+        // BySectDWithSkip: over one long, then D twice
+        (&[0x0042], &[0, d, d]),
+        // BySectC, BySectD
+        (&[0x4001, 0x4200], &[c, c, d]),
+        // TVector12, TVector8
+        (&[0x4401, 0x4000], &[c, d, 0, c, d, 0, c]),
+        (&[0x4601, 0x4000], &[c, d, c, d, c]),
+        // VTable8
+        (&[0x4801, 0x4000], &[d, 0, d, 0, c]),
+        // ImportRun, twice two imports: the index goes on
+        (&[0x4A00, 0x4A01], &[0x1448, 0x1450, 0x1458]),
+        // SmByImport 1, and the import behind it
+        (&[0x6001, 0x4A00], &[0x1450, 0x1458]),
+        // SmSetSectC 1, SmSetSectD 0, SmBySection
+        (&[0x6201, 0x4000], &[d]),
+        (&[0x6400, 0x4200], &[c]),
+        (&[0x6600, 0x6601], &[c, d]),
+        // IncrPosition 8
+        (&[0x8007, 0x4000], &[0, 0, c]),
+        // SmRepeat: one word two further times, two words one further time
+        (&[0x4200, 0x9001], &[d, d, d]),
+        (&[0x4000, 0x4200, 0x9100], &[c, d, c, d]),
+        // SetPosition 8, and back
+        (
             &[0xA000, 0x0008, 0x4000, 0xA000, 0x0000, 0x4200],
-            &[d, 0, c]
-        )?
-    );
-    // LgByImport 1, and the import behind it
-    assert!(rt; leaves(&rt, alloc, &[0xA400, 0x0001, 0x4A00], &[0x1450, 0x1458])?);
-    // LgSetOrBySection: add it, C, D
-    assert!(rt; leaves(&rt, alloc, &[0xB400, 0x0001], &[d])?);
-    assert!(rt; leaves(&rt, alloc, &[0xB440, 0x0001, 0x4000], &[d])?);
-    assert!(rt; leaves(&rt, alloc, &[0xB480, 0x0000, 0x4200], &[c])?);
-    Ok(())
+            &[d, 0, c],
+        ),
+        // LgByImport 1, and the import behind it
+        (&[0xA400, 0x0001, 0x4A00], &[0x1450, 0x1458]),
+        // LgSetOrBySection: add it, C, D
+        (&[0xB400, 0x0001], &[d]),
+        (&[0xB440, 0x0001, 0x4000], &[d]),
+        (&[0xB480, 0x0000, 0x4200], &[c]),
+    ];
+    check_left(&rt, rt.alloc(), &rows)
 }
 
 #[test]
 fn large_numbers_have_their_high_bits_in_the_first_word(rt: HostRuntime) -> Result<(), Fail> {
-    let alloc = rt.alloc();
-    assert!(rt;
-        refuses(
-            &rt,
-            alloc,
+    let rows: [(&[u16], RelocError); 3] = [
+        (
             &[0xA3FF, 0xFFFE, 0x4000],
-            RelocError::OutsideSection(0x3FF_FFFE)
-        )?
-    );
-    assert!(rt;
-        refuses(
-            &rt,
-            alloc,
-            &[0xA600, 0x0001],
-            RelocError::ImportIndex(0x200_0001)
-        )?
-    );
-    assert!(rt;
-        refuses(
-            &rt,
-            alloc,
-            &[0xB43F, 0xFFFF],
-            RelocError::SectionIndex(0x3F_FFFF)
-        )?
-    );
-    Ok(())
+            RelocError::OutsideSection(0x3FF_FFFE),
+        ),
+        (&[0xA600, 0x0001], RelocError::ImportIndex(0x200_0001)),
+        (&[0xB43F, 0xFFFF], RelocError::SectionIndex(0x3F_FFFF)),
+    ];
+    check_refused(&rt, rt.alloc(), &rows)
 }
 
 #[test]
 fn an_addition_stays_in_its_section(rt: HostRuntime) -> Result<(), Fail> {
-    let alloc = rt.alloc();
-    assert!(rt;
-        leaves(
-            &rt,
-            alloc,
-            &[0xA000, 28, 0x4000],
-            &[0, 0, 0, 0, 0, 0, 0, 0x1_0000]
-        )?
-    );
-    assert!(rt;
-        refuses(
-            &rt,
-            alloc,
-            &[0xA000, 29, 0x4000],
-            RelocError::OutsideSection(29)
-        )?
-    );
-    assert!(rt; refuses(&rt, alloc, &[0x0908], RelocError::OutsideSection(144))?);
-    let nine = relocated(&rt, alloc, &[0x4008])?;
+    let left: [(&[u16], &[u32]); 2] = [
+        (&[0xA000, 28, 0x4000], &[0, 0, 0, 0, 0, 0, 0, 0x1_0000]),
+        // a long across two others: the high half of C goes into the first
+        (&[0x8001, 0x4000], &[1]),
+    ];
+    check_left(&rt, rt.alloc(), &left)?;
+    let refused: [(&[u16], RelocError); 2] = [
+        (&[0xA000, 29, 0x4000], RelocError::OutsideSection(29)),
+        (&[0x0908], RelocError::OutsideSection(144)),
+    ];
+    check_refused(&rt, rt.alloc(), &refused)?;
+    let nine = relocated(&rt, rt.alloc(), &[0x4008])?;
     assert_eq!(rt; nine.0, Err(RelocError::OutsideSection(32)));
     assert!(rt; nine.1 == [0x1_0000; 8]);
-    // a long across two others: the high half of C goes into the first
-    assert!(rt; leaves(&rt, alloc, &[0x8001, 0x4000], &[1])?);
     Ok(())
 }
 
@@ -322,75 +293,51 @@ fn a_position_is_tested_before_it_is_cut_to_32_bits(rt: HostRuntime) -> Result<(
 
 #[test]
 fn what_is_missing_is_refused_behind_the_position(rt: HostRuntime) -> Result<(), Fail> {
-    let alloc = rt.alloc();
-    let refusals = [
-        ([0x6003, 0x0000, 0x0000], RelocError::ImportIndex(3)),
-        ([0x4A03, 0x0000, 0x0000], RelocError::ImportIndex(3)),
-        ([0x6602, 0x0000, 0x0000], RelocError::SectionIndex(2)),
-        ([0x6202, 0x0000, 0x0000], RelocError::SectionIndex(2)),
-        ([0x6403, 0x0000, 0x0000], RelocError::SectionIndex(3)),
-        ([0xB440, 0x0005, 0x0000], RelocError::SectionIndex(5)),
-        ([0xA000, 0x0020, 0x6009], RelocError::OutsideSection(32)),
-        ([0xA000, 0x0020, 0x6609], RelocError::OutsideSection(32)),
-        ([0xA000, 0x0020, 0x6209], RelocError::SectionIndex(9)),
-        ([0x0000, 0x4000, 0xA400], RelocError::Short(4)),
-        ([0xB000, 0x0000, 0x0000], RelocError::Unsupported(0xB000)),
-        ([0x0000, 0x0000, 0xB000], RelocError::Unsupported(0xB000)),
-        ([0x4C00, 0x0000, 0x0000], RelocError::Unsupported(0x4C00)),
-        ([0x0000, 0x0000, 0xB4C0], RelocError::Unsupported(0xB4C0)),
+    let rows: [(&[u16], RelocError); 15] = [
+        (&[0x6003, 0x0000, 0x0000], RelocError::ImportIndex(3)),
+        (&[0x4A03, 0x0000, 0x0000], RelocError::ImportIndex(3)),
+        (&[0x6602, 0x0000, 0x0000], RelocError::SectionIndex(2)),
+        (&[0x6202, 0x0000, 0x0000], RelocError::SectionIndex(2)),
+        (&[0x6403, 0x0000, 0x0000], RelocError::SectionIndex(3)),
+        (&[0xB440, 0x0005, 0x0000], RelocError::SectionIndex(5)),
+        (&[0xA000, 0x0020, 0x6009], RelocError::OutsideSection(32)),
+        (&[0xA000, 0x0020, 0x6609], RelocError::OutsideSection(32)),
+        (&[0xA000, 0x0020, 0x6209], RelocError::SectionIndex(9)),
+        (&[0x0000, 0x4000, 0xA400], RelocError::Short(4)),
+        (&[0xB000, 0x0000, 0x0000], RelocError::Unsupported(0xB000)),
+        (&[0x0000, 0x0000, 0xB000], RelocError::Unsupported(0xB000)),
+        (&[0x4C00, 0x0000, 0x0000], RelocError::Unsupported(0x4C00)),
+        (&[0x0000, 0x0000, 0xB4C0], RelocError::Unsupported(0xB4C0)),
+        (&[0xA000], RelocError::Short(0)),
     ];
-    for (words, error) in refusals {
-        assert!(rt; refuses(&rt, alloc, &words, error)?, "{words:?}");
-    }
-    assert!(rt; refuses(&rt, alloc, &[0xA000], RelocError::Short(0))?);
-    Ok(())
+    check_refused(&rt, rt.alloc(), &rows)
 }
 
 #[test]
 fn a_repeat_goes_back_over_whole_instructions(rt: HostRuntime) -> Result<(), Fail> {
-    let alloc = rt.alloc();
-    assert!(rt; refuses(&rt, alloc, &[0x9001], RelocError::RepeatFront(0))?);
-    assert!(rt; refuses(&rt, alloc, &[0x4200, 0x9101], RelocError::RepeatFront(2))?);
-    // a repeat in the span
-    assert!(rt;
-        refuses(
-            &rt,
-            alloc,
-            &[0x4000, 0x9000, 0x9100],
-            RelocError::RepeatFront(4)
-        )?
-    );
-    // the span ends within SetPosition
-    assert!(rt;
-        refuses(
-            &rt,
-            alloc,
-            &[0xA000, 0xA000, 0x9000],
-            RelocError::RepeatFront(4)
-        )?
-    );
-    // the span is the second word of SetPosition, which adds D at 1, or is no instruction
-    assert!(rt; leaves(&rt, alloc, &[0xA000, 0x0001, 0x9000], &[0x0000_0101])?);
-    assert!(rt;
-        refuses(
-            &rt,
-            alloc,
-            &[0xA000, 0xB000, 0x9000],
-            RelocError::Unsupported(0xB000)
-        )?
-    );
-    // the span is SetPosition as a whole
-    assert!(rt; leaves(&rt, alloc, &[0x4200, 0xA000, 0x0000, 0x9203], &[0x5_0500])?);
-    // the longest span
-    assert!(rt;
-        leaves(
-            &rt,
-            alloc,
+    let refused: [(&[u16], RelocError); 5] = [
+        (&[0x9001], RelocError::RepeatFront(0)),
+        (&[0x4200, 0x9101], RelocError::RepeatFront(2)),
+        // a repeat in the span
+        (&[0x4000, 0x9000, 0x9100], RelocError::RepeatFront(4)),
+        // the span ends within SetPosition
+        (&[0xA000, 0xA000, 0x9000], RelocError::RepeatFront(4)),
+        // the span is the second word of SetPosition, which is no instruction
+        (&[0xA000, 0xB000, 0x9000], RelocError::Unsupported(0xB000)),
+    ];
+    check_refused(&rt, rt.alloc(), &refused)?;
+    let left: [(&[u16], &[u32]); 3] = [
+        // the span is the second word of SetPosition, which adds D at 1
+        (&[0xA000, 0x0001, 0x9000], &[0x0000_0101]),
+        // the span is SetPosition as a whole
+        (&[0x4200, 0xA000, 0x0000, 0x9203], &[0x5_0500]),
+        // the longest span
+        (
             &[0, 0, 0, 0, 0, 0, 0, 0, 0, 0, 0, 0, 0, 0, 0, 0x4200, 0x9F00],
-            &[0x1_0100, 0x1_0100]
-        )?
-    );
-    Ok(())
+            &[0x1_0100, 0x1_0100],
+        ),
+    ];
+    check_left(&rt, rt.alloc(), &left)
 }
 
 /// Groups of SetPosition 0 and a repeat that runs it 256 further times, 258 instructions each.
@@ -432,40 +379,21 @@ fn behind_the_limit(
 
 #[test]
 fn the_limit_is_tested_last(rt: HostRuntime) -> Result<(), Fail> {
-    let alloc = rt.alloc();
-    assert_eq!(rt; behind_the_limit(&rt, alloc, false, &[])?, Ok(()));
-    assert_eq!(rt;
-        behind_the_limit(&rt, alloc, false, &[0x40, 0x00])?,
-        Err(RelocError::Work)
-    );
-    assert_eq!(rt;
-        behind_the_limit(&rt, alloc, false, &[0x00, 0x00])?,
-        Err(RelocError::Work)
-    );
-    assert_eq!(rt;
-        behind_the_limit(&rt, alloc, false, &[0x66, 0x02])?,
-        Err(RelocError::SectionIndex(2))
-    );
-    assert_eq!(rt;
-        behind_the_limit(&rt, alloc, false, &[0x60, 0x03])?,
-        Err(RelocError::ImportIndex(3))
-    );
-    assert_eq!(rt;
-        behind_the_limit(&rt, alloc, false, &[0x9F, 0x00])?,
-        Err(RelocError::RepeatFront(390_166))
-    );
-    assert_eq!(rt;
-        behind_the_limit(&rt, alloc, false, &[0xA0, 0x00])?,
-        Err(RelocError::Short(390_166))
-    );
-    assert_eq!(rt;
-        behind_the_limit(&rt, alloc, false, &[0xB0, 0x00])?,
-        Err(RelocError::Unsupported(0xB000))
-    );
-    assert_eq!(rt;
-        behind_the_limit(&rt, alloc, true, &[0x40, 0x00])?,
-        Err(RelocError::OutsideSection(996))
-    );
+    let rows: [(bool, &[u8], Result<(), RelocError>); 9] = [
+        (false, b"", Ok(())),
+        (false, b"\x40\x00", Err(RelocError::Work)),
+        (false, b"\x00\x00", Err(RelocError::Work)),
+        (false, b"\x66\x02", Err(RelocError::SectionIndex(2))),
+        (false, b"\x60\x03", Err(RelocError::ImportIndex(3))),
+        (false, b"\x9F\x00", Err(RelocError::RepeatFront(390_166))),
+        (false, b"\xA0\x00", Err(RelocError::Short(390_166))),
+        (false, b"\xB0\x00", Err(RelocError::Unsupported(0xB000))),
+        (true, b"\x40\x00", Err(RelocError::OutsideSection(996))),
+    ];
+    for (moved, words, wanted) in rows {
+        let answer = behind_the_limit(&rt, rt.alloc(), moved, words)?;
+        assert_eq!(rt; answer, wanted, "{words:?}");
+    }
     Ok(())
 }
 

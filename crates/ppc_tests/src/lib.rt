@@ -1,6 +1,6 @@
-//! Steps of PowerPC code: each row of the table of instructions, what is refused, and what the gate page
-//! answers. Words are those that GNU as 2.40 assembles for the 601; results are worked out from the
-//! manual's sums over unbounded integers.
+//! Steps of PowerPC code: loads and stores, what is refused, and what the gate page answers. Words are those
+//! that GNU as 2.40 assembles for the 601; results are worked out from the manual's sums over unbounded
+//! integers.
 #![tactic(auto)]
 
 // Instructions, each as its word and its line: r3, r4, r5, CR, XER, LR and CTR before and after it, pc after
@@ -20,8 +20,6 @@ macro_rules! rows {
     };
 }
 
-#[cfg(test)]
-mod integer;
 #[cfg(test)]
 mod refusals;
 #[cfg(test)]

@@ -6,21 +6,28 @@ pub struct Case<'a> {
     pub files: &'a str,
     pub input: &'a str,
     pub outside: &'a str,
+    /// The steps after which it is cut, kept and continued.
+    pub cut: Option<u32>,
 }
 
 impl<'a> Case<'a> {
-    /// The case `NAME | WORDS | FILES | INPUT | OUTSIDE`.
-    pub fn read(line: &'a str) -> Option<Case<'a>> {
-        let (name, rest) = line.split_once('|')?;
-        let (words, rest) = rest.split_once('|')?;
-        let (files, rest) = rest.split_once('|')?;
-        let (input, outside) = rest.split_once('|')?;
-        Some(Case {
-            name: name.trim(),
-            words,
-            files,
-            input,
-            outside,
-        })
+    /// The case `NAME | WORDS | FILES | INPUT | OUTSIDE`. What is left out is empty.
+    pub fn read(line: &'a str) -> Case<'a> {
+        let mut rest = line;
+        Case {
+            name: next_field(&mut rest),
+            words: next_field(&mut rest),
+            files: next_field(&mut rest),
+            input: next_field(&mut rest),
+            outside: next_field(&mut rest),
+            cut: None,
+        }
     }
+}
+
+/// The text up to the next stroke, behind which the rest goes on.
+fn next_field<'a>(rest: &mut &'a str) -> &'a str {
+    let (field, others) = rest.split_once('|').unwrap_or((*rest, ""));
+    *rest = others;
+    field.trim()
 }

@@ -37,8 +37,8 @@ impl Images {
     }
 
     /// The bytes that a text spells: pieces of hexadecimal digits, one after the other. The name of a file
-    /// stands for its bytes, `@PLACE` goes on at a place, with zeros up to it, `#LENGTH` cuts, and
-    /// `DIGITS*COUNT` stands for so many times the digits.
+    /// stands for its bytes, `@PLACE` goes on at a place, with zeros up to it, `+PLACE` adds 1 to the byte at
+    /// a place, `#LENGTH` cuts, and `DIGITS*COUNT` stands for so many times the digits.
     pub fn spell(&self, alloc: Global, text: &str) -> io::Result<Vec<u8>> {
         let mut draft = Draft {
             bytes: Vec::new(alloc),
@@ -58,6 +58,10 @@ impl Images {
         if let Some(place) = piece.strip_prefix('@') {
             return Ok(draft.go_to(number(place)?)?);
         }
+        if let Some(place) = piece.strip_prefix('+') {
+            draft.raise(number(place)?);
+            return Ok(());
+        }
         if let Some(length) = piece.strip_prefix('#') {
             draft.cut(number(length)?);
             return Ok(());
@@ -67,6 +71,16 @@ impl Images {
             draft.put_digits(digits)?;
         }
         Ok(())
+    }
+
+    /// The name of the first file of these bytes.
+    pub fn name_of(&self, bytes: &[u8]) -> Option<&str> {
+        for image in &self.images {
+            if image.bytes.as_slice() == bytes {
+                return Some(image.name.as_str());
+            }
+        }
+        None
     }
 
     /// The file of a name.
@@ -127,6 +141,13 @@ impl Draft {
         }
         self.at = place as usize;
         Ok(())
+    }
+
+    /// Adds 1 to the byte at a place, if it is there.
+    fn raise(&mut self, place: u32) {
+        if let Some(byte) = self.bytes.get_mut(place as usize) {
+            *byte = byte.wrapping_add(1);
+        }
     }
 
     /// Keeps so many bytes.

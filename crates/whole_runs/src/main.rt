@@ -11,9 +11,12 @@
 //!
 //! `NAME | STATUS | OUTPUT | TRACE | JOURNAL | INPUT LEFT`
 //!
-//! where ` /` stands for the end of a line of the trace. With `sweep=FIRST..LAST` the program is run for each
+//! where ` /` stands for the end of a line of the trace, and behind it, where something was kept, ` | KEPT`: how
+//! many bytes, and the name of a file that has the same. With `sweep=FIRST..LAST` the program is run for each
 //! address from the first to the last, with the address as the last four bytes of its input, and the answer
-//! tells which of them end alike.
+//! tells which of them end alike. So it is with `lengths=` for the last file cut to each length, with `places=`
+//! for the last file with 1 added to the byte at each place, and with `cuts=` for the run cut after each number
+//! of steps, kept and continued.
 //!
 //! The answers that are stored beside this program were not made by it. They were worked out from the rules
 //! in `docs/`: by hand the addresses, steps and lines of each small program, and by a reader of forks and
@@ -22,6 +25,7 @@
 #![tactic(auto)]
 
 mod case;
+mod cut;
 mod images;
 mod outside;
 mod run;
@@ -31,7 +35,7 @@ mod tell;
 use case::Case;
 use images::Images;
 use std::alloc::Global;
-use std::io::{self, BufRead, BufReader, ErrorKind};
+use std::io::{self, BufRead, BufReader};
 use sweep::Sweep;
 
 fn main(rt: HostRuntime) -> io::Result<()> {
@@ -52,13 +56,17 @@ fn main(rt: HostRuntime) -> io::Result<()> {
 
 /// What the case of a line gives, as text.
 fn answer(alloc: Global, images: &Images, line: &str) -> io::Result<String> {
-    let case = Case::read(line).ok_or(ErrorKind::InvalidData)?;
+    let case = Case::read(line);
     match Sweep::read(case.outside) {
         Some(sweep) => sweep.answer(alloc, images, case),
-        None => {
-            let input = images.spell(alloc, case.input)?;
-            let mut given = run::run(alloc, images, case, input)?;
-            Ok(tell::all(alloc, case.name, &mut given)?)
-        }
+        None => told(alloc, images, case),
     }
+}
+
+/// What a case gives that is run once, as text.
+fn told(alloc: Global, images: &Images, case: Case) -> io::Result<String> {
+    let mut run = run::run_case(alloc, images, case)?;
+    let mut text = tell::all(alloc, case.name, &mut run)?;
+    tell::add_kept(&mut text, images, run.keep.kept())?;
+    Ok(text)
 }

@@ -1,86 +1,133 @@
 // One run over objects in memory.
 use crate::case::Case;
 use crate::images::Images;
-use crate::outside::{keeper, no_memory, numbers, script, sink, value_of};
+use crate::outside::{keeper, no_memory, numbers, scripted, sink, value_of};
 use dev_rack::{Asked, Devices, Rack};
-use mix_io::{
-    Counter, Device, MemShelf, MemSink, MemSource, ScriptDevice, Tape, have_distinct_names,
-};
+use mix_io::{Counter, Device, MemKeep, MemShelf, MemSink, MemSource, Tape, have_distinct_names};
 use mix_top::mixed_main;
 use std::alloc::{AllocError, Global};
 use std::io::{self, ErrorKind};
 
-/// The shelf and the streams of a run.
+/// The status of a run that did all its steps.
+const LIMIT: u8 = 11;
+
+/// What stands around a run, and what it gave.
 #[derive(Drop)]
-pub struct Streams {
-    shelf: MemShelf,
+pub struct Run {
+    pub status: u8,
+    /// Whether it was cut, kept and continued.
+    pub is_continued: bool,
     pub input: MemSource,
     pub out: MemSink,
     pub trace: MemSink,
-}
-
-/// What a run gave.
-#[derive(Drop)]
-pub struct Given {
-    pub status: u8,
-    pub streams: Streams,
+    pub keep: MemKeep,
     pub asks: Vec<Asked>,
 }
 
-/// Runs a case with these bytes for its input.
-pub fn run(alloc: Global, images: &Images, case: Case, input: Vec<u8>) -> io::Result<Given> {
-    let streams = Streams::new(alloc, images, case, input)?;
-    let words = split(alloc, case.words)?;
-    let tape: Box<dyn Device> = Box::new(alloc, Tape::new(alloc).map_err(no_memory)?)?;
-    let device: Box<dyn Device> = match value_of(case.outside, "script") {
-        Some(answers) => Box::new(alloc, scripted(alloc, answers)?)?,
-        None => Box::new(alloc, Counter::new(alloc).map_err(no_memory)?)?,
-    };
-    let mut rack = Rack::new(alloc, vec![in alloc; device, tape]?).map_err(no_memory)?;
-    run_beside(alloc, &words, streams, &mut rack)
+/// Runs a case.
+pub fn run_case(alloc: Global, images: &Images, case: Case) -> io::Result<Run> {
+    let mut run = Run::new(alloc, case.outside, images.spell(alloc, case.input)?)?;
+    let mut files = shelf(alloc, images, case)?;
+    run.beside_devices(alloc, case, &mut files)?;
+    Ok(run)
 }
 
-/// Runs words beside streams and devices.
-fn run_beside<D: Devices>(
-    alloc: Global,
-    words: &[String],
-    mut streams: Streams,
-    rack: &mut D,
-) -> io::Result<Given> {
-    let mut keep = keeper(alloc)?;
-    let status = mixed_main(
-        alloc,
-        words,
-        &mut streams.shelf,
-        &mut streams.input,
-        &mut streams.out,
-        &mut streams.trace,
-        rack,
-        &mut keep,
-    );
-    let asks = rack.journal().to_vec(alloc)?;
-    Ok(Given {
-        status,
-        streams,
-        asks,
-    })
-}
-
-/// A device with the answers of a text.
-fn scripted(alloc: Global, answers: &str) -> io::Result<ScriptDevice> {
-    ScriptDevice::new(alloc, script(alloc, answers)?).map_err(no_memory)
-}
-
-impl Streams {
-    /// The shelf and the streams of a case.
-    fn new(alloc: Global, images: &Images, case: Case, input: Vec<u8>) -> io::Result<Streams> {
-        let text = case.outside;
-        Ok(Streams {
-            input: MemSource::new(input, numbers(alloc, text, "in")?),
-            shelf: shelf(alloc, images, case)?,
-            out: sink(alloc, text, "out", "out-room")?,
-            trace: sink(alloc, text, "trace", "trace-room")?,
+impl Run {
+    /// What stands around a run with this input.
+    fn new(alloc: Global, outside: &str, input: Vec<u8>) -> io::Result<Run> {
+        Ok(Run {
+            status: 0,
+            is_continued: false,
+            input: MemSource::new(input, numbers(alloc, outside, "in")?),
+            out: sink(alloc, outside, "out", "out-room")?,
+            trace: sink(alloc, outside, "trace", "trace-room")?,
+            keep: keeper(alloc, outside)?,
+            asks: Vec::new(alloc),
         })
+    }
+
+    /// Runs a case beside its devices: a counter or a script in slot 0, and a tape in slot 1.
+    fn beside_devices(
+        &mut self,
+        alloc: Global,
+        case: Case,
+        files: &mut MemShelf,
+    ) -> io::Result<()> {
+        let tape: Box<dyn Device> = Box::new(alloc, Tape::new(alloc).map_err(no_memory)?)?;
+        let device: Box<dyn Device> = match value_of(case.outside, "script") {
+            Some(answers) => Box::new(alloc, scripted(alloc, answers)?)?,
+            None => Box::new(alloc, Counter::new(alloc).map_err(no_memory)?)?,
+        };
+        let mut rack = Rack::new(alloc, vec![in alloc; device, tape]?).map_err(no_memory)?;
+        self.beside(alloc, case, files, &mut rack)
+    }
+
+    /// Runs a case beside devices.
+    fn beside<D: Devices>(
+        &mut self,
+        alloc: Global,
+        case: Case,
+        files: &mut MemShelf,
+        rack: &mut D,
+    ) -> io::Result<()> {
+        match case.cut {
+            Some(steps) => self.in_two_parts(alloc, case.words, steps, files, rack)?,
+            None => self.over(alloc, case.words, files, rack)?,
+        }
+        self.asks = rack.journal().to_vec(alloc)?;
+        Ok(())
+    }
+
+    /// Runs the words of a text for so many steps, and then what was kept.
+    fn in_two_parts<D: Devices>(
+        &mut self,
+        alloc: Global,
+        words: &str,
+        steps: u32,
+        files: &mut MemShelf,
+        rack: &mut D,
+    ) -> io::Result<()> {
+        let first = format!(in alloc; "{words} steps={steps} save=s")?;
+        self.over(alloc, first.as_str(), files, rack)?;
+        if self.status == LIMIT {
+            self.is_continued = true;
+            let mut kept = shelf_with(alloc, self.keep.kept())?;
+            return self.over(alloc, "continue image=s", &mut kept, rack);
+        }
+        Ok(())
+    }
+
+    /// Runs the words of a text over files.
+    fn over<D: Devices>(
+        &mut self,
+        alloc: Global,
+        words: &str,
+        files: &mut MemShelf,
+        rack: &mut D,
+    ) -> io::Result<()> {
+        let words = split(alloc, words)?;
+        self.call(alloc, &words, files, rack);
+        Ok(())
+    }
+
+    /// Runs words over files.
+    fn call<D: Devices>(
+        &mut self,
+        alloc: Global,
+        words: &[String],
+        files: &mut MemShelf,
+        rack: &mut D,
+    ) {
+        self.status = mixed_main(
+            alloc,
+            words,
+            files,
+            &mut self.input,
+            &mut self.out,
+            &mut self.trace,
+            rack,
+            &mut self.keep,
+        );
     }
 }
 
@@ -95,7 +142,6 @@ fn split(alloc: Global, text: &str) -> Result<Vec<String>, AllocError> {
 
 /// A shelf with the files of a case.
 fn shelf(alloc: Global, images: &Images, case: Case) -> io::Result<MemShelf> {
-    let fails = numbers(alloc, case.outside, "shelf")?;
     let mut names = Vec::new(alloc);
     let mut contents = Vec::new(alloc);
     for file in case.files.split(';') {
@@ -104,6 +150,18 @@ fn shelf(alloc: Global, images: &Images, case: Case) -> io::Result<MemShelf> {
             contents.push(images.spell(alloc, pieces)?)?;
         }
     }
+    shelf_of(names, contents, numbers(alloc, case.outside, "shelf")?)
+}
+
+/// A shelf with one file, whose name is `s`.
+fn shelf_with(alloc: Global, bytes: &[u8]) -> io::Result<MemShelf> {
+    let names = vec![in alloc; String::from_str(alloc, "s")?]?;
+    let contents = vec![in alloc; bytes.to_vec(alloc)?]?;
+    shelf_of(names, contents, Vec::new(alloc))
+}
+
+/// A shelf with these files, if no name stands twice.
+fn shelf_of(names: Vec<String>, contents: Vec<Vec<u8>>, fails: Vec<u32>) -> io::Result<MemShelf> {
     if names.len() == contents.len() && have_distinct_names(&names) {
         Ok(MemShelf::new(names, contents, fails))
     } else {

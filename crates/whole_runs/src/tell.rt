@@ -1,5 +1,6 @@
 // What runs gave, as text.
-use crate::run::Given;
+use crate::images::Images;
+use crate::run::Run;
 use dev_rack::Asked;
 use mix_io::{MemSource, Source};
 use std::alloc::{AllocError, Global};
@@ -7,30 +8,51 @@ use std::io;
 use std::str::from_utf8;
 
 /// All that a run gave: `NAME | STATUS | OUTPUT | TRACE | JOURNAL | INPUT LEFT`, with `-` for nothing.
-pub fn all(alloc: Global, name: &str, given: &mut Given) -> Result<String, AllocError> {
+pub fn all(alloc: Global, name: &str, run: &mut Run) -> Result<String, AllocError> {
     let mut text = String::from_str(alloc, name)?;
-    let status = given.status;
+    let status = run.status;
     write!(text, " | {status}")?;
-    add_field(&mut text, &bytes_text(alloc, given.streams.out.held())?)?;
-    add_field(&mut text, &lines_text(alloc, given.streams.trace.held())?)?;
-    add_field(&mut text, &asks_text(alloc, &given.asks)?)?;
-    add_field(&mut text, &left_text(alloc, &mut given.streams.input)?)?;
+    add_field(&mut text, &bytes_text(alloc, run.out.held())?)?;
+    add_field(&mut text, &lines_text(alloc, run.trace.held())?)?;
+    add_field(&mut text, &asks_text(alloc, &run.asks)?)?;
+    add_field(&mut text, &left_text(alloc, &mut run.input)?)?;
     Ok(text)
 }
 
+/// Adds what was kept, if anything was: ` | LENGTH NAME`, with the name of a file of the same bytes.
+pub fn add_kept(text: &mut String, images: &Images, kept: &[u8]) -> Result<(), AllocError> {
+    if kept.is_empty() {
+        return Ok(());
+    }
+    let (length, file) = (kept.len(), images.name_of(kept).unwrap_or("-"));
+    write!(text, " | {length} {file}")
+}
+
 /// How a run ended: the status and the last line of the trace, with `ADDRESS` for this address.
-pub fn end(alloc: Global, given: &Given, address: u32) -> io::Result<String> {
-    let status = given.status;
-    let line = from_utf8(given.streams.trace.held())
-        .unwrap_or("")
-        .lines()
-        .last();
+pub fn end(alloc: Global, run: &Run, address: u32) -> io::Result<String> {
+    let status = run.status;
+    let line = from_utf8(run.trace.held()).unwrap_or("").lines().last();
     let digits = format!(in alloc; "{address:08X}")?;
     let line = line
         .unwrap_or("")
         .replace(alloc, digits.as_str(), "ADDRESS")?;
     let line = field(line.as_str());
     Ok(format!(in alloc; "{status} {line}")?)
+}
+
+/// Why the files of a run were refused: the status and the line, with `NUMBER` for this number; or that they
+/// were not.
+pub fn refusal(alloc: Global, run: &Run, number: u32) -> io::Result<String> {
+    let status = run.status;
+    let line = from_utf8(run.trace.held()).unwrap_or("").trim();
+    if !line.starts_with("load ") {
+        return Ok(String::from_str(alloc, "runs")?);
+    }
+    let (name, last) = line.rsplit_once(' ').unwrap_or((line, ""));
+    let digits = format!(in alloc; "{number}")?;
+    let is_number = last == digits.as_str();
+    let last = if is_number { "NUMBER" } else { last };
+    Ok(format!(in alloc; "{status} {name} {last}")?)
 }
 
 /// Adds a field to a line.
