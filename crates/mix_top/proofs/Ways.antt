@@ -205,7 +205,7 @@ unloaded-plain error = record { input = refl; out = refl; trace = refl; keep = r
 way-of_refusal : (job : Job) (files : Files) (Loaded : Program → Beside → Beside → ℕ → Type 0) (old new : Beside) (error : LoadError) (result : ℕ) → new.outside ≡ old.outside → new.keep ≡ old.keep
     → Gives (Err error) (load_of files job.main (ram_size job)) → Closes old.trace new.trace [] (unloaded_line error) (unloaded_status error) result → LoadWay job files Loaded old new result
 way-of_refusal job files Loaded old new NoMemory result same kept gives closes = no_memory (record { outside = same; keep = kept; trace = closes })
-way-of_refusal job files Loaded old new error result same kept gives closes = refused error (gives (other error tt)) (record { outside = same; keep = kept; trace = closes })
+way-of_refusal job files Loaded old new error result same kept gives closes = refused error (other error tt) (gives (other error tt)) (record { outside = same; keep = kept; trace = closes })
 
 pub ends-unloaded : (save : Option (List ℕ)) (job : Job) (files : Files) (Loaded : Program → Beside → Beside → ℕ → Type 0) (old new : Beside) (error : LoadError) (result : ℕ)
     → new.outside ≡ old.outside → new.keep ≡ old.keep

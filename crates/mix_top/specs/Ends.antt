@@ -1,7 +1,7 @@
 -- The ways in which a call of the program ends, each with its cause. This is the whole promise of the public call:
 -- whatever the words, the files, the input, the answers of the devices and the failures of the outside are, one of
 -- these holds.
-use Rattle.std.specs.Prelude.{◌≡◌, ℕ, List, ◌∷◌, ◌++◌, Option, Ok, Err}
+use Rattle.std.specs.Prelude.{◌≡◌, ◌≢◌, ℕ, List, ◌∷◌, ◌++◌, Option, Ok, Err}
 use Rattle.std.specs.Option.{option_and_then, option_map}
 use Rattle.std.specs.Result.{result_ok}
 use Rattle.mix_io.specs.Counts.{CountsStay, CountRose}
@@ -11,6 +11,7 @@ use Rattle.mix_engine.specs.Start.{start_of}
 use Rattle.mix_list.specs.Listing.{listing}
 use Rattle.mix_load.specs.Load.{load_of}
 use Rattle.mix_load.specs.declared.error.LoadError.{LoadError}
+use Rattle.mix_load.specs.declared.error.LoadError.TheVariants.{NoMemory}
 use Rattle.mix_load.specs.declared.files.Files.{Files}
 use Rattle.mix_sample.specs.Samples.{IsSample, sample_ram, sample_steps}
 use Rattle.mix_sample.specs.declared.sampled.Ending.{Ending}
@@ -46,7 +47,7 @@ pub data LoadWay (job : Job) (files : Files) (Loaded : Program → Beside → Be
   -- there was no memory for the program
   no_memory : Early old new memory_line 9 result → LoadWay job files Loaded old new result
   -- the first rule of the loader that is broken
-  refused : (error : LoadError) → load_of files job.main (ram_size job) ≡ Err error
+  refused : (error : LoadError) → error ≢ NoMemory → load_of files job.main (ram_size job) ≡ Err error
       → Early old new (load_line (load_refusal error)) 3 result
       → LoadWay job files Loaded old new result
   -- the program was loaded
