@@ -1,4 +1,6 @@
 pub mod Complete
 pub mod Printed
+pub mod Alike
+pub mod Same
 pub mod Prefix
 pub mod TakenBack

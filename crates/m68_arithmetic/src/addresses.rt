@@ -12,8 +12,7 @@ ghost use Rattle.m68_arithmetic.specs.Parts.{into_address as into_address_of};
 use super::ways::{Way, away};
 use big_memory::{Did, Ram};
 use m68_ea::{go_on, source, usual_source};
-use m68_isa::Regs68;
-use m68_ops::{Op68, bit8_of, lower_of, mode_of, upper_of};
+use m68_isa::{Op68, Regs68, bit8_of, lower_of, mode_of, upper_of};
 use mix_bits::{Fault, Size, sext};
 
 /// adda: an address register goes onward by an operand.

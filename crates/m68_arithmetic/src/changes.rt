@@ -7,8 +7,7 @@ use m68_effects::{
     Operation, change, change_by_immediate, change_by_register, change_register, change_sized,
     take_operand, take_register,
 };
-use m68_isa::Regs68;
-use m68_ops::{Op68, mode_of};
+use m68_isa::{Op68, Regs68, mode_of};
 use mix_bits::{Fault, Size};
 
 /// add of an operand to a data register.

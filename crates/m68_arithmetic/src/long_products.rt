@@ -16,8 +16,9 @@ ghost use Rattle.m68_alu.specs.Products.{long_answer, long_divided, long_multipl
 use big_memory::{Did, Ram, stop};
 use m68_alu::{mul_long, signed_long_quotient, unsigned_long_quotient};
 use m68_ea::{go_on, source, word_at};
-use m68_isa::Regs68;
-use m68_ops::{Op68, high_of, is_register_word, is_signed, is_wide, low_of, lower_of, mode_of};
+use m68_isa::{
+    Op68, Regs68, high_of, is_register_word, is_signed, is_wide, low_of, lower_of, mode_of,
+};
 use mix_bits::{Fault, FaultKind, Size, trunc};
 
 /// mulu.l and muls.l: the product of a data register and an operand, as a long or as two. A data register as the

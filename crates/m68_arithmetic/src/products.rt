@@ -14,8 +14,7 @@ ghost use Rattle.m68_effects.specs.Ops.{by_op};
 use big_memory::{Did, Ram, stop};
 use m68_alu::{Quotient, div, mul};
 use m68_ea::{go_on, source};
-use m68_isa::{Ccr, Regs68};
-use m68_ops::{Op68, lower_of, mode_of, upper_of};
+use m68_isa::{Ccr, Op68, Regs68, lower_of, mode_of, upper_of};
 use mix_bits::{Fault, FaultKind, Size, sext};
 
 /// mulu: a long of two words without signs.

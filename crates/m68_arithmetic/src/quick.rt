@@ -12,8 +12,7 @@ use super::ways::{Way, away};
 use big_memory::{Did, Ram};
 use m68_ea::go_on;
 use m68_effects::{Operation, change_operand, change_register};
-use m68_isa::Regs68;
-use m68_ops::{Op68, lower_of, mode_of, quick_of};
+use m68_isa::{Op68, Regs68, lower_of, mode_of, quick_of};
 use mix_bits::Fault;
 
 /// addq: a number from 1 to 8 to an operand.

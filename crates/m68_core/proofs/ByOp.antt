@@ -9,11 +9,11 @@ use Rattle.m68_isa.specs.declared.instructions.Decoded68.TheVariants.{Short, Lin
 use Rattle.m68_isa.specs.declared.found.Found.{Found}
 use Rattle.m68_isa.specs.declared.found.Found.TheVariants.{Made, Privileged as NotAllowed, Illegal as NoInstruction}
 use Rattle.m68_isa.specs.First.{first_of}
-use Rattle.m68_isa.specs.Decode.{ended, decoded}
-use Rattle.m68_ops.specs.declared.op.Op68.{Op68}
-use Rattle.m68_ops.specs.declared.op.Op68.TheVariants.{Ori, Andi, Subi, Addi, Eori, Cmpi, LogicToCcr, BitByNumber, BitByRegister, Movep, MoveByte, MoveWord, MoveLong, MoveaWord, MoveaLong, Negx, Clr, Neg, Not, MoveFromSr, MoveToCcr, Nbcd, Swap, Pea, Ext, ExtByte, MovemToMemory, MovemFromMemory, MulLong, DivLong, Tst, Tas, Trap, Link, LinkLong, Unlk, Nop, Rtd, Rts, Trapv, Rtr, Jsr, Jmp, Chk, Lea, Addq, Subq, Scc, Dbcc, BraByte, BraWord, BraLong, BsrByte, BsrWord, BsrLong, BccByte, BccWord, BccLong, Moveq, OrToRegister, OrToMemory, Divu, Divs, Sbcd, SubToRegister, SubToMemory, Suba, Subx, Cmp, Cmpa, Eor, Cmpm, AndToRegister, AndToMemory, Mulu, Muls, Abcd, Exg, AddToRegister, AddToMemory, Adda, Addx, Shift, ShiftMemory, Illegal, Privileged, LineA, LineF}
-use Rattle.m68_ops.specs.Ops.{made, read, Reads}
-use Rattle.m68_ops.specs.Laws.{OpLaws, whole}
+use Rattle.m68_isa.specs.Decode.{ended, operation, read, decoded}
+use Rattle.m68_isa.specs.declared.op.Op68.{Op68}
+use Rattle.m68_isa.specs.declared.op.Op68.TheVariants.{Ori, Andi, Subi, Addi, Eori, Cmpi, LogicToCcr, BitByNumber, BitByRegister, Movep, MoveByte, MoveWord, MoveLong, MoveaWord, MoveaLong, Negx, Clr, Neg, Not, MoveFromSr, MoveToCcr, Nbcd, Swap, Pea, Ext, ExtByte, MovemToMemory, MovemFromMemory, MulLong, DivLong, Tst, Tas, Trap, Link, LinkLong, Unlk, Nop, Rtd, Rts, Trapv, Rtr, Jsr, Jmp, Chk, Lea, Addq, Subq, Scc, Dbcc, BraByte, BraWord, BraLong, BsrByte, BsrWord, BsrLong, BccByte, BccWord, BccLong, Moveq, OrToRegister, OrToMemory, Divu, Divs, Sbcd, SubToRegister, SubToMemory, Suba, Subx, Cmp, Cmpa, Eor, Cmpm, AndToRegister, AndToMemory, Mulu, Muls, Abcd, Exg, AddToRegister, AddToMemory, Adda, Addx, Shift, ShiftMemory, Illegal, Privileged, LineA, LineF}
+use Rattle.m68_isa.specs.Made.{made}
+use Rattle.m68_isa.specs.Needs.{OpLaws, whole}
 use Rattle.big_memory.specs.Memory.{Memory}
 use Rattle.m68_ea.specs.Words.{words_at}
 use Rattle.m68_effects.specs.Ops.{by_op, runs_made}
@@ -128,8 +128,8 @@ list-of : (w : ℕ) (ws : List ℕ) → 0 < length ws → w ≡ slice_index ws 0
 list-of w [] some first = absurd (omega (arith, some))
 list-of w (v ∷ vs) some first = ap (λ x. x ∷ vs) (sym first)
 
-is-read : (op : Op68) (w : ℕ) (ws : List ℕ) → Reads op w → ws ≡ w ∷ drop 1 ws → decoded ws ≡ read op (first_of w) ws
-is-read op w ws reads is = ap decoded is ∙ (reads (drop 1 ws) ∙ ap (read op (first_of w)) (sym is))
+is-read : (op : Op68) (w : ℕ) (ws : List ℕ) → op ≡ operation (first_of w) → ws ≡ w ∷ drop 1 ws → decoded ws ≡ read op (first_of w) ws
+is-read op w ws its is = ap decoded is ∙ (ap (λ o. read o (first_of w) (w ∷ drop 1 ws)) (sym its) ∙ ap (read op (first_of w)) (sym is))
 
 now-there : (ws : List ℕ) (d : Decoded68) → decoded ws ≡ d → IsThere ws → (5 ≤ length ws) ⊎ (d ≢ Short)
 now-there ws d is there = subst (λ x. (5 ≤ length ws) ⊎ (x ≢ Short)) is there
@@ -138,10 +138,10 @@ even-goes : (r : Regs68) (m : Memory) → r.pc % 2 ≡ 0 → stepped r m ≡ run
 unfolding stepped
 even-goes r m even = rw even refl
 
-pub step_by_op : (laws : OpLaws) (r : Regs68) (m : Memory) (w : ℕ) (op : Op68) → r.pc % 2 ≡ 0 → IsFirst w (words_at m r.pc) → IsThere (words_at m r.pc) → Reads op w
+pub step_by_op : (laws : OpLaws) (r : Regs68) (m : Memory) (w : ℕ) (op : Op68) → r.pc % 2 ≡ 0 → IsFirst w (words_at m r.pc) → IsThere (words_at m r.pc) → op ≡ operation (first_of w)
     → stepped r m ≡ by_op op r m w
-step_by_op laws r m w op even (some, first) there reads =
-    let is : decoded (words_at m r.pc) ≡ read op (first_of w) (words_at m r.pc) = is-read op w (words_at m r.pc) reads (list-of w (words_at m r.pc) some first) in
+step_by_op laws r m w op even (some, first) there its =
+    let is : decoded (words_at m r.pc) ≡ read op (first_of w) (words_at m r.pc) = is-read op w (words_at m r.pc) its (list-of w (words_at m r.pc) some first) in
     even-goes r m even ∙ (ap (runs_decoded r m (words_at m r.pc)) is ∙ read-runs laws r m w op first (now-there (words_at m r.pc) _ is there))
 
 -- a step that is none of an operation: the program is at an odd address, or a word of its instruction is missing

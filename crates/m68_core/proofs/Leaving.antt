@@ -6,9 +6,11 @@ use Rattle.m68_isa.specs.declared.instructions.Decoded68.{Decoded68}
 use Rattle.m68_isa.specs.declared.instructions.Decoded68.TheVariants.{Op, LineA, LineF, Privileged, Illegal, Short}
 use Rattle.m68_isa.specs.declared.found.Found.{Found}
 use Rattle.m68_isa.specs.declared.found.Found.TheVariants.{Made, Privileged as NotAllowed, Illegal as NoInstruction}
-use Rattle.m68_isa.specs.First.{first_of}
-use Rattle.m68_isa.specs.Rows.{chosen}
-use Rattle.m68_isa.specs.Decode.{ended, decoded, rows_of}
+use Rattle.m68_isa.specs.declared.op.Op68.{Op68}
+use Rattle.m68_isa.specs.declared.op.Op68.TheVariants.{LineA as OpLineA, LineF as OpLineF}
+use Rattle.m68_isa.specs.First.{First, first_of}
+use Rattle.m68_isa.specs.Made.{made}
+use Rattle.m68_isa.specs.Decode.{ended, operation, read, decoded}
 use Rattle.big_memory.specs.declared.steps.Did.{Did}
 use Rattle.big_memory.specs.declared.steps.Did.TheVariants.{Leave}
 use Rattle.big_memory.specs.Memory.{Memory}
@@ -40,14 +42,14 @@ ended-stays (Made i used good) count n is = short-or _ good (Op i used) n (λ e.
 ended-stays NotAllowed count n is = cc
 ended-stays NoInstruction count n is = cc
 
-by-line : (ten fifteen : Bool) (w n : ℕ) (d : Decoded68) → (d ≡ LineA n → ⊥) → (if ten then LineA w else if fifteen then LineF else d) ≡ LineA n → n ≡ w
-by-line true fifteen w n d other is = cc
-by-line false true w n d other is = cc
-by-line false false w n d other is = absurd (other is)
+read-leaves : (op : Op68) (f : First) (ws : List ℕ) (n : ℕ) → read op f ws ≡ LineA n → n ≡ slice_index ws 0
+read-leaves OpLineA f ws n is = cc
+read-leaves OpLineF f ws n is = cc
+read-leaves op f ws n is = absurd (ended-stays (made op f ws) (length ws) n is)
 
 decoded-leaves : (ws : List ℕ) (n : ℕ) → decoded ws ≡ LineA n → n ≡ slice_index ws 0
 decoded-leaves [] n is = cc
-decoded-leaves (w ∷ ws) n is = by-line _ _ w n _ (ended-stays (chosen (rows_of (first_of w)) (first_of w) (w ∷ ws)) (length (w ∷ ws)) n) is
+decoded-leaves (w ∷ ws) n is = let f = first_of w in read-leaves (operation f) f (w ∷ ws) n is
 
 odd-or : (odd : Bool) (fault : Fault) (x : After Regs68) (n : ℕ) → (if odd then Stops fault else x) ≡ Leaves n → x ≡ Leaves n
 odd-or true fault x n is = cc

@@ -6,12 +6,11 @@ ghost use Rattle.m68_effects.specs.Control.{called, counted as counted_of};
 ghost use Rattle.m68_effects.specs.Parts.{after};
 ghost use Rattle.m68_effects.specs.Ops.{by_op};
 ghost use Rattle.m68_isa.specs.Targets.{branch_target as target_of};
-ghost use Rattle.m68_ops.specs.Ops.{Fits};
+ghost use Rattle.m68_isa.specs.Fits.{Fits};
 
 use big_memory::{Did, Ram};
 use m68_ea::{extended_word, go_on, long_at, push};
-use m68_isa::{Regs68, branch_target, holds};
-use m68_ops::{Op68, byte_of, condition_of, lower_of};
+use m68_isa::{Op68, Regs68, branch_target, byte_of, condition_of, holds, lower_of};
 use mix_bits::{Fault, Size, onward, with_low};
 
 /// bra, its displacement in the low byte of the word.

@@ -1,7 +1,7 @@
 // The operations of first words, one by one.
 ghost use Rattle.big_memory.specs.Steps.{Does};
 ghost use Rattle.m68_effects.specs.Ops.{by_op};
-ghost use Rattle.m68_ops.specs.Ops.{Fits};
+ghost use Rattle.m68_isa.specs.Fits.{Fits};
 
 use super::branches::{
     do_bcc_byte, do_bcc_long, do_bcc_word, do_bra_byte, do_bra_long, do_bra_word, do_bsr_byte,
@@ -16,7 +16,7 @@ use m68_arithmetic::{
     do_mulu, do_nbcd, do_neg, do_negx, do_sbcd, do_sub_to_memory, do_sub_to_register, do_suba,
     do_subi, do_subq, do_subx,
 };
-use m68_isa::Regs68;
+use m68_isa::{Op68, Regs68};
 use m68_logic::{
     do_and_to_memory, do_and_to_register, do_andi, do_bit_by_number, do_bit_by_register, do_eor,
     do_eori, do_not, do_or_to_memory, do_or_to_register, do_ori, do_shift, do_shift_memory,
@@ -27,7 +27,6 @@ use m68_movement::{
     do_movea_word, do_movem_from_memory, do_movem_to_memory, do_movep, do_moveq, do_pea, do_scc,
     do_swap, do_tas, do_tst, do_unlk,
 };
-use m68_ops::Op68;
 use mix_bits::Fault;
 
 /// Does what the operation of an instruction's first word does.

@@ -10,8 +10,7 @@ use super::laws::step_law;
 use super::words::{has_five, is_short, read_words};
 use big_memory::{Did, Ram, stop};
 use m68_ea::word_at;
-use m68_isa::Regs68;
-use m68_ops::op_of;
+use m68_isa::{Regs68, op_of};
 use mix_bits::{Fault, FaultKind, onward};
 
 /// What a step of 68K code did.

@@ -1,12 +1,11 @@
 // Exceptions, words that are no instruction of a program, and the instruction that does nothing.
 ghost use Rattle.big_memory.specs.Steps.{Does};
 ghost use Rattle.m68_effects.specs.Ops.{by_op};
-ghost use Rattle.m68_ops.specs.Ops.{Fits};
+ghost use Rattle.m68_isa.specs.Fits.{Fits};
 
 use big_memory::{Did, Ram, leave, stop};
 use m68_ea::go_on;
-use m68_isa::Regs68;
-use m68_ops::{Op68, trap_of};
+use m68_isa::{Op68, Regs68, trap_of};
 use mix_bits::{Fault, FaultKind};
 
 /// The vector of trapv.

@@ -6,9 +6,9 @@ use Rattle.m68_isa.specs.declared.registers.Regs68.{Regs68}
 use Rattle.m68_isa.specs.declared.found.Found.{Found}
 use Rattle.m68_isa.specs.declared.found.Found.TheVariants.{Made, Privileged, Illegal}
 use Rattle.m68_isa.specs.First.{first_of}
-use Rattle.m68_ops.specs.declared.op.Op68.{Op68}
-use Rattle.m68_ops.specs.declared.op.Op68.TheVariants.{LineA, LineF}
-use Rattle.m68_ops.specs.Ops.{made}
+use Rattle.m68_isa.specs.declared.op.Op68.{Op68}
+use Rattle.m68_isa.specs.declared.op.Op68.TheVariants.{LineA, LineF}
+use Rattle.m68_isa.specs.Made.{made}
 use Rattle.big_memory.specs.Memory.{Memory}
 use Rattle.big_memory.specs.Steps.{After}
 use Rattle.big_memory.specs.Steps.After.{Leaves}

@@ -15,8 +15,7 @@ use m68_ea::{
     data_address, find, find_usual, go_on, immediate_at, immediate_words, load, put, put_at,
     put_usual, value,
 };
-use m68_isa::Regs68;
-use m68_ops::{lower_of, mode_of, size_bits_of, upper_of};
+use m68_isa::{Regs68, lower_of, mode_of, size_bits_of, upper_of};
 use mix_bits::{Fault, Size, trunc, with_low};
 
 /// Changes an operand of this size by an operation with a number. Its extension words begin with word `first`.

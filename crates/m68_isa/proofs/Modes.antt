@@ -1,6 +1,6 @@
 -- Each operand is in the class of its row, and each size one of its row: computed over all first words, whatever
 -- words follow.
-use Rattle.std.proofs.Common.{ℕ, ◌≡◌, ◌^◌, ◌<◌, ◌==◌, ◌&&◌, nat_lt, Bool, true, false, if◌then◌else◌, List, ◌∷◌, length, refl, sym, ap, ◌∙◌}
+use Rattle.std.proofs.Common.{ℕ, ◌≡◌, ◌^◌, ◌<◌, ◌&&◌, nat_lt, Bool, true, false, if◌then◌else◌, List, ◌∷◌, length, refl, sym, ap, ◌∙◌}
 use Rattle.std.proofs.lemmas.Bool.{and_parts}
 use Rattle.mix_bits.specs.Ranges.{every}
 use Rattle.mix_bits.proofs.Every.{every_at}
@@ -9,11 +9,14 @@ use Rattle.m68_isa.specs.declared.instructions.Decoded68.{Decoded68}
 use Rattle.m68_isa.specs.declared.instructions.Decoded68.TheVariants.{Op, LineA, LineF, Privileged, Illegal, Short}
 use Rattle.m68_isa.specs.declared.found.Found.{Found}
 use Rattle.m68_isa.specs.declared.found.Found.TheVariants.{Made, Privileged as RowPrivileged, Illegal as RowIllegal}
-use Rattle.m68_isa.specs.First.{first_of}
-use Rattle.m68_isa.specs.Rows.{chosen}
-use Rattle.m68_isa.specs.Decode.{rows_of, decoded, ended}
+use Rattle.m68_isa.specs.declared.op.Op68.{Op68}
+use Rattle.m68_isa.specs.declared.op.Op68.TheVariants.{LineA as OpLineA, LineF as OpLineF}
+use Rattle.m68_isa.specs.First.{First, first_of}
+use Rattle.m68_isa.specs.Made.{made}
+use Rattle.m68_isa.specs.Decode.{operation, read, decoded, ended}
 use Rattle.m68_isa.specs.Modes.{has_modes}
 use Rattle.m68_isa.specs.Widths.{has_size}
+use Rattle.m68_isa.proofs.Quarters.{every_quarter}
 
 abbrev is_good : Instr68 → Bool
 is_good i = has_size i && has_modes i
@@ -31,8 +34,21 @@ is_decoded_good Privileged = true
 is_decoded_good Illegal = true
 is_decoded_good Short = true
 
-in_rows : (ws : List ℕ) → every 16 0 (λ w. is_found_good (chosen (rows_of (first_of w)) (first_of w) (w ∷ ws))) ≡ true
-in_rows ws = refl
+-- what a first word's row makes of any words
+abbrev is_word_good : List ℕ → ℕ → Bool
+is_word_good ws w = is_found_good (made (operation (first_of w)) (first_of w) (w ∷ ws))
+
+quarter_0 : (ws : List ℕ) → every 14 0 (is_word_good ws) ≡ true
+quarter_0 ws = refl
+
+quarter_1 : (ws : List ℕ) → every 14 1 (is_word_good ws) ≡ true
+quarter_1 ws = refl
+
+quarter_2 : (ws : List ℕ) → every 14 2 (is_word_good ws) ≡ true
+quarter_2 ws = refl
+
+quarter_3 : (ws : List ℕ) → every 14 3 (is_word_good ws) ≡ true
+quarter_3 ws = refl
 
 either : (b : Bool) (x y : Decoded68) → is_decoded_good x ≡ true → is_decoded_good y ≡ true → is_decoded_good (if b then x else y) ≡ true
 either true x y first second = first
@@ -43,11 +59,15 @@ in_ended (Made i used good) count is = either (nat_lt count used) Short _ refl (
 in_ended RowPrivileged count is = refl
 in_ended RowIllegal count is = refl
 
+in_read : (op : Op68) (f : First) (ws : List ℕ) → is_found_good (made op f ws) ≡ true → is_decoded_good (read op f ws) ≡ true
+in_read OpLineA f ws is = refl
+in_read OpLineF f ws is = refl
+in_read op f ws is = in_ended (made op f ws) (length ws) is
+
 in_decoded : (w : ℕ) (ws : List ℕ) → w < 2 ^ 16 → is_decoded_good (decoded (w ∷ ws)) ≡ true
 in_decoded w ws below =
     let f = first_of w in
-    let found : is_found_good (chosen (rows_of f) f (w ∷ ws)) ≡ true = every_at 16 (λ v. is_found_good (chosen (rows_of (first_of v)) (first_of v) (v ∷ ws))) w (in_rows ws) below in
-    either (f.line == 10) (LineA w) _ refl (either (f.line == 15) LineF _ refl (in_ended (chosen (rows_of f) f (w ∷ ws)) (length (w ∷ ws)) found))
+    in_read (operation f) f (w ∷ ws) (every_at 16 (is_word_good ws) w (every_quarter 14 (is_word_good ws) (quarter_0 ws) (quarter_1 ws) (quarter_2 ws) (quarter_3 ws)) below)
 
 good : (w : ℕ) (ws : List ℕ) (i : Instr68) (used : ℕ) → w < 2 ^ 16 → decoded (w ∷ ws) ≡ Op i used → is_good i ≡ true
 good w ws i used below is = sym (ap is_decoded_good is) ∙ in_decoded w ws below

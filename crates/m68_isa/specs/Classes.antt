@@ -3,8 +3,19 @@
 use Rattle.std.specs.Prelude.{ℕ, ◌==◌, ◌&&◌, ◌||◌, not, nat_lt, Bool, true, false}
 use Rattle.mix_bits.specs.declared.size.Size.{Size}
 use Rattle.mix_bits.specs.declared.size.Size.TheVariants.{Zero, One, Two, Four}
-use Rattle.m68_isa.specs.declared.classes.Class.{Class}
-use Rattle.m68_isa.specs.declared.classes.Class.TheVariants.{Any, Data, Alterable, DataAlterable, MemoryAlterable, Control, ControlAlterable}
+
+pub data Class : Type 0 where
+  -- all modes
+  Any : Class
+  -- all but an address register
+  Data : Class
+  -- what can be changed
+  Alterable : Class
+  DataAlterable : Class
+  MemoryAlterable : Class
+  -- memory without a change of a register
+  Control : Class
+  ControlAlterable : Class
 
 -- mode 7 has several modes, by the register: two absolute ones, two with the program
 -- counter, and immediate

@@ -1,59 +1,66 @@
 -- The table of the 68000's instructions, and what the words of one are
 -- (M68000 Family Programmer's Reference Manual, section 8).
-use Rattle.std.specs.Prelude.{ℕ, ◌==◌, nat_lt, if◌then◌else◌, List, [], ◌∷◌, length}
+use Rattle.std.specs.Prelude.{ℕ, ◌==◌, ◌&&◌, ◌||◌, nat_lt, Bool, true, if◌then◌else◌, List, [], ◌∷◌, length, slice_index}
 use Rattle.m68_isa.specs.declared.instructions.Decoded68.{Decoded68}
-use Rattle.m68_isa.specs.declared.instructions.Decoded68.TheVariants.{Op, LineA, LineF, Privileged, Illegal, Short}
-use Rattle.m68_isa.specs.declared.first.First.{First}
+use Rattle.m68_isa.specs.declared.instructions.Decoded68.TheVariants as Decoded
 use Rattle.m68_isa.specs.declared.found.Found.{Found}
-use Rattle.m68_isa.specs.declared.found.Found.TheVariants.{Made, Privileged as RowPrivileged, Illegal as RowIllegal}
-use Rattle.m68_isa.specs.First.{first_of}
-use Rattle.m68_isa.specs.Rows.{Row, chosen}
+use Rattle.m68_isa.specs.declared.found.Found.TheVariants.{Made, Privileged, Illegal}
+use Rattle.m68_isa.specs.declared.op.Op68.{Op68}
+use Rattle.m68_isa.specs.declared.op.Op68.TheVariants.{LineA, LineF}
+use Rattle.m68_isa.specs.First.{First, first_of}
+use Rattle.m68_isa.specs.Rows.{Row, Section, section, chosen, rows_in}
 use Rattle.m68_isa.specs.Immediates.{rows_0_even, rows_0_odd}
-use Rattle.m68_isa.specs.Moves.{rows_move}
+use Rattle.m68_isa.specs.Moves.{rows_1, rows_2, rows_3}
 use Rattle.m68_isa.specs.Miscellaneous.{rows_4_one, rows_4_8, rows_4_test, rows_4_control, rows_4_jump, rows_4_odd}
 use Rattle.m68_isa.specs.Branches.{rows_5, rows_6, rows_7}
 use Rattle.m68_isa.specs.Arithmetic.{rows_8, rows_9, rows_B, rows_C, rows_D}
 use Rattle.m68_isa.specs.Shifts.{rows_E}
+use Rattle.m68_isa.specs.Made.{made}
 
--- line 4 by bit 8, then by bits 11 to 9
-abbrev pub rows_4 : First → List Row
-rows_4 f =
-    if f.bit8 == 1 then rows_4_odd
-    else if nat_lt f.upper 4 then rows_4_one
-    else if f.upper == 4 then rows_4_8
-    else if nat_lt f.upper 7 then rows_4_test
-    else if f.size == 1 then rows_4_control
-    else rows_4_jump
+abbrev pub all : First → Bool
+all f = true
 
--- the rows of a line, which is bits 15 to 12
-abbrev pub rows_of : First → List Row
-rows_of f =
-    if f.line == 0 then (if f.bit8 == 0 then rows_0_even else rows_0_odd)
-    else if f.line == 1 then rows_move
-    else if f.line == 2 then rows_move
-    else if f.line == 3 then rows_move
-    else if f.line == 4 then rows_4 f
-    else if f.line == 5 then rows_5
-    else if f.line == 6 then rows_6
-    else if f.line == 7 then rows_7
-    else if f.line == 8 then rows_8
-    else if f.line == 9 then rows_9
-    else if f.line == 11 then rows_B
-    else if f.line == 12 then rows_C
-    else if f.line == 13 then rows_D
-    else if f.line == 14 then rows_E
-    else []
+-- line 0 by bit 8, line 4 by bits 11 to 6
+abbrev pub table : List Section
+table =
+    section 0 (λ f. f.bit8 == 0) rows_0_even
+    ∷ section 0 (λ f. f.bit8 == 1) rows_0_odd
+    ∷ section 1 all rows_1
+    ∷ section 2 all rows_2
+    ∷ section 3 all rows_3
+    ∷ section 4 (λ f. (f.bit8 == 0) && nat_lt f.upper 4) rows_4_one
+    ∷ section 4 (λ f. (f.bit8 == 0) && (f.upper == 4)) rows_4_8
+    ∷ section 4 (λ f. (f.bit8 == 0) && ((f.upper == 5) || (f.upper == 6))) rows_4_test
+    ∷ section 4 (λ f. (f.bit8 == 0) && (f.upper == 7) && (f.size == 1)) rows_4_control
+    ∷ section 4 (λ f. (f.bit8 == 0) && (f.upper == 7) && nat_lt 1 f.size) rows_4_jump
+    ∷ section 4 (λ f. f.bit8 == 1) rows_4_odd
+    ∷ section 5 all rows_5
+    ∷ section 6 all rows_6
+    ∷ section 7 all rows_7
+    ∷ section 8 all rows_8
+    ∷ section 9 all rows_9
+    ∷ section 11 all rows_B
+    ∷ section 12 all rows_C
+    ∷ section 13 all rows_D
+    ∷ section 14 all rows_E
+    ∷ []
 
--- a row needs all its words first, and good index words then
+-- the operation of a first word: that of its row, but for lines A and F
+abbrev pub operation : First → Op68
+operation f = if f.line == 10 then LineA else if f.line == 15 then LineF else chosen (rows_in table f) f
+
+-- an operation needs all its words first, and good index words then
 abbrev pub ended : Found → ℕ → Decoded68
-ended (Made i used good) count = if nat_lt count used then Short else if good then Op i used else Illegal
-ended RowPrivileged count = Privileged
-ended RowIllegal count = Illegal
+ended (Made i used good) count = if nat_lt count used then Decoded.Short else if good then Decoded.Op i used else Decoded.Illegal
+ended Privileged count = Decoded.Privileged
+ended Illegal count = Decoded.Illegal
+
+-- what the words of an operation are; the words of lines A and F need no further word
+abbrev pub read : Op68 → First → List ℕ → Decoded68
+read LineA f ws = Decoded.LineA (slice_index ws 0)
+read LineF f ws = Decoded.LineF
+read op f ws = ended (made op f ws) (length ws)
 
 abbrev pub decoded : List ℕ → Decoded68
-decoded [] = Short
-decoded (w ∷ ws) =
-    let f = first_of w in
-    if f.line == 10 then LineA w
-    else if f.line == 15 then LineF
-    else ended (chosen (rows_of f) f (w ∷ ws)) (length (w ∷ ws))
+decoded [] = Decoded.Short
+decoded (w ∷ ws) = let f = first_of w in read (operation f) f (w ∷ ws)

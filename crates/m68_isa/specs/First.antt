@@ -4,7 +4,19 @@ use Rattle.std.specs.Prelude.{ℕ, ◌+◌, ◌*◌, ◌<◌, ◌==◌, if◌the
 use Rattle.mix_bits.specs.Digits.{digit_of}
 use Rattle.mix_bits.specs.declared.size.Size.{Size}
 use Rattle.mix_bits.specs.declared.size.Size.TheVariants.{One, Two, Four}
-use Rattle.m68_isa.specs.declared.first.First.{First}
+
+pub record First : Type 0 where
+  -- bits 15 to 12
+  pub line : ℕ
+  -- bits 11 to 9, mostly a register
+  pub upper : ℕ
+  pub bit8 : ℕ
+  -- bits 7 and 6, mostly a size
+  pub size : ℕ
+  -- bits 5 to 3, mostly a mode
+  pub mode : ℕ
+  -- bits 2 to 0, mostly a register
+  pub lower : ℕ
 
 abbrev pub first_of : ℕ → First
 first_of w = record { line = digit_of w 12 4; upper = digit_of w 9 3; bit8 = digit_of w 8 1; size = digit_of w 6 2; mode = digit_of w 3 3; lower = digit_of w 0 3 }

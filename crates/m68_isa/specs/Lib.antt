@@ -6,7 +6,6 @@ pub mod Classes
 pub mod Operands
 pub mod Fields
 pub mod Extended
-pub mod Places
 pub mod Rows
 pub mod Products
 pub mod Immediates
@@ -16,7 +15,10 @@ pub mod Targets
 pub mod Branches
 pub mod Arithmetic
 pub mod Shifts
+pub mod Made
 pub mod Decode
+pub mod Fits
 pub mod Modes
 pub mod Widths
 pub mod Laws
+pub mod Needs

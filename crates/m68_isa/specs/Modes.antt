@@ -4,13 +4,12 @@ use Rattle.std.specs.Prelude.{ℕ, ◌&&◌, ◌||◌, ◌==◌, not, Bool, true
 use Rattle.mix_bits.specs.declared.size.Size.{Size}
 use Rattle.m68_isa.specs.declared.ea.Ea.{Ea}
 use Rattle.m68_isa.specs.declared.ea.Ea.TheVariants.{Dn, An, Ind, Post, Pre, Disp, Indexed, AbsWord, AbsLong, PcDisp, PcIndexed, Imm}
-use Rattle.m68_isa.specs.declared.classes.Class.{Class}
-use Rattle.m68_isa.specs.declared.classes.Class.TheVariants.{Any, Data, Alterable, DataAlterable, MemoryAlterable, Control, ControlAlterable}
+use Rattle.m68_isa.specs.Classes.Class.{Any, Data, Alterable, DataAlterable, MemoryAlterable, Control, ControlAlterable}
 use Rattle.m68_isa.specs.declared.instructions.BitOp.{BitOp}
 use Rattle.m68_isa.specs.declared.instructions.BitOp.TheVariants.{Btst, Bchg, Bclr, Bset}
 use Rattle.m68_isa.specs.declared.instructions.Instr68.{Instr68}
 use Rattle.m68_isa.specs.declared.instructions.Instr68.TheVariants.{Immediate, ImmediateToCcr, BitByRegister, BitByNumber, Movep, Move, Movea, Negx, Clr, Neg, Not, MoveFromSr, MoveToCcr, Nbcd, Swap, Pea, Ext, MovemToMemory, MovemFromMemory, MulLong, DivLong, Tst, Tas, Trap, Link, Unlk, Nop, Rtd, Rts, Trapv, Rtr, Jsr, Jmp, Chk, Lea, Addq, Subq, Scc, Dbcc, Bcc, Moveq, Or, Div, Sbcd, Sub, Suba, Subx, Cmp, Cmpa, Eor, Cmpm, And, Mul, Abcd, Exg, Add, Adda, Addx, Shift, ShiftMemory}
-use Rattle.m68_isa.specs.Classes.{in_class, is_source}
+use Rattle.m68_isa.specs.Classes.{Class, in_class, is_source}
 
 -- the mode's three bits and the register's, of which mode 7 makes modes of its own
 abbrev pub mode_of : Ea → ℕ

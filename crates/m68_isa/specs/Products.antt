@@ -5,9 +5,9 @@ use Rattle.mix_bits.specs.Digits.{digit_of}
 use Rattle.mix_bits.specs.declared.size.Size.TheVariants.{Four}
 use Rattle.m68_isa.specs.declared.ea.Ea.{Ea}
 use Rattle.m68_isa.specs.declared.instructions.Instr68.{Instr68}
-use Rattle.m68_isa.specs.declared.first.First.{First}
 use Rattle.m68_isa.specs.declared.found.Found.{Found}
 use Rattle.m68_isa.specs.declared.found.Found.TheVariants.{Made}
+use Rattle.m68_isa.specs.First.{First}
 use Rattle.m68_isa.specs.Operands.{operand_at}
 
 -- bits 14 to 12: the register of the product's or the dividend's low 32 bits

@@ -1,23 +1,34 @@
 -- The shape of the table of instructions
 -- (M68000 Family Programmer's Reference Manual, section 8).
-use Rattle.std.specs.Prelude.{ℕ, List, [], ◌∷◌, Bool, true, if◌then◌else◌}
+use Rattle.std.specs.Prelude.{ℕ, ◌==◌, ◌&&◌, List, [], ◌∷◌, Bool, true, if◌then◌else◌}
 use Rattle.mix_bits.specs.declared.size.Size.{Size}
 use Rattle.m68_isa.specs.declared.ea.Ea.{Ea}
 use Rattle.m68_isa.specs.declared.instructions.Instr68.{Instr68}
+use Rattle.m68_isa.specs.declared.op.Op68.{Op68}
+use Rattle.m68_isa.specs.declared.op.Op68.TheVariants.{Illegal}
 use Rattle.m68_isa.specs.declared.operand.Operand.{Operand}
-use Rattle.m68_isa.specs.declared.first.First.{First}
 use Rattle.m68_isa.specs.declared.found.Found.{Found}
-use Rattle.m68_isa.specs.declared.found.Found.TheVariants.{Made, Illegal}
+use Rattle.m68_isa.specs.declared.found.Found.TheVariants.{Made}
+use Rattle.m68_isa.specs.First.{First}
 use Rattle.m68_isa.specs.Operands.{operand_at}
 
--- a row: which first words it has, and what it makes of the words of such an instruction
+-- a row: which first words of its section it has, and their operation
 pub data Row : Type 0 where
-  row : (First → Bool) → (First → List ℕ → Found) → Row
+  row : (First → Bool) → Op68 → Row
 
--- the first row that has the first word; no row is illegal
-abbrev pub chosen : List Row → First → List ℕ → Found
-chosen [] f ws = Illegal
-chosen (row has makes ∷ rows) f ws = if has f then makes f ws else chosen rows f ws
+-- the operation of the first row that has the first word; a word in no row is illegal
+abbrev pub chosen : List Row → First → Op68
+chosen [] f = Illegal
+chosen (row has op ∷ rows) f = if has f then op else chosen rows f
+
+-- a section: its line, which is bits 15 to 12; which of the line's first words it has; and its rows
+pub data Section : Type 0 where
+  section : ℕ → (First → Bool) → List Row → Section
+
+-- the rows of a first word's section
+abbrev pub rows_in : List Section → First → List Row
+rows_in [] f = []
+rows_in (section line has rows ∷ sections) f = if (f.line == line) && has f then rows else rows_in sections f
 
 -- an instruction of so many words, none of which is an index word
 abbrev pub words : ℕ → Instr68 → Found

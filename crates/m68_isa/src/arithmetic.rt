@@ -1,271 +1,162 @@
 ghost use Rattle.std.specs.Prelude.{◌≡◌};
-ghost use Rattle.m68_isa.specs.First.{IsFirst};
-ghost use Rattle.m68_isa.specs.Fields.{HasFound};
-ghost use Rattle.m68_isa.specs.Extended.{IsExtendedFound};
-ghost use Rattle.m68_isa.specs.Places.{HasPlacesFound};
-ghost use Rattle.m68_isa.specs.Rows.{chosen};
-ghost use Rattle.m68_isa.specs.Arithmetic.{is_either_way, exchange, is_exchange, rows_8, rows_9, rows_B, rows_C, rows_D};
+ghost use Rattle.m68_isa.specs.First.{first_of};
+ghost use Rattle.m68_isa.specs.Arithmetic.{is_exchange};
+ghost use Rattle.m68_isa.specs.Decode.{operation};
+ghost use Rattle.m68_isa.specs.Fits.{Fits};
 
-use super::classes::{Class, in_class, is_source};
-use super::first::{First, long_or_word, size_of};
-use super::found::{Found, alone, with};
-use super::instructions::{Exchange, Instr68};
-use super::operand::operand_at;
-use mix_bits::Size;
+use super::fields::{mode_of, size_bits_of};
+use super::op::Op68;
+use super::places::{
+    is_any, is_any_sized, is_data, is_data_alterable, is_memory_alterable, is_odd, is_sized,
+};
 
-/// Whether the operand can be the source for a data register, where `source` tells of that, or
-/// the destination for it, by bit 8.
-fn is_either_way(f: First, source: bool) -> bool
-    ensures { result ≡ is_either_way f source }
+/// Words 1000: or, division, sbcd.
+pub fn line_8(word: u32) -> Op68
+    requires { (first_of word).line ≡ 8 }
+    ensures value { result ≡ operation (first_of word) }
+    ensures fits { Fits result word }
 {
-    let memory = in_class(Class::MemoryAlterable, f.mode, f.lower);
-    if f.bit8 == 0 { source } else { memory }
-}
-
-/// Words 1000.
-pub fn disjunction_and_division(f: First, words: &[u16]) -> Found
-    requires { IsFirst f }
-    ensures value { result ≡ chosen rows_8 f words.now }
-    ensures fields { HasFound result }
-    ensures extended { IsExtendedFound result }
-    ensures places { HasPlacesFound result }
-{
-    let size = size_of(f.size);
-    let data = in_class(Class::Data, f.mode, f.lower);
-    let either = is_either_way(f, data);
-    if f.size < 3 && either {
-        let operand = operand_at(words, 1, size, f.mode, f.lower);
-        with(
-            Instr68::Or {
-                size,
-                to_memory: f.bit8 == 1,
-                register: f.upper,
-                operand: operand.ea,
-            },
-            operand,
-        )
-    } else if f.size == 3 && data {
-        let by = operand_at(words, 1, Size::Two, f.mode, f.lower);
-        with(
-            Instr68::Div {
-                signed: f.bit8 == 1,
-                by: by.ea,
-                register: f.upper,
-            },
-            by,
-        )
-    } else if f.bit8 == 1 && f.size == 0 && f.mode < 2 {
-        alone(Instr68::Sbcd {
-            memory: f.mode == 1,
-            from: f.lower,
-            to: f.upper,
-        })
+    let odd = is_odd(word);
+    if !is_sized(word) {
+        if !is_data(word) {
+            Op68::Illegal
+        } else if odd {
+            Op68::Divs
+        } else {
+            Op68::Divu
+        }
+    } else if !odd {
+        if is_data(word) {
+            Op68::OrToRegister
+        } else {
+            Op68::Illegal
+        }
+    } else if is_memory_alterable(word) {
+        Op68::OrToMemory
+    } else if size_bits_of(word) == 0 && mode_of(word) < 2 {
+        Op68::Sbcd
     } else {
-        Found::Illegal
+        Op68::Illegal
     }
 }
 
-/// Words 1001.
-pub fn subtraction(f: First, words: &[u16]) -> Found
-    requires { IsFirst f }
-    ensures value { result ≡ chosen rows_9 f words.now }
-    ensures fields { HasFound result }
-    ensures extended { IsExtendedFound result }
-    ensures places { HasPlacesFound result }
+/// Words 1001: subtraction.
+pub fn line_9(word: u32) -> Op68
+    requires { (first_of word).line ≡ 9 }
+    ensures value { result ≡ operation (first_of word) }
+    ensures fits { Fits result word }
 {
-    let size = size_of(f.size);
-    let any = is_source(Class::Any, size, f.mode, f.lower);
-    let either = is_either_way(f, any);
-    if f.size < 3 && either {
-        let operand = operand_at(words, 1, size, f.mode, f.lower);
-        with(
-            Instr68::Sub {
-                size,
-                to_memory: f.bit8 == 1,
-                register: f.upper,
-                operand: operand.ea,
-            },
-            operand,
-        )
-    } else if f.size == 3 && any {
-        let size = long_or_word(f.bit8);
-        let from = operand_at(words, 1, size, f.mode, f.lower);
-        with(
-            Instr68::Suba {
-                size,
-                from: from.ea,
-                to: f.upper,
-            },
-            from,
-        )
-    } else if f.bit8 == 1 && f.size < 3 && f.mode < 2 {
-        alone(Instr68::Subx {
-            size,
-            memory: f.mode == 1,
-            from: f.lower,
-            to: f.upper,
-        })
+    if !is_sized(word) {
+        if is_any(word) {
+            Op68::Suba
+        } else {
+            Op68::Illegal
+        }
+    } else if !is_odd(word) {
+        if is_any_sized(word) {
+            Op68::SubToRegister
+        } else {
+            Op68::Illegal
+        }
+    } else if is_memory_alterable(word) {
+        Op68::SubToMemory
+    } else if mode_of(word) < 2 {
+        Op68::Subx
     } else {
-        Found::Illegal
+        Op68::Illegal
     }
 }
 
-/// Words 1011.
-pub fn comparison(f: First, words: &[u16]) -> Found
-    requires { IsFirst f }
-    ensures value { result ≡ chosen rows_B f words.now }
-    ensures fields { HasFound result }
-    ensures extended { IsExtendedFound result }
-    ensures places { HasPlacesFound result }
+/// Words 1011: comparison, eor.
+pub fn line_b(word: u32) -> Op68
+    requires { (first_of word).line ≡ 11 }
+    ensures value { result ≡ operation (first_of word) }
+    ensures fits { Fits result word }
 {
-    let size = size_of(f.size);
-    let any = is_source(Class::Any, size, f.mode, f.lower);
-    let alterable = in_class(Class::DataAlterable, f.mode, f.lower);
-    let operand = operand_at(words, 1, size, f.mode, f.lower);
-    let register = f.upper;
-    if f.bit8 == 0 && f.size < 3 && any {
-        let with_register = Instr68::Cmp {
-            size,
-            with: operand.ea,
-            register,
-        };
-        with(with_register, operand)
-    } else if f.size == 3 && any {
-        let size = long_or_word(f.bit8);
-        let operand = operand_at(words, 1, size, f.mode, f.lower);
-        let with_address = Instr68::Cmpa {
-            size,
-            with: operand.ea,
-            register,
-        };
-        with(with_address, operand)
-    } else if f.bit8 == 1 && f.size < 3 && alterable {
-        let to = operand.ea;
-        with(Instr68::Eor { size, register, to }, operand)
-    } else if f.bit8 == 1 && f.size < 3 && f.mode == 1 {
-        alone(Instr68::Cmpm {
-            size,
-            from: f.lower,
-            to: register,
-        })
+    if !is_sized(word) {
+        if is_any(word) {
+            Op68::Cmpa
+        } else {
+            Op68::Illegal
+        }
+    } else if !is_odd(word) {
+        if is_any_sized(word) {
+            Op68::Cmp
+        } else {
+            Op68::Illegal
+        }
+    } else if is_data_alterable(word) {
+        Op68::Eor
+    } else if mode_of(word) == 1 {
+        Op68::Cmpm
     } else {
-        Found::Illegal
+        Op68::Illegal
     }
 }
 
-/// Whether a word 1100 is one of exg.
-fn is_exchange(f: First) -> bool
-    ensures { result ≡ is_exchange f }
+/// Words 1100: and, multiplication, abcd, exg.
+pub fn line_c(word: u32) -> Op68
+    requires { (first_of word).line ≡ 12 }
+    ensures value { result ≡ operation (first_of word) }
+    ensures fits { Fits result word }
 {
-    let same = f.size == 1 && f.mode < 2;
-    let both = f.size == 2 && f.mode == 1;
-    f.bit8 == 1 && (same || both)
-}
-
-/// Which registers such a word exchanges.
-fn exchange(f: First) -> Exchange
-    ensures { result ≡ exchange f }
-{
-    if f.size == 2 {
-        Exchange::DataAddress
-    } else if f.mode == 1 {
-        Exchange::Address
+    let odd = is_odd(word);
+    if !is_sized(word) {
+        if !is_data(word) {
+            Op68::Illegal
+        } else if odd {
+            Op68::Muls
+        } else {
+            Op68::Mulu
+        }
+    } else if !odd {
+        if is_data(word) {
+            Op68::AndToRegister
+        } else {
+            Op68::Illegal
+        }
+    } else if is_memory_alterable(word) {
+        Op68::AndToMemory
+    } else if size_bits_of(word) == 0 && mode_of(word) < 2 {
+        Op68::Abcd
+    } else if is_exchange(word) {
+        Op68::Exg
     } else {
-        Exchange::Data
+        Op68::Illegal
     }
 }
 
-/// Words 1100.
-pub fn conjunction_and_multiplication(f: First, words: &[u16]) -> Found
-    requires { IsFirst f }
-    ensures value { result ≡ chosen rows_C f words.now }
-    ensures fields { HasFound result }
-    ensures extended { IsExtendedFound result }
-    ensures places { HasPlacesFound result }
+/// Whether a word 1100 is one of exg: bits 8 to 3 are 101000, 101001 or 110001.
+fn is_exchange(word: u32) -> bool
+    ensures { result ≡ is_exchange (first_of word) }
 {
-    let size = size_of(f.size);
-    let data = in_class(Class::Data, f.mode, f.lower);
-    let either = is_either_way(f, data);
-    let exchanges = is_exchange(f);
-    if f.size < 3 && either {
-        let operand = operand_at(words, 1, size, f.mode, f.lower);
-        with(
-            Instr68::And {
-                size,
-                to_memory: f.bit8 == 1,
-                register: f.upper,
-                operand: operand.ea,
-            },
-            operand,
-        )
-    } else if f.size == 3 && data {
-        let by = operand_at(words, 1, Size::Two, f.mode, f.lower);
-        with(
-            Instr68::Mul {
-                signed: f.bit8 == 1,
-                by: by.ea,
-                register: f.upper,
-            },
-            by,
-        )
-    } else if f.bit8 == 1 && f.size == 0 && f.mode < 2 {
-        alone(Instr68::Abcd {
-            memory: f.mode == 1,
-            from: f.lower,
-            to: f.upper,
-        })
-    } else if exchanges {
-        alone(Instr68::Exg {
-            kind: exchange(f),
-            upper: f.upper,
-            lower: f.lower,
-        })
-    } else {
-        Found::Illegal
-    }
+    let form = word / 8 % 64;
+    form == 0b10_1000 || form == 0b10_1001 || form == 0b11_0001
 }
 
-/// Words 1101.
-pub fn addition(f: First, words: &[u16]) -> Found
-    requires { IsFirst f }
-    ensures value { result ≡ chosen rows_D f words.now }
-    ensures fields { HasFound result }
-    ensures extended { IsExtendedFound result }
-    ensures places { HasPlacesFound result }
+/// Words 1101: addition.
+pub fn line_d(word: u32) -> Op68
+    requires { (first_of word).line ≡ 13 }
+    ensures value { result ≡ operation (first_of word) }
+    ensures fits { Fits result word }
 {
-    let size = size_of(f.size);
-    let any = is_source(Class::Any, size, f.mode, f.lower);
-    let either = is_either_way(f, any);
-    if f.size < 3 && either {
-        let operand = operand_at(words, 1, size, f.mode, f.lower);
-        with(
-            Instr68::Add {
-                size,
-                to_memory: f.bit8 == 1,
-                register: f.upper,
-                operand: operand.ea,
-            },
-            operand,
-        )
-    } else if f.size == 3 && any {
-        let size = long_or_word(f.bit8);
-        let from = operand_at(words, 1, size, f.mode, f.lower);
-        with(
-            Instr68::Adda {
-                size,
-                from: from.ea,
-                to: f.upper,
-            },
-            from,
-        )
-    } else if f.bit8 == 1 && f.size < 3 && f.mode < 2 {
-        alone(Instr68::Addx {
-            size,
-            memory: f.mode == 1,
-            from: f.lower,
-            to: f.upper,
-        })
+    if !is_sized(word) {
+        if is_any(word) {
+            Op68::Adda
+        } else {
+            Op68::Illegal
+        }
+    } else if !is_odd(word) {
+        if is_any_sized(word) {
+            Op68::AddToRegister
+        } else {
+            Op68::Illegal
+        }
+    } else if is_memory_alterable(word) {
+        Op68::AddToMemory
+    } else if mode_of(word) < 2 {
+        Op68::Addx
     } else {
-        Found::Illegal
+        Op68::Illegal
     }
 }

@@ -1,6 +1,17 @@
 ghost use Rattle.m68_isa.specs.Laws.{TableLaws};
+ghost use Rattle.m68_isa.specs.Needs.{IsKept, OpLaws};
 
 /// What holds of the table of instructions as a whole. It does nothing: the clause is its point.
 pub fn table_laws()
     ensures { TableLaws }
+{}
+
+/// What holds of every operation. It does nothing: the clause is its point.
+pub fn op_laws()
+    ensures { OpLaws }
+{}
+
+/// That the reading of an instruction depends on no word behind its own. The clause is its point.
+pub fn reading_law(word: u32)
+    ensures { IsKept word }
 {}

@@ -1,37 +1,47 @@
 //! The 68000 as a program sees it: its registers, and its instructions as words, with the user instructions of the
 //! 68020 that are taken: long branches, extb.l, link.l, rtd, long multiplication and division, scaled index.
 //!
-//! `decode68` gives exactly what the table of `specs/Decode` makes of the words, and no first word is in two rows
-//! of its section.
+//! The table of `specs/Decode` gives each first word its operation, and `op_of` answers it; the fields of the word
+//! stand beside it one by one. `decode68` gives the instruction that the operation makes of the words. No first word
+//! is in two rows.
 #![tactic(auto)]
 
 mod arithmetic;
-mod branches;
-mod classes;
 mod conditions;
 mod decode;
 mod ea;
-mod first;
+mod fields;
 mod found;
 mod immediates;
 mod instructions;
 mod laws;
+mod made;
 mod miscellaneous;
 mod moves;
+mod op;
 mod operand;
-mod products;
+mod places;
+mod read;
 mod register_longs;
+mod register_word;
 mod registers;
-mod shifts;
 mod target;
 
 pub use conditions::{condition_law, holds};
 pub use decode::decode68;
 pub use ea::{Ea, Index};
+pub use fields::{
+    bit_op_of, bit8_of, byte_of, condition_of, exchange_of, is_in_memory, is_left, is_to_memory,
+    line_of, logic_op_of, lower_of, memory_shift_of, mode_of, move_mode_of, quick_of,
+    register_shift_of, shift_count_of, size_bits_of, size_of, transfer_size_of, trap_of, upper_of,
+};
 pub use instructions::{
     BitOp, Decoded68, Exchange, ImmediateOp, Instr68, LogicOp, ShiftCount, ShiftOp,
 };
-pub use laws::table_laws;
+pub use laws::{op_laws, reading_law, table_laws};
+pub use op::Op68;
+pub use read::op_of;
 pub use register_longs::long_laws;
+pub use register_word::{high_of, is_register_word, is_signed, is_wide, low_of};
 pub use registers::{Ccr, Regs68};
 pub use target::branch_target;

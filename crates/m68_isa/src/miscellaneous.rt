@@ -1,250 +1,278 @@
-ghost use Rattle.std.specs.Prelude.{◌≡◌};
-ghost use Rattle.m68_isa.specs.First.{IsFirst};
-ghost use Rattle.m68_isa.specs.Fields.{HasFound, HasFields};
-ghost use Rattle.m68_isa.specs.Extended.{IsExtended, IsExtendedFound};
-ghost use Rattle.m68_isa.specs.Places.{HasPlaces, HasPlacesFound};
-ghost use Rattle.m68_isa.specs.Rows.{chosen};
-ghost use Rattle.m68_isa.specs.Miscellaneous.{extension, rows_4_one, rows_4_8, rows_4_test, rows_4_control, rows_4_jump, rows_4_odd};
+ghost use Rattle.std.specs.Prelude.{◌≡◌, ◌≢◌, ◌<◌};
+ghost use Rattle.m68_isa.specs.First.{first_of};
+ghost use Rattle.m68_isa.specs.Decode.{operation};
+ghost use Rattle.m68_isa.specs.Fits.{Fits};
 
-use super::classes::{Class, in_class};
-use super::first::{First, long_or_word, size_of};
-use super::found::{Found, alone, pair, triple, with};
-use super::instructions::Instr68;
-use super::operand::{extended_word, long_at, operand_at, word_at};
-use super::products::{division, multiplication};
-use mix_bits::Size;
+use super::fields::{bit8_of, lower_of, mode_of, size_bits_of, upper_of};
+use super::op::Op68;
+use super::places::{
+    is_control, is_control_alterable, is_control_or_post, is_data, is_data_alterable, is_sized,
+};
 
-/// Words 0100 0xx0.
-pub fn one_operand(f: First, words: &[u16]) -> Found
-    requires { IsFirst f }
-    ensures value { result ≡ chosen rows_4_one f words.now }
-    ensures fields { HasFound result }
-    ensures extended { IsExtendedFound result }
-    ensures places { HasPlacesFound result }
+/// Words 0100.
+#[inline(always)]
+pub fn line_4(word: u32) -> Op68
+    requires { (first_of word).line ≡ 4 }
+    ensures value { result ≡ operation (first_of word) }
+    ensures fits { Fits result word }
 {
-    let alterable = in_class(Class::DataAlterable, f.mode, f.lower);
-    let data = in_class(Class::Data, f.mode, f.lower);
-    let size = size_of(f.size);
-    let sized = f.size < 3 && alterable;
-    let from = operand_at(words, 1, Size::Two, f.mode, f.lower);
-    let to = operand_at(words, 1, size, f.mode, f.lower);
-    if f.upper == 0 && sized {
-        with(Instr68::Negx { size, to: to.ea }, to)
-    } else if f.upper == 1 && sized {
-        with(Instr68::Clr { size, to: to.ea }, to)
-    } else if f.upper == 2 && sized {
-        with(Instr68::Neg { size, to: to.ea }, to)
-    } else if f.upper == 3 && sized {
-        with(Instr68::Not { size, to: to.ea }, to)
-    } else if f.upper == 0 && f.size == 3 && alterable {
-        with(Instr68::MoveFromSr { to: from.ea }, from)
-    } else if f.upper == 2 && f.size == 3 && data {
-        with(Instr68::MoveToCcr { from: from.ea }, from)
-    } else if f.upper == 3 && f.size == 3 && data {
-        Found::Privileged
+    if bit8_of(word) == 1 {
+        checks_and_addresses(word)
     } else {
-        Found::Illegal
+        match upper_of(word) {
+            4 => registers_and_bytes(word),
+            5 => tests(word),
+            6 => loads(word),
+            7 => if size_bits_of(word) == 1 {
+                control(word)
+            } else {
+                jumps(word)
+            },
+            _ => one_operand(word),
+        }
     }
 }
 
-/// ext by bit 6: of a byte to a word, of a word to a long.
-fn extension(f: First) -> Instr68
-    requires { IsFirst f }
-    ensures value { result ≡ extension f }
-    ensures fields { HasFields result }
-    ensures extended { IsExtended result 1 }
-    ensures places { HasPlaces result }
+/// Words 0100 0xx0.
+fn one_operand(word: u32) -> Op68
+    requires line { (first_of word).line ≡ 4 }
+    requires even { (first_of word).bit8 ≡ 0 }
+    requires upper { (first_of word).upper < 4 }
+    ensures value { result ≡ operation (first_of word) }
+    ensures fits { Fits result word }
 {
-    let register = f.lower;
-    let (from, to) = if f.size % 2 == 0 {
-        (Size::One, Size::Two)
-    } else {
-        (Size::Two, Size::Four)
-    };
-    Instr68::Ext { from, to, register }
+    if size_bits_of(word) == 3 {
+        return status(word);
+    }
+    if !is_data_alterable(word) {
+        return Op68::Illegal;
+    }
+    match upper_of(word) {
+        0 => Op68::Negx,
+        1 => Op68::Clr,
+        2 => Op68::Neg,
+        _ => Op68::Not,
+    }
+}
+
+/// Words 0100 0xx0 11: moves from and to the status register.
+fn status(word: u32) -> Op68
+    requires line { (first_of word).line ≡ 4 }
+    requires even { (first_of word).bit8 ≡ 0 }
+    requires upper { (first_of word).upper < 4 }
+    requires size { (first_of word).size ≡ 3 }
+    ensures value { result ≡ operation (first_of word) }
+    ensures fits { Fits result word }
+{
+    match upper_of(word) {
+        0 => if is_data_alterable(word) {
+            Op68::MoveFromSr
+        } else {
+            Op68::Illegal
+        },
+        2 => if is_data(word) {
+            Op68::MoveToCcr
+        } else {
+            Op68::Illegal
+        },
+        3 => if is_data(word) {
+            Op68::Privileged
+        } else {
+            Op68::Illegal
+        },
+        _ => Op68::Illegal,
+    }
 }
 
 /// Words 0100 1000.
-pub fn registers_and_bytes(f: First, words: &[u16]) -> Found
-    requires { IsFirst f }
-    ensures value { result ≡ chosen rows_4_8 f words.now }
-    ensures fields { HasFound result }
-    ensures extended { IsExtendedFound result }
-    ensures places { HasPlacesFound result }
+fn registers_and_bytes(word: u32) -> Op68
+    requires line { (first_of word).line ≡ 4 }
+    requires even { (first_of word).bit8 ≡ 0 }
+    requires upper { (first_of word).upper ≡ 4 }
+    ensures value { result ≡ operation (first_of word) }
+    ensures fits { Fits result word }
 {
-    let alterable = in_class(Class::DataAlterable, f.mode, f.lower);
-    let control = in_class(Class::Control, f.mode, f.lower);
-    let saved = in_class(Class::ControlAlterable, f.mode, f.lower) || f.mode == 4;
-    let size = long_or_word(f.size % 2);
-    if f.size == 0 && alterable {
-        let to = operand_at(words, 1, Size::One, f.mode, f.lower);
-        with(Instr68::Nbcd { to: to.ea }, to)
-    } else if f.size == 0 && f.mode == 1 {
-        triple(Instr68::Link {
-            size: Size::Four,
-            register: f.lower,
-            disp: long_at(words, 1),
-        })
-    } else if f.size == 1 && f.mode == 0 {
-        alone(Instr68::Swap { register: f.lower })
-    } else if f.size == 1 && control {
-        let from = operand_at(words, 1, Size::Four, f.mode, f.lower);
-        with(Instr68::Pea { from: from.ea }, from)
-    } else if f.size > 1 && f.mode == 0 {
-        alone(extension(f))
-    } else if f.size > 1 && saved {
-        let mask = word_at(words, 1);
-        let to = operand_at(words, 2, size, f.mode, f.lower);
-        with(
-            Instr68::MovemToMemory {
-                size,
-                mask,
-                to: to.ea,
-            },
-            to,
-        )
-    } else {
-        Found::Illegal
+    match size_bits_of(word) {
+        0 => {
+            if is_data_alterable(word) {
+                Op68::Nbcd
+            } else if mode_of(word) == 1 {
+                Op68::LinkLong
+            } else {
+                Op68::Illegal
+            }
+        }
+        1 => {
+            if mode_of(word) == 0 {
+                Op68::Swap
+            } else if is_control(word) {
+                Op68::Pea
+            } else {
+                Op68::Illegal
+            }
+        }
+        _ => extensions_and_saves(word),
     }
 }
 
-/// Words 0100 1010 and 0100 1100.
-pub fn tests_and_loads(f: First, words: &[u16]) -> Found
-    requires { IsFirst f }
-    ensures value { result ≡ chosen rows_4_test f words.now }
-    ensures fields { HasFound result }
-    ensures extended { IsExtendedFound result }
-    ensures places { HasPlacesFound result }
+/// Words 0100 1000 1.
+fn extensions_and_saves(word: u32) -> Op68
+    requires line { (first_of word).line ≡ 4 }
+    requires even { (first_of word).bit8 ≡ 0 }
+    requires upper { (first_of word).upper ≡ 4 }
+    requires size { 1 < (first_of word).size }
+    ensures value { result ≡ operation (first_of word) }
+    ensures fits { Fits result word }
 {
-    let alterable = in_class(Class::DataAlterable, f.mode, f.lower);
-    let data = in_class(Class::Data, f.mode, f.lower);
-    let loaded = in_class(Class::Control, f.mode, f.lower) || f.mode == 3;
-    if f.upper == 5 && f.size < 3 && alterable {
-        let size = size_of(f.size);
-        let of = operand_at(words, 1, size, f.mode, f.lower);
-        with(Instr68::Tst { size, of: of.ea }, of)
-    } else if f.upper == 5 && f.size == 3 && alterable {
-        let to = operand_at(words, 1, Size::One, f.mode, f.lower);
-        with(Instr68::Tas { to: to.ea }, to)
-    } else if f.upper == 5 && f.size == 3 && f.mode == 7 && f.lower == 4 {
-        Found::Illegal
-    } else if f.upper == 6 && f.size == 0 && data {
-        multiplication(f, words)
-    } else if f.upper == 6 && f.size == 1 && data {
-        division(f, words)
-    } else if f.upper == 6 && f.size > 1 && loaded {
-        let size = long_or_word(f.size % 2);
-        let mask = word_at(words, 1);
-        let from = operand_at(words, 2, size, f.mode, f.lower);
-        with(
-            Instr68::MovemFromMemory {
-                size,
-                mask,
-                from: from.ea,
-            },
-            from,
-        )
+    if mode_of(word) == 0 {
+        Op68::Ext
+    } else if is_control_alterable(word) || mode_of(word) == 4 {
+        Op68::MovemToMemory
     } else {
-        Found::Illegal
+        Op68::Illegal
+    }
+}
+
+/// Words 0100 1010.
+fn tests(word: u32) -> Op68
+    requires line { (first_of word).line ≡ 4 }
+    requires even { (first_of word).bit8 ≡ 0 }
+    requires upper { (first_of word).upper ≡ 5 }
+    ensures value { result ≡ operation (first_of word) }
+    ensures fits { Fits result word }
+{
+    if !is_data_alterable(word) {
+        Op68::Illegal
+    } else if is_sized(word) {
+        Op68::Tst
+    } else {
+        Op68::Tas
+    }
+}
+
+/// Words 0100 1100.
+fn loads(word: u32) -> Op68
+    requires line { (first_of word).line ≡ 4 }
+    requires even { (first_of word).bit8 ≡ 0 }
+    requires upper { (first_of word).upper ≡ 6 }
+    ensures value { result ≡ operation (first_of word) }
+    ensures fits { Fits result word }
+{
+    match size_bits_of(word) {
+        0 => if is_data(word) {
+            Op68::MulLong
+        } else {
+            Op68::Illegal
+        },
+        1 => if is_data(word) {
+            Op68::DivLong
+        } else {
+            Op68::Illegal
+        },
+        _ => restores(word),
+    }
+}
+
+/// Words 0100 1100 1.
+fn restores(word: u32) -> Op68
+    requires line { (first_of word).line ≡ 4 }
+    requires even { (first_of word).bit8 ≡ 0 }
+    requires upper { (first_of word).upper ≡ 6 }
+    requires size { 1 < (first_of word).size }
+    ensures value { result ≡ operation (first_of word) }
+    ensures fits { Fits result word }
+{
+    if is_control_or_post(word) {
+        Op68::MovemFromMemory
+    } else {
+        Op68::Illegal
     }
 }
 
 /// Words 0100 1110 01.
-pub fn control(f: First, words: &[u16]) -> Found
-    requires { IsFirst f }
-    ensures value { result ≡ chosen rows_4_control f words.now }
-    ensures fields { HasFound result }
-    ensures extended { IsExtendedFound result }
-    ensures places { HasPlacesFound result }
+fn control(word: u32) -> Op68
+    requires line { (first_of word).line ≡ 4 }
+    requires even { (first_of word).bit8 ≡ 0 }
+    requires upper { (first_of word).upper ≡ 7 }
+    requires size { (first_of word).size ≡ 1 }
+    ensures value { result ≡ operation (first_of word) }
+    ensures fits { Fits result word }
 {
-    let last = f.mode == 6;
-    if f.mode < 2 {
-        alone(Instr68::Trap {
-            number: f.mode * 8 + f.lower,
-        })
-    } else if f.mode == 2 {
-        pair(Instr68::Link {
-            size: Size::Two,
-            register: f.lower,
-            disp: extended_word(words, 1),
-        })
-    } else if f.mode == 3 {
-        alone(Instr68::Unlk { register: f.lower })
-    } else if f.mode == 4 || f.mode == 5 {
-        Found::Privileged
-    } else if last && matches!(f.lower, 0 | 2 | 3) {
-        Found::Privileged
-    } else if last && f.lower == 1 {
-        alone(Instr68::Nop)
-    } else if last && f.lower == 4 {
-        pair(Instr68::Rtd {
-            disp: extended_word(words, 1),
-        })
-    } else if last && f.lower == 5 {
-        alone(Instr68::Rts)
-    } else if last && f.lower == 6 {
-        alone(Instr68::Trapv)
-    } else if last && f.lower == 7 {
-        alone(Instr68::Rtr)
-    } else {
-        Found::Illegal
+    match mode_of(word) {
+        0 => Op68::Trap,
+        1 => Op68::Trap,
+        2 => Op68::Link,
+        3 => Op68::Unlk,
+        4 => Op68::Privileged,
+        5 => Op68::Privileged,
+        6 => returns(word),
+        _ => Op68::Illegal,
     }
 }
 
-/// Words 0100 1110 1.
-pub fn jumps(f: First, words: &[u16]) -> Found
-    requires { IsFirst f }
-    ensures value { result ≡ chosen rows_4_jump f words.now }
-    ensures fields { HasFound result }
-    ensures extended { IsExtendedFound result }
-    ensures places { HasPlacesFound result }
+/// Words 0100 1110 0111 0.
+fn returns(word: u32) -> Op68
+    requires line { (first_of word).line ≡ 4 }
+    requires even { (first_of word).bit8 ≡ 0 }
+    requires upper { (first_of word).upper ≡ 7 }
+    requires size { (first_of word).size ≡ 1 }
+    requires mode { (first_of word).mode ≡ 6 }
+    ensures value { result ≡ operation (first_of word) }
+    ensures fits { Fits result word }
 {
-    let control = in_class(Class::Control, f.mode, f.lower);
-    let to = operand_at(words, 1, Size::Four, f.mode, f.lower);
-    if f.size == 2 && control {
-        with(Instr68::Jsr { to: to.ea }, to)
-    } else if f.size == 3 && control {
-        with(Instr68::Jmp { to: to.ea }, to)
-    } else {
-        Found::Illegal
+    match lower_of(word) {
+        0 => Op68::Privileged,
+        1 => Op68::Nop,
+        2 => Op68::Privileged,
+        3 => Op68::Privileged,
+        4 => Op68::Rtd,
+        5 => Op68::Rts,
+        6 => Op68::Trapv,
+        _ => Op68::Rtr,
+    }
+}
+
+/// Words 0100 1110 but 01.
+fn jumps(word: u32) -> Op68
+    requires line { (first_of word).line ≡ 4 }
+    requires even { (first_of word).bit8 ≡ 0 }
+    requires upper { (first_of word).upper ≡ 7 }
+    requires size { (first_of word).size ≢ 1 }
+    ensures value { result ≡ operation (first_of word) }
+    ensures fits { Fits result word }
+{
+    if !is_control(word) {
+        return Op68::Illegal;
+    }
+    match size_bits_of(word) {
+        2 => Op68::Jsr,
+        3 => Op68::Jmp,
+        _ => Op68::Illegal,
     }
 }
 
 /// Words 0100 xxx1.
-pub fn checks_and_addresses(f: First, words: &[u16]) -> Found
-    requires { IsFirst f }
-    ensures value { result ≡ chosen rows_4_odd f words.now }
-    ensures fields { HasFound result }
-    ensures extended { IsExtendedFound result }
-    ensures places { HasPlacesFound result }
+fn checks_and_addresses(word: u32) -> Op68
+    requires line { (first_of word).line ≡ 4 }
+    requires odd { (first_of word).bit8 ≡ 1 }
+    ensures value { result ≡ operation (first_of word) }
+    ensures fits { Fits result word }
 {
-    let data = in_class(Class::Data, f.mode, f.lower);
-    let control = in_class(Class::Control, f.mode, f.lower);
-    if f.size == 2 && data {
-        let bound = operand_at(words, 1, Size::Two, f.mode, f.lower);
-        with(
-            Instr68::Chk {
-                bound: bound.ea,
-                register: f.upper,
-            },
-            bound,
-        )
-    } else if f.size == 3 && control {
-        let from = operand_at(words, 1, Size::Four, f.mode, f.lower);
-        with(
-            Instr68::Lea {
-                from: from.ea,
-                to: f.upper,
-            },
-            from,
-        )
-    } else if f.upper == 4 && f.size == 3 && f.mode == 0 {
-        alone(Instr68::Ext {
-            from: Size::One,
-            to: Size::Four,
-            register: f.lower,
-        })
-    } else {
-        Found::Illegal
+    match size_bits_of(word) {
+        2 => if is_data(word) {
+            Op68::Chk
+        } else {
+            Op68::Illegal
+        },
+        3 => {
+            if is_control(word) {
+                Op68::Lea
+            } else if upper_of(word) == 4 && mode_of(word) == 0 {
+                Op68::ExtByte
+            } else {
+                Op68::Illegal
+            }
+        }
+        _ => Op68::Illegal,
     }
 }

@@ -1,71 +1,55 @@
-ghost use Rattle.std.specs.Prelude.{◌≡◌, ◌≢◌};
-ghost use Rattle.m68_isa.specs.First.{IsFirst};
-ghost use Rattle.m68_isa.specs.Fields.{HasFound};
-ghost use Rattle.m68_isa.specs.Extended.{IsExtendedFound};
-ghost use Rattle.m68_isa.specs.Places.{HasPlacesFound};
-ghost use Rattle.m68_isa.specs.Rows.{chosen};
-ghost use Rattle.m68_isa.specs.Moves.{move_size, move_mode, rows_move};
+ghost use Rattle.std.specs.Prelude.{◌≡◌};
+ghost use Rattle.m68_isa.specs.First.{first_of};
+ghost use Rattle.m68_isa.specs.Decode.{operation};
+ghost use Rattle.m68_isa.specs.Fits.{Fits};
 
-use super::classes::{Class, in_class, is_source};
-use super::first::First;
-use super::found::{Found, with};
-use super::instructions::Instr68;
-use super::operand::operand_at;
-use mix_bits::Size;
+use super::fields::move_mode_of;
+use super::op::Op68;
+use super::places::{is_any, is_byte_source, is_destination};
 
-fn move_size(line: u8) -> Size
-    ensures value { result ≡ move_size line }
-    ensures some { result ≢ Size.Zero }
+/// Words 0001: move of a byte, which no address register has.
+pub fn line_1(word: u32) -> Op68
+    requires { (first_of word).line ≡ 1 }
+    ensures value { result ≡ operation (first_of word) }
+    ensures fits { Fits result word }
 {
-    match line {
-        1 => Size::One,
-        2 => Size::Four,
-        _ => Size::Two,
+    if is_byte_source(word) && is_destination(word) {
+        Op68::MoveByte
+    } else {
+        Op68::Illegal
     }
 }
 
-/// The destination's mode, in bits 8 to 6.
-fn move_mode(f: First) -> u8
-    requires { IsFirst f }
-    ensures { result ≡ move_mode f }
+/// Words 0010: move of a long.
+pub fn line_2(word: u32) -> Op68
+    requires { (first_of word).line ≡ 2 }
+    ensures value { result ≡ operation (first_of word) }
+    ensures fits { Fits result word }
 {
-    f.bit8 * 4 + f.size
+    if !is_any(word) {
+        Op68::Illegal
+    } else if is_destination(word) {
+        Op68::MoveLong
+    } else if move_mode_of(word) == 1 {
+        Op68::MoveaLong
+    } else {
+        Op68::Illegal
+    }
 }
 
-/// Words 00xx with a size in bits 13 and 12.
-pub fn moves(f: First, words: &[u16]) -> Found
-    requires { IsFirst f }
-    ensures value { result ≡ chosen rows_move f words.now }
-    ensures fields { HasFound result }
-    ensures extended { IsExtendedFound result }
-    ensures places { HasPlacesFound result }
+/// Words 0011: move of a word.
+pub fn line_3(word: u32) -> Op68
+    requires { (first_of word).line ≡ 3 }
+    ensures value { result ≡ operation (first_of word) }
+    ensures fits { Fits result word }
 {
-    let size = move_size(f.line);
-    let mode = move_mode(f);
-    let source = is_source(Class::Any, size, f.mode, f.lower);
-    let alterable = in_class(Class::DataAlterable, mode, f.upper);
-    let from = operand_at(words, 1, size, f.mode, f.lower);
-    if source && alterable {
-        let to = operand_at(words, from.next, size, mode, f.upper);
-        Found::Made {
-            instruction: Instr68::Move {
-                size,
-                from: from.ea,
-                to: to.ea,
-            },
-            used: to.next,
-            good: from.good && to.good,
-        }
-    } else if f.line > 1 && mode == 1 && source {
-        with(
-            Instr68::Movea {
-                size,
-                from: from.ea,
-                to: f.upper,
-            },
-            from,
-        )
+    if !is_any(word) {
+        Op68::Illegal
+    } else if is_destination(word) {
+        Op68::MoveWord
+    } else if move_mode_of(word) == 1 {
+        Op68::MoveaWord
     } else {
-        Found::Illegal
+        Op68::Illegal
     }
 }

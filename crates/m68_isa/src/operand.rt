@@ -1,10 +1,7 @@
-ghost use Rattle.std.specs.Prelude.{◌≡◌, ◌+◌, ◌<◌, ◌≤◌, ◌^◌, slice_index, true};
+ghost use Rattle.std.specs.Prelude.{◌≡◌, ◌+◌, ◌<◌, ◌≤◌, ◌^◌, slice_index};
 ghost use Rattle.m68_isa.specs.Operands.{extended_word, long_at, index_of, is_index, scale_of, immediate_words, immediate_at, operand_at, special_at, plain};
 ghost use Rattle.mix_bits.specs.Sizes.{modulus};
 ghost use Rattle.m68_isa.specs.Fields.{HasRegisters, IsScale};
-ghost use Rattle.m68_isa.specs.Classes.{up_to, in_class};
-ghost use Rattle.m68_isa.specs.declared.classes.Class.TheVariants.{Control};
-ghost use Rattle.m68_isa.specs.Places.{IsAlterable, IsMemory, IsControl};
 ghost use Rattle.m68_isa.specs.Extended.{IsWord, IsByte, IsExtendedEa};
 
 use super::ea::{Ea, Index};
@@ -123,9 +120,6 @@ pub fn operand_at(words: &[u16], at: u32, size: Size, mode: u8, register: u8) ->
     ensures near { result.next ≤ at + 2 }
     ensures registers { register < 8 → HasRegisters result.ea }
     ensures extended { IsExtendedEa result.ea }
-    ensures alterable { up_to 2 mode register ≡ true → IsAlterable result.ea }
-    ensures memory { 1 < mode → up_to 4 mode register ≡ true → IsMemory result.ea }
-    ensures control { in_class Control mode register ≡ true → IsControl result.ea }
 {
     match mode {
         0 => plain(Ea::Dn(register), at),
@@ -154,9 +148,6 @@ fn special_at(words: &[u16], at: u32, size: Size, register: u8) -> Operand
     ensures near { result.next ≤ at + 2 }
     ensures registers { HasRegisters result.ea }
     ensures extended { IsExtendedEa result.ea }
-    ensures alterable { register < 2 → IsAlterable result.ea }
-    ensures memory { register < 4 → IsMemory result.ea }
-    ensures control { register < 4 → IsControl result.ea }
 {
     match register {
         0 => plain(Ea::AbsWord(extended_word(words, at)), at + 1),

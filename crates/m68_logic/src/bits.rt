@@ -13,8 +13,7 @@ ghost use Rattle.m68_effects.specs.Parts.{changed};
 
 use big_memory::{Did, Ram};
 use m68_ea::{find, go_on, put, source, value, word_at};
-use m68_isa::{BitOp, Ccr, Regs68};
-use m68_ops::{Op68, bit_op_of, lower_of, mode_of, upper_of};
+use m68_isa::{BitOp, Ccr, Op68, Regs68, bit_op_of, lower_of, mode_of, upper_of};
 use mix_bits::{Fault, Size, digit, with_digit};
 
 /// btst, bchg, bclr and bset of the bit with the number in the second word.

@@ -6,12 +6,11 @@ ghost use Rattle.big_memory.specs.Steps.{Does};
 ghost use Rattle.m68_effects.specs.Movement.{link as link_of};
 ghost use Rattle.m68_effects.specs.Ops.{by_op};
 ghost use Rattle.m68_effects.specs.Parts.{after};
-ghost use Rattle.m68_ops.specs.Ops.{Fits};
+ghost use Rattle.m68_isa.specs.Fits.{Fits};
 
 use big_memory::{Did, Ram};
 use m68_ea::{backward, control, extended_word, go_on, long_at, pop, push, store};
-use m68_isa::Regs68;
-use m68_ops::{Op68, lower_of, mode_of, upper_of};
+use m68_isa::{Op68, Regs68, lower_of, mode_of, upper_of};
 use mix_bits::{Fault, Size, onward};
 
 /// lea: the address of an operand into an address register.

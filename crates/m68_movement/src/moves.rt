@@ -19,8 +19,7 @@ use m68_alu::result_flags;
 use m68_ea::{
     go_on, is_second_good, push_onto, source, usual_or_immediate, usual_source, usual_write,
 };
-use m68_isa::Regs68;
-use m68_ops::{Op68, lower_of, mode_of, move_mode_of, upper_of};
+use m68_isa::{Op68, Regs68, lower_of, mode_of, move_mode_of, upper_of};
 use mix_bits::{Fault, FaultKind, Size, sext, trunc, with_low};
 
 /// The size of a move, for which the functions that choose the way of a move are compiled.

@@ -9,15 +9,14 @@ ghost use Rattle.m68_ea.specs.Places.{backward as backward_of};
 ghost use Rattle.m68_effects.specs.Multiple.{listed, movem_before, movem_onto, register_of, loaded_along, span_of, stored_down, with_register};
 ghost use Rattle.m68_effects.specs.Ops.{by_op};
 ghost use Rattle.m68_effects.specs.Parts.{after};
-ghost use Rattle.m68_ops.specs.Ops.{Fits};
+ghost use Rattle.m68_isa.specs.Fits.{Fits};
 ghost use Rattle.m68_movement.specs.Along.{Loads, StoresOpen};
 
 use super::along::{store_along, store_down};
 use arrayvec::ArrayVec;
 use big_memory::{Did, Ram, memory_laws};
 use m68_ea::{backward, control, go_on, is_below_stack, load, word_at};
-use m68_isa::Regs68;
-use m68_ops::{Op68, lower_of, mode_of, transfer_size_of};
+use m68_isa::{Op68, Regs68, lower_of, mode_of, transfer_size_of};
 use mix_bits::{Fault, Size, digit, onward, sext};
 
 /// How many bytes sixteen longs take.

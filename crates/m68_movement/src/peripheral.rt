@@ -12,8 +12,7 @@ ghost use Rattle.m68_effects.specs.Ops.{by_op};
 use super::along::store_along;
 use big_memory::{Did, Ram};
 use m68_ea::{extended_word, go_on};
-use m68_isa::Regs68;
-use m68_ops::{Op68, is_to_memory, lower_of, transfer_size_of, upper_of};
+use m68_isa::{Op68, Regs68, is_to_memory, lower_of, transfer_size_of, upper_of};
 use mix_bits::{Fault, Size, onward, with_low};
 
 /// movep: the bytes of a word or a long, the highest one first, at an address and at every second one

@@ -14,8 +14,7 @@ use super::parts::write;
 use big_memory::{Did, Ram};
 use m68_alu::result_flags;
 use m68_ea::{data_address, find, go_on, load, put, put_at, source, usual_source, value};
-use m68_isa::{Regs68, holds};
-use m68_ops::{Op68, condition_of, lower_of, mode_of, size_bits_of};
+use m68_isa::{Op68, Regs68, condition_of, holds, lower_of, mode_of, size_bits_of};
 use mix_bits::{Fault, Size, with_low};
 
 /// clr: zeros into an operand.

@@ -7,8 +7,7 @@ ghost use Rattle.m68_effects.specs.Ops.{by_op};
 use super::parts::write;
 use big_memory::{Did, Ram};
 use m68_ea::{go_on, immediate_at, source};
-use m68_isa::{Ccr, LogicOp, Regs68};
-use m68_ops::{Op68, logic_op_of, lower_of, mode_of};
+use m68_isa::{Ccr, LogicOp, Op68, Regs68, logic_op_of, lower_of, mode_of};
 use mix_bits::{Fault, Size};
 
 /// move from SR: its low byte, and zeros for the supervisor's.

@@ -1,15 +1,17 @@
 -- The text of an instruction spells its words.
 use Rattle.std.proofs.Common.{◌≡◌, ℕ, zero, suc, ◌+◌, ◌-◌, ◌%◌, ◌<◌, ◌==◌, nat_lt, List, [], ◌∷◌, ◌++◌, map, length, take, drop, slice_index, Bool, true, false, Some, if◌then◌else◌, arith, refl, ap, subst, ◌∙◌}
 use Rattle.std.proofs.Math.Seq.{take-append_seam}
-use Rattle.m68_isa.specs.declared.first.First.{First}
+use Rattle.m68_isa.specs.First.{First}
 use Rattle.m68_isa.specs.declared.found.Found.{Found}
 use Rattle.m68_isa.specs.declared.found.Found.TheVariants.{Made, Privileged as RowPrivileged, Illegal as RowIllegal}
 use Rattle.m68_isa.specs.declared.instructions.Decoded68.{Decoded68}
-use Rattle.m68_isa.specs.declared.instructions.Decoded68.TheVariants.{Op, LineA, LineF, Illegal, Short}
+use Rattle.m68_isa.specs.declared.instructions.Decoded68.TheVariants.{Op, Illegal, Short}
+use Rattle.m68_isa.specs.declared.op.Op68.{Op68}
+use Rattle.m68_isa.specs.declared.op.Op68.TheVariants.{LineA, LineF}
 use Rattle.m68_isa.specs.declared.instructions.Instr68.{Instr68}
-use Rattle.m68_isa.specs.Decode.{decoded, ended, rows_of}
+use Rattle.m68_isa.specs.Decode.{decoded, ended, operation, read as read_by}
 use Rattle.m68_isa.specs.First.{first_of, low_byte}
-use Rattle.m68_isa.specs.Rows.{Row, row, chosen}
+use Rattle.m68_isa.specs.Made.{made}
 use Rattle.m68_text.specs.declared.operand.Operand.{Operand}
 use Rattle.m68_text.specs.declared.operand.Operand.TheVariants.{Word}
 use Rattle.m68_text.specs.Names.{name}
@@ -27,8 +29,8 @@ use Rattle.m68_spelling.proofs.Texts.{IsTold, cut, read_back}
 use Rattle.m68_spelling.proofs.Commas.{outside, past, scan_hex, whole}
 use Rattle.m68_spelling.proofs.Places.{words_from}
 use Rattle.m68_spelling.proofs.FirstWords.{Spells, are_few, first_spelled, is_data_form, is_near_form, low_part, no_space, padded, told}
-use Rattle.m68_spelling.proofs.Shapes.{AllTell, AreTold, Given, IsTelling, Tells}
-use Rattle.m68_spelling.proofs.Rows.{all_tell}
+use Rattle.m68_spelling.proofs.Shapes.{AreTold, Given, IsTelling, Tells}
+use Rattle.m68_spelling.proofs.Telling.{asked, tells}
 
 -- A name and what follows.
 
@@ -147,7 +149,7 @@ given at w ws fits are = record {
   low = low_parts w;
 }
 
--- The row that makes an instruction.
+-- The operation that makes an instruction.
 
 abbrev IsMade : Found → Instr68 → ℕ → Type 0
 IsMade found i used = found ≡ Made i used true
@@ -162,33 +164,13 @@ ended_made (Made j n good) count i used is = by (nat_lt count n) good is
 ended_made RowPrivileged count i used is = cc
 ended_made RowIllegal count i used is = cc
 
-unless : (b : Bool) (x y : Decoded68) (i : Instr68) (used : ℕ) → (x ≡ Op i used → ⊥) → (if b then x else y) ≡ Op i used → y ≡ Op i used
-unless true x y i used never is = absurd (never is)
-unless false x y i used never is = is
-
-never_A : (w : ℕ) (i : Instr68) (used : ℕ) → LineA w ≡ Op i used → ⊥
-never_A w i used h = cc
-
-never_F : (i : Instr68) (used : ℕ) → LineF ≡ Op i used → ⊥
-never_F i used h = cc
-
-decoded_made : (w : ℕ) (ws : List ℕ) (i : Instr68) (used : ℕ) → decoded (w ∷ ws) ≡ Op i used → IsMade (chosen (rows_of (first_of w)) (first_of w) (w ∷ ws)) i used
-decoded_made w ws i used is =
-    let f : First = first_of w in
-    ended_made (chosen (rows_of f) f (w ∷ ws)) (length (w ∷ ws)) i used
-    (unless (f.line == 15) LineF _ i used (never_F i used) (unless (f.line == 10) (LineA w) _ i used (never_A w i used) is))
+read_made : (op : Op68) (f : First) (ws : List ℕ) (i : Instr68) (used : ℕ) → read_by op f ws ≡ Op i used → IsMade (made op f ws) i used
+read_made LineA f ws i used is = cc
+read_made LineF f ws i used is = cc
+read_made op f ws i used is = ended_made (made op f ws) (length ws) i used is
 
 made_tells : (at : ℕ) (ws : List ℕ) (found : Found) (i : Instr68) (used : ℕ) → IsTelling at ws found → IsMade found i used → Tells i used ws at
 made_tells at ws found i used tells is = let h : IsTelling at ws (Made i used true) = subst (IsTelling at ws) is tells in h refl
-
-chosen_tells : (at : ℕ) (ws : List ℕ) (f : First) (rows : List Row) (i : Instr68) (used : ℕ) → AllTell at ws f rows → IsMade (chosen rows f ws) i used → Tells i used ws at
-chosen_tells at ws f [] i used tells is = cc
-chosen_tells at ws f (row has makes ∷ rows) i used tells is =
-    by (has f) refl is tells.0 (chosen_tells at ws f rows i used tells.1)
-  where
-    by : (b : Bool) → has f ≡ b → IsMade (if b then makes f ws else chosen rows f ws) i used → (has f ≡ true → IsTelling at ws (makes f ws)) → (IsMade (chosen rows f ws) i used → Tells i used ws at) → Tells i used ws at
-    by true e made here rest = made_tells at ws (makes f ws) i used (here e) made
-    by false e made here rest = rest made
 
 -- The first word.
 
@@ -246,6 +228,7 @@ words_spell at w below =
 pub texts_spell : TextsSpell
 texts_spell at [] i fits are is = cc
 texts_spell at (w ∷ ws) i fits are is =
-    let made : IsMade (chosen (rows_of (first_of w)) (first_of w) (w ∷ ws)) i (length (w ∷ ws)) = decoded_made w ws i (length (w ∷ ws)) is in
-    spelled_text at w ws i (first_spelled w ws at i (length (w ∷ ws)) true are.0 made) are.0
-    (chosen_tells at (w ∷ ws) (first_of w) (rows_of (first_of w)) i (length (w ∷ ws)) (all_tell at (w ∷ ws) (first_of w) (given at w ws fits are)) made)
+    let f : First = first_of w in
+    let by : IsMade (made (operation f) f (w ∷ ws)) i (length (w ∷ ws)) = read_made (operation f) f (w ∷ ws) i (length (w ∷ ws)) is in
+    spelled_text at w ws i (first_spelled w ws at i (length (w ∷ ws)) true are.0 by) are.0
+    (made_tells at (w ∷ ws) (made (operation f) f (w ∷ ws)) i (length (w ∷ ws)) (tells at (w ∷ ws) f (given at w ws fits are) (operation f) (asked w are.0)) by)

@@ -8,8 +8,8 @@ use Rattle.m68_isa.specs.declared.instructions.Instr68.TheVariants.{Bcc, MulLong
 use Rattle.m68_isa.specs.declared.found.Found.{Found}
 use Rattle.m68_isa.specs.declared.found.Found.TheVariants.{Made, Privileged as RowPrivileged, Illegal as RowIllegal}
 use Rattle.m68_isa.specs.First.{first_of}
-use Rattle.m68_isa.specs.Rows.{chosen}
-use Rattle.m68_isa.specs.Decode.{rows_of}
+use Rattle.m68_isa.specs.Made.{made}
+use Rattle.m68_isa.specs.Decode.{operation}
 use Rattle.m68_text.specs.declared.operand.Operand.{Operand}
 use Rattle.m68_text.specs.Names.{name}
 use Rattle.m68_text.specs.Operands.{operands}
@@ -132,7 +132,7 @@ found_spells RowPrivileged ws at w = true
 found_spells RowIllegal ws at w = true
 
 word_spells : List ℕ → ℕ → ℕ → Bool
-word_spells ws at w = found_spells (chosen (rows_of (first_of w)) (first_of w) (w ∷ ws)) (w ∷ ws) at w
+word_spells ws at w = found_spells (made (operation (first_of w)) (first_of w) (w ∷ ws)) (w ∷ ws) at w
 
 LineSpells : List ℕ → ℕ → ℕ → Type 0
 LineSpells ws at k = every 12 0 (λ low. word_spells ws at (4096 * k + low)) ≡ true
@@ -285,7 +285,7 @@ each_spelled (DivLong signed wide by high low) used ws at w h = spelled_if (DivL
 each_spelled i used ws at w h = spelled_if i used ws at w h
 
 -- an instruction that a first word's row makes has a name and operands that spell the word
-pub first_spelled : (w : ℕ) (ws : List ℕ) (at : ℕ) (i : Instr68) (used : ℕ) (good : Bool) → w < 65536 → chosen (rows_of (first_of w)) (first_of w) (w ∷ ws) ≡ Made i used good → Spells i used (w ∷ ws) at w
+pub first_spelled : (w : ℕ) (ws : List ℕ) (at : ℕ) (i : Instr68) (used : ℕ) (good : Bool) → w < 65536 → made (operation (first_of w)) (first_of w) (w ∷ ws) ≡ Made i used good → Spells i used (w ∷ ws) at w
 unfolding word_spells
 first_spelled w ws at i used good below is =
     each_spelled i used (w ∷ ws) at w (sym (ap (λ found. found_spells found (w ∷ ws) at w) is) ∙ of_word ws at w below)

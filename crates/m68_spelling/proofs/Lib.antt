@@ -5,4 +5,5 @@ pub mod Places
 pub mod FirstWords
 pub mod Shapes
 pub mod Rows
+pub mod Telling
 pub mod Complete

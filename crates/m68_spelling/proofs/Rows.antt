@@ -1,4 +1,4 @@
--- What the rows of the table make tells the words.
+-- What operations make tells the words, by their shapes.
 use Rattle.std.proofs.Common.{◌≡◌, ℕ, suc, ◌+◌, ◌-◌, ◌*◌, ◌%◌, ◌<◌, ◌==◌, ◌&&◌, ◌||◌, not, nat_lt, List, [], ◌∷◌, map, slice_index, Bool, true, false, if◌then◌else◌, arith, refl, sym, ap, subst, ◌∙◌}
 use Rattle.std.proofs.lemmas.Bool.{and_parts, eqb-true, ltb-true}
 use Rattle.mix_bits.specs.Ranges.{every}
@@ -6,9 +6,9 @@ use Rattle.mix_bits.specs.Sizes.{sign_extended}
 use Rattle.mix_bits.specs.declared.size.Size.{Size}
 use Rattle.mix_bits.specs.declared.size.Size.TheVariants.{One, Two, Four}
 use Rattle.mix_bits.proofs.Every.{every_at}
-use Rattle.m68_isa.specs.declared.classes.Class.TheVariants.{Data as DataClass, DataAlterable}
+use Rattle.m68_isa.specs.Classes.Class.{Data as DataClass, DataAlterable}
 use Rattle.m68_isa.specs.declared.ea.Ea.{Ea}
-use Rattle.m68_isa.specs.declared.first.First.{First}
+use Rattle.m68_isa.specs.First.{First}
 use Rattle.m68_isa.specs.declared.found.Found.TheVariants.{Made}
 use Rattle.m68_isa.specs.declared.instructions.Exchange.{Exchange}
 use Rattle.m68_isa.specs.declared.instructions.Exchange.TheVariants.{Data as ExchangeData, Address as ExchangeAddress, DataAddress as ExchangeBoth}
@@ -16,18 +16,13 @@ use Rattle.m68_isa.specs.declared.instructions.ShiftCount.TheVariants.{Number as
 use Rattle.m68_isa.specs.declared.instructions.Instr68.{Instr68}
 use Rattle.m68_isa.specs.declared.instructions.Instr68.TheVariants.{Immediate, BitByRegister, BitByNumber, Movep, Move, Movea, Negx, Clr, Neg, Not, MoveFromSr, MoveToCcr, Nbcd, Pea, Ext, MovemToMemory, MovemFromMemory, MulLong, DivLong, Tst, Tas, Jsr, Jmp, Chk, Lea, Addq, Subq, Scc, Or, Div, Sub, Suba, Cmp, Cmpa, Eor, And, Mul, Add, Adda, ShiftMemory}
 use Rattle.m68_isa.specs.declared.operand.Operand.{Operand as Read}
-use Rattle.m68_isa.specs.Arithmetic.{exchange, rows_8, rows_9, rows_B, rows_C, rows_D}
-use Rattle.m68_isa.specs.Branches.{rows_5, rows_6, rows_7}
+use Rattle.m68_isa.specs.Arithmetic.{exchange}
 use Rattle.m68_isa.specs.Classes.{in_class, up_to}
-use Rattle.m68_isa.specs.Decode.{rows_4, rows_of}
 use Rattle.m68_isa.specs.First.{condition_of, long_or_word, low_byte, one_to_eight, size_of}
-use Rattle.m68_isa.specs.Immediates.{bit_op, immediate_op, rows_0_even, rows_0_odd}
-use Rattle.m68_isa.specs.Miscellaneous.{rows_4_8, rows_4_control, rows_4_jump, rows_4_odd, rows_4_one, rows_4_test}
-use Rattle.m68_isa.specs.Moves.{move_mode, move_size, rows_move}
+use Rattle.m68_isa.specs.Immediates.{bit_op}
+use Rattle.m68_isa.specs.Moves.{move_mode}
 use Rattle.m68_isa.specs.Operands.{extended_word, immediate_at, immediate_words, long_at, operand_at}
 use Rattle.m68_isa.specs.Products.{by_registers, high_of, is_register_word, is_signed, is_wide, low_of}
-use Rattle.m68_isa.specs.Rows.{Row}
-use Rattle.m68_isa.specs.Shifts.{rows_E, shift_op}
 use Rattle.m68_isa.specs.Targets.{branch_target}
 use Rattle.m68_isa.specs.Widths.{is_any}
 use Rattle.m68_text.specs.declared.operand.Operand.{Operand}
@@ -47,56 +42,56 @@ chosen_number : (b : Bool) (m n : ℕ) → m < 16 → n < 16 → (if b then m el
 chosen_number true m n first second = first
 chosen_number false m n first second = second
 
-quick_told : (n : ℕ) → n < 8 → one_to_eight n < 16
+pub quick_told : (n : ℕ) → n < 8 → one_to_eight n < 16
 quick_told n below = chosen_number (n == 0) 8 n (omega arith) (omega (arith, below))
 
-last : (b c : Bool) → (b && c) ≡ true → c ≡ true
+pub last : (b c : Bool) → (b && c) ≡ true → c ≡ true
 last b c h = (and_parts b c h).1
 
-front : (b c : Bool) → (b && c) ≡ true → b ≡ true
+pub front : (b c : Bool) → (b && c) ≡ true → b ≡ true
 front b c h = (and_parts b c h).0
 
-either_none : (b c : Bool) (mode lower : ℕ) → (b ≡ true → IsNone mode lower) → (c ≡ true → IsNone mode lower) → (b || c) ≡ true → IsNone mode lower
+pub either_none : (b c : Bool) (mode lower : ℕ) → (b ≡ true → IsNone mode lower) → (c ≡ true → IsNone mode lower) → (b || c) ≡ true → IsNone mode lower
 either_none true c mode lower first second h = first refl
 either_none false c mode lower first second h = second h
 
-mode_none : (mode lower m : ℕ) → m < 7 → (mode == m) ≡ true → IsNone mode lower
+pub mode_none : (mode lower m : ℕ) → m < 7 → (mode == m) ≡ true → IsNone mode lower
 mode_none mode lower m small is seven four = let e : mode ≡ m = eqb-true mode m is in absurd (omega (arith, e, seven, small))
 
 -- One word.
 
-paired_told : (b : Bool) (x y : ℕ) → x < 8 → y < 8 → AreTold (paired b x y)
+pub paired_told : (b : Bool) (x y : ℕ) → x < 8 → y < 8 → AreTold (paired b x y)
 paired_told true x y first second = (first, (second, tt))
 paired_told false x y first second = (first, (second, tt))
 
-paired_alone : (at : ℕ) (b : Bool) (x y : ℕ) → contents at (padded (map cut (paired b x y))).first (padded (map cut (paired b x y))).second ≡ []
+pub paired_alone : (at : ℕ) (b : Bool) (x y : ℕ) → contents at (padded (map cut (paired b x y))).first (padded (map cut (paired b x y))).second ≡ []
 paired_alone at true x y = refl
 paired_alone at false x y = refl
 
-exchanged_told : (kind : Exchange) (x y : ℕ) → x < 8 → y < 8 → AreTold (exchanged kind x y)
+pub exchanged_told : (kind : Exchange) (x y : ℕ) → x < 8 → y < 8 → AreTold (exchanged kind x y)
 exchanged_told ExchangeData x y first second = (first, (second, tt))
 exchanged_told ExchangeAddress x y first second = (first, (second, tt))
 exchanged_told ExchangeBoth x y first second = (first, (second, tt))
 
-exchanged_alone : (at : ℕ) (kind : Exchange) (x y : ℕ) → contents at (padded (map cut (exchanged kind x y))).first (padded (map cut (exchanged kind x y))).second ≡ []
+pub exchanged_alone : (at : ℕ) (kind : Exchange) (x y : ℕ) → contents at (padded (map cut (exchanged kind x y))).first (padded (map cut (exchanged kind x y))).second ≡ []
 exchanged_alone at ExchangeData x y = refl
 exchanged_alone at ExchangeAddress x y = refl
 exchanged_alone at ExchangeBoth x y = refl
 
-counted_told : (b : Bool) (n : ℕ) → n < 8 → IsTold (counted (if b then CountNumber (one_to_eight n) else CountRegister n))
+pub counted_told : (b : Bool) (n : ℕ) → n < 8 → IsTold (counted (if b then CountNumber (one_to_eight n) else CountRegister n))
 counted_told true n below = quick_told n below
 counted_told false n below = below
 
-counted_alone : (at : ℕ) (b : Bool) (q n m : ℕ) → contents at (cut (counted (if b then CountNumber q else CountRegister n))) (Data m) ≡ []
+pub counted_alone : (at : ℕ) (b : Bool) (q n m : ℕ) → contents at (cut (counted (if b then CountNumber q else CountRegister n))) (Data m) ≡ []
 counted_alone at true q n m = refl
 counted_alone at false q n m = refl
 
 -- Displacements.
 
-word_shown : (v : ℕ) → v < 65536 → (v % 65536 % 65536 ∷ []) ≡ v ∷ []
+pub word_shown : (v : ℕ) → v < 65536 → (v % 65536 % 65536 ∷ []) ≡ v ∷ []
 word_shown v below = let e : v % 65536 % 65536 ≡ v = omega (arith, below) in ap (λ x. x ∷ []) e
 
-extended_shown : (at : ℕ) (ws : List ℕ) (f : First) (g : Given at ws f) → (extended_word ws 1 % 65536 % 65536 ∷ []) ≡ words_from ws 1 1
+pub extended_shown : (at : ℕ) (ws : List ℕ) (f : First) (g : Given at ws f) → (extended_word ws 1 % 65536 % 65536 ∷ []) ≡ words_from ws 1 1
 extended_shown at ws f g = ap (λ x. x ∷ []) (word_back (slice_index ws 1) (g.words.below 1))
 
 signed_fits : every 16 0 (λ w. nat_lt (sign_extended w Two) 4294967296) ≡ true
@@ -108,7 +103,7 @@ extended_fits at ws f g = ltb-true _ _ (every_at 16 (λ w. nat_lt (sign_extended
 way_back : (at d : ℕ) → at < 4294967296 → d < 4294967296 → way at (branch_target at d % 4294967296) ≡ d
 way_back at d fits small = omega (arith, fits, small)
 
-target_shown : (at : ℕ) (ws : List ℕ) (f : First) (g : Given at ws f) → (way at (branch_target at (extended_word ws 1) % 4294967296) % 65536 ∷ []) ≡ words_from ws 1 1
+pub target_shown : (at : ℕ) (ws : List ℕ) (f : First) (g : Given at ws f) → (way at (branch_target at (extended_word ws 1) % 4294967296) % 65536 ∷ []) ≡ words_from ws 1 1
 target_shown at ws f g =
     let w : ℕ = slice_index ws 1 in
     let e : sign_extended w Two % 65536 ≡ w = sym (mod_twice (sign_extended w Two)) ∙ word_back w (g.words.below 1) in
@@ -120,10 +115,10 @@ target_shown at ws f g =
 long_fits : (a b : ℕ) → a < 65536 → b < 65536 → a * 65536 + b < 4294967296
 long_fits a b high low = omega (arith, high, low)
 
-long_shown : (at : ℕ) (ws : List ℕ) (f : First) (g : Given at ws f) → long_words (long_at ws 1 % 4294967296) ≡ words_from ws 1 2
+pub long_shown : (at : ℕ) (ws : List ℕ) (f : First) (g : Given at ws f) → long_words (long_at ws 1 % 4294967296) ≡ words_from ws 1 2
 long_shown at ws f g = long_back (slice_index ws 1) (slice_index ws 2) (g.words.below 1) (g.words.below 2)
 
-distance_shown : (at : ℕ) (ws : List ℕ) (f : First) (g : Given at ws f) → long_words (way at (branch_target at (long_at ws 1) % 4294967296)) ≡ words_from ws 1 2
+pub distance_shown : (at : ℕ) (ws : List ℕ) (f : First) (g : Given at ws f) → long_words (way at (branch_target at (long_at ws 1) % 4294967296)) ≡ words_from ws 1 2
 distance_shown at ws f g =
     let fits : long_at ws 1 < 4294967296 = long_fits (slice_index ws 1) (slice_index ws 2) (g.words.below 1) (g.words.below 2) in
     let e : long_at ws 1 ≡ long_at ws 1 % 4294967296 = omega (arith, fits) in
@@ -137,19 +132,19 @@ byte_parts : (b c : Bool) → (if b then c else false) ≡ true → (b ≡ true)
 byte_parts true c h = (refl, h)
 byte_parts false c h = cc
 
-near_back : (at b : ℕ) → at < 4294967296 → b < 256 → way at (branch_target at (sign_extended b One) % 4294967296) % 256 ≡ b
+pub near_back : (at b : ℕ) → at < 4294967296 → b < 256 → way at (branch_target at (sign_extended b One) % 4294967296) % 256 ≡ b
 near_back at b fits below =
     let parts = byte_parts (nat_lt (sign_extended b One) 4294967296) (sign_extended b One % 256 == b) (every_at 8 (λ v. if nat_lt (sign_extended v One) 4294967296 then sign_extended v One % 256 == v else false) b low_signed below) in
     ap (λ x. x % 256) (way_back at (sign_extended b One) fits (ltb-true _ _ parts.0)) ∙ eqb-true _ _ parts.1
 
 -- Rows.
 
-immediate_row : (at : ℕ) (ws : List ℕ) (f : First) (g : Given at ws f) → in_class DataAlterable f.mode f.lower ≡ true → (s : Size) → is_any s ≡ true → (make : Ea → Instr68) → ((e : Ea) → operands (make e) ws at ≡ immediate s ws 1 ∷ place s ws 1 e ∷ []) → ((e : Ea) (n : ℕ) → (ending_of (make e) n ≡ Extended) × (is_near (make e) n ≡ false)) → IsTelling at ws (Made (make (operand_at ws (1 + immediate_words s) s f.mode f.lower).ea) (operand_at ws (1 + immediate_words s) s f.mode f.lower).next (operand_at ws (1 + immediate_words s) s f.mode f.lower).good)
+pub immediate_row : (at : ℕ) (ws : List ℕ) (f : First) (g : Given at ws f) → in_class DataAlterable f.mode f.lower ≡ true → (s : Size) → is_any s ≡ true → (make : Ea → Instr68) → ((e : Ea) → operands (make e) ws at ≡ immediate s ws 1 ∷ place s ws 1 e ∷ []) → ((e : Ea) (n : ℕ) → (ending_of (make e) n ≡ Extended) × (is_near (make e) n ≡ false)) → IsTelling at ws (Made (make (operand_at ws (1 + immediate_words s) s f.mode f.lower).ea) (operand_at ws (1 + immediate_words s) s f.mode f.lower).next (operand_at ws (1 + immediate_words s) s f.mode f.lower).good)
 immediate_row at ws f g alterable s some make is plain good =
     let e : Read = operand_at ws (1 + immediate_words s) s f.mode f.lower in
     and_place at ws g.words (make e.ea) (immediate s ws 1) (1 + immediate_words s) s f.mode f.lower g.mode g.lower some (no_alterable f.mode f.lower alterable) (immediate_shown at ws g.words 1 s some) (is e.ea) (plain e.ea) good
 
-first_word_shown : (at : ℕ) (ws : List ℕ) (f : First) (g : Given at ws f) → Shows at ws 1 2 (Word (slice_index ws 1))
+pub first_word_shown : (at : ℕ) (ws : List ℕ) (f : First) (g : Given at ws f) → Shows at ws 1 2 (Word (slice_index ws 1))
 first_word_shown at ws f g = record { told = tt; count = 1; upto = refl; words = word_shown (slice_index ws 1) (g.words.below 1) }
 
 up_to_none : (mode lower : ℕ) → up_to 5 mode lower ≡ true → not ((mode == 7) && (lower == 4)) ≡ true → IsNone mode lower
@@ -160,19 +155,19 @@ up_to_none mode lower high plain seven four =
     let m : not (4 == 4) ≡ true = subst (λ v. not (v == 4) ≡ true) is n in
     cc
 
-bits_none : (b : Bool) (mode lower : ℕ) → in_class (if b then DataClass else DataAlterable) mode lower ≡ true → not ((mode == 7) && (lower == 4)) ≡ true → IsNone mode lower
+pub bits_none : (b : Bool) (mode lower : ℕ) → in_class (if b then DataClass else DataAlterable) mode lower ≡ true → not ((mode == 7) && (lower == 4)) ≡ true → IsNone mode lower
 bits_none true mode lower is plain = up_to_none mode lower (last (not (mode == 1)) (up_to 5 mode lower) is) plain
 bits_none false mode lower is plain = no_alterable mode lower is
 
-movep_row : (at : ℕ) (ws : List ℕ) (f : First) (g : Given at ws f) → (s : Size) (b : Bool) → IsTelling at ws (Made (Movep s b f.upper f.lower (extended_word ws 1)) 2 true)
+pub movep_row : (at : ℕ) (ws : List ℕ) (f : First) (g : Given at ws f) → (s : Size) (b : Bool) → IsTelling at ws (Made (Movep s b f.upper f.lower (extended_word ws 1)) 2 true)
 movep_row at ws f g s true good = record { are_told = (g.upper, (g.lower, tt)); words = extended_shown at ws f g; low = λ h. cc }
 movep_row at ws f g s false good = record { are_told = (g.lower, (g.upper, tt)); words = extended_shown at ws f g; low = λ h. cc }
 
-ext_row : (at : ℕ) (ws : List ℕ) (f : First) (g : Given at ws f) → (b : Bool) → IsTelling at ws (Made (if b then Ext One Two f.lower else Ext Two Four f.lower) 1 true)
+pub ext_row : (at : ℕ) (ws : List ℕ) (f : First) (g : Given at ws f) → (b : Bool) → IsTelling at ws (Made (if b then Ext One Two f.lower else Ext Two Four f.lower) 1 true)
 ext_row at ws f g true good = record { are_told = (g.lower, tt); words = refl; low = λ h. cc }
 ext_row at ws f g false good = record { are_told = (g.lower, tt); words = refl; low = λ h. cc }
 
-move_row : (at : ℕ) (ws : List ℕ) (f : First) (g : Given at ws f) → in_class DataAlterable (move_mode f) f.upper ≡ true → (s : Size) → is_any s ≡ true → (from to : Read) → from ≡ operand_at ws 1 s f.mode f.lower → to ≡ operand_at ws from.next s (move_mode f) f.upper → IsTelling at ws (Made (Move s from.ea to.ea) to.next (from.good && to.good))
+pub move_row : (at : ℕ) (ws : List ℕ) (f : First) (g : Given at ws f) → in_class DataAlterable (move_mode f) f.upper ≡ true → (s : Size) → is_any s ≡ true → (from to : Read) → from ≡ operand_at ws 1 s f.mode f.lower → to ≡ operand_at ws from.next s (move_mode f) f.upper → IsTelling at ws (Made (Move s from.ea to.ea) to.next (from.good && to.good))
 move_row at ws f g alterable s some from to from_is to_is good =
     let parts : (from.good ≡ true) × (to.good ≡ true) = and_parts from.good to.good good in
     let shows : IsShown at ws 1 1 s from = subst (IsShown at ws 1 1 s) (sym from_is) (shown at ws g.words 1 1 s f.mode f.lower g.mode g.lower some (λ seven four. refl)) in
@@ -180,11 +175,11 @@ move_row at ws f g alterable s some from to from_is to_is good =
     subst (λ r. Tells (Move s from.ea r.ea) r.next ws at) (sym to_is)
     (and_place at ws g.words (Move s from.ea (operand_at ws from.next s (move_mode f) f.upper).ea) (place s ws 1 from.ea) from.next s (move_mode f) f.upper (omega (arith, g.bit8, g.size)) g.upper some (no_alterable (move_mode f) f.upper alterable) (shows parts.0) refl (λ n. (refl, refl)) second)
 
-to_memory_row : (at : ℕ) (ws : List ℕ) (f : First) (g : Given at ws f) → IsNone f.mode f.lower → (s : Size) → is_any s ≡ true → IsTelling at ws (Made (MovemToMemory s (slice_index ws 1) (operand_at ws 2 s f.mode f.lower).ea) (operand_at ws 2 s f.mode f.lower).next (operand_at ws 2 s f.mode f.lower).good)
+pub to_memory_row : (at : ℕ) (ws : List ℕ) (f : First) (g : Given at ws f) → IsNone f.mode f.lower → (s : Size) → is_any s ≡ true → IsTelling at ws (Made (MovemToMemory s (slice_index ws 1) (operand_at ws 2 s f.mode f.lower).ea) (operand_at ws 2 s f.mode f.lower).next (operand_at ws 2 s f.mode f.lower).good)
 to_memory_row at ws f g none s some good =
     and_place at ws g.words (MovemToMemory s (slice_index ws 1) (operand_at ws 2 s f.mode f.lower).ea) (Word (slice_index ws 1)) 2 s f.mode f.lower g.mode g.lower some none (first_word_shown at ws f g) refl (λ n. (refl, refl)) good
 
-from_memory_row : (at : ℕ) (ws : List ℕ) (f : First) (g : Given at ws f) → IsNone f.mode f.lower → (s : Size) → is_any s ≡ true → IsTelling at ws (Made (MovemFromMemory s (slice_index ws 1) (operand_at ws 2 s f.mode f.lower).ea) (operand_at ws 2 s f.mode f.lower).next (operand_at ws 2 s f.mode f.lower).good)
+pub from_memory_row : (at : ℕ) (ws : List ℕ) (f : First) (g : Given at ws f) → IsNone f.mode f.lower → (s : Size) → is_any s ≡ true → IsTelling at ws (Made (MovemFromMemory s (slice_index ws 1) (operand_at ws 2 s f.mode f.lower).ea) (operand_at ws 2 s f.mode f.lower).next (operand_at ws 2 s f.mode f.lower).good)
 from_memory_row at ws f g none s some good =
     and_mask at ws g.words (MovemFromMemory s (slice_index ws 1) (operand_at ws 2 s f.mode f.lower).ea) (Word (slice_index ws 1)) 2 s f.mode f.lower g.mode g.lower some none (first_word_shown at ws f g) refl refl (λ n. (refl, refl)) good
 
@@ -237,305 +232,11 @@ product_good at ws f g good =
           ∙ source_words at ws f g 2 by.next (place Four ws 2 by.ea) source;
     }
 
-product_row : (at : ℕ) (ws : List ℕ) (f : First) (g : Given at ws f) → IsTelling at ws (by_registers MulLong f ws)
+pub product_row : (at : ℕ) (ws : List ℕ) (f : First) (g : Given at ws f) → IsTelling at ws (by_registers MulLong f ws)
 product_row at ws f g good = let h : ProductGood ws at (operand_at ws 2 Four f.mode f.lower) = product_good at ws f g good in record { are_told = h.told_of; words = h.words_of; low = λ n. cc }
 
-quotient_row : (at : ℕ) (ws : List ℕ) (f : First) (g : Given at ws f) → IsTelling at ws (by_registers DivLong f ws)
+pub quotient_row : (at : ℕ) (ws : List ℕ) (f : First) (g : Given at ws f) → IsTelling at ws (by_registers DivLong f ws)
 quotient_row at ws f g good = let h : ProductGood ws at (operand_at ws 2 Four f.mode f.lower) = product_good at ws f g good in record { are_told = h.told_of; words = h.words_of; low = λ n. cc }
 
--- The lines of the table.
-
-trap_told : (mode lower : ℕ) → lower < 8 → nat_lt mode 2 ≡ true → mode * 8 + lower < 16
+pub trap_told : (mode lower : ℕ) → lower < 8 → nat_lt mode 2 ≡ true → mode * 8 + lower < 16
 trap_told mode lower below h = omega (arith, ltb-true mode 2 h, below)
-
-tells_0_even : (at : ℕ) (ws : List ℕ) (f : First) (g : Given at ws f) → AllTell at ws f rows_0_even
-tells_0_even at ws f g = (
-  (λ has. immediate_row at ws f g (last _ _ has) (size_of f.size) (some_size f.size) (λ e. Immediate (immediate_op f.upper) (size_of f.size) (immediate_at ws 1 (size_of f.size)) e) (λ e. refl) (λ e n. (refl, refl))),
-  (
-    (λ has good. record { are_told = (tt, (tt, tt)); words = word_shown (slice_index ws 1) (g.words.below 1); low = λ h. cc }),
-    (
-      (λ has. tt),
-      (
-        (λ has good. and_place at ws g.words (BitByNumber (bit_op f.size) (slice_index ws 1 % 256) (operand_at ws 2 One f.mode f.lower).ea) (Word (slice_index ws 1)) 2 One f.mode f.lower g.mode g.lower refl (bits_none (f.size == 0) f.mode f.lower (last _ _ (front _ _ has)) (last _ _ has)) (first_word_shown at ws f g) refl (λ n. (refl, refl)) good),
-        tt,
-      ),
-    ),
-  ),
-)
-
-tells_0_odd : (at : ℕ) (ws : List ℕ) (f : First) (g : Given at ws f) → AllTell at ws f rows_0_odd
-tells_0_odd at ws f g = (
-  (λ has. before at ws f g One refl (λ e. BitByRegister (bit_op f.size) f.upper e) (Data f.upper) g.upper refl (λ e. refl) (λ e n. (refl, refl))),
-  (
-    (λ has. movep_row at ws f g (long_or_word (f.size % 2)) (nat_lt 1 f.size)),
-    tt,
-  ),
-)
-
-tells_move : (at : ℕ) (ws : List ℕ) (f : First) (g : Given at ws f) → AllTell at ws f rows_move
-tells_move at ws f g = (
-  (λ has. move_row at ws f g (last _ _ has) (move_size f.line) (some_move f.line) (operand_at ws 1 (move_size f.line) f.mode f.lower) (operand_at ws (operand_at ws 1 (move_size f.line) f.mode f.lower).next (move_size f.line) (move_mode f) f.upper) refl refl),
-  (
-    (λ has. after at ws f g (move_size f.line) (some_move f.line) (λ e. Movea (move_size f.line) e f.upper) (Address f.upper) g.upper refl refl (λ e. refl) (λ e n. (refl, refl))),
-    tt,
-  ),
-)
-
-tells_4_one : (at : ℕ) (ws : List ℕ) (f : First) (g : Given at ws f) → AllTell at ws f rows_4_one
-tells_4_one at ws f g = (
-  (λ has. single at ws f g (size_of f.size) (some_size f.size) (Negx (size_of f.size)) (λ e. refl) (λ e n. (refl, refl))),
-  (
-    (λ has. single at ws f g (size_of f.size) (some_size f.size) (Clr (size_of f.size)) (λ e. refl) (λ e n. (refl, refl))),
-    (
-      (λ has. single at ws f g (size_of f.size) (some_size f.size) (Neg (size_of f.size)) (λ e. refl) (λ e n. (refl, refl))),
-      (
-        (λ has. single at ws f g (size_of f.size) (some_size f.size) (Not (size_of f.size)) (λ e. refl) (λ e n. (refl, refl))),
-        (
-          (λ has. before at ws f g Two refl MoveFromSr StatusRegister tt refl (λ e. refl) (λ e n. (refl, refl))),
-          (
-            (λ has. after at ws f g Two refl MoveToCcr ConditionCodes tt refl refl (λ e. refl) (λ e n. (refl, refl))),
-            (
-              (λ has. tt),
-              tt,
-            ),
-          ),
-        ),
-      ),
-    ),
-  ),
-)
-
-tells_4_8 : (at : ℕ) (ws : List ℕ) (f : First) (g : Given at ws f) → AllTell at ws f rows_4_8
-tells_4_8 at ws f g = (
-  (λ has. single at ws f g One refl Nbcd (λ e. refl) (λ e n. (refl, refl))),
-  (
-    (λ has good. record { are_told = (g.lower, (tt, tt)); words = long_shown at ws f g; low = λ h. cc }),
-    (
-      (λ has good. record { are_told = (g.lower, tt); words = refl; low = λ h. cc }),
-      (
-        (λ has. single at ws f g Four refl Pea (λ e. refl) (λ e n. (refl, refl))),
-        (
-          (λ has. ext_row at ws f g (f.size % 2 == 0)),
-          (
-            (λ has. to_memory_row at ws f g (either_none _ _ f.mode f.lower (no_control_alterable f.mode f.lower) (mode_none f.mode f.lower 4 (omega arith)) (last _ _ has)) (long_or_word (f.size % 2)) (some_long (f.size % 2))),
-            tt,
-          ),
-        ),
-      ),
-    ),
-  ),
-)
-
-tells_4_test : (at : ℕ) (ws : List ℕ) (f : First) (g : Given at ws f) → AllTell at ws f rows_4_test
-tells_4_test at ws f g = (
-  (λ has. single at ws f g (size_of f.size) (some_size f.size) (Tst (size_of f.size)) (λ e. refl) (λ e n. (refl, refl))),
-  (
-    (λ has. single at ws f g One refl Tas (λ e. refl) (λ e n. (refl, refl))),
-    (
-      (λ has. tt),
-      (
-        (λ has. product_row at ws f g),
-        (
-          (λ has. quotient_row at ws f g),
-          (
-            (λ has. from_memory_row at ws f g (either_none _ _ f.mode f.lower (no_control f.mode f.lower) (mode_none f.mode f.lower 3 (omega arith)) (last _ _ has)) (long_or_word (f.size % 2)) (some_long (f.size % 2))),
-            tt,
-          ),
-        ),
-      ),
-    ),
-  ),
-)
-
-tells_4_control : (at : ℕ) (ws : List ℕ) (f : First) (g : Given at ws f) → AllTell at ws f rows_4_control
-tells_4_control at ws f g = (
-  (λ has good. record { are_told = (trap_told f.mode f.lower g.lower has, tt); words = refl; low = λ h. cc }),
-  (
-    (λ has good. record { are_told = (g.lower, (tt, tt)); words = extended_shown at ws f g; low = λ h. cc }),
-    (
-      (λ has good. record { are_told = (g.lower, tt); words = refl; low = λ h. cc }),
-      (
-        (λ has. tt),
-        (
-          (λ has. tt),
-          (
-            (λ has good. record { are_told = tt; words = refl; low = λ h. cc }),
-            (
-              (λ has good. record { are_told = (tt, tt); words = extended_shown at ws f g; low = λ h. cc }),
-              (
-                (λ has good. record { are_told = tt; words = refl; low = λ h. cc }),
-                (
-                  (λ has good. record { are_told = tt; words = refl; low = λ h. cc }),
-                  (
-                    (λ has good. record { are_told = tt; words = refl; low = λ h. cc }),
-                    tt,
-                  ),
-                ),
-              ),
-            ),
-          ),
-        ),
-      ),
-    ),
-  ),
-)
-
-tells_4_jump : (at : ℕ) (ws : List ℕ) (f : First) (g : Given at ws f) → AllTell at ws f rows_4_jump
-tells_4_jump at ws f g = (
-  (λ has. single at ws f g Four refl Jsr (λ e. refl) (λ e n. (refl, refl))),
-  (
-    (λ has. single at ws f g Four refl Jmp (λ e. refl) (λ e n. (refl, refl))),
-    tt,
-  ),
-)
-
-tells_4_odd : (at : ℕ) (ws : List ℕ) (f : First) (g : Given at ws f) → AllTell at ws f rows_4_odd
-tells_4_odd at ws f g = (
-  (λ has. after at ws f g Two refl (λ e. Chk e f.upper) (Data f.upper) g.upper refl refl (λ e. refl) (λ e n. (refl, refl))),
-  (
-    (λ has. after at ws f g Four refl (λ e. Lea e f.upper) (Address f.upper) g.upper refl refl (λ e. refl) (λ e n. (refl, refl))),
-    (
-      (λ has good. record { are_told = (g.lower, tt); words = refl; low = λ h. cc }),
-      tt,
-    ),
-  ),
-)
-
-tells_5 : (at : ℕ) (ws : List ℕ) (f : First) (g : Given at ws f) → AllTell at ws f rows_5
-tells_5 at ws f g = (
-  (λ has. before at ws f g (size_of f.size) (some_size f.size) (Addq (size_of f.size) (one_to_eight f.upper)) (Number (one_to_eight f.upper)) (quick_told f.upper g.upper) refl (λ e. refl) (λ e n. (refl, refl))),
-  (
-    (λ has. before at ws f g (size_of f.size) (some_size f.size) (Subq (size_of f.size) (one_to_eight f.upper)) (Number (one_to_eight f.upper)) (quick_told f.upper g.upper) refl (λ e. refl) (λ e n. (refl, refl))),
-    (
-      (λ has. single at ws f g One refl (Scc (condition_of f)) (λ e. refl) (λ e n. (refl, refl))),
-      (
-        (λ has good. record { are_told = (g.lower, (tt, tt)); words = target_shown at ws f g; low = λ h. cc }),
-        tt,
-      ),
-    ),
-  ),
-)
-
-tells_6 : (at : ℕ) (ws : List ℕ) (f : First) (g : Given at ws f) → AllTell at ws f rows_6
-tells_6 at ws f g = (
-  (λ has good. record { are_told = (tt, tt); words = target_shown at ws f g; low = λ h. cc }),
-  (
-    (λ has good. record { are_told = (tt, tt); words = distance_shown at ws f g; low = λ h. cc }),
-    (
-      (λ has good. record { are_told = (tt, tt); words = refl; low = λ h. near_back at (low_byte f) g.fits (omega (arith, g.size, g.mode, g.lower)) ∙ g.low }),
-      tt,
-    ),
-  ),
-)
-
-tells_7 : (at : ℕ) (ws : List ℕ) (f : First) (g : Given at ws f) → AllTell at ws f rows_7
-tells_7 at ws f g = (
-  (λ has good. record { are_told = (tt, (g.upper, tt)); words = refl; low = λ h. cc }),
-  tt,
-)
-
-tells_8 : (at : ℕ) (ws : List ℕ) (f : First) (g : Given at ws f) → AllTell at ws f rows_8
-tells_8 at ws f g = (
-  (λ has. either_way at ws f g (size_of f.size) (some_size f.size) (λ e. Or (size_of f.size) (f.bit8 == 1) f.upper e) (f.bit8 == 1) (λ e. refl) (λ e n. (refl, refl))),
-  (
-    (λ has. after at ws f g Two refl (λ e. Div (f.bit8 == 1) e f.upper) (Data f.upper) g.upper refl refl (λ e. refl) (λ e n. (refl, refl))),
-    (
-      (λ has good. record { are_told = paired_told (f.mode == 1) f.lower f.upper g.lower g.upper; words = paired_alone at (f.mode == 1) f.lower f.upper; low = λ h. cc }),
-      tt,
-    ),
-  ),
-)
-
-tells_9 : (at : ℕ) (ws : List ℕ) (f : First) (g : Given at ws f) → AllTell at ws f rows_9
-tells_9 at ws f g = (
-  (λ has. either_way at ws f g (size_of f.size) (some_size f.size) (λ e. Sub (size_of f.size) (f.bit8 == 1) f.upper e) (f.bit8 == 1) (λ e. refl) (λ e n. (refl, refl))),
-  (
-    (λ has. after at ws f g (long_or_word f.bit8) (some_long f.bit8) (λ e. Suba (long_or_word f.bit8) e f.upper) (Address f.upper) g.upper refl refl (λ e. refl) (λ e n. (refl, refl))),
-    (
-      (λ has good. record { are_told = paired_told (f.mode == 1) f.lower f.upper g.lower g.upper; words = paired_alone at (f.mode == 1) f.lower f.upper; low = λ h. cc }),
-      tt,
-    ),
-  ),
-)
-
-tells_B : (at : ℕ) (ws : List ℕ) (f : First) (g : Given at ws f) → AllTell at ws f rows_B
-tells_B at ws f g = (
-  (λ has. after at ws f g (size_of f.size) (some_size f.size) (λ e. Cmp (size_of f.size) e f.upper) (Data f.upper) g.upper refl refl (λ e. refl) (λ e n. (refl, refl))),
-  (
-    (λ has. after at ws f g (long_or_word f.bit8) (some_long f.bit8) (λ e. Cmpa (long_or_word f.bit8) e f.upper) (Address f.upper) g.upper refl refl (λ e. refl) (λ e n. (refl, refl))),
-    (
-      (λ has. before at ws f g (size_of f.size) (some_size f.size) (λ e. Eor (size_of f.size) f.upper e) (Data f.upper) g.upper refl (λ e. refl) (λ e n. (refl, refl))),
-      (
-        (λ has good. record { are_told = (g.lower, (g.upper, tt)); words = refl; low = λ h. cc }),
-        tt,
-      ),
-    ),
-  ),
-)
-
-tells_C : (at : ℕ) (ws : List ℕ) (f : First) (g : Given at ws f) → AllTell at ws f rows_C
-tells_C at ws f g = (
-  (λ has. either_way at ws f g (size_of f.size) (some_size f.size) (λ e. And (size_of f.size) (f.bit8 == 1) f.upper e) (f.bit8 == 1) (λ e. refl) (λ e n. (refl, refl))),
-  (
-    (λ has. after at ws f g Two refl (λ e. Mul (f.bit8 == 1) e f.upper) (Data f.upper) g.upper refl refl (λ e. refl) (λ e n. (refl, refl))),
-    (
-      (λ has good. record { are_told = paired_told (f.mode == 1) f.lower f.upper g.lower g.upper; words = paired_alone at (f.mode == 1) f.lower f.upper; low = λ h. cc }),
-      (
-        (λ has good. record { are_told = exchanged_told (exchange f) f.upper f.lower g.upper g.lower; words = exchanged_alone at (exchange f) f.upper f.lower; low = λ h. cc }),
-        tt,
-      ),
-    ),
-  ),
-)
-
-tells_D : (at : ℕ) (ws : List ℕ) (f : First) (g : Given at ws f) → AllTell at ws f rows_D
-tells_D at ws f g = (
-  (λ has. either_way at ws f g (size_of f.size) (some_size f.size) (λ e. Add (size_of f.size) (f.bit8 == 1) f.upper e) (f.bit8 == 1) (λ e. refl) (λ e n. (refl, refl))),
-  (
-    (λ has. after at ws f g (long_or_word f.bit8) (some_long f.bit8) (λ e. Adda (long_or_word f.bit8) e f.upper) (Address f.upper) g.upper refl refl (λ e. refl) (λ e n. (refl, refl))),
-    (
-      (λ has good. record { are_told = paired_told (f.mode == 1) f.lower f.upper g.lower g.upper; words = paired_alone at (f.mode == 1) f.lower f.upper; low = λ h. cc }),
-      tt,
-    ),
-  ),
-)
-
-tells_E : (at : ℕ) (ws : List ℕ) (f : First) (g : Given at ws f) → AllTell at ws f rows_E
-tells_E at ws f g = (
-  (λ has good. record { are_told = (counted_told (nat_lt f.mode 4) f.upper g.upper, (g.lower, tt)); words = counted_alone at (nat_lt f.mode 4) (one_to_eight f.upper) f.upper f.lower; low = λ h. cc }),
-  (
-    (λ has. single at ws f g Two refl (ShiftMemory (shift_op f.upper) (f.bit8 == 1)) (λ e. refl) (λ e n. (refl, refl))),
-    tt,
-  ),
-)
-
-choose : (at : ℕ) (ws : List ℕ) (f : First) (b : Bool) (xs ys : List Row) → AllTell at ws f xs → AllTell at ws f ys → AllTell at ws f (if b then xs else ys)
-choose at ws f true xs ys first second = first
-choose at ws f false xs ys first second = second
-
-tells_4 : (at : ℕ) (ws : List ℕ) (f : First) (g : Given at ws f) → AllTell at ws f (rows_4 f)
-tells_4 at ws f g =
-    choose at ws f (f.bit8 == 1) _ _ (tells_4_odd at ws f g)
-    (choose at ws f (nat_lt f.upper 4) _ _ (tells_4_one at ws f g)
-    (choose at ws f (f.upper == 4) _ _ (tells_4_8 at ws f g)
-    (choose at ws f (nat_lt f.upper 7) _ _ (tells_4_test at ws f g)
-    (choose at ws f (f.size == 1) _ _ (tells_4_control at ws f g) (tells_4_jump at ws f g)))))
-
--- each row of a first word tells the words
-pub all_tell : (at : ℕ) (ws : List ℕ) (f : First) (g : Given at ws f) → AllTell at ws f (rows_of f)
-all_tell at ws f g =
-    choose at ws f (f.line == 0) _ _ (choose at ws f (f.bit8 == 0) _ _ (tells_0_even at ws f g) (tells_0_odd at ws f g))
-    (choose at ws f (f.line == 1) _ _ (tells_move at ws f g)
-    (choose at ws f (f.line == 2) _ _ (tells_move at ws f g)
-    (choose at ws f (f.line == 3) _ _ (tells_move at ws f g)
-    (choose at ws f (f.line == 4) _ _ (tells_4 at ws f g)
-    (choose at ws f (f.line == 5) _ _ (tells_5 at ws f g)
-    (choose at ws f (f.line == 6) _ _ (tells_6 at ws f g)
-    (choose at ws f (f.line == 7) _ _ (tells_7 at ws f g)
-    (choose at ws f (f.line == 8) _ _ (tells_8 at ws f g)
-    (choose at ws f (f.line == 9) _ _ (tells_9 at ws f g)
-    (choose at ws f (f.line == 11) _ _ (tells_B at ws f g)
-    (choose at ws f (f.line == 12) _ _ (tells_C at ws f g)
-    (choose at ws f (f.line == 13) _ _ (tells_D at ws f g)
-    (choose at ws f (f.line == 14) _ _ (tells_E at ws f g)
-    tt)))))))))))))

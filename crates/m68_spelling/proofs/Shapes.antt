@@ -4,9 +4,9 @@ use Rattle.std.proofs.lemmas.Bool.{ltb-true}
 use Rattle.std.proofs.lemmas.List.{append-nil}
 use Rattle.mix_bits.specs.declared.size.Size.{Size}
 use Rattle.mix_bits.specs.declared.size.Size.TheVariants.{One, Two, Four}
-use Rattle.m68_isa.specs.declared.classes.Class.TheVariants.{DataAlterable, Control, ControlAlterable}
+use Rattle.m68_isa.specs.Classes.Class.{DataAlterable, Control, ControlAlterable}
 use Rattle.m68_isa.specs.declared.ea.Ea.{Ea}
-use Rattle.m68_isa.specs.declared.first.First.{First}
+use Rattle.m68_isa.specs.First.{First}
 use Rattle.m68_isa.specs.declared.found.Found.{Found}
 use Rattle.m68_isa.specs.declared.found.Found.TheVariants.{Made, Privileged as RowPrivileged, Illegal as RowIllegal}
 use Rattle.m68_isa.specs.declared.instructions.Instr68.{Instr68}
@@ -14,12 +14,11 @@ use Rattle.m68_isa.specs.declared.operand.Operand.{Operand as Read}
 use Rattle.m68_isa.specs.Classes.{in_class}
 use Rattle.m68_isa.specs.First.{low_byte}
 use Rattle.m68_isa.specs.Operands.{operand_at, special_at}
-use Rattle.m68_isa.specs.Rows.{Row, row, one}
+use Rattle.m68_isa.specs.Rows.{one}
 use Rattle.m68_isa.specs.Widths.{is_any}
 use Rattle.m68_text.specs.declared.operand.Operand.{Operand}
-use Rattle.m68_text.specs.declared.operand.Operand.TheVariants.{Data}
-use Rattle.m68_text.specs.Operands.{directed, operands, place}
-use Rattle.m68_spelling.specs.Laws.{LongOrWordIsAny, MoveSizeIsAny, SizeIsAny}
+use Rattle.m68_text.specs.Operands.{operands, place}
+use Rattle.m68_spelling.specs.Laws.{LongOrWordIsAny, SizeIsAny}
 use Rattle.m68_spelling.specs.Reading.{nothing}
 use Rattle.m68_spelling.specs.Spelling.{content, contents, following, is_word, way_of}
 use Rattle.m68_spelling.specs.Spelling.Ending.{Extended}
@@ -41,10 +40,6 @@ abbrev pub IsTelling : ℕ → List ℕ → Found → Type 0
 IsTelling at ws (Made i used good) = good ≡ true → Tells i used ws at
 IsTelling at ws RowPrivileged = Unit {0}
 IsTelling at ws RowIllegal = Unit {0}
-
-abbrev pub AllTell : ℕ → List ℕ → First → List Row → Type 0
-AllTell at ws f [] = Unit {0}
-AllTell at ws f (row has makes ∷ rows) = (has f ≡ true → IsTelling at ws (makes f ws)) × AllTell at ws f rows
 
 -- what is known of a first word and the words
 pub record Given (at : ℕ) (ws : List ℕ) (f : First) : Type 0 where
@@ -116,11 +111,6 @@ before at ws f g s some make x xt none is plain good =
     let h : Shows at ws 1 e.next o = here at ws f g s some good in
     from_list (make e.ea) e.next ws at (x ∷ o ∷ []) (is e.ea) (plain e.ea e.next).0 (plain e.ea e.next).1 (xt, (h.told, tt))
     (contents_right at (cut x) (cut o) none ∙ upto_here at ws e.next o h)
-
--- a data register, on the side that a bit says
-pub either_way : (at : ℕ) (ws : List ℕ) (f : First) (g : Given at ws f) (s : Size) → is_any s ≡ true → (make : Ea → Instr68) (b : Bool) → ((e : Ea) → operands (make e) ws at ≡ directed b f.upper (place s ws 1 e)) → IsPlain make → IsTelling at ws (one make s f ws)
-either_way at ws f g s some make true is plain = before at ws f g s some make (Data f.upper) g.upper refl is plain
-either_way at ws f g s some make false is plain = after at ws f g s some make (Data f.upper) g.upper refl refl is plain
 
 -- Two operands with words.
 
@@ -223,6 +213,3 @@ some_size bits = some_if (bits == 0) One _ refl (some_if (bits == 1) Two Four re
 
 pub some_long : LongOrWordIsAny
 some_long bit = some_if (bit == 0) Two Four refl refl
-
-pub some_move : MoveSizeIsAny
-some_move line = some_if (line == 1) One _ refl (some_if (line == 2) Four Two refl refl)

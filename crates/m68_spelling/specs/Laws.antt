@@ -6,7 +6,6 @@ use Rattle.m68_isa.specs.declared.instructions.Instr68.{Instr68}
 use Rattle.m68_isa.specs.declared.instructions.Decoded68.TheVariants.{Op}
 use Rattle.m68_isa.specs.Decode.{decoded}
 use Rattle.m68_isa.specs.First.{long_or_word, size_of}
-use Rattle.m68_isa.specs.Moves.{move_size}
 use Rattle.m68_isa.specs.Operands.{immediate_at, immediate_words, plain, special_at}
 use Rattle.m68_isa.specs.Widths.{is_any}
 use Rattle.m68_text.specs.Names.{name}
@@ -43,12 +42,9 @@ WordsSpell = (at w : ℕ) → w < 2 ^ 16 → spelled Data at (read_all (hex 4 w)
 abbrev pub SpecialIsImmediate : Type 0
 SpecialIsImmediate = (ws : List ℕ) (k : ℕ) (s : Size) (lower : ℕ) → 4 ≤ lower → special_at ws k s lower ≡ plain (Imm (immediate_at ws k s)) (k + immediate_words s)
 
--- the sizes that the bits of a first word name are a byte, a word or a long: two bits, one bit, and those of a move
+-- the sizes that the bits of a first word name are a byte, a word or a long: two bits and one bit
 abbrev pub SizeIsAny : Type 0
 SizeIsAny = (bits : ℕ) → is_any (size_of bits) ≡ true
 
 abbrev pub LongOrWordIsAny : Type 0
 LongOrWordIsAny = (bit : ℕ) → is_any (long_or_word bit) ≡ true
-
-abbrev pub MoveSizeIsAny : Type 0
-MoveSizeIsAny = (line : ℕ) → is_any (move_size line) ≡ true

@@ -1,4 +1,4 @@
-ghost use Rattle.m68_spelling.specs.Laws.{LongOrWordIsAny, MoveSizeIsAny, SizeIsAny, SpecialIsImmediate, TextsSpell, WordsSpell};
+ghost use Rattle.m68_spelling.specs.Laws.{LongOrWordIsAny, SizeIsAny, SpecialIsImmediate, TextsSpell, WordsSpell};
 
 /// What holds of the texts of instructions. It does nothing: the clauses are its point.
 pub fn spelling_laws()
@@ -11,5 +11,4 @@ pub fn operand_laws()
     ensures immediates { SpecialIsImmediate }
     ensures sizes { SizeIsAny }
     ensures longs { LongOrWordIsAny }
-    ensures moves { MoveSizeIsAny }
 {}

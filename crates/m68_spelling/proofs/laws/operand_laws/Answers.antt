@@ -1,5 +1,5 @@
 use Rattle.m68_spelling.proofs.Places.{special_immediate}
-use Rattle.m68_spelling.proofs.Shapes.{some_long, some_move, some_size}
+use Rattle.m68_spelling.proofs.Shapes.{some_long, some_size}
 use Rattle.m68_spelling.proofs.laws.operand_laws.Goals as goal
 
 pub returns-clause-immediates : goal.returns-clause-immediates
@@ -10,6 +10,3 @@ returns-clause-sizes c = some_size
 
 pub returns-clause-longs : goal.returns-clause-longs
 returns-clause-longs c = some_long
-
-pub returns-clause-moves : goal.returns-clause-moves
-returns-clause-moves c = some_move

@@ -1,6 +1,0 @@
-pub mod MovesBySize
-pub mod Absent
-pub mod Restores
-mod Words
-mod Used
-mod Whole

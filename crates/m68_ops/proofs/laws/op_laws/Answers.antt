@@ -1,6 +1,0 @@
-use Rattle.m68_ops.proofs.Used.{keeps}
-use Rattle.m68_ops.proofs.Whole.{none_missing}
-use Rattle.m68_ops.proofs.laws.op_laws.Goals as goal
-
-pub returns : goal.returns
-returns c = record { most_used = λ op f ws. (keeps op f ws ws).0; none_behind = λ op f ws us. (keeps op f ws us).1; none_missing = none_missing }
