@@ -4,12 +4,11 @@ use Rattle.std.proofs.Math.Seq.{take-append_seam}
 use Rattle.m68_isa.specs.First.{First}
 use Rattle.m68_isa.specs.declared.found.Found.{Found}
 use Rattle.m68_isa.specs.declared.found.Found.TheVariants.{Made, Privileged as RowPrivileged, Illegal as RowIllegal}
-use Rattle.m68_isa.specs.declared.instructions.Decoded68.{Decoded68}
 use Rattle.m68_isa.specs.declared.instructions.Decoded68.TheVariants.{Op, Illegal, Short}
 use Rattle.m68_isa.specs.declared.op.Op68.{Op68}
 use Rattle.m68_isa.specs.declared.op.Op68.TheVariants.{LineA, LineF}
 use Rattle.m68_isa.specs.declared.instructions.Instr68.{Instr68}
-use Rattle.m68_isa.specs.Decode.{decoded, ended, operation, read as read_by}
+use Rattle.m68_isa.specs.Decode.{ended, operation, read as read_by}
 use Rattle.m68_isa.specs.First.{first_of, low_byte}
 use Rattle.m68_isa.specs.Made.{made}
 use Rattle.m68_text.specs.declared.operand.Operand.{Operand}

@@ -14,19 +14,17 @@ use Rattle.m68_isa.specs.declared.instructions.Exchange.{Exchange}
 use Rattle.m68_isa.specs.declared.instructions.Exchange.TheVariants.{Data as ExchangeData, Address as ExchangeAddress, DataAddress as ExchangeBoth}
 use Rattle.m68_isa.specs.declared.instructions.ShiftCount.TheVariants.{Number as CountNumber, Register as CountRegister}
 use Rattle.m68_isa.specs.declared.instructions.Instr68.{Instr68}
-use Rattle.m68_isa.specs.declared.instructions.Instr68.TheVariants.{Immediate, BitByRegister, BitByNumber, Movep, Move, Movea, Negx, Clr, Neg, Not, MoveFromSr, MoveToCcr, Nbcd, Pea, Ext, MovemToMemory, MovemFromMemory, MulLong, DivLong, Tst, Tas, Jsr, Jmp, Chk, Lea, Addq, Subq, Scc, Or, Div, Sub, Suba, Cmp, Cmpa, Eor, And, Mul, Add, Adda, ShiftMemory}
+use Rattle.m68_isa.specs.declared.instructions.Instr68.TheVariants.{Movep, Move, Ext, MovemToMemory, MovemFromMemory, MulLong, DivLong}
 use Rattle.m68_isa.specs.declared.operand.Operand.{Operand as Read}
-use Rattle.m68_isa.specs.Arithmetic.{exchange}
 use Rattle.m68_isa.specs.Classes.{in_class, up_to}
-use Rattle.m68_isa.specs.First.{condition_of, long_or_word, low_byte, one_to_eight, size_of}
-use Rattle.m68_isa.specs.Immediates.{bit_op}
+use Rattle.m68_isa.specs.First.{one_to_eight}
 use Rattle.m68_isa.specs.Moves.{move_mode}
-use Rattle.m68_isa.specs.Operands.{extended_word, immediate_at, immediate_words, long_at, operand_at}
+use Rattle.m68_isa.specs.Operands.{extended_word, immediate_words, long_at, operand_at}
 use Rattle.m68_isa.specs.Products.{by_registers, high_of, is_register_word, is_signed, is_wide, low_of}
 use Rattle.m68_isa.specs.Targets.{branch_target}
 use Rattle.m68_isa.specs.Widths.{is_any}
 use Rattle.m68_text.specs.declared.operand.Operand.{Operand}
-use Rattle.m68_text.specs.declared.operand.Operand.TheVariants.{Data, Address, Word, Number, ConditionCodes, StatusRegister}
+use Rattle.m68_text.specs.declared.operand.Operand.TheVariants.{Data, Word}
 use Rattle.m68_text.specs.Operands.{counted, exchanged, immediate, operands, paired, place, with_registers}
 use Rattle.m68_spelling.specs.Code.{long_words}
 use Rattle.m68_spelling.specs.Spelling.{content, contents, following, way}
@@ -34,7 +32,7 @@ use Rattle.m68_spelling.specs.Spelling.Ending.{Extended, Paired}
 use Rattle.m68_spelling.proofs.Texts.{IsTold, cut}
 use Rattle.m68_spelling.proofs.Places.{IsShown, Shows, immediate_shown, long_back, shown, word_back, words_from}
 use Rattle.m68_spelling.proofs.FirstWords.{ending_of, is_near, padded}
-use Rattle.m68_spelling.proofs.Shapes.{AllTell, AreTold, Given, IsNone, IsTelling, Tells, after, and_mask, and_place, before, either_way, no_alterable, no_control, no_control_alterable, single, some_long, some_move, some_size}
+use Rattle.m68_spelling.proofs.Shapes.{AreTold, Given, IsNone, IsTelling, Tells, and_mask, and_place, no_alterable}
 
 -- Small operands.
 

@@ -1,5 +1,5 @@
 -- The words of each operation are what its text tells.
-use Rattle.std.proofs.Common.{◌≡◌, ℕ, ◌+◌, ◌%◌, ◌<◌, ◌^◌, ◌==◌, ◌&&◌, ◌||◌, not, nat_lt, List, slice_index, Bool, true, false, arith, refl, ◌∙◌}
+use Rattle.std.proofs.Common.{◌≡◌, ℕ, ◌%◌, ◌<◌, ◌^◌, ◌==◌, ◌&&◌, ◌||◌, not, nat_lt, List, slice_index, Bool, true, false, arith, refl, ◌∙◌}
 use Rattle.mix_bits.specs.Ranges.{every}
 use Rattle.mix_bits.proofs.Every.{every_at}
 use Rattle.mix_bits.specs.declared.size.Size.{Size}
