@@ -1,6 +1,5 @@
 -- What is read of words, and printed of it, is the same of other words that agree on those it has.
-use Rattle.std.proofs.Common.{◌≡◌, ℕ, zero, suc, ◌+◌, ◌*◌, ◌%◌, ◌<◌, ◌≤◌, ◌==◌, ◌&&◌, nat_lt, List, [], ◌∷◌, length, take, slice_index, Bool, true, false, if◌then◌else◌, arith, refl, sym, ap, subst, ◌∙◌}
-use Rattle.std.proofs.lemmas.Bool.Decides.{nat_tests}
+use Rattle.std.proofs.Common.{◌≡◌, ℕ, zero, suc, ◌+◌, ◌*◌, ◌%◌, ◌<◌, ◌≤◌, ◌&&◌, List, [], ◌∷◌, slice_index, Bool, true, false, if◌then◌else◌, arith, refl, sym, ap, subst, ◌∙◌}
 use Rattle.mix_bits.specs.Sizes.{sign_extended}
 use Rattle.mix_bits.specs.declared.size.Size.{Size}
 use Rattle.mix_bits.specs.declared.size.Size.TheVariants.{Zero, One, Two, Four}
@@ -10,9 +9,9 @@ use Rattle.m68_isa.specs.First.{First}
 use Rattle.m68_isa.specs.declared.found.Found.{Found}
 use Rattle.m68_isa.specs.declared.found.Found.TheVariants.{Made, Privileged as RowPrivileged, Illegal as RowIllegal}
 use Rattle.m68_isa.specs.declared.instructions.Instr68.{Instr68}
-use Rattle.m68_isa.specs.declared.instructions.Instr68.TheVariants.{Immediate, ImmediateToCcr, BitByRegister, BitByNumber, Movep, Move, Movea, Negx, Clr, Neg, Not, MoveFromSr, MoveToCcr, Nbcd, Pea, Ext, MovemToMemory, MovemFromMemory, MulLong, DivLong, Tst, Tas, Link, Rtd, Jsr, Jmp, Chk, Lea, Addq, Subq, Scc, Dbcc, Bcc, Or, Div, Sub, Suba, Cmp, Cmpa, Eor, And, Mul, Add, Adda, ShiftMemory}
+use Rattle.m68_isa.specs.declared.instructions.Instr68.TheVariants.{ImmediateToCcr, Move, Ext, MovemToMemory, MovemFromMemory}
 use Rattle.m68_isa.specs.declared.operand.Operand.{Operand as Read}
-use Rattle.m68_isa.specs.First.{IsFirst, condition_of, first_of, long_or_word, one_to_eight, size_of}
+use Rattle.m68_isa.specs.First.{IsFirst}
 use Rattle.m68_isa.specs.Immediates.{logic_op}
 use Rattle.m68_isa.specs.Moves.{move_mode}
 use Rattle.m68_isa.specs.Operands.{immediate_at, immediate_words, index_of, is_index, long_at, operand_at, plain, special_at}
@@ -20,10 +19,9 @@ use Rattle.m68_isa.specs.Rows.{one, taken}
 use Rattle.m68_isa.specs.Products.{by_registers, high_of, is_register_word, is_signed, is_wide, low_of}
 use Rattle.m68_isa.specs.Widths.{is_any}
 use Rattle.m68_text.specs.declared.operand.Operand.{Operand}
-use Rattle.m68_text.specs.declared.operand.Operand.TheVariants.{Data, Address, Word, Long, Number, ConditionCodes, StatusRegister, Pair}
-use Rattle.m68_text.specs.Operands.{directed, immediate, operands, place, with_registers}
+use Rattle.m68_text.specs.declared.operand.Operand.TheVariants.{Data, Word, Long, ConditionCodes, Pair}
+use Rattle.m68_text.specs.Operands.{immediate, operands, place, with_registers}
 use Rattle.m68_spelling.proofs.Places.{special_immediate}
-use Rattle.m68_spelling.proofs.Shapes.{some_long, some_size}
 
 -- two lists agree on so many words
 pub record Agree (ws vs : List ℕ) (n : ℕ) : Type 0 where
