@@ -1,4 +1,0 @@
-pub mod Words
-pub mod Places
-pub mod Info
-pub mod Tree

@@ -1,4 +1,0 @@
-pub mod Looks
-pub mod Labels
-pub mod Reasons
-pub mod Whys
