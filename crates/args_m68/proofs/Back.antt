@@ -1,5 +1,5 @@
 -- What a callee was handed reads back.
-use Rattle.std.proofs.Common.{◌≡◌, inl, inr, ℕ, ◌+◌, ◌≤◌, true, false, List, ◌++◌, length, drop, get_or, replicate, Option, Some, None, Ok, is_some, arith, refl, sym, ap, ◌∙◌, append_assoc, length-append}
+use Rattle.std.proofs.Common.{◌≡◌, ℕ, ◌+◌, ◌≤◌, true, false, List, ◌++◌, length, drop, get_or, replicate, Option, Some, None, Ok, is_some, arith, refl, sym, ap, ◌∙◌, append_assoc, length-append}
 use Rattle.std.proofs.lemmas.List.{drop-drop, drop_at}
 use Rattle.byteorder.specs.Endian.{big_bytes}
 use Rattle.mix_bits.specs.Sizes.{truncated}
@@ -8,7 +8,8 @@ use Rattle.big_memory.specs.Lists.{put}
 use Rattle.mix_bits.specs.declared.isa.Isa.TheVariants.{M68}
 use Rattle.big_memory.specs.Map.{return_gate}
 use Rattle.big_memory.specs.Memory.{Memory}
-use Rattle.big_memory.proofs.Lists.{drop-put, get_or-put_outside, length-put}
+use Rattle.big_memory.proofs.Lists.{drop-put, length-put}
+use Rattle.big_memory.proofs.Rams.{stay_beside}
 use Rattle.m68_isa.specs.declared.registers.Regs68.{Regs68}
 use Rattle.proc_info.specs.declared.conv.Conv.{Conv}
 use Rattle.proc_info.specs.declared.conv.Conv.TheVariants.{Pascal, C, Register, D0Pascal, D0C, D1Pascal, StackPascal}
@@ -104,15 +105,7 @@ comes-back sig selector values lo a5 target m handed =
 
 pub touches-nothing : TouchesNothingElse
 touches-nothing sig selector values lo m handed =
-    let sp = callee_sp sig selector lo in
-    let stack = stack_of sig selector values in
-    let length-is = length-stack sig selector values handed.count in
-    record {
-      marks = refl;
-      long = delivered-length sig selector values lo m handed;
-      bytes = λ a apart. get_or-put_outside sp a stack m.bytes 0 (omega (arith, handed.room, handed.inside, length-is))
-          (elim apart [ inl before ↦ inl before | inr behind ↦ inr (omega (arith, handed.room, behind, length-is)) ]);
-    }
+    stay_beside m (callee_sp sig selector lo) lo (stack_of sig selector values) (omega (arith, handed.room, length-stack sig selector values handed.count)) handed.inside
 
 -- a selector on the stack, where it was put
 stack-selector_back : (sig : Signature) (v : ℕ) (values : List ℕ) (lo : ℕ) (m : Memory) (r : Regs68) → MayBeHanded sig (Some v) values lo m → selector_slot sig.conv sig.selector (Some v) ≡ pascal_slot sig.selector v → get_or r.a 7 0 ≡ callee_sp sig (Some v) lo → value_at r (delivered sig (Some v) values lo m) (Stack 4) sig.selector ≡ Ok (truncated v sig.selector)

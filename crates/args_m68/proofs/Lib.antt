@@ -1,4 +1,3 @@
-pub mod Chains
 pub mod Stacks
 pub mod Files
 pub mod Back

@@ -1,7 +1,8 @@
 -- Laws of what a callee is handed.
-use Rattle.std.specs.Prelude.{◌≡◌, ◌⊎◌, ℕ, ◌<◌, ◌≤◌, true, List, length, slice_index, Option, Some, is_some, Ok}
+use Rattle.std.specs.Prelude.{◌≡◌, ℕ, ◌≤◌, true, List, length, slice_index, Option, Some, is_some, Ok}
 use Rattle.mix_bits.specs.Sizes.{truncated}
 use Rattle.big_memory.specs.Memory.{Memory, IsRam}
+use Rattle.big_memory.specs.Stores.{IsSameBeside}
 use Rattle.proc_info.specs.Codes.{is_dispatched}
 use Rattle.proc_info.specs.Cut.{cut}
 use Rattle.proc_info.specs.Rules.{KeepsRules}
@@ -36,12 +37,7 @@ abbrev pub FillsItsStack : Type 0
 FillsItsStack =
     (sig : Signature) (selector : Option ℕ) (values : List ℕ) → length values ≡ length sig.params → length (stack_of sig selector values) ≡ below sig (is_some selector)
 
--- memory that differs at most from sp up to lo
-pub record IsSameBeside (sp lo : ℕ) (old new : Memory) : Type 0 where
-  pub marks : new.marks ≡ old.marks
-  pub long : length new.bytes ≡ length old.bytes
-  pub bytes : (a : ℕ) → (a < sp) ⊎ (lo ≤ a) → slice_index new.bytes a ≡ slice_index old.bytes a
-
+-- no byte of memory changes but those from its stack pointer up to lo
 abbrev pub TouchesNothingElse : Type 0
 TouchesNothingElse =
     (sig : Signature) (selector : Option ℕ) (values : List ℕ) (lo : ℕ) (m : Memory) → MayBeHanded sig selector values lo m

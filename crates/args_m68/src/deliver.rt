@@ -10,12 +10,11 @@ use super::places::{
     Route, params_bytes, place_for, result_bytes, route_for, selector_place, selector_width,
 };
 use super::values::put_value;
-use super::words::Words;
 use arrayvec::ArrayVec;
 use big_memory::{Ram, return_gate};
 use m68_isa::Regs68;
-use mix_bits::{Isa, Size, trunc};
-use proc_info::{Conv, Param, Sig};
+use mix_bits::{Isa, Size, append, trunc};
+use proc_info::{Conv, Param, Sig, Words};
 
 /// The bytes of a callee's stack: a return address, a selector, thirteen parameters and a result.
 type Stack = ArrayVec<u8, 64>;
@@ -145,15 +144,6 @@ fn append_packed(stack: &mut Stack, size: Size, value: u32)
         Size::Two => append(stack, &((value & 0xFFFF) as u16).to_be_bytes()),
         Size::Four => append(stack, &value.to_be_bytes()),
     }
-}
-
-/// Appends bytes for which there is room.
-fn append(stack: &mut Stack, bytes: &[u8])
-    requires { length stack.old.items + length bytes.now ≤ 64 }
-    ensures bytes { stack.new.items ≡ stack.old.items ++ bytes.now }
-    ensures longer { length stack.new.items ≡ length stack.old.items + length bytes.now }
-{
-    let _fits = stack.try_extend_from_slice(bytes);
 }
 
 /// The registers of a callee before it is passed anything.

@@ -8,11 +8,10 @@ use super::places::{
     Route, next_base, place_for, route_for, selector_place, selector_width, widths,
 };
 use super::values::value_at;
-use super::words::Words;
 use arrayvec::ArrayVec;
 use big_memory::{Access, Ram};
 use m68_isa::Regs68;
-use proc_info::{Param, Sig};
+use proc_info::{Param, Sig, Words};
 
 /// The selector that a caller passes, cut to its size, or the refusal of its bytes. A7 is at the return
 /// address.
@@ -44,7 +43,7 @@ pub fn gather68(sig: &Sig, regs: &Regs68, ram: &Ram) -> Result<Words, Access>
 }
 
 /// Appends the values of parameters whose lowest begins `base` bytes above A7.
-#[tactic(auto, using(crate::proofs::Chains::behind_front, crate::proofs::Chains::behind_none))]
+#[tactic(auto, using(proc_info::proofs::Chains::behind_front, proc_info::proofs::Chains::behind_none))]
 fn append_values(
     values: &mut ArrayVec<u32, 13>,
     regs: &Regs68,

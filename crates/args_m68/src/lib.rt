@@ -11,10 +11,9 @@ mod laws;
 mod places;
 mod results;
 mod values;
-mod words;
 
 pub use deliver::{below68, deliver68};
 pub use gather::{gather68, select68};
 pub use laws::{args68_laws, place68_laws, result68_laws};
+pub use proc_info::Words;
 pub use results::{popped, put_result68, removed68, result68};
-pub use words::Words;

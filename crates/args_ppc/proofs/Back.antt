@@ -9,7 +9,8 @@ use Rattle.mix_bits.specs.Sizes.{truncated}
 use Rattle.mix_bits.specs.declared.size.Size.{Size}
 use Rattle.mix_bits.specs.declared.size.Size.TheVariants.{Zero, One, Two, Four}
 use Rattle.big_memory.specs.Memory.{Memory, loaded, with_bytes}
-use Rattle.big_memory.proofs.Lists.{drop-put, get_or-put_outside, length-put}
+use Rattle.big_memory.proofs.Lists.{drop-put, length-put}
+use Rattle.big_memory.proofs.Rams.{stay_beside}
 use Rattle.ppc_isa.specs.declared.registers.RegsPpc.{RegsPpc}
 use Rattle.proc_info.specs.declared.param.Param.{Param}
 use Rattle.proc_info.specs.Cut.{cut}
@@ -95,15 +96,7 @@ selector-comes-back sig v values lo code toc m =
 
 pub touches-nothing : TouchesNothingElse
 touches-nothing sig selector values lo m handed =
-    let sp = callee_sp sig selector lo in
-    let frame = frame_of (callee_words sig selector values) in
-    let length-is = length-stack sig selector values handed.count in
-    record {
-      marks = refl;
-      long = length-put sp frame m.bytes (omega (arith, handed.room, handed.inside, length-is));
-      bytes = λ a apart. get_or-put_outside sp a frame m.bytes 0 (omega (arith, handed.room, handed.inside, length-is))
-          (elim apart [ inl before ↦ inl before | inr behind ↦ inr (omega (arith, handed.room, behind, length-is)) ]);
-    }
+    stay_beside m (callee_sp sig selector lo) lo (frame_of (callee_words sig selector values)) (omega (arith, handed.room, length-stack sig selector values handed.count)) handed.inside
 
 -- a result reads back from r3
 sized-back : (s : Size) (v : ℕ) (r : RegsPpc) → length r.gpr ≡ 32 → truncated (get_or (with_sized s v r).gpr 3 0) s ≡ truncated v s

@@ -4,7 +4,7 @@ use Rattle.std.proofs.lemmas.List.{drop-drop, drop_all, drop_at, drop-replicate,
 use Rattle.byteorder.specs.Endian.{big_bytes, big_number}
 use Rattle.mix_bits.specs.Sizes.{bytes_of}
 use Rattle.mix_bits.specs.declared.size.Size.{Size}
-use Rattle.big_memory.specs.Lists.{put}
+use Rattle.big_memory.specs.Lists.{put, zeros}
 use Rattle.big_memory.specs.Memory.{Memory, loaded, with_bytes}
 use Rattle.big_memory.specs.Numbers.{bytes_of_longs}
 use Rattle.big_memory.proofs.Lists.{length-put, put-nil, put-put_inside}
@@ -12,12 +12,11 @@ use Rattle.big_memory.proofs.Numbers.{length_of_bytes, loads_number}
 use Rattle.proc_info.specs.declared.param.Param.{Param}
 use Rattle.proc_info.specs.Cut.{cut}
 use Rattle.proc_info.specs.Signature.{Signature}
-use Rattle.args_ppc.specs.Deliver.{callee_words, first_param, frame_bytes, frame_of, registers_with, zeros}
+use Rattle.args_ppc.specs.Deliver.{callee_words, first_param, frame_bytes, frame_of, registers_with}
 use Rattle.args_ppc.specs.Laws.{FillsItsStack}
 
 -- how many bytes so many zeros are
 pub length-zeros : (n : ℕ) → length (zeros n) ≡ n
-unfolding zeros
 length-zeros n = length-replicate n 0
 
 pub length-cut : (ps : List Param) (vs : List ℕ) → length vs ≡ length ps → length (cut ps vs) ≡ length ps
@@ -47,7 +46,6 @@ length-stack sig selector values same = length-frame (callee_words sig selector 
 
 -- the zeros of a frame with the words behind the eighth put into them
 zeros-put : (ws : List ℕ) → put 56 (bytes_of_longs (drop 8 ws)) (replicate (frame_bytes (length ws)) 0) ≡ frame_of ws
-unfolding zeros
 zeros-put ws =
     let n = frame_bytes (length ws) in
     let held = bytes_of_longs (drop 8 ws) in

@@ -1,4 +1,3 @@
-pub mod Chains
 pub mod Frames
 pub mod Back
 pub mod Apart

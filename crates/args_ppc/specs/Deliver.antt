@@ -1,10 +1,10 @@
 -- What a PowerPC callee is given (Inside Macintosh: PowerPC System Software, chapter 1, for words and the stack frame; a
 -- callee's fresh registers and the selector as its first word are this project's own).
-use Rattle.std.specs.Prelude.{ℕ, ◌+◌, ◌-◌, ◌*◌, max, Bool, is_some, if◌then◌else◌, List, [], ◌∷◌, ◌++◌, length, take, drop, replicate, slice_set, Option, Some, None}
+use Rattle.std.specs.Prelude.{ℕ, ◌+◌, ◌-◌, ◌*◌, max, Bool, is_some, if◌then◌else◌, List, [], ◌∷◌, ◌++◌, length, take, drop, slice_set, Option, Some, None}
 use Rattle.mix_bits.specs.Multiples.{rounded_up}
 use Rattle.mix_bits.specs.Sizes.{truncated}
 use Rattle.mix_bits.specs.declared.isa.Isa.TheVariants.{Ppc}
-use Rattle.big_memory.specs.Lists.{put}
+use Rattle.big_memory.specs.Lists.{put, zeros}
 use Rattle.big_memory.specs.Map.{return_gate}
 use Rattle.big_memory.specs.Memory.{Memory, with_bytes}
 use Rattle.big_memory.specs.Numbers.{bytes_of_longs}
@@ -33,10 +33,6 @@ passed_selector sig (Some v) = truncated v sig.selector ∷ []
 
 abbrev pub callee_words : Signature → Option ℕ → List ℕ → List ℕ
 callee_words sig selector values = passed_selector sig selector ++ cut sig.params values
-
--- so many zeros
-unfoldable pub zeros : ℕ → List ℕ
-zeros n = replicate n 0
 
 -- some bytes, and zeros up to a length
 abbrev pub padded : ℕ → List ℕ → List ℕ

@@ -1,6 +1,6 @@
 -- The argument words of a call in PowerPC code (Inside Macintosh: PowerPC System Software, chapter 1), and what
 -- CallUniversalProc is passed (chapter 2; that the selector comes first among it is this project's own).
-use Rattle.std.specs.Prelude.{◌≡◌, ℕ, ◌+◌, ◌*◌, nat_lt, if◌then◌else◌, List, [], ◌∷◌, ◌++◌, take, slice_index, Result, Ok, Err}
+use Rattle.std.specs.Prelude.{ℕ, ◌+◌, ◌*◌, nat_lt, if◌then◌else◌, List, [], ◌∷◌, slice_index, Result, Ok}
 use Rattle.mix_bits.specs.Results.{◌>>=◌}
 use Rattle.mix_bits.specs.Addresses.{onward}
 use Rattle.mix_bits.specs.Sizes.{truncated}
@@ -12,7 +12,7 @@ use Rattle.ppc_isa.specs.declared.registers.RegsPpc.{RegsPpc}
 use Rattle.proc_info.specs.declared.param.Param.{Param}
 use Rattle.proc_info.specs.Codes.{is_dispatched}
 use Rattle.proc_info.specs.Signature.{Signature}
-use Rattle.args_ppc.specs.declared.words.PpcWords.{PpcWords}
+pub use Rattle.proc_info.specs.Arguments.{Appends, answered, words_of}
 
 -- word i of a call, counted from 0: the first eight stand in r3 to r10, the others in their places in the stack frame
 abbrev pub word_at : RegsPpc → Memory → ℕ → Result ℕ Access
@@ -36,22 +36,3 @@ selector_in sig r = truncated (slice_index r.gpr 5) sig.selector
 
 abbrev pub gathered : Signature → RegsPpc → Memory → Result (List ℕ) Access
 gathered sig r m = values_at r m (first_passed sig) sig.params
-
--- the values in kept words
-abbrev pub words_of : PpcWords → List ℕ
-words_of w = take w.count w.value
-
--- the values that a call answers
-abbrev pub answered : Result PpcWords Access → Result (List ℕ) Access
-answered (Ok w) = Ok (words_of w)
-answered (Err e) = Err e
-
--- values behind others
-abbrev pub behind : List ℕ → Result (List ℕ) Access → Result (List ℕ) Access
-behind xs (Ok ys) = Ok (xs ++ ys)
-behind xs (Err e) = Err e
-
--- values are appended where there are some; else the call answers their refusal
-abbrev pub Appends : {T : Type 0} → Result T Access → List ℕ → List ℕ → Result (List ℕ) Access → Type 0
-Appends (Ok done) old new values = behind old values ≡ Ok new
-Appends (Err e) old new values = values ≡ Err e

@@ -9,12 +9,11 @@ ghost use Rattle.proc_info.specs.Views.{signature};
 ghost use Rattle.args_ppc.specs.Words.{words_of};
 ghost use Rattle.args_ppc.specs.Deliver.{below, callee_registers, callee_sp, callee_words as callee_words_lem, delivered, frame_bytes as frame_bytes_lem, frame_of, registers_with};
 
-use super::words::PpcWords;
 use arrayvec::ArrayVec;
 use big_memory::{Ram, return_gate};
 use mix_bits::{Isa, trunc};
 use ppc_isa::RegsPpc;
-use proc_info::{Param, Sig};
+use proc_info::{Param, Sig, Words};
 
 /// How many bytes of a stack frame stand before the words that it holds: the linkage area, and the places of
 /// the words in registers.
@@ -44,7 +43,7 @@ pub fn below_ppc(sig: &Sig, selector: bool) -> u32
 /// the others in the frame, which else holds zeros; no other byte of memory changes.
 pub fn deliver_ppc(
     sig: &Sig,
-    args: &PpcWords,
+    args: &Words,
     selector: Option<u32>,
     lo: u32,
     code: u32,

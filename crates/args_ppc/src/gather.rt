@@ -4,12 +4,11 @@ ghost use Rattle.proc_info.specs.Codes.{is_dispatched};
 ghost use Rattle.proc_info.specs.Views.{signature};
 ghost use Rattle.args_ppc.specs.Words.{Appends, answered, gathered, selector_in, value_at, values_at, word_at};
 
-use super::words::PpcWords;
 use arrayvec::ArrayVec;
 use big_memory::{Access, Ram};
 use mix_bits::{Size, onward, trunc};
 use ppc_isa::RegsPpc;
-use proc_info::{Param, Sig};
+use proc_info::{Param, Sig, Words};
 
 /// How many words of a call stand in registers.
 const REGISTER_WORDS: u32 = 8;
@@ -25,7 +24,7 @@ pub fn select_ppc(sig: &Sig, regs: &RegsPpc) -> u32
 /// The arguments that CallUniversalProc is passed for its callee, each cut to its size, or the first
 /// refusal in the parameters' order. They are the words behind the universal pointer and the procInfo, and
 /// behind the selector of a dispatched call.
-pub fn gather_ppc(sig: &Sig, regs: &RegsPpc, ram: &Ram) -> Result<PpcWords, Access>
+pub fn gather_ppc(sig: &Sig, regs: &RegsPpc, ram: &Ram) -> Result<Words, Access>
     ensures values { answered result ≡ gathered (signature sig.now) regs.now ram.now }
     ensures count { IfOk result (λ words. words.count ≡ sig.now.count) }
     ensures rest { IfOk result (λ words. drop words.count words.value ≡ replicate (13 - words.count) 0) }
@@ -33,11 +32,11 @@ pub fn gather_ppc(sig: &Sig, regs: &RegsPpc, ram: &Ram) -> Result<PpcWords, Acce
     let first = if sig.conv.is_dispatched() { 3 } else { 2 };
     let mut values = ArrayVec::new();
     append_values(&mut values, regs, ram, first, sig.params())?;
-    Ok(PpcWords::of(&values))
+    Ok(Words::of(&values))
 }
 
 /// Appends the values of parameters in the words from `first` on.
-#[tactic(auto, using(crate::proofs::Chains::behind_front, crate::proofs::Chains::behind_none))]
+#[tactic(auto, using(proc_info::proofs::Chains::behind_front, proc_info::proofs::Chains::behind_none))]
 fn append_values(
     values: &mut ArrayVec<u32, 13>,
     regs: &RegsPpc,

@@ -8,10 +8,9 @@ mod deliver;
 mod gather;
 mod laws;
 mod results;
-mod words;
 
 pub use deliver::{below_ppc, deliver_ppc, start_ppc};
 pub use gather::{gather_ppc, select_ppc};
 pub use laws::{args_ppc_laws, place_ppc_laws};
+pub use proc_info::Words as PpcWords;
 pub use results::{put_result_ppc, result_ppc};
-pub use words::PpcWords;

@@ -1,5 +1,6 @@
 -- Laws of stores that are done or refused as a whole.
-use Rattle.std.proofs.Common.{◌≡◌, ℕ, zero, suc, ◌+◌, ◌-◌, ◌<◌, ◌≤◌, List, [], ◌∷◌, length, drop, get_or, Option, None, Some, MatchOption, Result, Ok, Err, arith, sym, ◌∙◌, ap, subst, refl, drop-cons, length-drop, add-one}
+use Rattle.std.proofs.Common.{◌≡◌, ℕ, zero, suc, ◌+◌, ◌-◌, ◌*◌, ◌<◌, ◌≤◌, true, List, [], ◌∷◌, length, drop, get_or, Option, None, Some, MatchOption, Result, Ok, Err, arith, sym, ◌∙◌, ap, subst, refl, drop-cons, length-drop, add-one}
+use Rattle.std.proofs.lemmas.Bool.Decides.{nat_tests}
 use Rattle.std.proofs.lemmas.Grind.{same_number_lists}
 use Rattle.mix_bits.specs.declared.size.Size.{Size}
 use Rattle.mix_bits.specs.declared.size.Size.TheVariants.{Zero, One, Two, Four}
@@ -8,10 +9,11 @@ use Rattle.mix_bits.specs.Addresses.{onward}
 use Rattle.mix_bits.specs.Results.{◌>>=◌}
 use Rattle.byteorder.specs.Endian.{big_bytes}
 use Rattle.big_memory.specs.declared.refusals.Access.{Access}
-use Rattle.big_memory.specs.Memory.{Memory, IsRam, IsDoneUnless, IsDoneUnlessRefused, refusal, stored}
+use Rattle.big_memory.specs.Laws.{StoredLoads}
+use Rattle.big_memory.specs.Memory.{Memory, IsRam, IsDoneUnless, IsDoneUnlessRefused, in_memory, refusal, stored}
 use Rattle.big_memory.specs.Stores.{OnlyFree, Stores, first_refusal, longs_refusal, stored_longs, stored_unless, stored_value, with_longs}
 use Rattle.big_memory.proofs.Lists.{length-put}
-use Rattle.big_memory.proofs.Guarded.{Passes, passes}
+use Rattle.big_memory.proofs.Guarded.{Passes, loads_back, passes, passes_within}
 use Rattle.big_memory.proofs.Free.{nothing_free, free_joins, free_ram, stores_free}
 
 size-bytes : (s : Size) (v : ℕ) → length (big_bytes (bytes_of s) v) ≡ bytes_of s
@@ -30,6 +32,26 @@ pub value_stores : (m new : Memory) (a : ℕ) (s : Size) (v : ℕ) (result : Res
 unfolding stored_value
 value_stores m new a s v result ram all =
     unless_stores (refusal m a (bytes_of s)) m (stored m a s v) new result (stores_free m a (bytes_of s) (big_bytes (bytes_of s) v) (size-bytes s v) ram) all
+
+-- what is stored where nothing is refused
+done-is : (reason : Option Access) (m n : Memory) → stored_unless reason m ≡ Ok n → (reason ≡ None) × (n ≡ m)
+done-is None m n is = (refl, cc)
+done-is (Some e) m n is = absurd (cc)
+
+there : (m : Memory) (a n : ℕ) → 0 < n → refusal m a n ≡ None → in_memory m a n ≡ true
+there m a n some none = let within : a + n ≤ length m.bytes = (passes m a n some none).within in grind (arith, nat_tests, within)
+
+size-there : (m : Memory) (a : ℕ) (s : Size) → refusal m a (bytes_of s) ≡ None → in_memory m a (bytes_of s) ≡ true
+size-there m a Zero none = refl
+size-there m a One none = there m a 1 (omega arith) none
+size-there m a Two none = there m a 2 (omega arith) none
+size-there m a Four none = there m a 4 (omega arith) none
+
+pub stored_loads : StoredLoads
+unfolding stored_value
+stored_loads m n a s v is =
+    let done = done-is (refusal m a (bytes_of s)) (stored m a s v) n is in
+    rw (done.1) (loads_back m a s v (size-there m a s done.0))
 
 -- of two refusals there is none
 first_none : (x y : Option Access) → first_refusal x y ≡ None → (x ≡ None) × (y ≡ None)
@@ -119,6 +141,19 @@ longs_refused m a vs e refused = longs_stored m a vs ∙ ap (λ r. stored_unless
 pub longs_done : (m new : Memory) (a : ℕ) (vs : List ℕ) → IsRam m → longs_refusal m a (length vs) ≡ None → new ≡ with_longs a vs m → (stored_longs m a vs ≡ Ok new) × OnlyFree m new
 longs_done m new a vs ram none is =
     (longs_stored m a vs ∙ ap (λ r. stored_unless r (with_longs a vs m)) none ∙ ap Ok (sym is), subst (λ n. OnlyFree m n) (sym is) (longs_free m a vs ram none))
+
+-- none of the longs in a range is refused where the whole range is not
+longs-in : (m : Memory) (from a n count : ℕ) → IsRam m → refusal m from n ≡ None → from ≤ a → a + 4 * count ≤ from + n → longs_refusal m a count ≡ None
+unfolding longs_refusal
+longs-in m from a n zero ram none after within = refl
+longs-in m from a n (suc k) ram none after within =
+    let all : Passes m from n = passes m from n (omega (arith, after, within)) none in
+    let next : onward a 4 ≡ a + 4 = omega (arith, all.within, within, ram.most) in
+    ap (λ r. first_refusal r (longs_refusal m (onward a 4) k)) (passes_within m from n a 4 ram none after (omega (arith, within)))
+    ∙ ap (λ b. longs_refusal m b k) next ∙ longs-in m from (a + 4) n k ram none (omega (arith, after)) (omega (arith, within))
+
+pub range_open : (m : Memory) (a count : ℕ) → IsRam m → refusal m a (4 * count) ≡ None → longs_refusal m a count ≡ None
+range_open m a count ram none = longs-in m a a (4 * count) count ram none (omega arith) (omega arith)
 
 -- what a probe answers
 pub probe-err : (reason : Option Access) (result : Result (Unit {0}) Access) (e : Access) → MatchOption reason (result ≡ Ok (record {})) (λ e. result ≡ Err e) → result ≡ Err e → reason ≡ Some e

@@ -1,11 +1,11 @@
 -- Laws of loads, of what every memory meets, and of the units below the stack.
-use Rattle.std.proofs.Common.{◌≡◌, zero, suc, ◌+◌, ◌*◌, ◌%◌, ◌≤◌, inl, false, length, Ok, arith, sym, ◌∙◌, ap, refl}
+use Rattle.std.proofs.Common.{◌≡◌, ◌⊎◌, zero, suc, ◌+◌, ◌*◌, ◌%◌, ◌<◌, ◌≤◌, inl, false, length, Ok, arith, sym, ◌∙◌, ap, subst, refl}
 use Rattle.std.proofs.lemmas.List.{places}
 use Rattle.std.proofs.lemmas.Bool.Decides.{nat_tests}
 use Rattle.mix_bits.specs.declared.size.Size.TheVariants.{Zero, One, Two, Four}
 use Rattle.big_memory.specs.Lists.{put}
 use Rattle.big_memory.specs.Memory.{meets_gate, meets_guard}
-use Rattle.big_memory.specs.Laws.{BytesKeepRam, InMemoryWithin, LoadsPart, MarksKeepRam, MarksOfRange, OpenBelowFloor}
+use Rattle.big_memory.specs.Laws.{BytesKeepRam, BytesStayBeside, InMemoryWithin, LoadsPart, MarksKeepRam, MarksOfRange, OpenBelowFloor}
 use Rattle.big_memory.proofs.Lists.{length-put, get_or-put_outside, get_or-put_replicate}
 use Rattle.big_memory.proofs.Guarded.{refusal-none, test_from_free}
 
@@ -49,3 +49,10 @@ open_below_floor m a (suc n) ram above below =
     let guard : meets_guard m a (suc n) ≡ false =
     test_from_free m a (suc n) ram.units (omega arith) within (λ unit low high. ram.clear unit (omega (arith, high, below))) in
     refusal-none m a (suc n) (omega arith) (record { within = within; gate = gate; guard = guard })
+
+pub stay_beside : BytesStayBeside
+stay_beside m low high ys end within = record {
+  marks = refl;
+  long = length-put low ys m.bytes (omega (arith, end, within));
+  bytes = λ a apart. get_or-put_outside low a ys m.bytes 0 (omega (arith, end, within)) (subst (λ n. (a < low) ⊎ (n ≤ a)) (sym end) apart);
+}

@@ -6,7 +6,7 @@ use Rattle.mix_bits.specs.Sizes.{bytes_of, truncated}
 use Rattle.big_memory.specs.declared.refusals.Access.{Access}
 use Rattle.big_memory.specs.Lists.{part}
 use Rattle.big_memory.specs.Memory.{Memory, IsRam, IsFree, IsDoneUnless, IsDoneUnlessRefused, copied, copy_refusal, floor_of, meets_gate, meets_guard, refusal, in_memory, loaded, stored, with_bytes, with_marks}
-use Rattle.big_memory.specs.Stores.{OnlyFree}
+use Rattle.big_memory.specs.Stores.{IsSameBeside, OnlyFree, stored_value}
 
 -- what may be stored into as a whole may be stored into in parts
 abbrev pub PassesWithin : Type 0
@@ -95,3 +95,12 @@ FreeKeepsRefusals = (m n : Memory) (a k : ℕ) → OnlyFree m n → refusal n a 
 
 abbrev pub FreeKeepsPage : Type 0
 FreeKeepsPage = (m n : Memory) → IsRam m → OnlyFree m n → part 0x1000 0x1000 n.bytes ≡ part 0x1000 0x1000 m.bytes
+
+-- bytes put from an address up to another one change nothing beside
+abbrev pub BytesStayBeside : Type 0
+BytesStayBeside =
+    (m : Memory) (low high : ℕ) (ys : List ℕ) → low + length ys ≡ high → high ≤ length m.bytes → IsSameBeside low high m (with_bytes low ys m)
+
+-- a load behind a store of the same size gives what was stored
+abbrev pub StoredLoads : Type 0
+StoredLoads = (m n : Memory) (a : ℕ) (s : Size) (v : ℕ) → stored_value m a s v ≡ Ok n → loaded n a s ≡ Ok (truncated v s)

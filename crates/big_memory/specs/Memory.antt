@@ -6,7 +6,7 @@ use Rattle.mix_bits.specs.declared.size.Size.{Size}
 use Rattle.mix_bits.specs.Sizes.{bytes_of}
 use Rattle.big_memory.specs.declared.refusals.Access.{Access}
 use Rattle.big_memory.specs.declared.refusals.Access.TheVariants.{Outside, Gate, Frame}
-use Rattle.big_memory.specs.Lists.{part, put}
+use Rattle.big_memory.specs.Lists.{part, put, zeros}
 use Rattle.big_memory.specs.Numbers.{number_at}
 use Rattle.big_memory.specs.Map.{gate_page, gate_page_end}
 
@@ -29,7 +29,7 @@ pub record IsRam (m : Memory) : Type 0 where
 
 -- memory of so many zeros, with nothing guarded
 abbrev pub zeroed : ℕ → Memory
-zeroed len = record { bytes = replicate len 0; marks = replicate (len / 16) false }
+zeroed len = record { bytes = zeros len; marks = replicate (len / 16) false }
 
 -- the memory with the bytes from an address on, or the marks from a unit on, replaced
 abbrev pub with_bytes : ℕ → List ℕ → Memory → Memory
@@ -72,7 +72,7 @@ abbrev pub stored : Memory → ℕ → Size → ℕ → Memory
 stored m a s v = with_bytes a (big_bytes (bytes_of s) v) m
 
 abbrev pub filled : Memory → ℕ → ℕ → Memory
-filled m a n = with_bytes a (replicate n 0) m
+filled m a n = with_bytes a (zeros n) m
 
 abbrev pub copied : Memory → ℕ → ℕ → ℕ → Memory
 copied m from to n = with_bytes to (part from n m.bytes) m

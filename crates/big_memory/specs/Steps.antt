@@ -20,6 +20,11 @@ abbrev pub after_store : {R : Type 0} → ℕ → R → Result Memory Access →
 after_store pc next (Ok m) = Goes next m
 after_store pc next (Err e) = Stops (fault_of pc e)
 
+-- and once what it loads is loaded
+abbrev pub after_load : {R T : Type 0} → ℕ → (T → After R) → Result T Access → After R
+after_load pc goes_on (Ok v) = goes_on v
+after_load pc goes_on (Err e) = Stops (fault_of pc e)
+
 -- a call that does the step, from registers r and memory m to registers next and memory n. The fault,
 -- or the number as its detail, stands in a cell beside them
 abbrev pub Does : {R : Type 0} → After R → Did → Fault → R → R → Memory → Memory → Type 0

@@ -1,5 +1,5 @@
 -- Stores that are done as a whole or refused as a whole, and what they leave of memory.
-use Rattle.std.specs.Prelude.{◌≡◌, ◌≢◌, ℕ, zero, suc, ◌<◌, List, [], ◌∷◌, length, slice_index, Option, Some, None, Result, Ok, Err}
+use Rattle.std.specs.Prelude.{◌≡◌, ◌≢◌, ◌⊎◌, ℕ, zero, suc, ◌<◌, ◌≤◌, List, [], ◌∷◌, length, slice_index, Option, Some, None, Result, Ok, Err}
 use Rattle.mix_bits.specs.declared.size.Size.{Size}
 use Rattle.mix_bits.specs.declared.size.Size.TheVariants.{Four}
 use Rattle.mix_bits.specs.Sizes.{bytes_of}
@@ -13,6 +13,12 @@ pub record OnlyFree (m n : Memory) : Type 0 where
   pub marks : n.marks ≡ m.marks
   pub long : length n.bytes ≡ length m.bytes
   pub kept : (a : ℕ) → a < length m.bytes → refusal m a 1 ≢ None → slice_index n.bytes a ≡ slice_index m.bytes a
+
+-- memory that differs at most from `low` up to `high`
+pub record IsSameBeside (low high : ℕ) (m n : Memory) : Type 0 where
+  pub marks : n.marks ≡ m.marks
+  pub long : length n.bytes ≡ length m.bytes
+  pub bytes : (a : ℕ) → (a < low) ⊎ (high ≤ a) → slice_index n.bytes a ≡ slice_index m.bytes a
 
 -- the memory that a store leaves, unless it is refused
 abbrev pub stored_unless : Option Access → Memory → Result Memory Access

@@ -1,4 +1,4 @@
-ghost use Rattle.big_memory.specs.Laws.{BytesKeepRam, CopiesAreFree, DoneIsFree, FreeJoins, FreeKeepsPage, FreeKeepsRam, FreeKeepsRefusals, FreeTests, InMemoryWithin, KeepsRefusals, LoadsBack, LoadsPart, MarksKeepRam, MarksOfRange, NothingIsFree, OpenBelowFloor, OpenPasses, PassesOpen, PassesWithin, StoresAreFree, TestsFree};
+ghost use Rattle.big_memory.specs.Laws.{BytesKeepRam, BytesStayBeside, CopiesAreFree, DoneIsFree, FreeJoins, FreeKeepsPage, FreeKeepsRam, FreeKeepsRefusals, FreeTests, InMemoryWithin, KeepsRefusals, LoadsBack, LoadsPart, MarksKeepRam, MarksOfRange, NothingIsFree, OpenBelowFloor, OpenPasses, PassesOpen, PassesWithin, StoredLoads, StoresAreFree, TestsFree};
 ghost use Rattle.big_memory.specs.NumberLaws.{BytesJoin, LengthOfBytes, LengthOfLongs, LoadsLong, LoadsNumber, LongInPart, LongOfLongs, LongOfPart, LongReadsBack, LongsAgain, LongsFit, LongsOfPart, NumberInPart, WritesJoin};
 ghost use Rattle.big_memory.specs.PutLaws.{PutApart, PutFrom, PutHoldsInside, PutInside, PutJoins, PutKeepsBeside, PutKeepsLength, PutNothing, PutOver, PutReadsBack, PutReadsBeside, PutReadsInside, PutRun, PutSame};
 
@@ -25,6 +25,8 @@ pub fn memory_laws()
     ensures ram { FreeKeepsRam }
     ensures refusals { FreeKeepsRefusals }
     ensures page { FreeKeepsPage }
+    ensures beside { BytesStayBeside }
+    ensures stored { StoredLoads }
 {}
 
 /// What follows from the definition of bytes with a piece replaced. It does nothing: the clauses are

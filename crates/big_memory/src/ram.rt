@@ -1,4 +1,4 @@
-ghost use Rattle.std.specs.Prelude.{◌≡◌, ◌+◌, ◌-◌, ◌*◌, ◌/◌, ◌%◌, ◌≤◌, ◌<◌, ◌^◌, true, false, length, replicate, None, IsTrue, IfOk, MatchOption, MatchResult};
+ghost use Rattle.std.specs.Prelude.{◌≡◌, ◌+◌, ◌-◌, ◌*◌, ◌/◌, ◌%◌, ◌≤◌, ◌<◌, ◌^◌, nat_le, ◌&&◌, true, false, length, replicate, None, IsTrue, IfOk, MatchOption, MatchResult};
 ghost use Rattle.std.specs.Bool.{OnTrue};
 ghost use Rattle.byteorder.specs.Endian.{big_bytes};
 ghost use Rattle.mix_bits.specs.Sizes.{bytes_of, modulus};
@@ -17,6 +17,9 @@ use std::marker::Model;
 
 /// How many bytes one mark of the guard covers.
 const UNIT: usize = 16;
+
+/// How many longs are tested as one range before they are tested one by one.
+const FEW_LONGS: usize = 32;
 
 /// The machine's memory, big endian, with a guard of one bit for each unit of 16 bytes.
 ///
@@ -86,6 +89,17 @@ impl Ram {
         ensures { result ≡ floor_of self.now }
     {
         self.len() - self.len() / 4
+    }
+
+    /// Whether `n` bytes at `a` lie between the gate page and the stack, where every store is done.
+    #[inline(always)]
+    #[tactic(auto, using(crate::proofs::Rams::open_below_floor))]
+    pub fn is_below_stack(&self, a: u32, n: u32) -> bool
+        ensures is { result ≡ (nat_le 0x2000 a && nat_le (a + n) (floor_of self.now)) }
+        ensures passes { IsTrue result → refusal self.now a n ≡ None }
+    {
+        self.meets_invariant();
+        a >= GATE_PAGE_END && u64::from(a) + u64::from(n) <= u64::from(self.floor())
     }
 
     /// The number in the bytes at `a`.
@@ -345,6 +359,26 @@ impl Ram {
 
     /// What a store of `count` longs one after another from `a` on would answer.
     fn probe_longs(&self, a: u32, count: usize) -> Result<(), Access>
+        ensures { MatchOption (longs_refusal self.now a count) (result ≡ Ok (record {})) (λ e. result ≡ Err e) }
+    {
+        if self.is_range_open(a, count) {
+            Ok(())
+        } else {
+            self.probe_each(a, count)
+        }
+    }
+
+    /// Whether the range of `count` longs from `a` on, few ones, plainly may be stored into as a whole.
+    #[tactic(auto, using(crate::proofs::Longs::range_open))]
+    fn is_range_open(&self, a: u32, count: usize) -> bool
+        ensures { IsTrue result → longs_refusal self.now a count ≡ None }
+    {
+        self.meets_invariant();
+        count <= FEW_LONGS && self.probe(a, 4 * count as u32).is_ok()
+    }
+
+    /// What a store of `count` longs would answer, one after another.
+    fn probe_each(&self, a: u32, count: usize) -> Result<(), Access>
         ensures { MatchOption (longs_refusal self.now a count) (result ≡ Ok (record {})) (λ e. result ≡ Err e) }
     {
         let mut at = a;

@@ -1,9 +1,10 @@
 //! The fields of Macintosh files, as of resource forks and PEF containers: big-endian numbers, each read at
-//! the place of its first byte in the file.
+//! the place of its first byte in the file; and searches for the first item that breaks a rule.
 #![tactic(auto)]
 
 ghost use Rattle.std.specs.Prelude.{◌≡◌, ◌+◌, ◌≤◌, length};
 ghost use Rattle.file_fields.specs.Fields.{long_at, three_at, word_at};
+ghost use Rattle.file_fields.specs.SearchLaws.{FailsBelow, FirstIsLeast, LeastOfFailing, NoneIsCounted, NoneIsLeast};
 
 use byteorder::{BigEndian, ByteOrder};
 
@@ -33,3 +34,12 @@ pub fn long_at(bytes: &[u8], place: u32) -> u32
     let start = place as usize;
     BigEndian::read_u32(&bytes[start..start + 4])
 }
+
+/// What follows from the definitions of searches. It does nothing: the clauses are its point.
+pub fn search_laws()
+    ensures first { FirstIsLeast }
+    ensures none { NoneIsLeast }
+    ensures behind { LeastOfFailing }
+    ensures fails { FailsBelow }
+    ensures counted { NoneIsCounted }
+{}

@@ -1,7 +1,7 @@
 -- The words of each operation are what its text tells.
 use Rattle.std.proofs.Common.{◌≡◌, ℕ, ◌%◌, ◌<◌, ◌^◌, ◌==◌, ◌&&◌, ◌||◌, not, nat_lt, List, slice_index, Bool, true, false, arith, refl, ◌∙◌}
 use Rattle.mix_bits.specs.Ranges.{every}
-use Rattle.mix_bits.proofs.Every.{every_at}
+use Rattle.mix_bits.proofs.Every.{every_at, every_quarter}
 use Rattle.mix_bits.specs.declared.size.Size.{Size}
 use Rattle.mix_bits.specs.declared.size.Size.TheVariants.{One, Two, Four}
 use Rattle.m68_isa.specs.declared.instructions.ImmediateOp.{ImmediateOp}
@@ -21,7 +21,6 @@ use Rattle.m68_isa.specs.Moves.{move_mode, moved_of}
 use Rattle.m68_isa.specs.Operands.{immediate_at, operand_at}
 use Rattle.m68_isa.specs.Shifts.{shift_op}
 use Rattle.m68_isa.specs.Widths.{is_any}
-use Rattle.m68_isa.proofs.Quarters.{every_quarter}
 use Rattle.m68_text.specs.declared.operand.Operand.TheVariants.{Data, Address, Word, Number, ConditionCodes, StatusRegister}
 use Rattle.m68_spelling.proofs.Rows.{bits_none, counted_alone, counted_told, distance_shown, either_none, exchanged_alone, exchanged_told, ext_row, extended_shown, first_word_shown, from_memory_row, front, immediate_row, last, long_shown, mode_none, move_row, movep_row, near_back, paired_alone, paired_told, product_row, quick_told, quotient_row, target_shown, to_memory_row, trap_told, word_shown}
 use Rattle.m68_spelling.proofs.Shapes.{Given, IsTelling, after, and_place, before, no_control, no_control_alterable, single, some_long, some_size}

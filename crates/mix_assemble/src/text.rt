@@ -8,7 +8,7 @@ use super::line::{assemble_line, known_line};
 use super::lines::split_line;
 use super::refused::Refused;
 use arrayvec::ArrayVec;
-use mix_bits::{Isa, onward};
+use mix_bits::{Isa, append, onward};
 use mix_io::{Failed, Sink};
 
 /// How many bytes are put at once, at most.
@@ -76,14 +76,6 @@ fn add_bytes<O: Sink>(piece: &mut Piece, bytes: &[u8], out: &mut O) -> Result<()
     piece.clear();
     append(piece, bytes);
     Ok(())
-}
-
-/// Appends bytes to a piece with room for them.
-fn append(piece: &mut Piece, bytes: &[u8])
-    requires { length piece.old.items + length bytes.now ≤ 4096 }
-    ensures { piece.new.items ≡ piece.old.items ++ bytes.now }
-{
-    let _fits = piece.try_extend_from_slice(bytes);
 }
 
 /// Puts what a piece holds; where it is empty, nothing.

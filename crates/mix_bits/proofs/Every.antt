@@ -3,7 +3,7 @@ use Rattle.std.proofs.Common.{◌≡◌, inl, inr, ℕ, zero, suc, ◌+◌, ◌*
 use Rattle.std.proofs.Math.Nat.{pow-suc}
 use Rattle.std.proofs.lemmas.Bool.{cases_lt}
 use Rattle.mix_bits.specs.Ranges.{every}
-use Rattle.mix_bits.specs.Laws.{HoldsOfEach}
+use Rattle.mix_bits.specs.Laws.{HoldsByQuarters, HoldsOfEach}
 
 -- both tests hold where the first one, and then the second one, does
 both : (a b : Bool) → (if a then b else false) ≡ true → (a ≡ true) × (b ≡ true)
@@ -29,3 +29,7 @@ every_within (suc k) base p n holds from to =
 
 pub every_at : HoldsOfEach
 every_at k p n holds below = every_within k 0 p n holds (omega arith) (omega (arith, below))
+
+-- the checker computes the four quarters one by one
+pub every_quarter : HoldsByQuarters
+every_quarter k p first second third fourth = λ i. if (if first i then second i else false) then (if third i then fourth i else false) else false

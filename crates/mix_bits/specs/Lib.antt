@@ -1,5 +1,7 @@
 pub mod Sizes
+pub mod Signs
 pub mod Addresses
+pub mod Isas
 pub mod Multiples
 pub mod Faults
 pub mod Numbers

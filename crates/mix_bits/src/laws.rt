@@ -1,4 +1,4 @@
-ghost use Rattle.mix_bits.specs.Laws.{HoldsOfEach, ReadsReplaced, OthersStay};
+ghost use Rattle.mix_bits.specs.Laws.{HoldsByQuarters, HoldsOfEach, ReadsReplaced, OthersStay};
 ghost use Rattle.mix_bits.specs.Numbers.{ReadsDecimals, ReadsHexadecimals};
 
 /// What follows from the definition of a replaced digit. It does nothing: the clauses are its point.
@@ -10,6 +10,7 @@ pub fn digit_laws()
 /// What follows from a test of all numbers of a range. It does nothing, either.
 pub fn range_laws()
     ensures each { HoldsOfEach }
+    ensures quarters { HoldsByQuarters }
 {}
 
 /// How reading and writing numbers undo each other. It does nothing, either.

@@ -12,17 +12,19 @@ mod line;
 mod multiples;
 mod no_memory;
 mod number;
+mod pieces;
 mod size;
 #[cfg(test)]
 mod tests;
 
-pub use addresses::{aligned, onward};
+pub use addresses::{aligned, backward, onward};
 pub use digits::{digit, power, with_digit};
 pub use fault::{Fault, FaultKind};
-pub use isa::Isa;
+pub use isa::{Isa, is_isa};
 pub use laws::{digit_laws, number_laws, range_laws};
 pub use line::Line;
 pub use multiples::round_up;
 pub use no_memory::NoMemory;
 pub use number::{read_decimal, read_hexadecimal};
+pub use pieces::append;
 pub use size::{Size, sext, trunc, with_low};

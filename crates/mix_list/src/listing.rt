@@ -5,7 +5,7 @@ ghost use Rattle.mix_list.specs.Listing.{line_at, listing};
 use super::instruction::write_instruction;
 use arrayvec::ArrayVec;
 use big_memory::Ram;
-use mix_bits::{Isa, Line, onward};
+use mix_bits::{Isa, Line, append, onward};
 use mix_io::{Failed, Sink};
 
 /// How many bytes a line has at most.
@@ -53,12 +53,4 @@ fn line_of(at: u32, text: &Line) -> ArrayVec<u8, LINE_BYTES>
     append(&mut line, text.bytes());
     append(&mut line, b"\n");
     line
-}
-
-/// Appends a piece to a line with room for it.
-fn append(line: &mut ArrayVec<u8, LINE_BYTES>, piece: &[u8])
-    requires { length line.old.items + length piece.now ≤ 95 }
-    ensures { line.new.items ≡ line.old.items ++ piece.now }
-{
-    let _fits = line.try_extend_from_slice(piece);
 }

@@ -1,8 +1,7 @@
 -- The pieces of a loaded program lie in order.
-use Rattle.std.proofs.Common.{◌≡◌, ℕ, zero, suc, ◌+◌, ◌*◌, ◌/◌, ◌%◌, ◌^◌, ◌<◌, ◌≤◌, ◌∙◌, Bool, true, false, not, ◌==◌, ◌&&◌, ◌||◌, nat_lt, nat_le, List, length, get_or, Option, Some, None, option_map, Result, Ok, Err, inl, inr, refl, sym, ap, subst, arith}
+use Rattle.std.proofs.Common.{◌≡◌, ℕ, ◌+◌, ◌*◌, ◌/◌, ◌%◌, ◌^◌, ◌<◌, ◌≤◌, ◌∙◌, Bool, true, false, not, ◌==◌, ◌&&◌, ◌||◌, nat_lt, nat_le, List, length, get_or, Option, Some, None, option_map, Result, Ok, Err, refl, sym, ap, subst, arith}
 use Rattle.std.specs.Prelude.{IfSome, if◌then◌else◌}
 use Rattle.std.proofs.lemmas.List.{length-replicate}
-use Rattle.std.proofs.lemmas.Bool.{cases_lt}
 use Rattle.std.proofs.lemmas.Bool.Decides.{nat_tests}
 use Rattle.mix_bits.specs.declared.isa.Isa.{Isa}
 use Rattle.mix_bits.specs.Multiples.{rounded_up}
@@ -11,7 +10,8 @@ use Rattle.big_memory.specs.Memory.{floor_of}
 use Rattle.pef_head.specs.declared.error.PefError.{PefError}
 use Rattle.pef_head.specs.Container.{instantiated_count}
 use Rattle.pef_head.specs.Refusals.{refusal_of}
-use Rattle.pef_head.specs.Search.{◌or◌, least, refused}
+use Rattle.file_fields.specs.Search.{◌or◌, least, refused}
+use Rattle.file_fields.proofs.Searches.{fails_below}
 use Rattle.rsrc_fork.specs.declared.error.RsrcError.{RsrcError}
 use Rattle.rsrc_fork.specs.References.{resources_of}
 use Rattle.rsrc_fork.specs.Resources.{Resource}
@@ -59,19 +59,6 @@ not-here false x is = refl
 unmapped : (f : ℕ → LoadError) (o : Option ℕ) → option_map f o ≡ None → o ≡ None
 unmapped f None is = refl
 unmapped f (Some i) is = absurd (cc)
-
-both-none : (a b : Option ℕ) → (a or b) ≡ None → (a ≡ None) × (b ≡ None)
-both-none None b is = (refl, is)
-both-none (Some e) b is = absurd (cc)
-
-least-none : (test : ℕ → Bool) (n k : ℕ) → k < n → least test n ≡ None → test k ≡ false
-least-none test zero k below none = absurd (omega (arith, below))
-least-none test (suc n) k below none =
-    let parts = both-none (least test n) (refused (test n) n) none in
-    elim (cases_lt k n) [
-      | inl before ↦ least-none test n k before parts.0
-      | inr after ↦ let same : k ≡ n = omega (arith, below) in subst (λ i. test i ≡ false) (sym same) (not-here (test n) n parts.1)
-    ]
 
 -- parts of tests
 last-of : (a b : Bool) → (a && b) ≡ true → b ≡ true
@@ -197,7 +184,7 @@ placed-fork bytes code0 resources image next read first small is =
         table = table-low;
         segments = segments-lie resources start;
         room = grown;
-        entries = λ i below. leads resources code0 start i low (least-none (is_bad_entry resources code0) (entry_count code0) i below entries);
+        entries = λ i below. leads resources code0 start i low (fails_below (is_bad_entry resources code0) (entry_count code0) i entries below);
         jumps = λ i below. entry-jumps (segment_places resources start id_count) (table_start h) code0 (entry_count code0) i segments below (omega (arith, segments-long, table-low, grown, fits));
       };
     } in

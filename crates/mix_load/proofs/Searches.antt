@@ -4,19 +4,7 @@ use Rattle.std.proofs.lemmas.Bool.Decides.{nat_tests}
 use Rattle.pef_reloc.specs.declared.error.RelocError.{RelocError}
 use Rattle.mix_load.specs.declared.error.LoadError.{LoadError}
 use Rattle.mix_load.specs.declared.error.LoadError.TheVariants.{Reloc}
-use Rattle.pef_head.specs.Search.{least}
 use Rattle.mix_load.specs.Sections.{first_refusal}
-
--- where the first number that passes is the least
-pub least_at : (test : ℕ → Bool) (n k : ℕ) → k < n → least test k ≡ None → test k ≡ true → least test n ≡ Some k
-least_at test zero k lt before passes = absurd (omega arith)
-least_at test (suc n) k lt before passes = by (nat_lt k n) refl (λ h. least_at test n k h before passes)
-  where
-    by : (b : Bool) → nat_lt k n ≡ b → (k < n → least test n ≡ Some k) → least test (suc n) ≡ Some k
-    by true q earlier = rw (earlier (grind (arith, nat_tests)))
-    by false q earlier =
-        let same : k ≡ n = grind (arith, nat_tests) in
-        subst (λ (m : ℕ). least test (suc m) ≡ Some k) same (rw before (rw passes))
 
 -- the first refusal is that of the first number that has one
 pub refused_at : {A : Type 0} (refusal : ℕ → Option A) (n k : ℕ) (e : A) → k < n → first_refusal refusal k ≡ None → refusal k ≡ Some e → first_refusal refusal n ≡ Some e

@@ -1,4 +1,3 @@
-pub mod Searches
 pub mod Zeros
 pub mod Lost
 pub mod Outcomes

@@ -7,8 +7,8 @@ use Rattle.pef_head.specs.Container.{IsSection, exponent_of, packed_of, offset_o
 use Rattle.file_fields.specs.Fields.{long_at}
 use Rattle.pef_head.specs.Parts.{IsLoadable, relocs_at, section_at}
 use Rattle.pef_head.specs.Places.{is_for, relocation, words_end, words_start}
-use Rattle.pef_head.specs.Search.{◌or◌, refused, least}
-use Rattle.pef_head.proofs.Searches.{fails_below}
+use Rattle.file_fields.specs.Search.{◌or◌, refused, least}
+use Rattle.file_fields.proofs.Searches.{fails_below}
 use Rattle.pef_head.proofs.Whole.{instantiable}
 
 slice_length : (bytes : List ℕ) (start end : ℕ) → end ≤ length bytes → length (slice_range bytes start end) ≡ end - start

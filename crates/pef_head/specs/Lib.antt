@@ -1,4 +1,3 @@
-pub mod Search
 pub mod Marks
 pub mod Container
 pub mod Loader

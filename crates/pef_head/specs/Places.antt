@@ -9,7 +9,7 @@ use Rattle.std.specs.Prelude.{ℕ, ◌+◌, ◌*◌, ◌^◌, ◌≤◌, Bool, �
 use Rattle.std.specs.List.{list_any}
 use Rattle.pef_head.specs.declared.loader.Loader.{Loader}
 use Rattle.file_fields.specs.Fields.{word_at, three_at, long_at}
-use Rattle.pef_head.specs.Search.{any_below}
+use Rattle.file_fields.specs.Search.{any_below}
 
 abbrev pub library : Loader → ℕ → ℕ
 library l j = l.start + 56 + 24 * j

@@ -6,7 +6,7 @@ use Rattle.std.specs.Prelude.{ℕ, zero, suc, ◌+◌, ◌-◌, ◌*◌, nat_lt,
 use Rattle.std.specs.Result.{is_ok}
 use Rattle.big_memory.specs.Lists.{part}
 use Rattle.big_memory.specs.Memory.{Memory}
-use Rattle.big_memory.specs.Numbers.{number_at}
+pub use Rattle.file_fields.specs.Fields.{word_at}
 use Rattle.pef_reloc.specs.declared.error.RelocError.{RelocError}
 use Rattle.pef_reloc.specs.declared.error.RelocError.TheVariants.{Short, Unsupported, RepeatFront}
 use Rattle.pef_reloc.specs.declared.instruction.First.{First}
@@ -17,9 +17,6 @@ use Rattle.pef_reloc.specs.declared.cursor.Cursor.{Cursor}
 use Rattle.pef_reloc.specs.Rows.{first_of, whole_of}
 use Rattle.mix_bits.specs.Results.{◌>>=◌}
 use Rattle.pef_reloc.specs.Additions.{Sources, State, Refused, refused, counted, finished, executed}
-
-abbrev pub word_at : List ℕ → ℕ → ℕ
-word_at words place = number_at place 2 words
 
 -- how many bytes it has; what is no instruction has those of its word
 abbrev pub width : First → ℕ

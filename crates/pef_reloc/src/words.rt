@@ -1,27 +1,21 @@
 // Relocation words, and what stands at a place among them.
 ghost use Rattle.std.specs.Prelude.{◌≡◌, ◌+◌, ◌^◌, ◌≤◌, length};
-ghost use Rattle.pef_reloc.specs.Program.{fits_in, is_span, reading_at, width_at, word_at};
+ghost use Rattle.pef_reloc.specs.Program.{fits_in, is_span, reading_at, width_at};
 
 use crate::error::RelocError;
 use crate::instruction::{First, Reading};
 use crate::rows::{first_of, whole_of};
-use byteorder::{BigEndian, ByteOrder};
-
-fn word_at(words: &[u8], place: usize) -> u16
-    requires { place + 2 ≤ length words.now }
-    ensures { result ≡ word_at words.now place }
-{
-    BigEndian::read_u16(&words[place..place + 2])
-}
+use file_fields::word_at;
 
 /// How many bytes the instruction has that begins at a place.
 pub fn width_at(words: &[u8], place: usize) -> usize
-    requires { place + 2 ≤ length words.now }
+    requires within { place + 2 ≤ length words.now }
+    requires small { length words.now ≤ 2 ^ 24 }
     ensures is { result ≡ width_at words.now place }
     ensures some { 2 ≤ result }
     ensures few { result ≤ 4 }
 {
-    match first_of(word_at(words, place)) {
+    match first_of(word_at(words, place as u32)) {
         First::Two(_, _) => 4,
         _ => 2,
     }
@@ -33,14 +27,14 @@ pub fn reading_at(words: &[u8], place: usize) -> Result<Reading, RelocError>
     requires small { length words.now ≤ 2 ^ 24 }
     ensures { result ≡ reading_at words.now place }
 {
-    let word = word_at(words, place);
+    let word = word_at(words, place as u32);
     match first_of(word) {
         First::One(instruction) => Ok(Reading::Whole(instruction)),
         First::Two(large, high) => {
             if words.len() < place + 4 {
                 return Err(RelocError::Short(place as u32));
             }
-            let low = u32::from(word_at(words, place + 2));
+            let low = u32::from(word_at(words, place as u32 + 2));
             Ok(Reading::Whole(whole_of(large, high * 65536 + low)))
         }
         First::Repeat(count, further) => Ok(Reading::Again(count, further)),
@@ -50,10 +44,11 @@ pub fn reading_at(words: &[u8], place: usize) -> Result<Reading, RelocError>
 
 /// Whether no repeat stands at a place, and what stands there ends within the span.
 fn fits_in(span: &[u8], place: usize) -> bool
-    requires { place + 2 ≤ length span.now }
+    requires within { place + 2 ≤ length span.now }
+    requires small { length span.now ≤ 2 ^ 24 }
     ensures { result ≡ fits_in span.now place }
 {
-    match first_of(word_at(span, place)) {
+    match first_of(word_at(span, place as u32)) {
         First::Repeat(_, _) => false,
         _ => place + width_at(span, place) <= span.len(),
     }

@@ -16,7 +16,7 @@ use Rattle.proc_info.specs.Codes.{conv_at, shape_of, size_at, is_place}
 use Rattle.proc_info.specs.Signature.{Signature, params_at, is_twice, unless_twice, with_selector, in_registers, signature_by, signature_of, word_of}
 use Rattle.proc_info.specs.Views.{answered, signature}
 use Rattle.proc_info.specs.Rules.{KeepsRules}
-use Rattle.proc_info.proofs.Words.{word_back}
+use Rattle.proc_info.proofs.Written.{word_back}
 use Rattle.proc_info.proofs.Rules.{word_keeps}
 use Rattle.proc_info.proofs.Exact.{refused_for_all}
 

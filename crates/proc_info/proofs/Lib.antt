@@ -1,6 +1,7 @@
 pub mod Params
 pub mod Makes
-pub mod Words
+pub mod Written
 pub mod Fields
 pub mod Rules
 pub mod Exact
+pub mod Chains

@@ -15,7 +15,7 @@ use Rattle.proc_info.specs.Codes.{conv_at, shape_of, size_at, size_code, is_plac
 use Rattle.proc_info.specs.Rules.{IsParam, IsRest, KeepsRules}
 use Rattle.proc_info.specs.Signature.{Signature, base, most_params, param_at, params_at, on_stack, with_selector, in_registers, signature_by, signature_of, word_of, IsSignature}
 use Rattle.proc_info.proofs.Makes.{made, made_once, tested}
-use Rattle.proc_info.proofs.Words.{size_back}
+use Rattle.proc_info.proofs.Written.{size_back}
 
 -- a test that fails
 ne_of_eqb : (m n : ℕ) → (m == n) ≡ false → m ≢ n

@@ -5,3 +5,4 @@ pub mod Rules
 pub mod Views
 pub mod Filling
 pub mod Cut
+pub mod Arguments

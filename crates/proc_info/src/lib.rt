@@ -6,17 +6,21 @@
 
 mod bad_info;
 mod conv;
+mod laws;
 mod param;
 mod reader;
 mod sig;
 mod size;
 #[cfg(test)]
 mod tests;
+mod words;
 mod writer;
 
 pub use bad_info::BadInfo;
 pub use conv::Conv;
+pub use laws::word_laws;
 pub use param::Param;
 pub use reader::{read, read_signed};
 pub use sig::Sig;
+pub use words::Words;
 pub use writer::write;

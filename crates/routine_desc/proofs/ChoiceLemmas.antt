@@ -7,7 +7,8 @@ use Rattle.routine_desc.specs.declared.record.Rec.{Rec}
 use Rattle.std.specs.Borrow.{Bor}
 use Rattle.routine_desc.specs.Layout.{Routine, has_flag}
 use Rattle.routine_desc.specs.Views.{picked, routine, routines}
-use Rattle.routine_desc.specs.Choice.{Found, Scan, candidates, choice, chosen_among, chosen_of, first_of, found_before, found_of, has_selector, head_of, is_default, is_isa, matches_selector, or_else, scan_of}
+use Rattle.mix_bits.specs.Isas.{is_isa}
+use Rattle.routine_desc.specs.Choice.{Found, Scan, candidates, choice, chosen_among, chosen_of, first_of, found_before, found_of, has_selector, head_of, is_default, matches_selector, or_else, scan_of}
 
 -- the head of a filtered list, with one more record before it
 head-filter : (b : Bool) (r : Routine) (rs : List Routine) → head_of (if b then r ∷ rs else rs) ≡ (if b then Some r else head_of rs)

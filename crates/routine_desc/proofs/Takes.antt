@@ -5,7 +5,8 @@ use Rattle.std.proofs.lemmas.List.Elements.{All-contains_itself, All-filter, All
 use Rattle.mix_bits.specs.declared.isa.Isa.{Isa}
 use Rattle.mix_bits.specs.declared.isa.Isa.TheVariants.{Ppc}
 use Rattle.routine_desc.specs.Layout.{Routine, has_flag}
-use Rattle.routine_desc.specs.Choice.{candidates, chosen_among, first_of, has_selector, head_of, is_default, is_isa, or_else}
+use Rattle.mix_bits.specs.Isas.{is_isa}
+use Rattle.routine_desc.specs.Choice.{candidates, chosen_among, first_of, has_selector, head_of, is_default, or_else}
 use Rattle.routine_desc.specs.Laws.{TakesARecord, TakesNone}
 use Rattle.routine_desc.proofs.ChoiceLemmas.{head-first_of}
 

@@ -3,12 +3,12 @@ use Rattle.std.specs.Prelude.{ℕ, ◌≡◌, ◌≤◌, ◌+◌, List, [], ◌�
 use Rattle.byteorder.specs.Endian.{big_bytes}
 use Rattle.big_memory.specs.Memory.{Memory, with_bytes}
 use Rattle.proc_info.specs.Signature.{Signature, signature_of}
-use Rattle.routine_desc.specs.Layout.{Routine, code_at, is_cfm, isa_of}
+use Rattle.routine_desc.specs.Layout.{Routine, code_at, is_cfm, isa_of, mixed_mode_magic}
 use Rattle.routine_desc.specs.Read.{desc_of}
 
 -- the header, with the index of the last record
 abbrev pub header_bytes : ℕ → List ℕ
-header_bytes last = 0xAA ∷ 0xFE ∷ 7 ∷ 0 ∷ 0 ∷ 0 ∷ 0 ∷ 0 ∷ 0 ∷ 0 ∷ 0 ∷ last ∷ []
+header_bytes last = big_bytes 2 mixed_mode_magic ++ (7 ∷ 0 ∷ 0 ∷ 0 ∷ 0 ∷ 0 ∷ 0 ∷ 0 ∷ 0 ∷ last ∷ [])
 
 abbrev pub record_bytes : ℕ → ℕ → ℕ → List ℕ
 record_bytes info isa proc = big_bytes 4 info ++ (0 ∷ isa ∷ 0 ∷ 0 ∷ [] ++ (big_bytes 4 proc ++ (0 ∷ 0 ∷ 0 ∷ 0 ∷ 0 ∷ 0 ∷ 0 ∷ 0 ∷ [])))

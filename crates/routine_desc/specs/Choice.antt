@@ -1,14 +1,9 @@
 -- Which record of a descriptor is taken; the choice among several is this project's own.
 use Rattle.std.specs.Prelude.{ℕ, ◌==◌, Bool, true, false, if◌then◌else◌, List, [], ◌∷◌, filter, Option, Some, None}
 use Rattle.mix_bits.specs.declared.isa.Isa.{Isa}
-use Rattle.mix_bits.specs.declared.isa.Isa.TheVariants.{M68, Ppc}
+use Rattle.mix_bits.specs.declared.isa.Isa.TheVariants.{Ppc}
+use Rattle.mix_bits.specs.Isas.{is_isa}
 use Rattle.routine_desc.specs.Layout.{Routine, has_flag}
-
-abbrev pub is_isa : Isa → Isa → Bool
-is_isa M68 M68 = true
-is_isa M68 Ppc = false
-is_isa Ppc M68 = false
-is_isa Ppc Ppc = true
 
 abbrev pub has_selector : ℕ → Routine → Bool
 has_selector selector r = r.selector == selector

@@ -3,11 +3,11 @@ ghost use Rattle.std.specs.Prelude.{◌≡◌, ◌≤◌};
 ghost use Rattle.routine_desc.specs.Read.{records_of};
 ghost use Rattle.routine_desc.specs.Scans.{found as found_kept, scan as scan_kept};
 ghost use Rattle.routine_desc.specs.Views.{picked, routine, routines};
-ghost use Rattle.routine_desc.specs.Choice.{choice, choice_of_one, chosen_of, found_before, is_default as is_default_lem, is_isa as is_isa_lem, matches_selector, scan_of};
+ghost use Rattle.routine_desc.specs.Choice.{choice, choice_of_one, chosen_of, found_before, is_default as is_default_lem, matches_selector, scan_of};
 
 use super::flags::RoutineFlags;
 use super::record::{Desc, Rec};
-use mix_bits::Isa;
+use mix_bits::{Isa, is_isa};
 
 /// The first of some records, the first one of PowerPC code, and the first one of the caller's set.
 #[derive(Clone, Copy)]
@@ -152,16 +152,4 @@ fn is_default(rec: &Rec) -> bool
     ensures { result ≡ is_default_lem (routine rec.now) }
 {
     RoutineFlags::DEFAULT.is_in(rec.flags)
-}
-
-/// Whether two sets are the same.
-fn is_isa(one: Isa, other: Isa) -> bool
-    ensures { result ≡ is_isa_lem one other }
-{
-    match (one, other) {
-        (Isa::M68, Isa::M68) => true,
-        (Isa::M68, Isa::Ppc) => false,
-        (Isa::Ppc, Isa::M68) => false,
-        (Isa::Ppc, Isa::Ppc) => true,
-    }
 }

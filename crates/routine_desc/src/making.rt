@@ -1,10 +1,12 @@
 // The descriptors that the host makes.
 ghost use Rattle.std.specs.Prelude.{◌≡◌, ◌≤◌, ◌<◌, ◌+◌, ◌++◌, ◌^◌, length, IfOk, IfSome};
 ghost use Rattle.big_memory.specs.Memory.{IsDoneUnlessRefused, with_bytes};
-ghost use Rattle.routine_desc.specs.Build.{IsPut, ReadsBack, image as image_lem, record_bytes};
+ghost use Rattle.routine_desc.specs.Build.{IsPut, ReadsBack, header_bytes, image as image_lem, record_bytes};
 
+use super::record::MIXED_MODE_MAGIC;
 use arrayvec::ArrayVec;
 use big_memory::{Access, Ram};
+use mix_bits::append;
 
 /// The bytes of a descriptor of one or two records.
 type Image = ArrayVec<u8, 52>;
@@ -51,16 +53,26 @@ fn image(info: u32, m68k: Option<u32>, isa: u8, proc: u32) -> Image
     let mut image = ArrayVec::new();
     match m68k {
         None => {
-            append(&mut image, &[0xAA, 0xFE, 7, 0, 0, 0, 0, 0, 0, 0, 0, 0]);
+            append_header(&mut image, 0);
             append_record(&mut image, info, isa, proc);
         }
         Some(code) => {
-            append(&mut image, &[0xAA, 0xFE, 7, 0, 0, 0, 0, 0, 0, 0, 0, 1]);
+            append_header(&mut image, 1);
             append_record(&mut image, info, 0, code);
             append_record(&mut image, info, isa, proc);
         }
     }
     image
+}
+
+/// Appends a header, with the index of the last record.
+fn append_header(image: &mut Image, last: u8)
+    requires { length image.old.items ≤ 40 }
+    ensures bytes { image.new.items ≡ image.old.items ++ header_bytes last }
+    ensures longer { length image.new.items ≡ length image.old.items + 12 }
+{
+    append(image, &(MIXED_MODE_MAGIC as u16).to_be_bytes());
+    append(image, &[7, 0, 0, 0, 0, 0, 0, 0, 0, last]);
 }
 
 /// Appends a record.
@@ -73,13 +85,4 @@ fn append_record(image: &mut Image, info: u32, isa: u8, proc: u32)
     append(image, &[0, isa, 0, 0]);
     append(image, &proc.to_be_bytes());
     append(image, &[0; 8]);
-}
-
-/// Appends a piece for which there is room.
-fn append(image: &mut Image, piece: &[u8])
-    requires { length image.old.items + length piece.now ≤ 52 }
-    ensures bytes { image.new.items ≡ image.old.items ++ piece.now }
-    ensures longer { length image.new.items ≡ length image.old.items + length piece.now }
-{
-    let _fits = image.try_extend_from_slice(piece);
 }

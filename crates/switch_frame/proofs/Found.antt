@@ -12,7 +12,8 @@ use Rattle.switch_frame.specs.Sets.{callee_isa, caller_isa, frame_size, kind_at}
 use Rattle.switch_frame.specs.Records.{Record, head_of, image, isa_of, record_at}
 use Rattle.switch_frame.specs.Chain.{Fits, Frames, Links, most_frames, outer_of, records}
 use Rattle.switch_frame.specs.Calls.{IsOutermost}
-use Rattle.switch_frame.specs.Checks.{IsWholeChain, caller_at, checked, fits_outer, is_below, is_good, is_set, walk}
+use Rattle.mix_bits.specs.Isas.{is_isa}
+use Rattle.switch_frame.specs.Checks.{IsWholeChain, caller_at, checked, fits_outer, is_below, is_good, walk}
 use Rattle.switch_frame.specs.Laws.{WholeChainsPass}
 use Rattle.switch_frame.proofs.Images.{IsReadAt, kind-back}
 use Rattle.switch_frame.proofs.Linked.{IsLen, IsRange, first-back, len-ram, range-fits, reads_back}
@@ -35,8 +36,8 @@ pub record IsFound (m : Memory) (main callee : Isa) (most count lo k : ℕ) : Ty
 -- what a good frame tells of the frame outside it
 alone-outer : (m : Memory) (main caller : Isa) (lo : ℕ) → (long_at lo m.bytes == 0) ≡ true → fits_outer m main caller lo ≡ true → (long_at (lo + 28) m.bytes ≡ 1) × (caller ≡ main)
 alone-outer m main caller lo none fits =
-    let last : ((long_at (lo + 28) m.bytes == 1) && is_set caller main) ≡ true = sym (rw none refl) ∙ fits in
-    let parts = and_parts (long_at (lo + 28) m.bytes == 1) (is_set caller main) last in
+    let last : ((long_at (lo + 28) m.bytes == 1) && is_isa caller main) ≡ true = sym (rw none refl) ∙ fits in
+    let parts = and_parts (long_at (lo + 28) m.bytes == 1) (is_isa caller main) last in
     (eqb-true (long_at (lo + 28) m.bytes) 1 parts.0, set-same caller main parts.1)
 
 inner-outer : (m : Memory) (main caller : Isa) (lo : ℕ) → (long_at lo m.bytes == 0) ≡ false → fits_outer m main caller lo ≡ true → is_below m (long_at (lo + 20) m.bytes) (long_at (lo + 28) m.bytes) (long_at lo m.bytes) ≡ true
@@ -127,7 +128,7 @@ pub checked-walks : (m : Memory) (top : ℕ) (active main : Isa) → (top == 0) 
 unfolding checked
 checked-walks m top active main live = rw live refl
 
-pub checked-none : (m : Memory) (top : ℕ) (active main : Isa) → top ≡ 0 → checked m top active main ≡ cond (is_set active main) (Ok 0) (Err 0)
+pub checked-none : (m : Memory) (top : ℕ) (active main : Isa) → top ≡ 0 → checked m top active main ≡ cond (is_isa active main) (Ok 0) (Err 0)
 unfolding checked
 checked-none m top active main none = rw none refl
 
@@ -136,7 +137,7 @@ pub whole-found : (m : Memory) (top : ℕ) (active main : Isa) (k : ℕ) → IsR
 whole-found m top active main k ram fit live is =
     whole-of m top active main k ram (walk-found m main most_frames 0 active top k fit (sym (checked-walks m top active main live) ∙ is))
 
-pub none-whole : (m : Memory) (top : ℕ) (active main : Isa) → IsRam m → top ≡ 0 → is_set active main ≡ true → IsWholeChain m top active main (records m.bytes top) × (0 ≡ length (records m.bytes top))
+pub none-whole : (m : Memory) (top : ℕ) (active main : Isa) → IsRam m → top ≡ 0 → is_isa active main ≡ true → IsWholeChain m top active main (records m.bytes top) × (0 ≡ length (records m.bytes top))
 none-whole m top active main ram none same =
     let links : Links m top [] = record { ram = ram; first = none; few = lit≤ tt; frames = tt } in
     let whole : IsWholeChain m top active main [] = record { links = links; called = set-same active main same; outermost = tt } in
@@ -149,7 +150,7 @@ held-outer : (m : Memory) (main : Isa) (r : Record) (rs : List Record) → IsLen
 held-outer m main r [] ok few frames outermost outer hi depth =
     let none : (long_at r.lo m.bytes == 0) ≡ true = ap (λ n. n == 0) outer in
     let one : (long_at (r.lo + 28) m.bytes == 1) ≡ true = ap (λ n. n == 1) depth in
-    let set : is_set (caller_isa r.kind) main ≡ true = ap (λ s. is_set s main) outermost ∙ same-set main in
+    let set : is_isa (caller_isa r.kind) main ≡ true = ap (λ s. is_isa s main) outermost ∙ same-set main in
     rw none (and_from _ _ one set)
 held-outer m main r (s ∷ rs) ok few frames outermost outer hi depth =
     let range : IsRange (length m.bytes) s = range-fits (length m.bytes) s rs ok frames.2.1 in
@@ -210,7 +211,7 @@ walk-finds m main (suc most) count r (s ∷ rs) ok less few frames outermost =
 
 pub whole_chains_pass : WholeChainsPass
 whole_chains_pass m top active main [] whole =
-    let same : is_set active main ≡ true = ap (λ s. is_set s main) whole.called ∙ same-set main in
+    let same : is_isa active main ≡ true = ap (λ s. is_isa s main) whole.called ∙ same-set main in
     checked-none m top active main whole.links.first ∙ ap (λ b. cond b (Ok 0) (Err 0)) same
 whole_chains_pass m top active main (r ∷ rs) whole =
     let links = whole.links in

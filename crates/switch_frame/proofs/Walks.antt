@@ -10,7 +10,8 @@ use Rattle.proc_info.specs.Signature.{has_signature}
 use Rattle.switch_frame.specs.declared.kind.Kind.{Kind}
 use Rattle.switch_frame.specs.Sets.{callee_isa, caller_isa, frame_size, kind_at}
 use Rattle.switch_frame.specs.Chain.{most_frames}
-use Rattle.switch_frame.specs.Checks.{caller_at, ends_right, fits_outer, holds_file, is_good, is_image, is_set, is_there, walk}
+use Rattle.mix_bits.specs.Isas.{is_isa}
+use Rattle.switch_frame.specs.Checks.{caller_at, ends_right, fits_outer, holds_file, is_good, is_image, is_there, walk}
 
 -- one step of a walk
 pub walk-bad : (m : Memory) (main callee : Isa) (most count lo : ℕ) → is_good m main callee lo ≡ false → walk m main (suc most) count callee lo ≡ Err lo
@@ -59,13 +60,13 @@ stops-end m main callee most count lo whole past so_far =
     sym (so_far ∙ ap (λ n. walk m main n count callee lo) none ∙ walk-ends m main callee count lo)
 
 -- the same set
-pub set-same : (one other : Isa) → is_set one other ≡ true → one ≡ other
+pub set-same : (one other : Isa) → is_isa one other ≡ true → one ≡ other
 set-same M68 M68 same = refl
 set-same M68 Ppc same = absurd (cc)
 set-same Ppc M68 same = absurd (cc)
 set-same Ppc Ppc same = refl
 
-pub same-set : (one : Isa) → is_set one one ≡ true
+pub same-set : (one : Isa) → is_isa one one ≡ true
 same-set M68 = refl
 same-set Ppc = refl
 
@@ -96,7 +97,7 @@ good-image m main callee lo (Some kind) is there image =
     let range = and_parts (ends_right m lo (caller_isa kind)) _ image in
     let file = and_parts (holds_file (caller_isa kind) (lo + 32) m.bytes) _ range.1 in
     let signature = and_parts (has_signature (long_at (lo + 8) m.bytes)) _ file.1 in
-    let called = and_parts (is_set (callee_isa kind) callee) _ signature.1 in
+    let called = and_parts (is_isa (callee_isa kind) callee) _ signature.1 in
     let few = and_parts (nat_le (long_at (lo + 28) m.bytes) most_frames) _ called.1 in
     let ends = and_parts (long_at (lo + 20) m.bytes == lo + frame_size (caller_isa kind)) _ range.0 in (
       kind,
@@ -133,7 +134,7 @@ good-is m main callee lo kind good =
     let hi : (long_at (lo + 20) m.bytes == lo + frame_size (caller_isa kind)) ≡ true = grind (arith, nat_tests, good.hi) in
     let within : nat_le (lo + frame_size (caller_isa kind)) (length m.bytes) ≡ true = grind (arith, nat_tests, good.within) in
     let few : nat_le (long_at (lo + 28) m.bytes) most_frames ≡ true = grind (arith, nat_tests, good.few) in
-    let called : is_set (callee_isa kind) callee ≡ true = ap (λ set. is_set (callee_isa kind) set) (sym good.called) ∙ same-set (callee_isa kind) in
+    let called : is_isa (callee_isa kind) callee ≡ true = ap (λ set. is_isa (callee_isa kind) set) (sym good.called) ∙ same-set (callee_isa kind) in
     let image : is_image m main callee lo (Some kind) ≡ true
     = and_from _ _ (and_from _ _ hi within) (and_from _ _ good.file (and_from _ _ good.signature (and_from _ _ called (and_from _ _ few good.outer)))) in
     and_from _ _ (and_from _ _ stack (and_from _ _ aligned there)) (ap (λ found. is_image m main callee lo found) good.kind_is ∙ image)

@@ -1,6 +1,7 @@
 -- The chain of frames in memory, from the innermost outward: read as a function of the bytes, and as a relation.
-use Rattle.std.specs.Prelude.{◌≡◌, ℕ, zero, suc, ◌+◌, ◌-◌, ◌*◌, ◌/◌, ◌%◌, ◌^◌, ◌<◌, ◌≤◌, ◌==◌, nat_le, nat_lt, ◌⊎◌, Bool, true, false, ◌&&◌, ◌||◌, if◌then◌else◌, List, [], ◌∷◌, length, replicate, slice_index_or}
+use Rattle.std.specs.Prelude.{◌≡◌, ℕ, zero, suc, ◌+◌, ◌-◌, ◌*◌, ◌/◌, ◌%◌, ◌^◌, ◌<◌, ◌≤◌, ◌==◌, nat_le, nat_lt, ◌⊎◌, Bool, true, false, ◌&&◌, ◌||◌, if◌then◌else◌, List, [], ◌∷◌, length, slice_index_or}
 use Rattle.big_memory.specs.Lists.{part, put}
+pub use Rattle.big_memory.specs.Lists.{zeros}
 use Rattle.big_memory.specs.Memory.{Memory, IsRam, floor_of}
 use Rattle.big_memory.specs.Numbers.{AreLongs, long_at}
 use Rattle.proc_info.specs.Signature.{has_signature}
@@ -112,10 +113,6 @@ Above a (r ∷ rs) = (a ≤ r.lo) × Above a rs
 pub record Chain (m : Memory) (top : ℕ) (rs : List Record) : Type 0 where
   pub links : Links m top rs
   pub guarded : (unit : ℕ) → slice_index_or m.marks unit false ≡ covered unit rs
-
--- so many zeros
-abbrev pub zeros : ℕ → List ℕ
-zeros n = replicate n 0
 
 -- a range that a frame may have
 pub record IsFrameRange (m : Memory) (lo hi : ℕ) : Type 0 where

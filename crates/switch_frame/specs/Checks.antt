@@ -1,7 +1,8 @@
 -- What is tested of memory that came from outside: whether it holds a whole chain but for the guard, and the gate page.
-use Rattle.std.specs.Prelude.{◌≡◌, ℕ, zero, suc, ◌+◌, ◌*◌, ◌%◌, ◌<◌, ◌==◌, nat_le, nat_lt, Bool, true, false, ◌&&◌, ◌||◌, if◌then◌else◌, List, length, Option, Some, None, Result, Ok, Err}
+use Rattle.std.specs.Prelude.{◌≡◌, ℕ, zero, suc, ◌+◌, ◌*◌, ◌%◌, ◌<◌, ◌==◌, nat_le, nat_lt, Bool, false, ◌&&◌, ◌||◌, if◌then◌else◌, List, length, Option, Some, None, Result, Ok, Err}
 use Rattle.mix_bits.specs.declared.isa.Isa.{Isa}
 use Rattle.mix_bits.specs.declared.isa.Isa.TheVariants.{M68, Ppc}
+use Rattle.mix_bits.specs.Isas.{is_isa}
 use Rattle.big_memory.specs.Memory.{Memory, floor_of}
 use Rattle.big_memory.specs.Numbers.{long_at}
 use Rattle.proc_info.specs.Signature.{has_signature}
@@ -17,13 +18,6 @@ pub record IsWholeChain (m : Memory) (top : ℕ) (active main : Isa) (rs : List 
   pub links : Links m top rs
   pub called : active ≡ active_set main rs
   pub outermost : IsOutermost main rs
-
--- whether two instruction sets are the same
-abbrev pub is_set : Isa → Isa → Bool
-is_set M68 M68 = true
-is_set M68 Ppc = false
-is_set Ppc M68 = false
-is_set Ppc Ppc = true
 
 -- whether a frame's head, and the smaller of the two frames, can lie at an address
 abbrev pub is_there : Memory → ℕ → Bool
@@ -47,7 +41,7 @@ is_below m hi depth outer =
 -- the same of a frame at `lo` as it tells these: the outermost one is the main program's
 abbrev pub fits_outer : Memory → Isa → Isa → ℕ → Bool
 fits_outer m main caller lo =
-    if long_at lo m.bytes == 0 then (long_at (lo + 28) m.bytes == 1) && is_set caller main
+    if long_at lo m.bytes == 0 then (long_at (lo + 28) m.bytes == 1) && is_isa caller main
     else is_below m (long_at (lo + 20) m.bytes) (long_at (lo + 28) m.bytes) (long_at lo m.bytes)
 
 -- whether a frame at `lo`, of this kind, is one that a chain can have there, with `callee` the set of the code inside it
@@ -57,7 +51,7 @@ is_image m main callee lo (Some kind) =
     ends_right m lo (caller_isa kind)
     && (holds_file (caller_isa kind) (lo + 32) m.bytes
     && (has_signature (long_at (lo + 8) m.bytes)
-    && (is_set (callee_isa kind) callee
+    && (is_isa (callee_isa kind) callee
     && (nat_le (long_at (lo + 28) m.bytes) most_frames && fits_outer m main (caller_isa kind) lo))))
 
 unfoldable pub is_good : Memory → Isa → Isa → ℕ → Bool
@@ -78,7 +72,7 @@ walk m main (suc most) count callee lo =
 
 -- the same of a chain that begins at `top`. Without a frame the main program runs
 unfoldable pub checked : Memory → ℕ → Isa → Isa → Result ℕ ℕ
-checked m top active main = if top == 0 then (if is_set active main then Ok 0 else Err 0) else walk m main most_frames 0 active top
+checked m top active main = if top == 0 then (if is_isa active main then Ok 0 else Err 0) else walk m main most_frames 0 active top
 
 -- the first long of the gate page that is not as the page has it
 pub record IsFirstWrong (a5 : ℕ) (bytes : List ℕ) (a : ℕ) : Type 0 where

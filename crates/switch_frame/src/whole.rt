@@ -4,7 +4,7 @@ ghost use Rattle.big_memory.specs.Memory.{IsRam};
 ghost use Rattle.big_memory.specs.Numbers.{long_at};
 ghost use Rattle.proc_info.specs.Signature.{has_signature};
 ghost use Rattle.switch_frame.specs.Chain.{Chain, Links, records};
-ghost use Rattle.switch_frame.specs.Checks.{IsWholeChain, caller_at, checked, ends_right, fits_outer, holds_file, is_below, is_good, is_image, is_set, is_there, walk as walk_of};
+ghost use Rattle.switch_frame.specs.Checks.{IsWholeChain, caller_at, checked, ends_right, fits_outer, holds_file, is_below, is_good, is_image, is_there, walk as walk_of};
 ghost use Rattle.switch_frame.specs.Records.{Record};
 ghost use Rattle.switch_frame.specs.Sets.{frame_size, kind_at};
 
@@ -12,7 +12,7 @@ use crate::Kind;
 use crate::kind::size;
 use crate::rooms::MOST_FRAMES;
 use big_memory::Ram;
-use mix_bits::Isa;
+use mix_bits::{Isa, is_isa};
 
 /// How many frames stand in memory from `top` outward, where they are a whole chain but for the guard,
 /// with `active` the set of the code that runs and `main` that of the main program. Else where the first
@@ -25,7 +25,7 @@ pub fn check(ram: &Ram, top: u32, active: Isa, main: Isa) -> Result<u32, u32>
     let _ = ram.bytes();
     if top != 0 {
         walk(ram, top, active, main)
-    } else if is_set(active, main) {
+    } else if is_isa(active, main) {
         Ok(0)
     } else {
         Err(0)
@@ -83,7 +83,7 @@ fn is_image(ram: &Ram, lo: u32, callee: Isa, main: Isa) -> bool
     ends_right(ram, lo, kind.caller())
         && holds_file(ram, lo + 32, kind.caller())
         && has_signature(ram.read_long(lo + 8))
-        && is_set(kind.callee(), callee)
+        && is_isa(kind.callee(), callee)
         && ram.read_long(lo + 28) <= MOST_FRAMES
         && fits_outer(ram, lo, kind.caller(), main)
 }
@@ -135,7 +135,7 @@ fn fits_outer(ram: &Ram, lo: u32, caller: Isa, main: Isa) -> bool
         ram.read_long(lo + 28),
     );
     if outer == 0 {
-        depth == 1 && is_set(caller, main)
+        depth == 1 && is_isa(caller, main)
     } else {
         is_below(ram, hi, depth, outer)
     }
@@ -160,13 +160,6 @@ fn caller(ram: &Ram, lo: u32) -> Isa
     Kind::of_code(ram.read_long(lo + 4))
         .unwrap_or(Kind::M68ToPpc)
         .caller()
-}
-
-/// Whether two instruction sets are the same.
-fn is_set(one: Isa, other: Isa) -> bool
-    ensures { result ≡ is_set one other }
-{
-    matches!((one, other), (Isa::M68, Isa::M68) | (Isa::Ppc, Isa::Ppc))
 }
 
 /// Guards each frame of a chain in memory in which nothing is guarded.

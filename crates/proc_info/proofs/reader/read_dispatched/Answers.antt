@@ -1,5 +1,5 @@
 use Rattle.std.proofs.Common.{◌∙◌}
-use Rattle.proc_info.proofs.Words.{is_signature}
+use Rattle.proc_info.proofs.Written.{is_signature}
 use Rattle.proc_info.proofs.Fields.{of_dispatched}
 use Rattle.proc_info.proofs.reader.read_dispatched.Goals as goal
 

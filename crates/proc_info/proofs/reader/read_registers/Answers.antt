@@ -1,6 +1,6 @@
 use Rattle.std.proofs.lemmas.Result.{err_from_is_err_and}
 use Rattle.std.proofs.Common.{◌∙◌, sym}
-use Rattle.proc_info.proofs.Words.{is_signature}
+use Rattle.proc_info.proofs.Written.{is_signature}
 use Rattle.proc_info.proofs.Fields.{of_registers, of_registers_refused}
 use Rattle.proc_info.proofs.reader.read_registers.Goals as goal
 

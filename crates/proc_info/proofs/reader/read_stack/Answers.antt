@@ -1,4 +1,4 @@
-use Rattle.proc_info.proofs.Words.{is_signature}
+use Rattle.proc_info.proofs.Written.{is_signature}
 use Rattle.proc_info.proofs.Fields.{of_stack}
 use Rattle.std.proofs.Common.{◌∙◌}
 use Rattle.proc_info.proofs.reader.read_stack.Goals as goal

@@ -12,8 +12,8 @@ pub returns-clause-bytes : goal.returns-clause-bytes
 returns-clause-bytes c =
     let zeros = 0 ∷ 0 ∷ 0 ∷ 0 ∷ 0 ∷ 0 ∷ 0 ∷ 0 ∷ [] in
     let codes = 0 ∷ c.args.isa ∷ 0 ∷ 0 ∷ [] in
-    c.append-4.ensures.bytes
-    ∙ ap (λ xs. xs ++ zeros) (c.append-3.ensures.bytes ∙ ap (λ ys. c.append-2.new.image.items ++ ys) c.to_be_bytes-2.ensures
-    ∙ ap (λ xs. xs ++ big_bytes 4 c.args.proc) (c.append-2.ensures.bytes
-    ∙ ap (λ xs. xs ++ codes) (c.append.ensures.bytes ∙ ap (λ ys. c.args.image.now.items ++ ys) c.to_be_bytes.ensures)))
+    c.append-4.ensures.is
+    ∙ ap (λ xs. xs ++ zeros) (c.append-3.ensures.is ∙ ap (λ ys. c.append-2.new.list.items ++ ys) c.to_be_bytes-2.ensures
+    ∙ ap (λ xs. xs ++ big_bytes 4 c.args.proc) (c.append-2.ensures.is
+    ∙ ap (λ xs. xs ++ codes) (c.append.ensures.is ∙ ap (λ ys. c.args.image.now.items ++ ys) c.to_be_bytes.ensures)))
     ∙ four c.args.image.now.items (big_bytes 4 c.args.info) codes (big_bytes 4 c.args.proc) zeros

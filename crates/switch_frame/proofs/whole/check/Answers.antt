@@ -19,14 +19,14 @@ returns-then-top-ne0-clause-only c = λ rs whole.
     let live : (c.args.top == 0) ≡ false = grind (arith, nat_tests) in
     c.walk.ensures ∙ sym (checked-walks c.args.ram.now c.args.top c.args.active c.args.main live) ∙ whole_chains_pass c.args.ram.now c.args.top c.args.active c.args.main rs whole
 
-pub returns-then-is_set-clause-exact : goal.returns-then-is_set-clause-exact
-returns-then-is_set-clause-exact c =
-    sym (checked-none c.args.ram.now c.args.top c.args.active c.args.main c.if-top-ne0.false ∙ ap (λ b. cond b (Ok 0) (Err 0)) (sym c.is_set.ensures ∙ c.if-is_set.true))
+pub returns-then-is_isa-clause-exact : goal.returns-then-is_isa-clause-exact
+returns-then-is_isa-clause-exact c =
+    sym (checked-none c.args.ram.now c.args.top c.args.active c.args.main c.if-top-ne0.false ∙ ap (λ b. cond b (Ok 0) (Err 0)) (sym c.is_isa.ensures ∙ c.if-is_isa.true))
 
-pub returns-then-is_set-clause-whole : goal.returns-then-is_set-clause-whole
-returns-then-is_set-clause-whole c =
-    none-whole c.args.ram.now c.args.top c.args.active c.args.main c.bytes.ensures.whole c.if-top-ne0.false (sym c.is_set.ensures ∙ c.if-is_set.true)
+pub returns-then-is_isa-clause-whole : goal.returns-then-is_isa-clause-whole
+returns-then-is_isa-clause-whole c =
+    none-whole c.args.ram.now c.args.top c.args.active c.args.main c.bytes.ensures.whole c.if-top-ne0.false (sym c.is_isa.ensures ∙ c.if-is_isa.true)
 
-pub returns-else-is_set-clause-exact : goal.returns-else-is_set-clause-exact
-returns-else-is_set-clause-exact c =
-    sym (checked-none c.args.ram.now c.args.top c.args.active c.args.main c.if-top-ne0.false ∙ ap (λ b. cond b (Ok 0) (Err 0)) (sym c.is_set.ensures ∙ c.if-is_set.false))
+pub returns-else-is_isa-clause-exact : goal.returns-else-is_isa-clause-exact
+returns-else-is_isa-clause-exact c =
+    sym (checked-none c.args.ram.now c.args.top c.args.active c.args.main c.if-top-ne0.false ∙ ap (λ b. cond b (Ok 0) (Err 0)) (sym c.is_isa.ensures ∙ c.if-is_isa.false))

@@ -1,18 +1,18 @@
 ghost use Rattle.std.specs.Prelude.{◌≡◌, ◌-◌, ◌≤◌, length, drop, replicate};
-ghost use Rattle.args_ppc.specs.Words.{words_of};
+ghost use Rattle.proc_info.specs.Arguments.{words_of};
 
 /// The arguments of a call, at most thirteen.
 #[derive(Clone, Copy)]
-pub struct PpcWords {
+pub struct Words {
     /// How many there are.
     pub count: u8,
     /// The arguments in the parameters' order, and 0 past the last one.
     pub value: [u32; 13],
 }
 
-impl PpcWords {
+impl Words {
     /// Words of these values.
-    pub(crate) fn of(values: &[u32]) -> PpcWords
+    pub fn of(values: &[u32]) -> Words
         requires { length values.now ≤ 13 }
         ensures values { words_of result ≡ values.now }
         ensures count { result.count ≡ length values.now }
@@ -20,7 +20,7 @@ impl PpcWords {
     {
         let mut value = [0; 13];
         value[..values.len()].copy_from_slice(values);
-        PpcWords {
+        Words {
             count: values.len() as u8,
             value,
         }

@@ -1,10 +1,11 @@
 -- Searches below a bound: where they end, and what they say of each number.
 use Rattle.std.proofs.Common.{◌≡◌, subst, sym, refl, ℕ, zero, suc, ◌<◌, Bool, true, false, nat_lt, Option, Some, None, arith}
 use Rattle.std.proofs.lemmas.Bool.Decides.{nat_tests}
-use Rattle.pef_head.specs.Search.{◌or◌, refused, count_below, least}
+use Rattle.file_fields.specs.Search.{◌or◌, refused, count_below, least}
+use Rattle.file_fields.specs.SearchLaws.{FailsBelow, FirstIsLeast, LeastOfFailing, NoneIsCounted, NoneIsLeast}
 
 -- where the first number that passes is the least
-pub least_at : (test : ℕ → Bool) (n k : ℕ) → k < n → least test k ≡ None → test k ≡ true → least test n ≡ Some k
+pub least_at : FirstIsLeast
 least_at test zero k lt before passes = absurd (omega arith)
 least_at test (suc n) k lt before passes = by (nat_lt k n) refl (λ h. least_at test n k h before passes)
   where
@@ -15,17 +16,17 @@ least_at test (suc n) k lt before passes = by (nat_lt k n) refl (λ h. least_at 
         subst (λ (m : ℕ). least test (suc m) ≡ Some k) same (rw before (rw passes))
 
 -- no number passes
-pub least_none : (test : ℕ → Bool) (n : ℕ) → ((k : ℕ) → k < n → test k ≡ false) → least test n ≡ None
+pub least_none : NoneIsLeast
 least_none test zero fails = refl
 least_none test (suc n) fails =
     rw (least_none test n (λ k lt. fails k (omega arith))) (rw (fails n (omega arith)) refl)
 
 -- the first number that passes is the least
-pub least_first : (test : ℕ → Bool) (n k : ℕ) → k < n → ((i : ℕ) → i < k → test i ≡ false) → test k ≡ true → least test n ≡ Some k
+pub least_first : LeastOfFailing
 least_first test n k lt fails passes = least_at test n k lt (least_none test k fails) passes
 
 -- where none is the least, each fails
-pub fails_below : (test : ℕ → Bool) (n k : ℕ) → least test n ≡ None → k < n → test k ≡ false
+pub fails_below : FailsBelow
 fails_below test zero k none lt = absurd (omega arith)
 fails_below test (suc n) k none lt =
     by (least test n) refl (test n) refl none (λ before h. fails_below test n k before h) (nat_lt k n) refl
@@ -40,7 +41,7 @@ fails_below test (suc n) k none lt =
         subst (λ (m : ℕ). test m ≡ false) (sym same) p
 
 -- where none passes, none is counted
-pub none_counted : (test : ℕ → Bool) (n : ℕ) → least test n ≡ None → count_below test n ≡ 0
+pub none_counted : NoneIsCounted
 none_counted test zero none = refl
 none_counted test (suc n) none = by (least test n) refl (test n) refl none (λ before. none_counted test n before)
   where

@@ -3,7 +3,7 @@ use Rattle.big_memory.specs.Memory.{refusal}
 use Rattle.big_memory.specs.Stores.{first_refusal, longs_refusal}
 use Rattle.big_memory.proofs.Longs.{probe-err, probe-ok, probed, long-none}
 use Rattle.mix_bits.specs.Addresses.{onward}
-use Rattle.big_memory.proofs.ram.Ram.probe_longs.Goals as goal
+use Rattle.big_memory.proofs.ram.Ram.probe_each.Goals as goal
 
 pub returns-in_err-probe : goal.returns-in_err-probe
 returns-in_err-probe c =

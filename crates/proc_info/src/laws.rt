@@ -1,0 +1,8 @@
+ghost use Rattle.proc_info.specs.Arguments.{BehindFront, BehindNone};
+
+/// What follows from the definition of values behind others, whatever refusals are. It does nothing: the
+/// clauses are its point.
+pub fn word_laws<E>()
+    ensures front { BehindFront E }
+    ensures none { BehindNone E }
+{}
