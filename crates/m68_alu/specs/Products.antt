@@ -1,7 +1,8 @@
 -- Products and quotients of words and of longs, by unbounded integers
 -- (M68000 Family Programmer's Reference Manual, MULS, MULU, DIVS, DIVSL, DIVU and DIVUL in section 4).
-use Rattle.std.specs.Prelude.{ℕ, ℤ, ◌+◌, ◌-◌, ◌*◌, ◌/◌, ◌%◌, ◌^◌, ◌==◌, ◌*ℤ◌, pos, neg_ℤ, unsigned_abs, nat_le, int_lt, int_le, int_div, int_rem, Bool, true, false, ◌||◌, if◌then◌else◌, Option, None, Some}
+use Rattle.std.specs.Prelude.{ℕ, ℤ, ◌+◌, ◌-◌, ◌*◌, ◌/◌, ◌%◌, ◌^◌, ◌==◌, ◌*ℤ◌, pos, unsigned_abs, nat_le, int_lt, int_le, int_div, int_rem, Bool, true, false, ◌||◌, if◌then◌else◌, Option, None, Some}
 use Rattle.std.specs.Int.{int_rem_euclid}
+use Rattle.mix_bits.specs.Signs.{leaves_half}
 use Rattle.mix_bits.specs.Sizes.{signed_below}
 use Rattle.mix_bits.specs.declared.size.Size.TheVariants.{Two, Four}
 use Rattle.m68_isa.specs.declared.registers.Ccr.{Ccr}
@@ -28,7 +29,7 @@ low_bits bits z = residue z (2 ^ bits)
 
 -- whether an integer is no value of so many bits
 abbrev pub leaves_bits : Bool → ℕ → ℤ → Bool
-leaves_bits true bits z = int_lt z (neg_ℤ (pos (2 ^ (bits - 1)))) || int_le (pos (2 ^ (bits - 1))) z
+leaves_bits true bits z = leaves_half (2 ^ (bits - 1)) z
 leaves_bits false bits z = int_lt z (pos 0) || int_le (pos (2 ^ bits)) z
 
 -- the product of two values of so many bits

@@ -6,7 +6,7 @@ ghost use Rattle.mix_bits.specs.declared.size.Size.TheVariants.{Zero};
 ghost use Rattle.m68_alu.specs.Sizes.{half as half_lem, is_negative as is_negative_lem, leaves as leaves_lem, result_flags as result_flags_lem};
 
 use m68_isa::Ccr;
-use mix_bits::{Size, sext};
+use mix_bits::Size;
 
 /// How many values there are of this size.
 pub fn modulus(s: Size) -> u64
@@ -65,7 +65,12 @@ pub fn signed(s: Size, value: u32) -> i64
     ensures high { result ≤ℤ pos 2147483647 }
     ensures fits { FitsSigned w64 result }
 {
-    i64::from(sext(value, s).cast_signed())
+    match s {
+        Size::Zero => 0,
+        Size::One => i64::from(((value % 0x100) as u8).cast_signed()),
+        Size::Two => i64::from(((value % 0x1_0000) as u16).cast_signed()),
+        Size::Four => i64::from(value.cast_signed()),
+    }
 }
 
 /// Whether a number is no signed number of the size.

@@ -4,7 +4,7 @@ ghost use Rattle.std.specs.Int.{w64};
 ghost use Rattle.mix_bits.specs.Sizes.{modulus as modulus_lem, signed_of};
 ghost use Rattle.mix_bits.specs.declared.size.Size.TheVariants.{Zero};
 ghost use Rattle.m68_alu.specs.Sizes.{leaves as leaves_lem};
-ghost use Rattle.m68_alu.specs.Sums.{compared, difference as difference_lem, difference_of, difference_with_x, signed_difference, signed_total, sum as sum_lem, sum_of, sum_with_x, with_old_zero};
+ghost use Rattle.m68_alu.specs.Sums.{compared, difference as difference_lem, difference_of, difference_value as difference_value_lem, difference_with_x, signed_difference, signed_total, sum as sum_lem, sum_of, sum_value as sum_value_lem, sum_with_x, with_old_zero};
 
 use super::sizes::{is_negative, leaves, modulus, signed};
 use m68_isa::Ccr;
@@ -97,9 +97,8 @@ fn sum(s: Size, d: u32, r: u32, carry: bool) -> Out
     ensures value { result ≡ sum_of s d r carry }
     ensures below { result.value < modulus_lem s }
 {
-    let total = u64::from(d) + (u64::from(r) + u64::from(carry));
-    let value = (total % modulus(s)) as u32;
-    let out = total >= modulus(s);
+    let value = sum_value(s, d, r, carry);
+    let out = u64::from(d) + (u64::from(r) + u64::from(carry)) >= modulus(s);
     Out {
         value,
         ccr: Ccr {
@@ -119,9 +118,8 @@ fn difference(s: Size, d: u32, r: u32, borrow: bool) -> Out
     ensures value { result ≡ difference_of s d r borrow }
     ensures below { result.value < modulus_lem s }
 {
-    let taken = u64::from(r) + u64::from(borrow);
-    let value = ((u64::from(d) + modulus(s) - taken) % modulus(s)) as u32;
-    let out = u64::from(d) < taken;
+    let value = difference_value(s, d, r, borrow);
+    let out = u64::from(d) < u64::from(r) + u64::from(borrow);
     Out {
         value,
         ccr: Ccr {
@@ -131,6 +129,36 @@ fn difference(s: Size, d: u32, r: u32, borrow: bool) -> Out
             v: difference_overflows(s, d, r, borrow),
             c: out,
         },
+    }
+}
+
+/// The sum of two values of a size and a carry, cut to the size.
+fn sum_value(s: Size, d: u32, r: u32, carry: bool) -> u32
+    requires d { d < modulus_lem s }
+    requires r { r < modulus_lem s }
+    ensures { result ≡ sum_value_lem s d r carry }
+{
+    let value = d.wrapping_add(r).wrapping_add(u32::from(carry));
+    match s {
+        Size::Zero => 0,
+        Size::One => value & 0xFF,
+        Size::Two => value & 0xFFFF,
+        Size::Four => value,
+    }
+}
+
+/// The difference of two values of a size and a borrow, cut to the size.
+fn difference_value(s: Size, d: u32, r: u32, borrow: bool) -> u32
+    requires d { d < modulus_lem s }
+    requires r { r < modulus_lem s }
+    ensures { result ≡ difference_value_lem s d r borrow }
+{
+    let value = d.wrapping_sub(r).wrapping_sub(u32::from(borrow));
+    match s {
+        Size::Zero => 0,
+        Size::One => value & 0xFF,
+        Size::Two => value & 0xFFFF,
+        Size::Four => value,
     }
 }
 

@@ -11,9 +11,9 @@ ghost use Rattle.m68_arithmetic.specs.Parts.{into_address as into_address_of};
 
 use super::ways::{Way, away};
 use big_memory::{Did, Ram};
-use m68_ea::{go_on, source, usual_source};
+use m68_ea::{go_on, immediate_at, immediate_words, source, usual_source};
 use m68_isa::{Op68, Regs68, bit8_of, lower_of, mode_of, upper_of};
-use mix_bits::{Fault, Size, sext};
+use mix_bits::{Fault, Size, sext, trunc};
 
 /// adda: an address register goes onward by an operand.
 #[inline(never)]
@@ -41,7 +41,7 @@ fn adda_or_suba(regs: &mut Regs68, ram: &Ram, fault: &mut Fault, word: u32, way:
         Does (runs_with regs.old word from (λ next. into_address_of way regs.old ram.now next size from.ea f.upper)) result fault.new regs.old regs.new ram.now ram.now }
 {
     if mode_of(word) > 5 {
-        by_operand(regs, ram, fault, word, way)
+        by_other(regs, ram, fault, word, way)
     } else if by_usual(regs, ram, word, way) {
         Did::Next
     } else {
@@ -79,6 +79,60 @@ fn by_usual_sized(regs: &mut Regs68, ram: &Ram, word: u32, size: Size, way: Way)
     regs.a[upper] = away(way, regs.a[upper], sext(value, size));
     go_on(regs, next);
     true
+}
+
+/// An address register goes one way by an operand of mode 6 or 7, most often an immediate one.
+#[inline(never)]
+fn by_other(regs: &mut Regs68, ram: &Ram, fault: &mut Fault, word: u32, way: Way) -> Did
+    ensures { let f = first_of word in
+        let size = long_or_word f.bit8 in
+        let from = operand_at (words_at ram.now regs.old.pc) 1 size f.mode f.lower in
+        Does (runs_with regs.old word from (λ next. into_address_of way regs.old ram.now next size from.ea f.upper)) result fault.new regs.old regs.new ram.now ram.now }
+{
+    if mode_of(word) == 7 && lower_of(word) == 4 {
+        by_number(regs, ram, fault, word, way)
+    } else {
+        by_operand(regs, ram, fault, word, way)
+    }
+}
+
+/// An address register goes one way by an immediate number of the size in bit 8.
+#[inline(always)]
+fn by_number(regs: &mut Regs68, ram: &Ram, fault: &mut Fault, word: u32, way: Way) -> Did
+    requires mode { (first_of word).mode ≡ 7 }
+    requires register { (first_of word).lower ≡ 4 }
+    ensures { let f = first_of word in
+        let size = long_or_word f.bit8 in
+        let from = operand_at (words_at ram.now regs.old.pc) 1 size f.mode f.lower in
+        Does (runs_with regs.old word from (λ next. into_address_of way regs.old ram.now next size from.ea f.upper)) result fault.new regs.old regs.new ram.now ram.now }
+{
+    if bit8_of(word) == 0 {
+        by_number_sized(regs, ram, fault, word, Size::Two, way)
+    } else {
+        by_number_sized(regs, ram, fault, word, Size::Four, way)
+    }
+}
+
+/// The same of this size.
+#[inline(always)]
+fn by_number_sized(
+    regs: &mut Regs68,
+    ram: &Ram,
+    fault: &mut Fault,
+    word: u32,
+    size: Size,
+    way: Way,
+) -> Did
+    requires mode { (first_of word).mode ≡ 7 }
+    requires register { (first_of word).lower ≡ 4 }
+    ensures { let f = first_of word in
+        let from = operand_at (words_at ram.now regs.old.pc) 1 size f.mode f.lower in
+        Does (runs_with regs.old word from (λ next. into_address_of way regs.old ram.now next size from.ea f.upper)) result fault.new regs.old regs.new ram.now ram.now }
+{
+    let upper = upper_of(word);
+    let number = trunc(immediate_at(ram, regs.pc, 1, size), size);
+    regs.a[upper] = away(way, regs.a[upper], sext(number, size));
+    go_on(regs, 1 + immediate_words(size))
 }
 
 /// An address register goes one way by any operand of the size in bit 8.

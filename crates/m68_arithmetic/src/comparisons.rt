@@ -34,7 +34,18 @@ pub fn do_cmp(regs: &mut Regs68, ram: &Ram, fault: &mut Fault, word: u32) -> Did
 {
     if mode_of(word) == 0 {
         compare_registers(regs, ram, fault, word)
-    } else if compare_usual(regs, ram, word) {
+    } else {
+        compare_others(regs, ram, fault, word)
+    }
+}
+
+/// cmp of a data register and an operand that is most often in memory of a usual mode, apart from the registers
+/// alone, which need no register saved.
+#[inline(never)]
+fn compare_others(regs: &mut Regs68, ram: &Ram, fault: &mut Fault, word: u32) -> Did
+    ensures { Does (by_op Op68.Cmp regs.old ram.now word) result fault.new regs.old regs.new ram.now ram.now }
+{
+    if compare_usual(regs, ram, word) {
         Did::Next
     } else {
         compare_operand(regs, ram, fault, word)
@@ -133,7 +144,7 @@ pub fn do_cmpa(regs: &mut Regs68, ram: &Ram, fault: &mut Fault, word: u32) -> Di
     ensures { Does (by_op Op68.Cmpa regs.old ram.now word) result fault.new regs.old regs.new ram.now ram.now }
 {
     if mode_of(word) > 5 {
-        address_with_operand(regs, ram, fault, word)
+        address_with_other(regs, ram, fault, word)
     } else if address_with_usual(regs, ram, word) {
         Did::Next
     } else {
@@ -168,6 +179,51 @@ fn address_sized(regs: &mut Regs68, ram: &Ram, word: u32, size: Size) -> bool
     regs.ccr = compare(Size::Four, regs.a[upper], sext(value, size), regs.ccr);
     go_on(regs, next);
     true
+}
+
+/// cmpa of an address register and an operand of mode 6 or 7, most often an immediate one.
+#[inline(never)]
+fn address_with_other(regs: &mut Regs68, ram: &Ram, fault: &mut Fault, word: u32) -> Did
+    ensures { Does (by_op Op68.Cmpa regs.old ram.now word) result fault.new regs.old regs.new ram.now ram.now }
+{
+    if mode_of(word) == 7 && lower_of(word) == 4 {
+        address_with_number(regs, ram, fault, word)
+    } else {
+        address_with_operand(regs, ram, fault, word)
+    }
+}
+
+/// cmpa of an address register and an immediate number.
+#[inline(always)]
+fn address_with_number(regs: &mut Regs68, ram: &Ram, fault: &mut Fault, word: u32) -> Did
+    requires mode { (first_of word).mode ≡ 7 }
+    requires register { (first_of word).lower ≡ 4 }
+    ensures { Does (by_op Op68.Cmpa regs.old ram.now word) result fault.new regs.old regs.new ram.now ram.now }
+{
+    if bit8_of(word) == 0 {
+        with_number(regs, ram, fault, word, Size::Two)
+    } else {
+        with_number(regs, ram, fault, word, Size::Four)
+    }
+}
+
+/// An address register less an immediate number of this size.
+#[inline(always)]
+fn with_number(regs: &mut Regs68, ram: &Ram, fault: &mut Fault, word: u32, size: Size) -> Did
+    requires mode { (first_of word).mode ≡ 7 }
+    requires register { (first_of word).lower ≡ 4 }
+    ensures { let f = first_of word in
+        let from = operand_at (words_at ram.now regs.old.pc) 1 size f.mode f.lower in
+        Does (runs_with regs.old word from (λ next. cmpa regs.old ram.now next size from.ea f.upper)) result fault.new regs.old regs.new ram.now ram.now }
+{
+    let number = trunc(immediate_at(ram, regs.pc, 1, size), size);
+    regs.ccr = compare(
+        Size::Four,
+        regs.a[upper_of(word)],
+        sext(number, size),
+        regs.ccr,
+    );
+    go_on(regs, 1 + immediate_words(size))
 }
 
 /// cmpa of an address register and any operand.

@@ -1,8 +1,8 @@
 -- A word of an instruction is the word in memory at its address: memory ends far below the last address.
-use Rattle.std.proofs.Common.{◌≡◌, ℕ, zero, suc, ◌+◌, ◌-◌, ◌*◌, ◌<◌, ◌≤◌, inl, inr, true, List, [], ◌∷◌, length, get_or, drop, take, arith, add-zero, sym, ap, ◌∙◌, refl, Result, Ok, Err}
+use Rattle.std.proofs.Common.{◌≡◌, ℕ, zero, suc, ◌+◌, ◌-◌, ◌*◌, ◌<◌, ◌≤◌, inl, inr, true, List, [], ◌∷◌, length, get_or, drop, take, arith, add-zero, sym, ap, subst, ◌∙◌, refl, Result, Ok, Err}
 use Rattle.std.proofs.Math.Seq.{drop-nil}
 use Rattle.std.proofs.lemmas.Grind.{common_steps}
-use Rattle.std.proofs.lemmas.List.{drop-take}
+use Rattle.std.proofs.lemmas.List.{drop-take, take-take}
 use Rattle.std.proofs.lemmas.Bool.{cases_lt}
 use Rattle.std.proofs.lemmas.Bool.Decides.{nat_tests}
 use Rattle.byteorder.specs.Endian.{big_number}
@@ -60,3 +60,21 @@ word_of_bytes m pc at bytes loads small below within is =
     rw (from, is) (drop-take (2 * at) 2 (drop pc m.bytes) ∙ ap (take 2) (drop-both (2 * at) pc m.bytes)) in
     let there : in_memory m (pc + 2 * at) 2 ≡ true = grind (arith, nat_tests) in
     rw piece (sym (word_in 5 at pc m small below ∙ ap or_zero (loads m (pc + 2 * at) Two there)))
+
+-- the last four of the bytes up to the end of two words are those words
+pub long_of_bytes : (m : Memory) (pc at : ℕ) (bytes : List ℕ) → LoadsPart → length m.bytes ≤ 16777216 → at < 4 → in_memory m pc (2 * at + 4) ≡ true → bytes ≡ part pc (2 * at + 4) m.bytes
+    → (high low : ℕ) → high ≡ big_number 2 (drop (length (take (length bytes - 2) bytes) - 2) (take (length bytes - 2) bytes)) → low ≡ big_number 2 (drop (length bytes - 2) bytes)
+    → high * 65536 + low ≡ get_or (words_from 5 m pc) at 0 * 65536 + get_or (words_from 5 m pc) (at + 1) 0
+long_of_bytes m pc at bytes loads small below within is high low first second =
+    let inside : pc + (2 * at + 4) ≤ length m.bytes = grind (arith, nat_tests, within) in
+    let long : length bytes ≡ 2 * at + 4 = rw is (grind (arith, common_steps)) in
+    let onward : 2 * at + 4 ≡ 2 * (at + 1) + 2 = omega arith in
+    let last : low ≡ get_or (words_from 5 m pc) (at + 1) 0 =
+    second ∙ word_of_bytes m pc (at + 1) bytes loads small (omega arith) (subst (λ n. in_memory m pc n ≡ true) onward within) (is ∙ ap (λ n. part pc n m.bytes) onward) in
+    let less : length bytes - 2 ≡ 2 * at + 2 = omega (arith, long) in
+    let front : take (length bytes - 2) bytes ≡ part pc (2 * at + 2) m.bytes =
+    rw (less, is) (take-take (2 * at + 2) (2 * at + 4) (drop pc m.bytes) (omega arith)) in
+    let there : in_memory m pc (2 * at + 2) ≡ true = grind (arith, nat_tests) in
+    let head : high ≡ get_or (words_from 5 m pc) at 0 =
+    first ∙ word_of_bytes m pc at (take (length bytes - 2) bytes) loads small (omega arith) there front in
+    rw (head, last) refl

@@ -2,8 +2,9 @@ ghost use Rattle.std.specs.Prelude.{◌≡◌, ◌<◌};
 ghost use Rattle.m68_isa.specs.Fields.{HasRegisters};
 ghost use Rattle.m68_ea.specs.Places.{backward as backward_of, index_register as index_register_of, index_value as index_value_of, indexed as indexed_of, placed, step_of};
 
+use super::words::extended_low;
 use m68_isa::{Ea, Index, Regs68};
-use mix_bits::{Size, sext};
+use mix_bits::Size;
 
 /// Where an operand stands. A register is a number below 8.
 #[derive(Clone, Copy)]
@@ -90,7 +91,7 @@ fn index_value(regs: &Regs68, index: Index) -> u32
     if index.long {
         register
     } else {
-        sext(register, Size::Two)
+        extended_low(register)
     }
 }
 

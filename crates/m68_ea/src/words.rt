@@ -1,6 +1,7 @@
 ghost use Rattle.std.specs.Prelude.{◌≡◌, ℕ, ◌+◌, ◌-◌, ◌*◌, ◌<◌, ◌≤◌, ◌^◌, List, length, drop, slice_index};
 ghost use Rattle.byteorder.specs.Endian.{big_number};
-ghost use Rattle.mix_bits.specs.declared.size.Size.TheVariants.{Two};
+ghost use Rattle.mix_bits.specs.Sizes.{sign_extended};
+ghost use Rattle.mix_bits.specs.declared.size.Size.TheVariants.{One, Two};
 ghost use Rattle.mix_bits.specs.declared.size.Size.{Size};
 ghost use Rattle.mix_bits.specs.Addresses.{onward as onward_of};
 ghost use Rattle.m68_isa.specs.Operands.{extended_word as extended_word_of, immediate_at as immediate_at_of, immediate_words as immediate_words_of, index_of as index_of_word, is_index as is_index_word, long_at as long_at_of, operand_at, special_at};
@@ -9,7 +10,7 @@ ghost use Rattle.m68_ea.specs.Words.{words_at};
 use big_memory::{Did, Ram, memory_laws};
 use byteorder::{BigEndian, ByteOrder};
 use m68_isa::{Index, Regs68};
-use mix_bits::{Size, onward, sext};
+use mix_bits::{Size, onward};
 
 /// The word with this number of the instruction at `pc`, whose first word is 0. Behind the first one that
 /// doesn't lie in memory each is 0.
@@ -43,7 +44,25 @@ pub fn extended_word(ram: &Ram, pc: u32, at: u32) -> u32
     requires { at < 5 }
     ensures { result ≡ extended_word_of (words_at ram.now pc) at }
 {
-    sext(word_at(ram, pc, at), Size::Two)
+    extended_low(word_at(ram, pc, at))
+}
+
+/// The low word of a long, its sign repeated above it.
+#[inline(always)]
+pub fn extended_low(value: u32) -> u32
+    ensures { result ≡ sign_extended value Two }
+{
+    let low = (value % 0x1_0000) as u16;
+    i32::from(low.cast_signed()).cast_unsigned()
+}
+
+/// The low byte of a word, its sign repeated above it.
+#[inline(always)]
+fn extended_byte(word: u32) -> u32
+    ensures { result ≡ sign_extended word One }
+{
+    let low = (word % 0x100) as u8;
+    i32::from(low.cast_signed()).cast_unsigned()
 }
 
 /// The long that begins with this word.
@@ -52,7 +71,12 @@ pub fn long_at(ram: &Ram, pc: u32, at: u32) -> u32
     requires { at < 4 }
     ensures { result ≡ long_at_of (words_at ram.now pc) at }
 {
-    word_at(ram, pc, at) * 0x1_0000 + word_at(ram, pc, at + 1)
+    memory_laws();
+    ram.meets_invariant();
+    match ram.span(pc, 2 * at + 4) {
+        Ok(words) => last_word(&words[..words.len() - 2]) * 0x1_0000 + last_word(words),
+        Err(_) => word_at(ram, pc, at) * 0x1_0000 + word_at(ram, pc, at + 1),
+    }
 }
 
 /// The immediate value that begins with this word; a byte is the low one of its word.
@@ -103,7 +127,7 @@ pub fn index_of(word: u32) -> Index
         address: word / 0x8000 % 2 == 1,
         long: word / 0x800 % 2 == 1,
         scale: 1 << (word / 0x200 % 4),
-        disp: sext(word, Size::One),
+        disp: extended_byte(word),
     }
 }
 

@@ -22,12 +22,13 @@ use Rattle.m68_effects.specs.Control.{called}
 use Rattle.m68_effects.specs.Laws.{IsCall, IsFile, LeavesLong, Returns, ReturnsAtOnce, Unlinks, UnlinksAtOnce}
 use Rattle.m68_effects.specs.Parts.{Effect, goes_on}
 use Rattle.m68_effects.specs.Rows.{effect}
-use Rattle.m68_effects.proofs.Pushed.{behind, forth-back, popped_is, pushed_from, reads_stored, top, whole-truncated}
+use Rattle.big_memory.proofs.Longs.{stored_loads}
+use Rattle.m68_effects.proofs.Pushed.{behind, forth-back, popped_is, pushed_from, top, whole-truncated}
 
 -- the number at an address that was pushed, in memory that leaves it
 long-left : (m n k : Memory) (at a v : ℕ) → at ≡ a → v < 2 ^ 32 → stored_value m a Four v ≡ Ok n → loaded k at Four ≡ loaded n at Four → loaded k a Four ≡ Ok v
 long-left m n k at a v same fits stores left =
-    ap (λ x. loaded k x Four) (sym same) ∙ left ∙ ap (λ x. loaded n x Four) same ∙ reads_stored m n a Four v stores ∙ ap (λ w. Ok w) (whole-truncated v fits)
+    ap (λ x. loaded k x Four) (sym same) ∙ left ∙ ap (λ x. loaded n x Four) same ∙ stored_loads m n a Four v stores ∙ ap (λ w. Ok w) (whole-truncated v fits)
 
 -- a call by either instruction
 abbrev goes_to : ℕ → Regs68 → Regs68

@@ -19,18 +19,14 @@ use Rattle.m68_alu.specs.Sizes.{result_flags}
 use Rattle.big_memory.specs.declared.refusals.Access.{Access}
 use Rattle.big_memory.specs.Memory.{Memory, in_memory, loaded, refusal, stored}
 use Rattle.big_memory.specs.Stores.{stored_unless, stored_value}
-use Rattle.big_memory.proofs.Guarded.{loads_back, passes}
+use Rattle.big_memory.proofs.Guarded.{passes}
+use Rattle.big_memory.proofs.Longs.{stored_loads}
 use Rattle.m68_ea.specs.Accesses.{or_fault}
 use Rattle.m68_ea.specs.Operands.{put_into, sourced}
 use Rattle.m68_ea.specs.Places.{address_of, backward, step_of, with_address}
 use Rattle.m68_effects.specs.Laws.{IsFile, PopsAddress, PopsData, PopsEffective}
 use Rattle.m68_effects.specs.Parts.{Effect, goes_on, with_ccr}
 use Rattle.m68_effects.specs.Rows.{effect}
-
--- what is stored where nothing is refused
-done-is : (reason : Option Access) (m n : Memory) → stored_unless reason m ≡ Ok n → (reason ≡ None) × (n ≡ m)
-done-is None m n is = (refl, cc)
-done-is (Some e) m n is = absurd (cc)
 
 there : (m : Memory) (a n : ℕ) → 0 < n → refusal m a n ≡ None → in_memory m a n ≡ true
 there m a n some none = let within : a + n ≤ length m.bytes = (passes m a n some none).within in grind (arith, nat_tests, within)
@@ -40,12 +36,6 @@ size-there m a Zero none = refl
 size-there m a One none = there m a 1 (omega arith) none
 size-there m a Two none = there m a 2 (omega arith) none
 size-there m a Four none = there m a 4 (omega arith) none
-
-pub reads_stored : (m n : Memory) (a : ℕ) (s : Size) (v : ℕ) → stored_value m a s v ≡ Ok n → loaded n a s ≡ Ok (truncated v s)
-unfolding stored_value
-reads_stored m n a s v is =
-    let done = done-is (refusal m a (bytes_of s)) (stored m a s v) n is in
-    rw (done.1) (loads_back m a s v (size-there m a s done.0))
 
 -- registers and memory behind a store
 abbrev pub changed_to : (Regs68 → Regs68) → Regs68 × Memory → Effect
@@ -119,7 +109,7 @@ pop-back r q m n s base v file below is stores =
     let here : slice_index q.a base ≡ a = ap (λ xs. slice_index xs base) is ∙ top r base a file.address_registers.count below in
     let again : set q.a base (onward a (step_of base s)) ≡ r.a =
     ap (λ xs. set xs base (onward a (step_of base s))) is ∙ restored r.a base (step_of base s) (file.address_registers.each base) (small-step base s) in
-    popped_is q n s base a (truncated v s) here (reads_stored m n a s v stores)
+    popped_is q n s base a (truncated v s) here (stored_loads m n a s v stores)
     ∙ ap (λ xs. Ok (record q { a = xs }, truncated v s)) again
 
 -- moved registers

@@ -7,6 +7,7 @@ pub mod Bits
 mod Opposites
 pub mod Longs
 pub mod Absent
+pub mod ClassBits
 mod Words
 mod Used
 pub mod Whole

@@ -3,7 +3,7 @@
 use Rattle.std.proofs.Common.{ℕ, ◌≡◌, ◌^◌, ◌<◌, ◌&&◌, nat_lt, Bool, true, false, if◌then◌else◌, List, ◌∷◌, length, refl, sym, ap, ◌∙◌}
 use Rattle.std.proofs.lemmas.Bool.{and_parts}
 use Rattle.mix_bits.specs.Ranges.{every}
-use Rattle.mix_bits.proofs.Every.{every_at}
+use Rattle.mix_bits.proofs.Every.{every_at, every_quarter}
 use Rattle.m68_isa.specs.declared.instructions.Instr68.{Instr68}
 use Rattle.m68_isa.specs.declared.instructions.Decoded68.{Decoded68}
 use Rattle.m68_isa.specs.declared.instructions.Decoded68.TheVariants.{Op, LineA, LineF, Privileged, Illegal, Short}
@@ -16,7 +16,6 @@ use Rattle.m68_isa.specs.Made.{made}
 use Rattle.m68_isa.specs.Decode.{operation, read, decoded, ended}
 use Rattle.m68_isa.specs.Modes.{has_modes}
 use Rattle.m68_isa.specs.Widths.{has_size}
-use Rattle.m68_isa.proofs.Quarters.{every_quarter}
 
 abbrev is_good : Instr68 → Bool
 is_good i = has_size i && has_modes i

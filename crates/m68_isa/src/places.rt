@@ -1,4 +1,4 @@
-ghost use Rattle.std.specs.Prelude.{◌≡◌, ◌==◌, ◌&&◌, ◌||◌, not, nat_lt};
+ghost use Rattle.std.specs.Prelude.{◌≡◌, ◌/◌, ◌%◌, ◌^◌, ◌==◌, ◌&&◌, ◌||◌, not, nat_lt};
 ghost use Rattle.m68_isa.specs.First.{first_of, size_of};
 ghost use Rattle.m68_isa.specs.Classes.{in_class, is_source};
 ghost use Rattle.m68_isa.specs.Immediates.{bit_class, is_immediate};
@@ -26,62 +26,72 @@ pub fn is_odd(word: u32) -> bool
     bit8_of(word) == 1
 }
 
-// The classes of modes, over mode and register as the one number of the low six bits: 8 to 15 are
-// the address registers, from 56 on mode 7 with its registers 0 to 4
+/// Whether the low six bits of a word, a mode and a register, are one of the places that a class has a bit for.
+#[inline(always)]
+fn is_one_of(places: u64, word: u32) -> bool
+    ensures { result ≡ (places / 2 ^ (word % 64) % 2 == 1) }
+{
+    (places >> (word % 64)) % 2 == 1
+}
+
+// The classes of modes, with a bit for each place: a byte for each mode, the lowest one for mode 0, with a bit
+// for each register; mode 7 has its registers 0 to 4
 // (M68000 Family Programmer's Reference Manual, section 2.3).
 
 #[inline(always)]
+#[tactic(auto, using(crate::proofs::ClassBits::any_places))]
 pub fn is_any(word: u32) -> bool
     ensures { result ≡ in_class Any (first_of word).mode (first_of word).lower }
 {
-    word % 64 < 61
+    is_one_of(0x1FFF_FFFF_FFFF_FFFF, word)
 }
 
 #[inline(always)]
+#[tactic(auto, using(crate::proofs::ClassBits::data_places))]
 pub fn is_data(word: u32) -> bool
     ensures { result ≡ in_class Data (first_of word).mode (first_of word).lower }
 {
-    let place = word % 64;
-    place < 8 || (place >= 16 && place < 61)
+    is_one_of(0x1FFF_FFFF_FFFF_00FF, word)
 }
 
 #[inline(always)]
+#[tactic(auto, using(crate::proofs::ClassBits::alterable_places))]
 pub fn is_alterable(word: u32) -> bool
     ensures { result ≡ in_class Alterable (first_of word).mode (first_of word).lower }
 {
-    word % 64 < 58
+    is_one_of(0x03FF_FFFF_FFFF_FFFF, word)
 }
 
 #[inline(always)]
+#[tactic(auto, using(crate::proofs::ClassBits::data_alterable_places))]
 pub fn is_data_alterable(word: u32) -> bool
     ensures { result ≡ in_class DataAlterable (first_of word).mode (first_of word).lower }
 {
-    let place = word % 64;
-    place < 8 || (place >= 16 && place < 58)
+    is_one_of(0x03FF_FFFF_FFFF_00FF, word)
 }
 
 #[inline(always)]
+#[tactic(auto, using(crate::proofs::ClassBits::memory_alterable_places))]
 pub fn is_memory_alterable(word: u32) -> bool
     ensures { result ≡ in_class MemoryAlterable (first_of word).mode (first_of word).lower }
 {
-    let place = word % 64;
-    place >= 16 && place < 58
+    is_one_of(0x03FF_FFFF_FFFF_0000, word)
 }
 
 #[inline(always)]
+#[tactic(auto, using(crate::proofs::ClassBits::control_places))]
 pub fn is_control(word: u32) -> bool
     ensures { result ≡ in_class Control (first_of word).mode (first_of word).lower }
 {
-    let place = word % 64;
-    (place >= 16 && place < 24) || (place >= 40 && place < 60)
+    is_one_of(0x0FFF_FF00_00FF_0000, word)
 }
 
 #[inline(always)]
+#[tactic(auto, using(crate::proofs::ClassBits::control_alterable_places))]
 pub fn is_control_alterable(word: u32) -> bool
     ensures { result ≡ in_class ControlAlterable (first_of word).mode (first_of word).lower }
 {
-    let place = word % 64;
-    (place >= 16 && place < 24) || (place >= 40 && place < 58)
+    is_one_of(0x03FF_FF00_00FF_0000, word)
 }
 
 /// Whether it is a control place or (An)+.

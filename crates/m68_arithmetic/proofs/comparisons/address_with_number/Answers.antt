@@ -1,0 +1,10 @@
+use Rattle.std.proofs.Common.{◌≡◌, arith}
+use Rattle.std.proofs.lemmas.Bool.Decides.{nat_tests}
+use Rattle.mix_bits.specs.declared.size.Size.TheVariants.{Four}
+use Rattle.m68_isa.specs.First.{long_or_word}
+use Rattle.m68_arithmetic.proofs.comparisons.address_with_number.Goals as goal
+
+pub returns-else-bit8_of-eq0 : goal.returns-else-bit8_of-eq0
+returns-else-bit8_of-eq0 c =
+    let four : long_or_word c.bit8_of.result ≡ Four = grind (arith, nat_tests) in
+    rw (← c.bit8_of.ensures.is, four) c.with_number-else-bit8_of-eq0.ensures
