@@ -3,8 +3,8 @@ use Rattle.std.specs.Prelude.{ℕ, ◌+◌, ◌-◌, ◌*◌, ◌==◌, nat_lt, 
 use Rattle.std.specs.Int.{from_bool}
 use Rattle.mix_bits.specs.Digits.{digit_of, digit_replaced}
 use Rattle.ppc_alu.specs.Words.{signed}
-use Rattle.ppc_alu.specs.declared.condition.CrOp.{CrOp}
-use Rattle.ppc_alu.specs.declared.condition.CrOp.TheVariants.{And, Or, Xor, Nand, Nor, Eqv, Andc, Orc}
+use Rattle.ppc_isa.specs.declared.instruction.LogicalOp.{LogicalOp}
+use Rattle.ppc_isa.specs.declared.instruction.LogicalOp.TheVariants.{And, Or, Xor, Nand, Nor, Equivalent, AndComplement, OrComplement}
 
 abbrev pub is_less : Bool → ℕ → ℕ → Bool
 is_less true a b = int_lt (signed a) (signed b)
@@ -15,15 +15,15 @@ abbrev pub compared : Bool → ℕ → ℕ → Bool → ℕ
 compared is_signed a b so =
     8 * from_bool (is_less is_signed a b) + 4 * from_bool (is_less is_signed b a) + 2 * from_bool (a == b) + from_bool so
 
-abbrev pub combined : CrOp → Bool → Bool → Bool
+abbrev pub combined : LogicalOp → Bool → Bool → Bool
 combined And a b = a && b
 combined Or a b = a || b
 combined Xor a b = if a then not b else b
 combined Nand a b = not (a && b)
 combined Nor a b = not (a || b)
-combined Eqv a b = if a then b else not b
-combined Andc a b = a && not b
-combined Orc a b = a || not b
+combined Equivalent a b = if a then b else not b
+combined AndComplement a b = a && not b
+combined OrComplement a b = a || not b
 
 abbrev pub bit_of : ℕ → ℕ → Bool
 bit_of cr bit = digit_of cr (31 - bit) 1 == 1

@@ -4,21 +4,7 @@ ghost use Rattle.ppc_alu.specs.Traps.{traps_on};
 ghost use Rattle.ppc_alu.specs.Condition.{bit_of, combined, compared, field_of, is_less as is_less_lem, with_bit, with_field};
 
 use mix_bits::{digit, power, with_digit};
-
-/// How two bits of the condition register are combined.
-#[derive(Clone, Copy, Debug, PartialEq, Eq)]
-pub enum CrOp {
-    And,
-    Or,
-    Xor,
-    Nand,
-    Nor,
-    /// The same bit in both.
-    Eqv,
-    /// The first with the complement of the second.
-    Andc,
-    Orc,
-}
+use ppc_isa::LogicalOp;
 
 /// The four bits LT, GT, EQ and SO of a comparison, LT most significant.
 #[inline(always)]
@@ -47,18 +33,19 @@ fn is_less(signed: bool, a: u32, b: u32) -> bool
     }
 }
 
-pub fn cr_logic(op: CrOp, a: bool, b: bool) -> bool
+/// Two bits of the condition register combined.
+pub fn cr_logic(op: LogicalOp, a: bool, b: bool) -> bool
     ensures { result ≡ combined op a b }
 {
     match op {
-        CrOp::And => a && b,
-        CrOp::Or => a || b,
-        CrOp::Xor => a != b,
-        CrOp::Nand => !(a && b),
-        CrOp::Nor => !(a || b),
-        CrOp::Eqv => a == b,
-        CrOp::Andc => a && !b,
-        CrOp::Orc => a || !b,
+        LogicalOp::And => a && b,
+        LogicalOp::Or => a || b,
+        LogicalOp::Xor => a != b,
+        LogicalOp::Nand => !(a && b),
+        LogicalOp::Nor => !(a || b),
+        LogicalOp::Equivalent => a == b,
+        LogicalOp::AndComplement => a && !b,
+        LogicalOp::OrComplement => a || !b,
     }
 }
 

@@ -13,7 +13,7 @@ mod xer;
 
 pub use arith::{Arith, add3, mul_high, mul_low};
 pub use condition::{
-    CrOp, compare, cr_bit, cr_field, cr_logic, traps, with_cr_bit, with_cr_field, with_cr0,
+    compare, cr_bit, cr_field, cr_logic, traps, with_cr_bit, with_cr_field, with_cr0,
 };
 pub use mask::{field_mask, insert, rotate_mask};
 pub use quotients::divide;

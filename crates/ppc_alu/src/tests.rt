@@ -1,7 +1,8 @@
 use crate::{
-    Arith, CrOp, add3, compare, cr_bit, cr_field, cr_logic, divide, mul_high, mul_low, rotate_mask,
+    Arith, add3, compare, cr_bit, cr_field, cr_logic, divide, mul_high, mul_low, rotate_mask,
     shift_right, with_cr_bit, with_cr_field,
 };
+use ppc_isa::LogicalOp;
 
 fn arith(value: u32, ca: bool, ov: bool) -> Arith {
     Arith { value, ca, ov }
@@ -83,14 +84,14 @@ fn the_condition_register(rt: HostRuntime) {
     assert_eq!(rt; compare(false, 0xFFFF_FFFF, 0, true), 5);
     assert_eq!(rt; compare(true, 7, 7, true), 3);
     let table = [
-        (CrOp::And, [false, false, false, true]),
-        (CrOp::Or, [false, true, true, true]),
-        (CrOp::Xor, [false, true, true, false]),
-        (CrOp::Nand, [true, true, true, false]),
-        (CrOp::Nor, [true, false, false, false]),
-        (CrOp::Eqv, [true, false, false, true]),
-        (CrOp::Andc, [false, false, true, false]),
-        (CrOp::Orc, [true, false, true, true]),
+        (LogicalOp::And, [false, false, false, true]),
+        (LogicalOp::Or, [false, true, true, true]),
+        (LogicalOp::Xor, [false, true, true, false]),
+        (LogicalOp::Nand, [true, true, true, false]),
+        (LogicalOp::Nor, [true, false, false, false]),
+        (LogicalOp::Equivalent, [true, false, false, true]),
+        (LogicalOp::AndComplement, [false, false, true, false]),
+        (LogicalOp::OrComplement, [true, false, true, true]),
     ];
     for (op, [neither, second, first, both]) in table {
         assert_eq!(rt; cr_logic(op, false, false), neither);

@@ -1,5 +1,5 @@
 -- Bytes in the other order.
-use Rattle.std.proofs.Common.{◌≡◌, ℕ, ◌+◌, ◌*◌, ◌<◌, ◌≤◌, ◌∙◌, Bool, true, false, List, [], ◌∷◌, length, drop, take, Option, Some, None, Result, Ok, Err, refl, sym, ap, subst, arith, get_or-set_same}
+use Rattle.std.proofs.Common.{◌≡◌, ℕ, ◌+◌, ◌*◌, ◌<◌, ◌≤◌, ◌∙◌, Bool, true, false, List, [], ◌∷◌, length, drop, take, Result, Ok, Err, refl, sym, ap, subst, arith, get_or-set_same}
 use Rattle.std.specs.Prelude.{if◌then◌else◌}
 use Rattle.std.proofs.lemmas.List.{get_or-drop, length-drop}
 use Rattle.std.proofs.lemmas.Bool.Decides.{nat_tests}
@@ -9,12 +9,12 @@ use Rattle.mix_bits.specs.Sizes.{bytes_of, truncated}
 use Rattle.big_memory.specs.declared.refusals.Access.{Access}
 use Rattle.big_memory.specs.declared.refusals.Access.TheVariants.{Outside}
 use Rattle.big_memory.specs.Lists.{part}
-use Rattle.big_memory.specs.Memory.{Memory, in_memory, loaded, refusal, stored}
+use Rattle.big_memory.specs.Memory.{Memory, in_memory, loaded}
 use Rattle.big_memory.specs.Numbers.{AreBytes, number_at}
 use Rattle.big_memory.specs.Steps.{after_store}
 use Rattle.big_memory.specs.Steps.After.{Goes}
-use Rattle.big_memory.specs.Stores.{stored_unless, stored_value}
-use Rattle.big_memory.proofs.Guarded.{loads_back, passes}
+use Rattle.big_memory.specs.Stores.{stored_value}
+use Rattle.big_memory.proofs.Longs.{stored_loads}
 use Rattle.ppc_isa.specs.declared.registers.RegsPpc.{RegsPpc}
 use Rattle.ppc_isa.specs.declared.instruction.InstrPpc.TheVariants.{LoadReversed}
 use Rattle.ppc_isa.specs.declared.instruction.ReversedKind.{ReversedKind}
@@ -96,26 +96,13 @@ stored-then : (left : Result Memory Access) (pc : ℕ) (next q : RegsPpc) (n : M
 stored-then (Ok m) pc next q n is = (let same : m ≡ n = cc in ap (λ k. Ok k) same, cc)
 stored-then (Err e) pc next q n is = absurd (cc)
 
-done-is : (reason : Option Access) (m n : Memory) → stored_unless reason m ≡ Ok n → (reason ≡ None) × (n ≡ m)
-done-is None m n is = (refl, cc)
-done-is (Some e) m n is = absurd (cc)
-
-there : (m : Memory) (a n : ℕ) → 0 < n → refusal m a n ≡ None → in_memory m a n ≡ true
-there m a n some none = let within : a + n ≤ length m.bytes = (passes m a n some none).within in grind (arith, nat_tests, within)
-
-reads-stored : (m n : Memory) (a : ℕ) (s : Size) (v : ℕ) → 0 < bytes_of s → stored_value m a s v ≡ Ok n → loaded n a s ≡ Ok (truncated v s)
-unfolding stored_value
-reads-stored m n a s v some is =
-    let done = done-is (refusal m a (bytes_of s)) (stored m a s v) n is in
-    rw (done.1) (loads_back m a s v (there m a (bytes_of s) some done.0))
-
 pub reverses_back : ReversesBack
 reverses_back r q m n word other s d a b kind is =
     let v : ℕ = gpr_of r s in
     let at : ℕ = index_address r a b in
     let size : Size = reversed_size kind in
     let done = stored-then (stored_value m at size (reversed kind v)) r.pc (onto_next r) q n is in
-    let reads : loaded n at size ≡ Ok (truncated (reversed kind v) size) = reads-stored m n at size (reversed kind v) (some-bytes kind) done.0 in
+    let reads : loaded n at size ≡ Ok (truncated (reversed kind v) size) = stored_loads m n at size (reversed kind v) done.0 in
     let loads : runs (onto_next r) n other (LoadReversed kind d a b) ≡ Goes (onto_next (with_gpr (onto_next r) d (truncated v size))) n =
     ap (λ (found : Result ℕ Access). after_load (onto_next r).pc (λ x. Goes (onto_next (with_gpr (onto_next r) d (reversed kind x))) n) found) reads
     ∙ ap (λ x. Goes (onto_next (with_gpr (onto_next r) d x)) n) (back kind v) in

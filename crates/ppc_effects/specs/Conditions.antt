@@ -2,9 +2,6 @@
 use Rattle.std.specs.Prelude.{ℕ, Bool, if◌then◌else◌}
 use Rattle.ppc_isa.specs.declared.registers.RegsPpc.{RegsPpc}
 use Rattle.ppc_isa.specs.declared.instruction.LogicalOp.{LogicalOp}
-use Rattle.ppc_isa.specs.declared.instruction.LogicalOp.TheVariants.{And, Or, Xor, Nand, Nor, Equivalent, AndComplement, OrComplement}
-use Rattle.ppc_alu.specs.declared.condition.CrOp.{CrOp}
-use Rattle.ppc_alu.specs.declared.condition.CrOp.TheVariants.{And as BitAnd, Or as BitOr, Xor as BitXor, Nand as BitNand, Nor as BitNor, Eqv, Andc, Orc}
 use Rattle.ppc_alu.specs.Condition.{bit_of, combined, compared, field_of, with_bit, with_field}
 use Rattle.ppc_alu.specs.Masks.{field_mask_of, inserted}
 use Rattle.ppc_alu.specs.Xer.{so_of, top_of, without_top}
@@ -24,18 +21,8 @@ compare_immediate r signed field a i = compare_words r signed field (gpr_of r a)
 abbrev pub move_condition_field : RegsPpc → ℕ → ℕ → RegsPpc
 move_condition_field r field from = record r { cr = with_field r.cr field (field_of r.cr from) }
 
-abbrev pub bits_by : LogicalOp → CrOp
-bits_by And = BitAnd
-bits_by Or = BitOr
-bits_by Xor = BitXor
-bits_by Nand = BitNand
-bits_by Nor = BitNor
-bits_by Equivalent = Eqv
-bits_by AndComplement = Andc
-bits_by OrComplement = Orc
-
 abbrev pub condition_logical : RegsPpc → LogicalOp → ℕ → ℕ → ℕ → RegsPpc
-condition_logical r op d a b = record r { cr = with_bit r.cr d (combined (bits_by op) (bit_of r.cr a) (bit_of r.cr b)) }
+condition_logical r op d a b = record r { cr = with_bit r.cr d (combined op (bit_of r.cr a) (bit_of r.cr b)) }
 
 abbrev pub move_from_condition_register : RegsPpc → ℕ → RegsPpc
 move_from_condition_register r d = with_gpr r d r.cr

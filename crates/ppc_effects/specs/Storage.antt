@@ -1,16 +1,15 @@
 -- Loads and stores (PowerPC 601 RISC Microprocessor User's Manual, chapter 10). An access at any address is
 -- allowed, also where the manual's processor would ask for help.
-use Rattle.std.specs.Prelude.{ℕ, ◌+◌, ◌*◌, ◌/◌, ◌%◌, Bool, if◌then◌else◌, Result, Ok, Err}
+use Rattle.std.specs.Prelude.{ℕ, ◌+◌, ◌*◌, ◌/◌, ◌%◌, Bool, if◌then◌else◌}
 use Rattle.mix_bits.specs.Sizes.{sign_extended}
 use Rattle.mix_bits.specs.Addresses.{onward}
 use Rattle.mix_bits.specs.declared.size.Size.{Size}
 use Rattle.mix_bits.specs.declared.size.Size.TheVariants.{One, Two, Four}
-use Rattle.big_memory.specs.declared.refusals.Access.{Access}
 use Rattle.big_memory.specs.Memory.{Memory, loaded}
 use Rattle.big_memory.specs.Stores.{stored_value}
-use Rattle.big_memory.specs.Faults.{fault_of}
 use Rattle.big_memory.specs.Steps.{After, after_store}
-use Rattle.big_memory.specs.Steps.After.{Goes, Stops}
+pub use Rattle.big_memory.specs.Steps.{after_load}
+use Rattle.big_memory.specs.Steps.After.{Goes}
 use Rattle.ppc_isa.specs.declared.registers.RegsPpc.{RegsPpc}
 use Rattle.ppc_isa.specs.declared.instruction.LoadKind.{LoadKind}
 use Rattle.ppc_isa.specs.declared.instruction.LoadKind.TheVariants.{Word as LoadWord, Byte as LoadByte, Half as LoadHalf, HalfAlgebraic}
@@ -49,11 +48,6 @@ abbrev pub store_size : StoreKind → Size
 store_size StoreWord = Four
 store_size StoreByte = One
 store_size StoreHalf = Two
-
--- the step of the instruction at pc with what was loaded, or with the refusal
-abbrev pub after_load : {T : Type 0} → ℕ → (T → After RegsPpc) → Result T Access → After RegsPpc
-after_load pc goes_on (Ok v) = goes_on v
-after_load pc goes_on (Err e) = Stops (fault_of pc e)
 
 abbrev pub load : RegsPpc → Memory → LoadKind → Bool → ℕ → ℕ → ℕ → After RegsPpc
 load r m kind update d a at =

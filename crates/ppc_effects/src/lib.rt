@@ -8,4 +8,4 @@ mod results;
 
 pub use addresses::{base, index_address, offset_address};
 pub use laws::{effect_laws, storage_laws};
-pub use results::{advance, put_arith, put_result};
+pub use results::{Sets, advance, put_arith, put_result};

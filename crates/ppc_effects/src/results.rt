@@ -17,22 +17,32 @@ pub fn put_result(regs: &mut RegsPpc, n: usize, rc: bool, value: u32)
     record(regs, rc, value);
 }
 
-/// Puts a sum, a difference, a product, a quotient or a shifted word into register `n`: its carry into
-/// CA where `sets_ca`, its overflow into OV and SO where `oe`, and then its comparison with 0 into the
-/// first field of the condition register where `rc`.
+/// What an arithmetic instruction sets besides its register.
+#[derive(Clone, Copy)]
+pub struct Sets {
+    /// CA, from the carry.
+    pub ca: bool,
+    /// OV and SO, from the overflow, with OE.
+    pub oe: bool,
+    /// The first field of the condition register, from the comparison with 0, with Rc.
+    pub rc: bool,
+}
+
+/// Puts a sum, a difference, a product, a quotient or a shifted word into register `n`, and what the
+/// instruction sets besides, the condition register last.
 #[inline(always)]
-pub fn put_arith(regs: &mut RegsPpc, n: usize, sets_ca: bool, oe: bool, rc: bool, outcome: Arith)
+pub fn put_arith(regs: &mut RegsPpc, n: usize, sets: Sets, outcome: Arith)
     requires { n < 32 }
-    ensures { regs.new ≡ with_arith regs.old n sets_ca oe rc outcome }
+    ensures { regs.new ≡ with_arith regs.old n sets.ca sets.oe sets.rc outcome }
 {
     regs.gpr[n] = outcome.value;
-    if sets_ca {
+    if sets.ca {
         regs.xer = xer_with_ca(regs.xer, outcome.ca);
     }
-    if oe {
+    if sets.oe {
         regs.xer = xer_with_overflow(regs.xer, outcome.ov);
     }
-    record(regs, rc, outcome.value);
+    record(regs, sets.rc, outcome.value);
 }
 
 /// Compares a result with 0, where `rc` is set.

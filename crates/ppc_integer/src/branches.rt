@@ -1,13 +1,10 @@
 // Branches.
 ghost use Rattle.std.specs.Prelude.{◌≡◌, ◌+◌, ◌*◌, ◌/◌, ◌%◌, ◌^◌, ◌<◌, ◌==◌};
-ghost use Rattle.mix_bits.specs.declared.fault.Fault.{Fault};
-ghost use Rattle.big_memory.specs.Memory.{Memory};
-ghost use Rattle.big_memory.specs.Steps.{Does};
 ghost use Rattle.ppc_isa.specs.Fields.{fields_of};
 ghost use Rattle.ppc_isa.specs.Made.{displacement_of};
 ghost use Rattle.ppc_isa.specs.declared.instruction.InstrPpc.TheVariants.{Branch, BranchConditional, BranchConditionalToRegister};
-ghost use Rattle.ppc_effects.specs.Branches.{branch_where, condition_allows as condition_allows_of, count_allows as count_allows_of, counted};
-ghost use Rattle.ppc_effects.specs.Effects.{runs};
+ghost use Rattle.ppc_effects.specs.Branches.{branch_where, condition_allows as condition_allows_of, count_allows, counted};
+ghost use Rattle.ppc_integer.specs.Alone.{Runs};
 
 use big_memory::Did;
 use mix_bits::{aligned, onward};
@@ -21,13 +18,18 @@ use ppc_isa::{
 #[inline(always)]
 #[tactic(auto, using(big_memory::proofs::Free::nothing_free))]
 pub fn branch(regs: &mut RegsPpc, word: u32) -> Did
-    ensures { (why : Fault) (m : Memory) → let f = fields_of word in Does (runs regs.old m word (Branch (displacement_of 26 (f.d * 2 ^ 21 + f.a * 2 ^ 16 + f.low / 4 * 4)) ((f.low / 2 % 2) == 1) f.last)) result why regs.old regs.new m m }
+    ensures { let f = fields_of word in Runs (Branch (displacement_of 26 (f.d * 2 ^ 21 + f.a * 2 ^ 16 + f.low / 4 * 4)) ((f.low / 2 % 2) == 1) f.last) word result regs.old regs.new }
 {
-    let to = branch_target(is_absolute(word), regs.pc, far_displacement_of(word));
-    if is_last(word) {
-        regs.lr = onward(regs.pc, 4);
+    let far = far_displacement_of(word);
+    if is_absolute(word) || is_last(word) {
+        let to = branch_target(is_absolute(word), regs.pc, far);
+        if is_last(word) {
+            regs.lr = onward(regs.pc, 4);
+        }
+        regs.pc = to;
+    } else {
+        regs.pc = onward(regs.pc, far);
     }
-    regs.pc = to;
     Did::Next
 }
 
@@ -35,7 +37,21 @@ pub fn branch(regs: &mut RegsPpc, word: u32) -> Did
 #[inline(always)]
 #[tactic(auto, using(big_memory::proofs::Free::nothing_free))]
 pub fn branch_conditional(regs: &mut RegsPpc, word: u32) -> Did
-    ensures { (why : Fault) (m : Memory) → let f = fields_of word in Does (runs regs.old m word (BranchConditional f.d f.a (displacement_of 16 (f.low / 4 * 4)) ((f.low / 2 % 2) == 1) f.last)) result why regs.old regs.new m m }
+    ensures { let f = fields_of word in Runs (BranchConditional f.d f.a (displacement_of 16 (f.low / 4 * 4)) ((f.low / 2 % 2) == 1) f.last) word result regs.old regs.new }
+{
+    if is_absolute(word) || is_last(word) {
+        return branch_apart(regs, word);
+    }
+    let to = onward(regs.pc, near_displacement_of(word));
+    branch_to(regs, word, to);
+    Did::Next
+}
+
+/// The same in a place of its own, for the forms that programs use less.
+#[inline(never)]
+#[tactic(auto, using(big_memory::proofs::Free::nothing_free))]
+fn branch_apart(regs: &mut RegsPpc, word: u32) -> Did
+    ensures { let f = fields_of word in Runs (BranchConditional f.d f.a (displacement_of 16 (f.low / 4 * 4)) ((f.low / 2 % 2) == 1) f.last) word result regs.old regs.new }
 {
     let to = branch_target(is_absolute(word), regs.pc, near_displacement_of(word));
     branch_to(regs, word, to);
@@ -50,7 +66,7 @@ pub fn branch_conditional_to_register(
     word: u32,
     register: BranchRegister,
 ) -> Did
-    ensures { (why : Fault) (m : Memory) → let f = fields_of word in Does (runs regs.old m word (BranchConditionalToRegister register f.d f.a f.last)) result why regs.old regs.new m m }
+    ensures { let f = fields_of word in Runs (BranchConditionalToRegister register f.d f.a f.last) word result regs.old regs.new }
 {
     let to = match register {
         BranchRegister::Link => aligned(regs.lr),
@@ -67,34 +83,27 @@ fn branch_to(regs: &mut RegsPpc, word: u32, to: u32)
 {
     let bo = d_of(word) as u32;
     let next = onward(regs.pc, 4);
-    regs.ctr = count(bo, regs);
     if is_last(word) {
         regs.lr = next;
     }
-    let goes = count_allows(bo, regs.ctr)
-        && condition_allows(bo, cr_bit(regs.cr, a_of(word) as u32));
+    let counts = count_down(bo, regs);
+    let goes = counts && condition_allows(bo, cr_bit(regs.cr, a_of(word) as u32));
     regs.pc = if goes { to } else { next };
 }
 
-/// The count register, counted down where BO says so.
+/// Counts the count register down where BO says so, and then whether it allows a branch.
 #[inline(always)]
-fn count(bo: u32, regs: &RegsPpc) -> u32
-    ensures { result ≡ counted bo regs.now }
+fn count_down(bo: u32, regs: &mut RegsPpc) -> bool
+    requires { bo < 32 }
+    ensures allows { result ≡ count_allows bo regs.new.ctr }
+    ensures counted { regs.new ≡ record regs.old { ctr = counted bo regs.old } }
 {
     if bo / 4 % 2 == 1 {
-        regs.ctr
+        true
     } else {
-        regs.ctr.wrapping_sub(1)
+        regs.ctr = regs.ctr.wrapping_sub(1);
+        (bo / 2 % 2 == 1) == (regs.ctr == 0)
     }
-}
-
-/// Whether the count allows a branch.
-#[inline(always)]
-fn count_allows(bo: u32, ctr: u32) -> bool
-    requires { bo < 32 }
-    ensures { result ≡ count_allows_of bo ctr }
-{
-    bo / 4 % 2 == 1 || (bo / 2 % 2 == 1) == (ctr == 0)
 }
 
 /// Whether a bit of the condition register allows a branch.

@@ -1,12 +1,9 @@
 // Logic of words.
 ghost use Rattle.std.specs.Prelude.{◌≡◌, ◌^◌, ◌<◌};
-ghost use Rattle.mix_bits.specs.declared.fault.Fault.{Fault};
-ghost use Rattle.big_memory.specs.Memory.{Memory};
-ghost use Rattle.big_memory.specs.Steps.{Does};
 ghost use Rattle.ppc_isa.specs.Fields.{fields_of};
 ghost use Rattle.ppc_effects.specs.Logical.{combined_immediate, combined_words, records as records_of, unary_of};
 ghost use Rattle.ppc_isa.specs.declared.instruction.InstrPpc.TheVariants.{Logical, LogicalImmediate, Unary};
-ghost use Rattle.ppc_effects.specs.Effects.{runs};
+ghost use Rattle.ppc_integer.specs.Alone.{Runs};
 
 use super::ending::finish_result;
 use big_memory::Did;
@@ -16,7 +13,7 @@ use ppc_isa::{ImmediateOp, LogicalOp, RegsPpc, UnaryOp, a_of, b_of, d_of, is_las
 /// ori, oris, xori, xoris, andi. and andis.
 #[inline(always)]
 pub fn logical_immediate(regs: &mut RegsPpc, word: u32, op: ImmediateOp) -> Did
-    ensures { (why : Fault) (m : Memory) → let f = fields_of word in Does (runs regs.old m word (LogicalImmediate op f.a f.d f.low)) result why regs.old regs.new m m }
+    ensures { let f = fields_of word in Runs (LogicalImmediate op f.a f.d f.low) word result regs.old regs.new }
 {
     let value = combine_immediate(op, regs.gpr[d_of(word)], low_of(word));
     finish_result(regs, a_of(word), records(op), value)
@@ -25,7 +22,7 @@ pub fn logical_immediate(regs: &mut RegsPpc, word: u32, op: ImmediateOp) -> Did
 /// and, or, xor, nand, nor, eqv, andc and orc.
 #[inline(always)]
 pub fn logical(regs: &mut RegsPpc, word: u32, op: LogicalOp) -> Did
-    ensures { (why : Fault) (m : Memory) → let f = fields_of word in Does (runs regs.old m word (Logical op f.a f.d f.b f.last)) result why regs.old regs.new m m }
+    ensures { let f = fields_of word in Runs (Logical op f.a f.d f.b f.last) word result regs.old regs.new }
 {
     match op {
         LogicalOp::And | LogicalOp::Or | LogicalOp::Xor | LogicalOp::Nor => {
@@ -38,7 +35,7 @@ pub fn logical(regs: &mut RegsPpc, word: u32, op: LogicalOp) -> Did
 /// The same in a place of its own, for the forms that programs use less.
 #[inline(never)]
 fn logical_apart(regs: &mut RegsPpc, word: u32, op: LogicalOp) -> Did
-    ensures { (why : Fault) (m : Memory) → let f = fields_of word in Does (runs regs.old m word (Logical op f.a f.d f.b f.last)) result why regs.old regs.new m m }
+    ensures { let f = fields_of word in Runs (Logical op f.a f.d f.b f.last) word result regs.old regs.new }
 {
     logical_words(regs, word, op)
 }
@@ -46,7 +43,7 @@ fn logical_apart(regs: &mut RegsPpc, word: u32, op: LogicalOp) -> Did
 /// Each of the forms.
 #[inline(always)]
 fn logical_words(regs: &mut RegsPpc, word: u32, op: LogicalOp) -> Did
-    ensures { (why : Fault) (m : Memory) → let f = fields_of word in Does (runs regs.old m word (Logical op f.a f.d f.b f.last)) result why regs.old regs.new m m }
+    ensures { let f = fields_of word in Runs (Logical op f.a f.d f.b f.last) word result regs.old regs.new }
 {
     let value = combine(op, regs.gpr[d_of(word)], regs.gpr[b_of(word)]);
     finish_result(regs, a_of(word), is_last(word), value)
@@ -55,7 +52,7 @@ fn logical_words(regs: &mut RegsPpc, word: u32, op: LogicalOp) -> Did
 /// extsb, extsh and cntlzw.
 #[inline(always)]
 pub fn unary(regs: &mut RegsPpc, word: u32, op: UnaryOp) -> Did
-    ensures { (why : Fault) (m : Memory) → let f = fields_of word in Does (runs regs.old m word (Unary op f.a f.d f.last)) result why regs.old regs.new m m }
+    ensures { let f = fields_of word in Runs (Unary op f.a f.d f.last) word result regs.old regs.new }
 {
     let value = change(op, regs.gpr[d_of(word)]);
     finish_result(regs, a_of(word), is_last(word), value)

@@ -1,14 +1,11 @@
 // Rotations under a mask, and shifts.
 ghost use Rattle.std.specs.Prelude.{◌/◌, ◌%◌};
-ghost use Rattle.mix_bits.specs.declared.fault.Fault.{Fault};
-ghost use Rattle.big_memory.specs.Memory.{Memory};
-ghost use Rattle.big_memory.specs.Steps.{Does};
 ghost use Rattle.ppc_isa.specs.Fields.{fields_of};
 ghost use Rattle.ppc_isa.specs.declared.instruction.ShiftOp.TheVariants.{Left, Right, RightAlgebraic};
 ghost use Rattle.ppc_isa.specs.declared.instruction.InstrPpc.TheVariants.{RotateLeft, RotateLeftImmediate, Shift, ShiftRightAlgebraicImmediate};
-ghost use Rattle.ppc_effects.specs.Effects.{runs};
+ghost use Rattle.ppc_integer.specs.Alone.{Runs};
 
-use super::ending::{finish, finish_arith, finish_result};
+use super::ending::{finish, finish_carrying, finish_result};
 use big_memory::Did;
 use ppc_alu::{insert, rotate_mask, shift_left, shift_right, shift_right_logical};
 use ppc_effects::put_result;
@@ -17,7 +14,7 @@ use ppc_isa::{MaskUse, RegsPpc, a_of, b_of, d_of, is_last, mask_begin_of, mask_e
 /// rlwimi and rlwinm.
 #[inline(always)]
 pub fn rotate_left_immediate(regs: &mut RegsPpc, word: u32, outside: MaskUse) -> Did
-    ensures { (why : Fault) (m : Memory) → let f = fields_of word in Does (runs regs.old m word (RotateLeftImmediate outside f.a f.d f.b (f.xo / 32) (f.xo % 32) f.last)) result why regs.old regs.new m m }
+    ensures { let f = fields_of word in Runs (RotateLeftImmediate outside f.a f.d f.b (f.xo / 32) (f.xo % 32) f.last) word result regs.old regs.new }
 {
     let (rotated, mask) = rotate_mask(
         regs.gpr[d_of(word)],
@@ -35,7 +32,7 @@ pub fn rotate_left_immediate(regs: &mut RegsPpc, word: u32, outside: MaskUse) ->
 /// rlwnm.
 #[inline(never)]
 pub fn rotate_left(regs: &mut RegsPpc, word: u32) -> Did
-    ensures { (why : Fault) (m : Memory) → let f = fields_of word in Does (runs regs.old m word (RotateLeft f.a f.d f.b (f.xo / 32) (f.xo % 32) f.last)) result why regs.old regs.new m m }
+    ensures { let f = fields_of word in Runs (RotateLeft f.a f.d f.b (f.xo / 32) (f.xo % 32) f.last) word result regs.old regs.new }
 {
     let count = regs.gpr[b_of(word)] % 32;
     let (rotated, mask) = rotate_mask(
@@ -51,7 +48,7 @@ pub fn rotate_left(regs: &mut RegsPpc, word: u32) -> Did
 /// slw.
 #[inline(always)]
 pub fn shift_word_left(regs: &mut RegsPpc, word: u32) -> Did
-    ensures { (why : Fault) (m : Memory) → let f = fields_of word in Does (runs regs.old m word (Shift Left f.a f.d f.b f.last)) result why regs.old regs.new m m }
+    ensures { let f = fields_of word in Runs (Shift Left f.a f.d f.b f.last) word result regs.old regs.new }
 {
     let value = shift_left(regs.gpr[d_of(word)], regs.gpr[b_of(word)] % 64);
     finish_result(regs, a_of(word), is_last(word), value)
@@ -60,7 +57,7 @@ pub fn shift_word_left(regs: &mut RegsPpc, word: u32) -> Did
 /// srw.
 #[inline(always)]
 pub fn shift_word_right(regs: &mut RegsPpc, word: u32) -> Did
-    ensures { (why : Fault) (m : Memory) → let f = fields_of word in Does (runs regs.old m word (Shift Right f.a f.d f.b f.last)) result why regs.old regs.new m m }
+    ensures { let f = fields_of word in Runs (Shift Right f.a f.d f.b f.last) word result regs.old regs.new }
 {
     let value = shift_right_logical(regs.gpr[d_of(word)], regs.gpr[b_of(word)] % 64);
     finish_result(regs, a_of(word), is_last(word), value)
@@ -69,17 +66,17 @@ pub fn shift_word_right(regs: &mut RegsPpc, word: u32) -> Did
 /// sraw.
 #[inline(never)]
 pub fn shift_word_right_algebraic(regs: &mut RegsPpc, word: u32) -> Did
-    ensures { (why : Fault) (m : Memory) → let f = fields_of word in Does (runs regs.old m word (Shift RightAlgebraic f.a f.d f.b f.last)) result why regs.old regs.new m m }
+    ensures { let f = fields_of word in Runs (Shift RightAlgebraic f.a f.d f.b f.last) word result regs.old regs.new }
 {
     let outcome = shift_right(regs.gpr[d_of(word)], regs.gpr[b_of(word)] % 64);
-    finish_arith(regs, a_of(word), true, false, is_last(word), outcome)
+    finish_carrying(regs, a_of(word), is_last(word), outcome)
 }
 
 /// srawi.
 #[inline(always)]
 pub fn shift_right_algebraic_immediate(regs: &mut RegsPpc, word: u32) -> Did
-    ensures { (why : Fault) (m : Memory) → let f = fields_of word in Does (runs regs.old m word (ShiftRightAlgebraicImmediate f.a f.d f.b f.last)) result why regs.old regs.new m m }
+    ensures { let f = fields_of word in Runs (ShiftRightAlgebraicImmediate f.a f.d f.b f.last) word result regs.old regs.new }
 {
     let outcome = shift_right(regs.gpr[d_of(word)], shift_of(word));
-    finish_arith(regs, a_of(word), true, false, is_last(word), outcome)
+    finish_carrying(regs, a_of(word), is_last(word), outcome)
 }

@@ -1,11 +1,7 @@
 // Moves from and to the special purpose registers, and synchronization.
-ghost use Rattle.mix_bits.specs.declared.fault.Fault.{Fault};
-ghost use Rattle.big_memory.specs.Memory.{Memory};
-ghost use Rattle.big_memory.specs.Steps.{Does};
 ghost use Rattle.ppc_isa.specs.Fields.{fields_of};
-ghost use Rattle.ppc_effects.specs.Effects.{goes_on};
 ghost use Rattle.ppc_isa.specs.declared.instruction.InstrPpc.TheVariants.{MoveFromSpecial, MoveToSpecial};
-ghost use Rattle.ppc_effects.specs.Effects.{runs};
+ghost use Rattle.ppc_integer.specs.Alone.{Ends, Runs};
 
 use super::ending::finish;
 use big_memory::Did;
@@ -15,7 +11,7 @@ use ppc_isa::{RegsPpc, SpecialRegister, d_of};
 /// mfspr.
 #[inline(always)]
 pub fn move_from_special(regs: &mut RegsPpc, word: u32, register: SpecialRegister) -> Did
-    ensures { (why : Fault) (m : Memory) → let f = fields_of word in Does (runs regs.old m word (MoveFromSpecial f.d register)) result why regs.old regs.new m m }
+    ensures { let f = fields_of word in Runs (MoveFromSpecial f.d register) word result regs.old regs.new }
 {
     regs.gpr[d_of(word)] = match register {
         SpecialRegister::Xer => xer_kept(regs.xer),
@@ -28,7 +24,7 @@ pub fn move_from_special(regs: &mut RegsPpc, word: u32, register: SpecialRegiste
 /// mtspr.
 #[inline(always)]
 pub fn move_to_special(regs: &mut RegsPpc, word: u32, register: SpecialRegister) -> Did
-    ensures { (why : Fault) (m : Memory) → let f = fields_of word in Does (runs regs.old m word (MoveToSpecial register f.d)) result why regs.old regs.new m m }
+    ensures { let f = fields_of word in Runs (MoveToSpecial register f.d) word result regs.old regs.new }
 {
     let value = regs.gpr[d_of(word)];
     match register {
@@ -42,7 +38,7 @@ pub fn move_to_special(regs: &mut RegsPpc, word: u32, register: SpecialRegister)
 /// sync and isync, which have nothing to wait for.
 #[inline(always)]
 pub fn synchronize(regs: &mut RegsPpc) -> Did
-    ensures { (why : Fault) (m : Memory) → Does (goes_on m regs.old) result why regs.old regs.new m m }
+    ensures { Ends regs.old result regs.new }
 {
     finish(regs)
 }

@@ -11,7 +11,6 @@ mod operation;
 mod register_longs;
 mod registers;
 mod reserved;
-mod shapes;
 mod strings;
 mod target;
 mod word;

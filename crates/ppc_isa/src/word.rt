@@ -155,11 +155,7 @@ pub fn near_displacement_of(word: u32) -> u32
     ensures { result ≡ displacement_of 16 ((fields_of word).low / 4 * 4) }
 {
     let near = word % 0x1_0000 / 4 * 4;
-    if near < 0x8000 {
-        near
-    } else {
-        near + 0xFFFF_0000
-    }
+    ((near + 0x8000) % 0x1_0000).wrapping_sub(0x8000)
 }
 
 /// A branch's distance or target: 24 signed bits times 4.
@@ -168,9 +164,5 @@ pub fn far_displacement_of(word: u32) -> u32
     ensures { result ≡ displacement_of 26 ((fields_of word).d * 2 ^ 21 + (fields_of word).a * 2 ^ 16 + (fields_of word).low / 4 * 4) }
 {
     let far = word % 0x400_0000 / 4 * 4;
-    if far < 0x200_0000 {
-        far
-    } else {
-        far + 0xFC00_0000
-    }
+    ((far + 0x200_0000) % 0x400_0000).wrapping_sub(0x200_0000)
 }

@@ -49,32 +49,3 @@ none_refused None result done told is = refl
 none_refused (Some e) result done told is =
     let refused : result ≡ Err e = told in
     absurd cc
-
--- a word of a range that no store is refused of, after words were stored there
-pub open_here : (m left : Memory) (at n k : ℕ) → IsRam m → refusal m at (4 * n) ≡ None → OnlyFree m left → k < n → refusal left (onward at (4 * k)) 4 ≡ None
-open_here m left at n k ram may free below =
-    let all : Passes m at (4 * n) = passes m at (4 * n) (omega arith) may in
-    let within : at + 4 * n ≤ length m.bytes = all.within in
-    let most : length m.bytes ≤ 16777216 = ram.most in
-    let place : onward at (4 * k) ≡ at + 4 * k = omega arith in
-    ap (λ a. refusal left a 4) place ∙ free_refusals m left (at + 4 * k) 4 free
-    ∙ passes_within m at (4 * n) (at + 4 * k) 4 ram may (omega arith) (omega arith)
-
--- what a word more leaves
-pub free_more : (m left : Memory) (a v : ℕ) → IsRam m → OnlyFree m left → refusal left a 4 ≡ None → OnlyFree m (stored left a Four v)
-free_more m left a v ram free none =
-    free_joins m left (stored left a Four v) free (stores_free left a 4 (big_bytes 4 v) refl (free_ram m left ram free) none)
-
-pub stored_next : (m : Memory) (a k : ℕ) (vs : List ℕ) → k < length vs → refusal m a 4 ≡ None → stored_longs m a (drop k vs) ≡ stored_longs (stored m a Four (get_or vs k 0)) (onward a 4) (drop (k + 1) vs)
-unfolding stored_longs stored_value
-stored_next m a k vs below none =
-    ap (λ xs. stored_longs m a xs) (drop-cons vs k 0 below)
-    ∙ ap (λ r. stored_unless r (stored m a Four (get_or vs k 0)) >>= λ n. stored_longs n (onward a 4) (drop (suc k) vs)) none
-    ∙ ap (λ i. stored_longs (stored m a Four (get_or vs k 0)) (onward a 4) (drop i vs)) (sym (add-one k))
-
-nothing_left : (k : ℕ) (vs : List ℕ) → length vs ≤ k → drop k vs ≡ []
-nothing_left k vs after = same_number_lists (drop k vs) [] (omega (arith, length-drop k vs)) (λ i below. absurd (omega (arith, below, length-drop k vs)))
-
-pub stored_end : (m : Memory) (a k : ℕ) (vs : List ℕ) → length vs ≤ k → stored_longs m a (drop k vs) ≡ Ok m
-unfolding stored_longs
-stored_end m a k vs after = ap (λ xs. stored_longs m a xs) (nothing_left k vs after)

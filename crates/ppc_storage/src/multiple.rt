@@ -1,7 +1,5 @@
 // Loads and stores of several registers.
-ghost use Rattle.std.specs.Prelude.{◌≡◌, ◌+◌, ◌-◌, ◌*◌, ◌<◌, ◌≤◌, length, None, Ok};
-ghost use Rattle.big_memory.specs.Memory.{IsRam, refusal};
-ghost use Rattle.big_memory.specs.Stores.{OnlyFree, Stores, stored_longs};
+ghost use Rattle.std.specs.Prelude.{◌≡◌, ◌-◌, ◌<◌, ◌≤◌, Ok};
 ghost use Rattle.big_memory.specs.Steps.{Does};
 ghost use Rattle.ppc_isa.specs.Fields.{fields_of};
 ghost use Rattle.ppc_effects.specs.Effects.{runs};
@@ -10,7 +8,7 @@ ghost use Rattle.ppc_isa.specs.declared.instruction.InstrPpc.TheVariants.{LoadMu
 ghost use Rattle.ppc_storage.specs.Tested.{WordsTested, WordsThere};
 
 use big_memory::{Access, Did, Ram, refuse};
-use mix_bits::{Fault, Size, onward};
+use mix_bits::{Fault, onward};
 use ppc_effects::{advance, offset_address};
 use ppc_isa::{RegsPpc, d_of};
 
@@ -29,7 +27,7 @@ pub fn store_multiple(regs: &mut RegsPpc, ram: &mut Ram, fault: &mut Fault, word
     ensures { let f = fields_of word in Does (runs regs.old ram.old word (StoreMultiple f.d f.a f.low)) result fault.new regs.old regs.new ram.old ram.new }
 {
     let at = offset_address(regs, word);
-    match store_words(ram, at, &regs.gpr[d_of(word)..]) {
+    match ram.store_longs(at, &regs.gpr[d_of(word)..]) {
         Ok(()) => {
             advance(regs);
             Did::Next
@@ -51,35 +49,6 @@ fn load_registers(regs: &mut RegsPpc, ram: &Ram, fault: &mut Fault, first: usize
             Did::Next
         }
         Err(access) => refuse::<RegsPpc>(fault, regs.pc, access),
-    }
-}
-
-/// Stores words one after another, all of them, or none where one is refused.
-fn store_words(ram: &mut Ram, at: u32, words: &[u32]) -> Result<(), Access>
-    requires { length words.now ≤ 32 }
-    ensures { Stores result (stored_longs ram.old at words.now) ram.old ram.new }
-{
-    ram.meets_invariant();
-    match ram.probe(at, 4 * words.len() as u32) {
-        Ok(()) => {
-            put_words(ram, at, words);
-            Ok(())
-        }
-        Err(_) => ram.store_longs(at, words),
-    }
-}
-
-/// Stores words one after another in a range of which no store is refused.
-fn put_words(ram: &mut Ram, at: u32, words: &[u32])
-    requires ram { IsRam ram.old }
-    requires free { refusal ram.old at (4 * length words.now) ≡ None }
-    ensures is { stored_longs ram.old at words.now ≡ Ok ram.new }
-    ensures free { OnlyFree ram.old ram.new }
-{
-    let mut place = at;
-    for word in words {
-        ram.put(place, Size::Four, *word);
-        place = onward(place, 4);
     }
 }
 

@@ -157,21 +157,36 @@ fn test_open(ram: &Ram, at: u32, length: u32) -> Result<(), Access>
     Ok(())
 }
 
-/// Loads bytes one after another into the registers from `first` on.
+/// Loads bytes one after another into the registers from `first` on: whole registers, then what is left.
 fn load_bytes(ram: &Ram, at: u32, first: usize, length: u32, gpr: &mut [u32; 32])
     requires register { first < 32 }
     requires short { length < 128 }
     requires there { BytesThere ram.now at length }
     ensures { in_order (load_byte ram.now at first) gpr.old length ≡ Ok gpr.new }
 {
-    for k in 0..length {
+    load_whole(ram, at, first, length / 4, gpr);
+    for k in length / 4 * 4..length {
         if let Ok(byte) = ram.load_byte(onward(at, k)) {
             put_string_byte(gpr, first, k, byte);
         }
     }
 }
 
-/// Stores bytes one after another from the registers from `first` on.
+/// Loads `count` whole registers from `first` on.
+#[inline(always)]
+fn load_whole(ram: &Ram, at: u32, first: usize, count: u32, gpr: &mut [u32; 32])
+    requires register { first < 32 }
+    requires short { count < 32 }
+    requires there { BytesThere ram.now at (4 * count) }
+    ensures { in_order (load_byte ram.now at first) gpr.old (4 * count) ≡ Ok gpr.new }
+{
+    ram.meets_invariant();
+    for j in 0..count {
+        gpr[(first + j as usize) % 32] = ram.read_long(onward(at, 4 * j));
+    }
+}
+
+/// Stores bytes one after another from the registers from `first` on: whole registers, then what is left.
 fn store_bytes(ram: &mut Ram, at: u32, first: usize, length: u32, gpr: &[u32; 32])
     requires register { first < 32 }
     requires short { length < 128 }
@@ -180,8 +195,28 @@ fn store_bytes(ram: &mut Ram, at: u32, first: usize, length: u32, gpr: &[u32; 32
     ensures is { in_order (store_byte gpr.now first at) ram.old length ≡ Ok ram.new }
     ensures free { OnlyFree ram.old ram.new }
 {
-    for k in 0..length {
+    store_whole(ram, at, first, length / 4, gpr);
+    for k in length / 4 * 4..length {
         ram.put(onward(at, k), Size::One, string_byte(gpr, first, k));
+    }
+}
+
+/// Stores `count` whole registers from `first` on.
+#[inline(always)]
+fn store_whole(ram: &mut Ram, at: u32, first: usize, count: u32, gpr: &[u32; 32])
+    requires register { first < 32 }
+    requires short { count < 32 }
+    requires ram { IsRam ram.old }
+    requires stores { BytesOpen ram.old at (4 * count) }
+    ensures is { in_order (store_byte gpr.now first at) ram.old (4 * count) ≡ Ok ram.new }
+    ensures free { OnlyFree ram.old ram.new }
+{
+    for j in 0..count {
+        ram.put(
+            onward(at, 4 * j),
+            Size::Four,
+            gpr[(first + j as usize) % 32],
+        );
     }
 }
 

@@ -1,14 +1,19 @@
-use Rattle.std.proofs.Common.{◌≡◌, ℕ, ◌∙◌, ap, sym, arith, Ok, Err}
+use Rattle.std.proofs.Common.{◌≡◌, ℕ, ◌*◌, ◌/◌, ◌∙◌, ap, subst, sym, arith, Ok, Err}
 use Rattle.mix_bits.specs.Addresses.{onward}
 use Rattle.mix_bits.specs.declared.size.Size.TheVariants.{One}
 use Rattle.big_memory.specs.Memory.{loaded}
-use Rattle.ppc_effects.specs.Strings.{load_byte}
-use Rattle.ppc_storage.proofs.Order.{order-zero, byte-more}
+use Rattle.ppc_effects.specs.Strings.{in_order, load_byte}
+use Rattle.ppc_storage.proofs.Order.{byte-more}
 use Rattle.ppc_storage.proofs.strings.load_bytes.Goals as goal
 use Rattle.ppc_storage.proofs.strings.load_bytes.Goals.{in-Ok, in_default}
 
+pub load_whole-requires-clause-there : goal.load_whole-requires-clause-there
+load_whole-requires-clause-there c = λ k below. c.requires.there k (omega (arith, below))
+
 pub loop-k-init : goal.loop-k-init
-loop-k-init c = order-zero (load_byte c.args.ram.now c.args.at c.args.first) c.args.gpr.now
+loop-k-init c =
+    let same : 4 * (c.args.length / 4) ≡ c.args.length / 4 * 4 = omega arith in
+    subst (λ n. in_order (load_byte c.args.ram.now c.args.at c.args.first) c.args.gpr.now n ≡ Ok c.load_whole.new.gpr) same c.load_whole.ensures
 
 pub loop-k-preserved : goal.loop-k-preserved
 loop-k-preserved c =

@@ -1,13 +1,18 @@
-use Rattle.std.proofs.Common.{◌≡◌, ◌+◌, ◌∙◌, arith, subst, sym, ap, None, refl}
+use Rattle.std.proofs.Common.{◌≡◌, ◌+◌, ◌*◌, ◌/◌, ◌∙◌, arith, subst, sym, ap, None, refl}
 use Rattle.mix_bits.specs.Addresses.{onward}
 use Rattle.mix_bits.specs.declared.size.Size.TheVariants.{One}
 use Rattle.big_memory.specs.Memory.{refusal, stored}
 use Rattle.ppc_effects.specs.Strings.{string_byte}
-use Rattle.ppc_storage.proofs.Order.{Stored, byte-open, stored-more, stored-none}
+use Rattle.ppc_storage.proofs.Order.{Stored, byte-open, stored-more}
 use Rattle.ppc_storage.proofs.strings.store_bytes.Goals as goal
 
+pub store_whole-requires-clause-stores : goal.store_whole-requires-clause-stores
+store_whole-requires-clause-stores c = λ k below. c.requires.stores k (omega (arith, below))
+
 pub loop-k-init : goal.loop-k-init
-loop-k-init c = stored-none c.args.ram.now c.args.at c.args.first c.args.gpr.now
+loop-k-init c =
+    let same : 4 * (c.args.length / 4) ≡ c.args.length / 4 * 4 = omega arith in
+    subst (λ n. Stored c.args.ram.now c.args.at c.args.first c.args.gpr.now n c.store_whole.new.ram) same (record { is = c.store_whole.ensures.is; free = c.store_whole.ensures.free })
 
 pub put-requires : goal.put-requires
 put-requires c = byte-open c.args.ram.now c.loop-k.ram c.args.at c.args.length c.loop-k.k c.onward.result c.requires.stores c.loop-k-test.true c.onward.ensures c.loop-k.invariant.free
