@@ -1,5 +1,5 @@
 -- The shelf, the source, the sink and the keeper in memory: what each holds, what a call answers and what it leaves.
-use Rattle.std.specs.Prelude.{ℕ, ◌-◌, Bool, true, not, ◌&&◌, ◌||◌, List, [], ◌∷◌, ◌++◌, length, take, drop, Option, Some, None, Result, Ok, Err, is_none, is_some, nat_le, slice_get, bytes_eq, if◌then◌else◌}
+use Rattle.std.specs.Prelude.{ℕ, ◌-◌, Bool, true, not, ◌&&◌, ◌||◌, List, [], ◌∷◌, ◌++◌, length, take, drop, Option, Some, None, Result, Ok, Err, is_none, is_some, unwrap_or, nat_le, nat_lt, slice_get, bytes_eq, if◌then◌else◌}
 use Rattle.std.specs.List.{list_any}
 use Rattle.mix_io.specs.Calls.{CallNumbers, after_call, counted_if, fails_next}
 use Rattle.mix_io.specs.declared.errors.Failed.{Failed}
@@ -48,7 +48,8 @@ after_put s piece = record {
   faults = counted_if (not (takes_piece s piece)) s.faults;
 }
 
--- ---- a shelf: names beside contents, with one count of faults for the names that it has and one for all others
+-- ---- a shelf: names beside contents, with one count of faults for the names that it has and one for all others, and one
+-- of the times that a file was too long
 
 pub record MemoryShelf : Type 0 where
   pub names : List (List ℕ)
@@ -56,6 +57,7 @@ pub record MemoryShelf : Type 0 where
   pub calls : CallNumbers
   pub known_faults : ℕ
   pub other_faults : ℕ
+  pub excesses : ℕ
 
 -- the file beside a name
 abbrev pub file_named : List (List ℕ) → List (List ℕ) → List ℕ → Option (List ℕ)
@@ -73,13 +75,18 @@ faults_of s name = if is_some (file_of s name) then s.known_faults else s.other_
 abbrev pub lacks : MemoryShelf → List ℕ → Bool
 lacks s name = fails_next s.calls || is_none (file_of s name)
 
-abbrev pub after_fetch : MemoryShelf → List ℕ → MemoryShelf
-after_fetch s name = record {
+-- a file that is there exceeds the limit
+abbrev pub exceeds : MemoryShelf → List ℕ → ℕ → Bool
+exceeds s name limit = not (fails_next s.calls) && nat_lt limit (length (unwrap_or (file_of s name) []))
+
+abbrev pub after_fetch : MemoryShelf → List ℕ → ℕ → MemoryShelf
+after_fetch s name limit = record {
   names = s.names;
   files = s.files;
   calls = after_call s.calls;
   known_faults = counted_if (fails_next s.calls && is_some (file_of s name)) s.known_faults;
   other_faults = counted_if (is_none (file_of s name)) s.other_faults;
+  excesses = counted_if (exceeds s name limit) s.excesses;
 }
 
 -- no name stands twice

@@ -15,19 +15,26 @@ use std::rt::Files;
 /// How many bytes one read asks for.
 const CHUNK: usize = 4096;
 
-/// Finds files by their paths, and tells nothing. It keeps one count of faults for all names together.
+/// Finds files by their paths, and tells nothing. It keeps one count of faults, and one of
+/// files that were too long, for all names together.
 #[derive(Drop)]
 pub struct FileShelf<'a, R: Files> {
     rt: &'a R,
     faults: u64,
+    excesses: u64,
 }
 
 impl<'a, R: Files> FileShelf<'a, R> {
-    /// A shelf of the files that the system has, with no fault yet.
+    /// A shelf of the files that the system has, with no fault yet, and none too long.
     pub fn new(rt: &'a R) -> FileShelf<'a, R>
-        ensures { (name : List ℕ) → ⟦<FileShelf<'a, R> as Shelf>⟧.faults result name ≡ 0 }
+        ensures faults { (name : List ℕ) → ⟦<FileShelf<'a, R> as Shelf>⟧.faults result name ≡ 0 }
+        ensures excesses { (name : List ℕ) → ⟦<FileShelf<'a, R> as Shelf>⟧.excesses result name ≡ 0 }
     {
-        FileShelf { rt, faults: 0 }
+        FileShelf {
+            rt,
+            faults: 0,
+            excesses: 0,
+        }
     }
 }
 
@@ -36,10 +43,14 @@ impl<R: Files> Shelf for FileShelf<'_, R> {
 
     ghost faults = { λ s _. s.faults };
 
+    ghost excesses = { λ s _. s.excesses };
+
     fn fetch(&mut self, alloc: Global, name: &str, limit: u32) -> Result<Vec<u8>, FetchError> {
         let fetched = read_file(self.rt, alloc, name, limit);
-        if let Err(FetchError::Failed) = &fetched {
-            self.faults = count_fault(self.faults);
+        match &fetched {
+            Err(FetchError::Failed) => self.faults = count_fault(self.faults),
+            Err(FetchError::TooLong(_)) => self.excesses = count_fault(self.excesses),
+            _ => {}
         }
         fetched
     }

@@ -2,9 +2,9 @@
 ghost use Rattle.std.specs.Prelude.{◌≡◌, ◌≤◌, ℕ, List, Option, None, Some, IfOk, MatchOption, false, IsTrue, length, map, vec_len, vec_items, string_bytes, bytes_eq};
 ghost use Rattle.std.specs.List.{list_any};
 ghost use Rattle.mix_io.specs.Calls.{calls_from_one};
-ghost use Rattle.mix_io.specs.Counts.{FetchCause, has_failed};
-ghost use Rattle.mix_io.specs.Told.{Fetches, FetchesFile};
-ghost use Rattle.mix_io.specs.Memory.{MemoryShelf, are_distinct, file_named, file_of, faults_of, lacks, after_fetch};
+ghost use Rattle.mix_io.specs.Counts.{ExcessCause, FetchCause, has_failed, is_too_long};
+ghost use Rattle.mix_io.specs.Told.{Fetches};
+ghost use Rattle.mix_io.specs.Memory.{MemoryShelf, are_distinct, file_named, file_of, faults_of, lacks, exceeds, after_fetch};
 
 use super::counts::{Calls, count_fault};
 use super::errors::FetchError;
@@ -20,6 +20,7 @@ pub struct MemShelf {
     calls: Calls,
     known_faults: u64,
     other_faults: u64,
+    excesses: u64,
 }
 
 impl Model for MemShelf {
@@ -31,6 +32,7 @@ impl Model for MemShelf {
       calls = s.calls;
       known_faults = s.known_faults;
       other_faults = s.other_faults;
+      excesses = s.excesses;
     } };
 }
 
@@ -71,20 +73,10 @@ fn find<'a>(names: &[String], contents: &'a [Vec<u8>], name: &str) -> Option<&'a
     find(other_names, other_contents, name)
 }
 
-/// A copy of the file, if it has at most `limit` bytes.
-fn copy_within(alloc: Global, file: &[u8], limit: u32) -> Result<Vec<u8>, FetchError>
-    ensures copy { FetchesFile (Some file.now) limit result }
-    ensures exact { has_failed result ≡ false }
-{
-    if file.len() > limit as usize {
-        return Err(FetchError::TooLong(limit));
-    }
-    Vec::from_slice(alloc, file).map_err(|_| FetchError::NoMemory)
-}
-
 impl MemShelf {
     /// The file at each place has the name at that place. `fails` has the numbers, from 1, of the calls
-    /// that fail. It keeps one count of faults for the names that it has, and one for all others.
+    /// that fail. It keeps one count of faults for the names that it has, and one for all others, and one
+    /// of files that were too long.
     pub fn new(names: Vec<String>, contents: Vec<Vec<u8>>, fails: Vec<u32>) -> MemShelf
         requires paired { vec_len names ≡ vec_len contents }
         requires distinct { IsTrue (are_distinct (map string_bytes names.items)) }
@@ -94,9 +86,11 @@ impl MemShelf {
           calls = calls_from_one fails.items;
           known_faults = 0;
           other_faults = 0;
+          excesses = 0;
         } }
         ensures contents { ⟦<MemShelf as Shelf>⟧.contents result ≡ Some (file_named (map string_bytes names.items) (map vec_items contents.items)) }
         ensures faults { (name : List ℕ) → ⟦<MemShelf as Shelf>⟧.faults result name ≡ 0 }
+        ensures excesses { (name : List ℕ) → ⟦<MemShelf as Shelf>⟧.excesses result name ≡ 0 }
     {
         MemShelf {
             names,
@@ -104,6 +98,7 @@ impl MemShelf {
             calls: Calls::new(fails),
             known_faults: 0,
             other_faults: 0,
+            excesses: 0,
         }
     }
 }
@@ -113,13 +108,17 @@ impl Shelf for MemShelf {
 
     ghost faults = { faults_of };
 
+    ghost excesses = { λ s _. s.excesses };
+
     fn fetch(&mut self, alloc: Global, name: &str, limit: u32) -> Result<Vec<u8>, FetchError>
         ensures within { IfOk result (λ v. length v.items ≤ limit) }
         ensures contents { Some (file_of self.new) ≡ Some (file_of self.old) }
         ensures answer { Fetches (Some (file_of self.old)) name.now limit result }
         ensures cause { FetchCause (faults_of self.old) (faults_of self.new) name.now result }
+        ensures excess { ExcessCause (λ _. self.old.excesses) (λ _. self.new.excesses) name.now result }
         ensures exact { has_failed result ≡ lacks self.old name.now }
-        ensures after { self.new ≡ after_fetch self.old name.now }
+        ensures long { is_too_long result ≡ exceeds self.old name.now limit }
+        ensures after { self.new ≡ after_fetch self.old name.now limit }
     {
         let failing = self.calls.is_failing();
         let Some(file) = find(&self.names, &self.contents, name) else {
@@ -130,6 +129,10 @@ impl Shelf for MemShelf {
             self.known_faults = count_fault(self.known_faults);
             return Err(FetchError::Failed);
         }
-        copy_within(alloc, file, limit)
+        if file.len() > limit as usize {
+            self.excesses = count_fault(self.excesses);
+            return Err(FetchError::TooLong(limit));
+        }
+        Vec::from_slice(alloc, file).map_err(|_| FetchError::NoMemory)
     }
 }

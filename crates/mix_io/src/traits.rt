@@ -3,26 +3,29 @@
 // never falls and stands still at its last value.
 ghost use Rattle.std.specs.Prelude.{◌≡◌, ℕ, ◌≤◌, List, Option, None, length, IfOk, is_err};
 ghost use Rattle.mix_io.specs.Calls.{one_more};
-ghost use Rattle.mix_io.specs.Counts.{HasCause, FetchCause, NamedCause};
+ghost use Rattle.mix_io.specs.Counts.{HasCause, ExcessCause, FetchCause, NamedCause};
 ghost use Rattle.mix_io.specs.Kept.{Saves};
 ghost use Rattle.mix_io.specs.Told.{Takes, Puts, Fetches, Hears};
 
 use super::errors::{Failed, FetchError};
 use std::alloc::Global;
 
-/// A place where files are found by name. It may tell the map of its files, and counts its faults for
-/// each name, though one count may serve many names.
+/// A place where files are found by name. It may tell the map of its files. It counts for each name its
+/// faults, and the times that a file exceeded a limit, though one count may serve many names.
 pub trait Shelf {
     ghost contents: { Self → Option (List ℕ → Option (List ℕ)) };
 
     ghost faults: { Self → List ℕ → ℕ };
+
+    ghost excesses: { Self → List ℕ → ℕ };
 
     /// The whole file of that name, if it has at most `limit` bytes.
     fn fetch(&mut self, alloc: Global, name: &str, limit: u32) -> Result<Vec<u8>, FetchError>
         ensures within { IfOk result (λ v. length v.items ≤ limit) }
         ensures contents { contents self.new ≡ contents self.old }
         ensures answer { Fetches (contents self.old) name.now limit result }
-        ensures cause { FetchCause (faults self.old) (faults self.new) name.now result };
+        ensures cause { FetchCause (faults self.old) (faults self.new) name.now result }
+        ensures excess { ExcessCause (excesses self.old) (excesses self.new) name.now result };
 }
 
 /// A stream of bytes that comes in. It may tell the bytes that are left.

@@ -2,7 +2,7 @@
 use Rattle.std.proofs.Common.{◌≡◌, ℕ, ◌-◌, ◌≤◌, length, take, drop, get_or, arith, List, [], ◌∷◌, ◌++◌, Option, Some, None, Result, Ok, Err, IfOk, IfErr, sym, ap, subst, ◌∙◌, append_assoc}
 use Rattle.std.specs.Option.{option_map}
 use Rattle.std.proofs.lemmas.List.{take_all}
-use Rattle.mix_io.specs.Counts.{CountsStay, Rose}
+use Rattle.mix_io.specs.Counts.{CountsStay, CountRose, Rose}
 use Rattle.mix_io.specs.declared.errors.FetchError.{FetchError}
 use Rattle.mix_io.specs.declared.errors.FetchError.TheVariants.{NoMemory, Failed, TooLong}
 use Rattle.job_words.specs.Jobs.{keys_in_order, limit_of, place_in, wanted_among, wanted_at}
@@ -10,7 +10,7 @@ use Rattle.job_words.specs.Words.{name_at}
 use Rattle.job_words.specs.declared.job.Command.{Command}
 use Rattle.job_words.specs.declared.job.Key.{Key}
 use Rattle.job_words.specs.declared.job.Key.TheVariants.{Flat, Rsrc, Pef, Image, Text, Script}
-use Rattle.mix_top.specs.World.{Contents}
+use Rattle.mix_top.specs.World.{Contents, NoneRose, ShelfCounts}
 use Rattle.mix_top.specs.Files.{AreFetched, AreFiles, IsNamed, IsOf}
 use Rattle.mix_top.specs.Parts.{Adds, IsCause, Misses, MissesFirst, with_file}
 use Rattle.mix_top.specs.declared.files.Fetched.{Fetched}
@@ -31,17 +31,37 @@ fetched-both words contents (x ∷ xs) ys first second = (first.0, fetched-both 
 stay-then : (a b c : List ℕ → ℕ) → CountsStay a b → CountsStay b c → CountsStay a c
 stay-then a b c first second = λ n. second n ∙ first n
 
-cause-after : (contents : Contents) (limit : ℕ) (name : List ℕ) (a b c : List ℕ → ℕ) (error : FetchError) → CountsStay a b → IsCause contents limit name b c error → IsCause contents limit name a c error
-cause-after contents limit name a b c NoMemory first second = (second.0, stay-then a b c first second.1)
-cause-after contents limit name a b c Failed first second =
+rose-after : (a b c : List ℕ → ℕ) (name : List ℕ) → CountsStay a b → CountRose b c name → CountRose a c name
+rose-after a b c name first second =
     record {
       rose = subst (λ n. Rose n (c name)) (first name) second.rose;
       later = λ n. subst (λ k. k ≤ c n) (first n) (second.later n);
     }
-cause-after contents limit name a b c (TooLong most) first second = (second.0, stay-then a b c first second.1)
+
+none-then : (a b c : ShelfCounts) → NoneRose a b → NoneRose b c → NoneRose a c
+none-then a b c first second =
+    record {
+      faults = stay-then a.faults b.faults c.faults first.faults second.faults;
+      excesses = stay-then a.excesses b.excesses c.excesses first.excesses second.excesses;
+    }
+
+cause-after : (contents : Contents) (limit : ℕ) (name : List ℕ) (a b c : ShelfCounts) (error : FetchError) → NoneRose a b → IsCause contents limit name b c error → IsCause contents limit name a c error
+cause-after contents limit name a b c NoMemory first second = (second.0, none-then a b c first second.1)
+cause-after contents limit name a b c Failed first second =
+    record {
+      faults = rose-after a.faults b.faults c.faults name first.faults second.faults;
+      excesses = stay-then a.excesses b.excesses c.excesses first.excesses second.excesses;
+    }
+cause-after contents limit name a b c (TooLong most) first second = (
+  second.0,
+  record {
+    faults = stay-then a.faults b.faults c.faults first.faults second.1.faults;
+    excesses = rose-after a.excesses b.excesses c.excesses name first.excesses second.1.excesses;
+  },
+)
 
 -- the file of the first key was not fetched
-pub missed-first : (words : List (List ℕ)) (contents : Contents) (command : Command) (keys : List Key) (key : Key) (a b : List ℕ → ℕ) (missing : Missing)
+pub missed-first : (words : List (List ℕ)) (contents : Contents) (command : Command) (keys : List Key) (key : Key) (a b : ShelfCounts) (missing : Missing)
     → 1 ≤ length keys → Misses words contents command (get_or keys 0 key) a b missing → MissesFirst words contents command keys a b missing
 missed-first words contents command [] key a b missing some misses = absurd (omega arith)
 missed-first words contents command (key ∷ keys) other a b missing some misses =
@@ -55,8 +75,8 @@ missed-first words contents command (key ∷ keys) other a b missing some misses
     }
 
 -- or that of a later one
-missed-later : (words : List (List ℕ)) (contents : Contents) (command : Command) (key : Key) (keys : List Key) (file : Option (List ℕ)) (a b c : List ℕ → ℕ) (missing : Missing)
-    → IsOf words contents command key file → CountsStay a b → MissesFirst words contents command keys b c missing → MissesFirst words contents command (key ∷ keys) a c missing
+missed-later : (words : List (List ℕ)) (contents : Contents) (command : Command) (key : Key) (keys : List Key) (file : Option (List ℕ)) (a b c : ShelfCounts) (missing : Missing)
+    → IsOf words contents command key file → NoneRose a b → MissesFirst words contents command keys b c missing → MissesFirst words contents command (key ∷ keys) a c missing
 missed-later words contents command key keys file a b c missing first stay misses =
     let own : List (Key × ℕ) = wanted_at (place_in command key) key in
     record {
@@ -71,8 +91,8 @@ missed-later words contents command key keys file a b c missing first stay misse
 rest-whole : (key : Key) (keys : List Key) → take (length (key ∷ keys) - 1) (drop 1 (key ∷ keys)) ≡ keys
 rest-whole key keys = take_all (length (key ∷ keys) - 1) keys (omega arith)
 
-pub missed-rest : (words : List (List ℕ)) (contents now : Contents) (command : Command) (keys : List Key) (key : Key) (file : Option (List ℕ)) (a b c : List ℕ → ℕ) (r : Result Fetched Missing)
-    → 1 ≤ length keys → now ≡ contents → IsOf words contents command (get_or keys 0 key) file → CountsStay a b
+pub missed-rest : (words : List (List ℕ)) (contents now : Contents) (command : Command) (keys : List Key) (key : Key) (file : Option (List ℕ)) (a b c : ShelfCounts) (r : Result Fetched Missing)
+    → 1 ≤ length keys → now ≡ contents → IsOf words contents command (get_or keys 0 key) file → NoneRose a b
     → IfErr r (MissesFirst words now command (take (length keys - 1) (drop 1 keys)) b c) → IfErr r (MissesFirst words contents command keys a c)
 missed-rest words contents now command keys key file a b c (Ok files) some same first stay rest = tt
 missed-rest words contents now command [] key file a b c (Err missing) some same first stay rest = absurd (omega arith)

@@ -18,7 +18,7 @@ use Rattle.mixed_machine.specs.Exec.{How, exec, log, line_of, said_of}
 use Rattle.mixed_machine.specs.Exec.End.{Ended}
 use Rattle.mixed_machine.specs.Exec.How.{Limited, Exited, Faulted}
 use Rattle.mixed_machine.specs.Outside.{At, answers_between, around_at, state_of}
-use Rattle.mixed_machine.specs.Runs.{Ran as RanTo, Runs, Stops}
+use Rattle.mixed_machine.specs.Runs.{Ran, Runs, Stops}
 use Rattle.mixed_machine.proofs.Runs.{limits-last}
 use Rattle.mixed_machine.specs.declared.stop.Stop.{Stop}
 use Rattle.mixed_machine.specs.declared.stop.Stop.TheVariants.{Exit, Fault, Limit, ReadFault, OutFault, TraceFault}
@@ -33,7 +33,6 @@ use Rattle.mix_sample.specs.declared.sampled.Ending.TheVariants.{Exit as ExitEnd
 use Rattle.mix_sample.specs.declared.sampled.Sampled.{Sampled}
 use Rattle.std.specs.Option.{option_and_then, option_map}
 use Rattle.std.specs.Result.{result_ok}
-use Rattle.mix_io.specs.Counts.{CountsStay}
 use Rattle.job_words.specs.declared.job.Job.{Job}
 use Rattle.job_words.specs.declared.job.Key.{Key}
 use Rattle.job_words.specs.declared.job.Key.TheVariants.{Flat, Rsrc, Pef, Image, Text, Script}
@@ -50,7 +49,7 @@ use Rattle.mix_image.specs.Spelling.{HasSpelling, spell}
 use Rattle.mix_image.specs.declared.error.ImageError.{ImageError}
 use Rattle.mix_image.specs.declared.error.ImageError.TheVariants.{NoMemory as NoMachine}
 use Rattle.mix_top.specs.Lines.{load_line, load_refusal, memory_line, words_line}
-use Rattle.mix_top.specs.World.{Beside, Keep, World, Accounted, Closes, Contents, Early, EndsIn, OnlyPuts, PutsText, beside}
+use Rattle.mix_top.specs.World.{Beside, Keep, World, Accounted, Closes, Contents, Early, EndsIn, NoneRose, OnlyPuts, PutsText, beside}
 use Rattle.mix_top.specs.Files.{AreFiles, IsNamed, bytes_in, ram_size}
 use Rattle.mix_assemble.specs.Assembling.{IsAssembled}
 use Rattle.mix_assemble.specs.Parts.{OfBytes}
@@ -59,7 +58,7 @@ use Rattle.mix_top.specs.Assembling.{AssembleWay, line_refusal}
 use Rattle.mix_top.specs.Assembling.AssembleWay.{assembled, line_refused}
 use Rattle.mix_top.specs.declared.files.Fetched.{Fetched}
 use Rattle.mix_top.specs.Keeping.{KeepsPart, KeptAt, Spells}
-use Rattle.mix_top.specs.Running.{Ran, RunWay, answers_given, end_of, status_of}
+use Rattle.mix_top.specs.Running.{MachineRan, RunWay, answers_given, end_of, status_of}
 use Rattle.mix_top.specs.Running.RunWay.{ended, keep_failed, out_failed, read_failed, trace_failed}
 use Rattle.mix_top.specs.Continuing.{ContinueWay, image_refusal}
 use Rattle.mix_top.specs.Continuing.ContinueWay.{image_refused, no_memory as no_machine_memory}
@@ -78,7 +77,7 @@ after-lines a b c lines line status result first (inr (breaks, same)) =
 
 ended-way : (save : Option (List ℕ)) (steps left : ℕ) (start last : State) (around : Around) (how : How) (set : Isa) (old mid new : Beside) (result : ℕ)
     → last.around ≡ around → set ≡ isa_of last.active → new.outside ≡ mid.outside
-    → RanTo 0 steps left start last how (record { out = old.outside.out; trace = old.trace }) (record { out = mid.outside.out; trace = mid.trace })
+    → Ran 0 steps left start last how (record { out = old.outside.out; trace = old.trace }) (record { out = mid.outside.out; trace = mid.trace })
     → KeptAt save how last old.keep new.keep
     → Closes mid.trace new.trace [] (end_line (end_of set how)) (status_of how) result → RunWay save steps start around old new result
 ended-way save steps left start last around how set old mid new result around_is set_is same ran kept closes =
@@ -136,9 +135,9 @@ way-of_stop save m done steps left start last around set old mid new TraceFault 
 -- a machine ran, what is to be kept was kept, and the call was closed
 pub ran-of_run : (save : Option (List ℕ)) (steps : ℕ) (a b : At) (m : Machine) (keep : Keep) (new : Beside) (set : Isa) (stop : Stop) (result : ℕ) (done : Unit {0}) → set ≡ isa_of b.active
     → m ≡ record { active = b.active; body = b.body } → new.outside ≡ b.outside → Keeps (due_at save stop) m keep new.keep (Ok done)
-    → Runs steps a b stop → Finishes stop set b.trace new.trace result → Ran save (flat a.body a.active) steps (beside a.outside a.trace keep) new result
+    → Runs steps a b stop → Finishes stop set b.trace new.trace result → MachineRan save (flat a.body a.active) steps (beside a.outside a.trace keep) new result
 ran-of_run save steps a b m keep new set stop result done set_is m_is same keeps runs closes =
-    subst (λ o. Ran save (flat a.body a.active) steps (beside a.outside a.trace keep) (beside o new.trace new.keep) result) (sym same)
+    subst (λ o. MachineRan save (flat a.body a.active) steps (beside a.outside a.trace keep) (beside o new.trace new.keep) result) (sym same)
     (record {
       taken = runs.run.taken;
       told = runs.run.told;
@@ -150,10 +149,10 @@ ran-of_run save steps a b m keep new set stop result done set_is m_is same keeps
 
 -- or the keeper failed
 pub ran-unkept : (name : List ℕ) (steps : ℕ) (a b : At) (m : Machine) (keep : Keep) (new : Beside) → m ≡ record { active = b.active; body = b.body } → new.outside ≡ b.outside → new.trace ≡ b.trace
-    → HasSpelling m → KeepsPart name (spell m) keep new.keep → Runs steps a b Limit → Ran (Some name) (flat a.body a.active) steps (beside a.outside a.trace keep) new 8
+    → HasSpelling m → KeepsPart name (spell m) keep new.keep → Runs steps a b Limit → MachineRan (Some name) (flat a.body a.active) steps (beside a.outside a.trace keep) new 8
 ran-unkept name steps a b m keep new m_is same traced is part runs =
-    subst (λ o. Ran (Some name) (flat a.body a.active) steps (beside a.outside a.trace keep) (beside o new.trace new.keep) 8) (sym same)
-    (subst (λ t. Ran (Some name) (flat a.body a.active) steps (beside a.outside a.trace keep) (beside b.outside t new.keep) 8) (sym traced)
+    subst (λ o. MachineRan (Some name) (flat a.body a.active) steps (beside a.outside a.trace keep) (beside o new.trace new.keep) 8) (sym same)
+    (subst (λ t. MachineRan (Some name) (flat a.body a.active) steps (beside a.outside a.trace keep) (beside b.outside t new.keep) 8) (sym traced)
     (record {
       taken = runs.run.taken;
       told = runs.run.told;
@@ -170,8 +169,8 @@ ran-unkept name steps a b m keep new m_is same traced is part runs =
     }))
 
 -- and from the same state for each outside it ran too
-pub ran-from : (save : Option (List ℕ)) (start from : Around → State) (steps : ℕ) (old new : Beside) (result : ℕ) → ((around : Around) → start around ≡ from around) → Ran save start steps old new result
-    → Ran save from steps old new result
+pub ran-from : (save : Option (List ℕ)) (start from : Around → State) (steps : ℕ) (old new : Beside) (result : ℕ) → ((around : Around) → start around ≡ from around) → MachineRan save start steps old new result
+    → MachineRan save from steps old new result
 ran-from save start from steps old new result same ran =
     record {
       taken = ran.taken;
@@ -260,7 +259,7 @@ ends-unrestored save steps image old new error result is same kept closes =
 unkept : (save : Option (List ℕ)) (stop : Stop) (steps : ℕ) (a b : At) (m : Machine) (keep : Keep) (new : Beside) (failed : Failure) → m ≡ record { active = b.active; body = b.body }
     → new.outside ≡ b.outside → new.trace ≡ b.trace → Keeps (due_at save stop) m keep new.keep (Err failed) → Runs steps a b stop
     → Blames stop (counts_at (beside a.outside a.trace keep)) (counts_at (beside b.outside b.trace keep)) → Accounts a.outside.rack b.outside.rack
-    → EndsIn save (Ran save (flat a.body a.active) steps) (beside a.outside a.trace keep) new 8
+    → EndsIn save (MachineRan save (flat a.body a.active) steps) (beside a.outside a.trace keep) new 8
 unkept None Limit steps a b m keep new failed m_is same traced keeps runs calm devices = absurd keeps
 unkept (Some name) Limit steps a b m keep new failed m_is same traced keeps runs calm devices =
     record {
@@ -272,7 +271,7 @@ unkept save stop steps a b m keep new failed m_is same traced keeps runs calm de
 pub ends-unkept : (save given : Option (List ℕ)) (stop : Stop) (steps : ℕ) (a b : At) (m : Machine) (keep : Keep) (new : Beside) (failed : Failure) → given ≡ due_at save stop
     → m ≡ record { active = b.active; body = b.body } → new.outside ≡ b.outside → new.trace ≡ b.trace → Keeps given m keep new.keep (Err failed) → Runs steps a b stop
     → Blames stop (counts_at (beside a.outside a.trace keep)) (counts_at (beside b.outside b.trace keep)) → Accounts a.outside.rack b.outside.rack
-    → EndsIn save (Ran save (flat a.body a.active) steps) (beside a.outside a.trace keep) new 8
+    → EndsIn save (MachineRan save (flat a.body a.active) steps) (beside a.outside a.trace keep) new 8
 ends-unkept save given stop steps a b m keep new failed due m_is same traced keeps runs calm devices =
     unkept save stop steps a b m keep new failed m_is same traced (subst (λ name. Keeps name m keep new.keep (Err failed)) due keeps) runs calm devices
 
@@ -280,7 +279,7 @@ ends-unkept save given stop steps a b m keep new failed due m_is same traced kee
 pub ends-run : (save given : Option (List ℕ)) (stop : Stop) (steps : ℕ) (a b : At) (m : Machine) (keep : Keep) (new : Beside) (set : Isa) (result : ℕ) (done : Unit {0}) → given ≡ due_at save stop
     → m ≡ record { active = b.active; body = b.body } → set ≡ isa_of b.active → new.outside ≡ b.outside → Keeps given m keep new.keep (Ok done) → Runs steps a b stop
     → Blames stop (counts_at (beside a.outside a.trace keep)) (counts_at (beside b.outside b.trace keep)) → Accounts a.outside.rack b.outside.rack
-    → Finishes stop set b.trace new.trace result → EndsIn save (Ran save (flat a.body a.active) steps) (beside a.outside a.trace keep) new result
+    → Finishes stop set b.trace new.trace result → EndsIn save (MachineRan save (flat a.body a.active) steps) (beside a.outside a.trace keep) new result
 ends-run save given stop steps a b m keep new set result done due m_is set_is same keeps runs blames devices finishes =
     record {
       accounted = accounted-stop save (beside a.outside a.trace keep) (beside b.outside b.trace keep) new set stop result blames devices same (keeps-calm given m keep new.keep done keeps) finishes;
@@ -294,14 +293,14 @@ unfetched-plain Failed = record { input = refl; out = refl; trace = refl; keep =
 unfetched-plain (TooLong limit) = record { input = refl; out = refl; trace = refl; keep = refl }
 
 way-of_cause : (words : List (List ℕ)) (old new : World) (command : Command) (key : Key) (place : ℕ) (error : FetchError) (result : ℕ)
-    → command_of words ≡ Ok command → IsNext words old.shelf.contents command key place → IsCause old.shelf.contents (limit_of key) (name_at words place) old.shelf.faults new.shelf.faults error
+    → command_of words ≡ Ok command → IsNext words old.shelf.contents command key place → IsCause old.shelf.contents (limit_of key) (name_at words place) old.shelf.counts new.shelf.counts error
     → Early old.beside new.beside (unfetched_line key error) (unfetched_status error) result → Way words old new result
 way-of_cause words old new command key place NoRoom result is next cause early = no_memory_for_file command key place is next cause.0 cause.1 early
 way-of_cause words old new command key place Failed result is next cause early = no_file command key place is next cause early
 way-of_cause words old new command key place (TooLong limit) result is next cause early = long_file command key place is next cause.0 cause.1 early
 
 pub ends-of_missing : (words : List (List ℕ)) (old new : World) (command : Command) (missing : Missing) (result : ℕ) → command_of words ≡ Ok command → new.shelf.contents ≡ old.shelf.contents
-    → MissesFirst words old.shelf.contents command keys_in_order old.shelf.faults new.shelf.faults missing → new.beside.outside ≡ old.beside.outside → new.beside.keep ≡ old.beside.keep
+    → MissesFirst words old.shelf.contents command keys_in_order old.shelf.counts new.shelf.counts missing → new.beside.outside ≡ old.beside.outside → new.beside.keep ≡ old.beside.keep
     → Closes old.beside.trace new.beside.trace [] (unfetched_line missing.key missing.error) (unfetched_status missing.error) result → Ends words old new result
 ends-of_missing words old new command missing result is kept misses same held closes =
     let early : Early old.beside new.beside (unfetched_line missing.key missing.error) (unfetched_status missing.error) result = record { outside = same; keep = held; trace = closes } in
@@ -314,7 +313,7 @@ ends-of_missing words old new command missing result is kept misses same held cl
 
 -- the files that the command wants were fetched
 pub ends-done : (words : List (List ℕ)) (old new : World) (command : Command) (files : Fetched) (save : Option (List ℕ)) (result : ℕ) → command_of words ≡ Ok command → save ≡ saved_by words command
-    → new.shelf.contents ≡ old.shelf.contents → AreFiles words old.shelf.contents command files → CountsStay old.shelf.faults new.shelf.faults
+    → new.shelf.contents ≡ old.shelf.contents → AreFiles words old.shelf.contents command files → NoneRose old.shelf.counts new.shelf.counts
     → EndsIn save (FilesWay save command files) old.beside new.beside result → Ends words old new result
 ends-done words old new command files save result is save_is kept are stay ends =
     let named : saved_name words ≡ saved_by words command = ap (λ r. option_and_then (saved_by words) (result_ok r)) is in
@@ -341,7 +340,7 @@ ends-of_words words old new place line result bad line_is shelf same kept closes
     record {
       contents = ap (λ s. s.contents) shelf;
       accounted = accounted-early (saved_name words) old.beside new.beside (words_line place) 2 result (record { input = refl; out = refl; trace = refl; keep = refl }) told;
-      way = bad_words place bad (λ n. ap (λ s. s.faults n) shelf) told;
+      way = bad_words place bad (record { faults = λ n. ap (λ s. s.counts.faults n) shelf; excesses = λ n. ap (λ s. s.counts.excesses n) shelf }) told;
     }
 
 pub accounted-sample : (old new : Beside) (calls depth : ℕ) (sampled : Sampled) (ending : Ending) (result : ℕ) → OnlyPuts old new

@@ -7,7 +7,7 @@ use Rattle.mix_image.specs.Spelling.{HasSpelling, spell}
 use Rattle.mix_image.specs.declared.error.ImageError.{ImageError}
 use Rattle.mix_image.specs.declared.error.ImageError.TheVariants.{NoMemory, Short, Magic, Ram, Main, StartSp, Heap, Block, Active, Ccr, Page, Extra, Gate, Frame}
 use Rattle.mix_top.specs.Lines.{Refusal, load_line, memory_line, refusal}
-use Rattle.mix_top.specs.Running.{Ran}
+use Rattle.mix_top.specs.Running.{MachineRan}
 use Rattle.mix_top.specs.World.{Beside, Early}
 
 -- why an image is refused, and the number that goes with it, 0 where there is none; want of memory has a line of its own
@@ -37,5 +37,5 @@ pub data ContinueWay (save : Option (List ℕ)) (steps : ℕ) (image : List ℕ)
       → ContinueWay save steps image old new result
   -- the machine of which they are the spelling ran on
   continued : (machine : Machine) → HasSpelling machine → spell machine ≡ image
-      → Ran save (flat machine.body machine.active) steps old new result
+      → MachineRan save (flat machine.body machine.active) steps old new result
       → ContinueWay save steps image old new result

@@ -4,7 +4,6 @@
 use Rattle.std.specs.Prelude.{◌≡◌, ◌≢◌, ℕ, List, ◌∷◌, ◌++◌, Option, Ok, Err}
 use Rattle.std.specs.Option.{option_and_then, option_map}
 use Rattle.std.specs.Result.{result_ok}
-use Rattle.mix_io.specs.Counts.{CountsStay, CountRose}
 use Rattle.mix_io.specs.Streams.{Output}
 use Rattle.switch_frame.specs.declared.program.Program.{Program}
 use Rattle.mix_engine.specs.Start.{start_of}
@@ -26,8 +25,8 @@ use Rattle.job_words.specs.declared.job.Command.TheVariants.{Run, List as Lists,
 use Rattle.job_words.specs.declared.job.Job.{Job}
 use Rattle.job_words.specs.declared.job.Key.{Key}
 use Rattle.mix_top.specs.Lines.{memory_line, words_line, fetch_line, load_line, long_file as long_refusal, load_refusal}
-use Rattle.mix_top.specs.World.{Beside, Contents, World, Early, Accounted, Listed, OnlyPuts, PutsText}
-use Rattle.mix_top.specs.Running.{Ran}
+use Rattle.mix_top.specs.World.{Beside, Contents, World, Early, Accounted, HasExceeded, HasFailed, NoneRose, Listed, OnlyPuts, PutsText}
+use Rattle.mix_top.specs.Running.{MachineRan}
 use Rattle.mix_top.specs.SampleLine.{sample_line, exit_text, fault_text}
 use Rattle.mix_top.specs.Files.{IsLong, IsNotLong, AreFetched, AreFiles, bytes_in, ram_size}
 use Rattle.mix_top.specs.Assembling.{AssembleWay}
@@ -40,7 +39,7 @@ pub data ProgramWay (save : Option (List ℕ)) (program : Program) (steps : ℕ)
   -- there was no memory for the machine
   no_machine : Early old new memory_line 9 result → ProgramWay save program steps old new result
   -- it ran
-  ran : Ran save (start_of program) steps old new result → ProgramWay save program steps old new result
+  ran : MachineRan save (start_of program) steps old new result → ProgramWay save program steps old new result
 
 -- the ways to end of a command that loads the program of a job, and then ends in one of its own
 pub data LoadWay (job : Job) (files : Files) (Loaded : Program → Beside → Beside → ℕ → Type 0) (old new : Beside) (result : ℕ) : Type 0 where
@@ -117,25 +116,25 @@ pub record IsNext (words : List (List ℕ)) (contents : Contents) (command : Com
 pub data Way (words : List (List ℕ)) (old new : World) (result : ℕ) : Type 0 where
   -- the words are no command, and this is the place of the first bad one
   bad_words : (place : ℕ) → command_of words ≡ Err (bad_at place)
-      → CountsStay old.shelf.faults new.shelf.faults → Early old.beside new.beside (words_line place) 2 result
+      → NoneRose old.shelf.counts new.shelf.counts → Early old.beside new.beside (words_line place) 2 result
       → Way words old new result
   -- the shelf failed at the file of a key
   no_file : (command : Command) (key : Key) (place : ℕ) → command_of words ≡ Ok command → IsNext words old.shelf.contents command key place
-      → CountRose old.shelf.faults new.shelf.faults (name_at words place) → Early old.beside new.beside (fetch_line key) 4 result
+      → HasFailed old.shelf.counts new.shelf.counts (name_at words place) → Early old.beside new.beside (fetch_line key) 4 result
       → Way words old new result
-  -- the file of a key is above its limit
+  -- the file of a key is above its limit, where the shelf tells it; and the shelf counts that it is
   long_file : (command : Command) (key : Key) (place : ℕ) → command_of words ≡ Ok command → IsNext words old.shelf.contents command key place
       → IsLong old.shelf.contents (limit_of key) (name_at words place)
-      → CountsStay old.shelf.faults new.shelf.faults → Early old.beside new.beside (load_line (long_refusal key)) 3 result
+      → HasExceeded old.shelf.counts new.shelf.counts (name_at words place) → Early old.beside new.beside (load_line (long_refusal key)) 3 result
       → Way words old new result
   -- there was no memory for the file of a key, which is not above its limit
   no_memory_for_file : (command : Command) (key : Key) (place : ℕ) → command_of words ≡ Ok command → IsNext words old.shelf.contents command key place
       → IsNotLong old.shelf.contents (limit_of key) (name_at words place)
-      → CountsStay old.shelf.faults new.shelf.faults → Early old.beside new.beside memory_line 9 result
+      → NoneRose old.shelf.counts new.shelf.counts → Early old.beside new.beside memory_line 9 result
       → Way words old new result
   -- the files that the command wants were fetched; a sample wants none
   fetched : (command : Command) (files : Fetched) → command_of words ≡ Ok command → AreFiles words old.shelf.contents command files
-      → CountsStay old.shelf.faults new.shelf.faults → FilesWay (saved_by words command) command files old.beside new.beside result
+      → NoneRose old.shelf.counts new.shelf.counts → FilesWay (saved_by words command) command files old.beside new.beside result
       → Way words old new result
 
 -- a call of the program: it leaves the shelf's files as they are, accounts for each failure and each device, and ended

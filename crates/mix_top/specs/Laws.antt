@@ -11,7 +11,7 @@ use Rattle.mixed_machine.specs.Exec.{How, exec, log, said_of, line_of}
 use Rattle.mixed_machine.specs.Exec.End.{Ended}
 use Rattle.mixed_machine.specs.Outside.{TookAll, ToldAll, around_at}
 use Rattle.mix_top.specs.World.{Beside}
-use Rattle.mix_top.specs.Running.{Ran, answers_given, end_of, status_of}
+use Rattle.mix_top.specs.Running.{MachineRan, answers_given, end_of, status_of}
 use Rattle.mix_top.specs.Continuing.{ContinueWay}
 
 -- between two calls: what the first kept under a name, which had nothing before, is an image; and the second begins with
@@ -58,5 +58,5 @@ IsEnd result = (result ≡ 0) ⊎ ((result ≡ 1) ⊎ ((result ≡ 10) ⊎ (resu
 abbrev pub ContinuedRunsAreOne : Type 0
 ContinuedRunsAreOne =
     (name image : List ℕ) (save : Option (List ℕ)) (start : Around → State) (n m : ℕ) (a b c d : Beside) (result : ℕ)
-    → Ran (Some name) start n a b 11 → IsBetween name image a b c → ContinueWay save m image c d result → IsEnd result
+    → MachineRan (Some name) start n a b 11 → IsBetween name image a b c → ContinueWay save m image c d result → IsEnd result
     → RanAsOne start (n + m) a b c d result

@@ -1,7 +1,6 @@
 -- What the parts of the public call answer.
 use Rattle.std.specs.Prelude.{◌≡◌, ℕ, ◌≤◌, List, [], ◌∷◌, ◌++◌, length, Option, Some, None, Result, Ok, Err, IfSome}
 use Rattle.mix_bits.specs.declared.isa.Isa.{Isa}
-use Rattle.mix_io.specs.Counts.{CountsStay, CountRose}
 use Rattle.mix_io.specs.Streams.{Output}
 use Rattle.mix_io.specs.declared.errors.Failed.{Failed as Failure}
 use Rattle.mix_io.specs.declared.errors.FetchError.{FetchError}
@@ -28,7 +27,7 @@ use Rattle.mix_image.specs.declared.error.ImageError.{ImageError}
 use Rattle.mix_image.specs.declared.error.ImageError.TheVariants.{NoMemory as NoMachine}
 use Rattle.mix_top.specs.Lines.{memory_line, fetch_line, load_line, long_file, load_refusal}
 use Rattle.mix_io.specs.Streams.{output}
-use Rattle.mix_top.specs.World.{Beside, Contents, Closes, Keep, beside}
+use Rattle.mix_top.specs.World.{Beside, Contents, Closes, HasExceeded, HasFailed, NoneRose, Keep, ShelfCounts, beside}
 use Rattle.mix_top.specs.Files.{AreFetched, IsLong, IsNotLong, IsOf, bytes_in}
 use Rattle.mix_top.specs.Keeping.{KeepsAll, KeepsPart}
 use Rattle.mix_top.specs.Continuing.{image_refusal}
@@ -37,19 +36,19 @@ use Rattle.mix_top.specs.declared.files.Fetched.{Fetched}
 use Rattle.mix_top.specs.declared.files.Missing.{Missing}
 
 -- why a file was not fetched
-abbrev pub IsCause : Contents → ℕ → List ℕ → (List ℕ → ℕ) → (List ℕ → ℕ) → FetchError → Type 0
-IsCause contents limit name old new NoRoom = IsNotLong contents limit name × CountsStay old new
-IsCause contents limit name old new Failed = CountRose old new name
-IsCause contents limit name old new (TooLong most) = IsLong contents limit name × CountsStay old new
+abbrev pub IsCause : Contents → ℕ → List ℕ → ShelfCounts → ShelfCounts → FetchError → Type 0
+IsCause contents limit name old new NoRoom = IsNotLong contents limit name × NoneRose old new
+IsCause contents limit name old new Failed = HasFailed old new name
+IsCause contents limit name old new (TooLong most) = IsLong contents limit name × HasExceeded old new name
 
 -- the file that the word for a key names was not fetched
-pub record Misses (words : List (List ℕ)) (contents : Contents) (command : Command) (key : Key) (old new : List ℕ → ℕ) (missing : Missing) : Type 0 where
+pub record Misses (words : List (List ℕ)) (contents : Contents) (command : Command) (key : Key) (old new : ShelfCounts) (missing : Missing) : Type 0 where
   pub same : missing.key ≡ key
   pub named : place_in command key ≡ Some missing.place
   pub cause : IsCause contents (limit_of key) (name_at words missing.place) old new missing.error
 
 -- the first of a command's files for some keys that was not fetched
-pub record MissesFirst (words : List (List ℕ)) (contents : Contents) (command : Command) (keys : List Key) (old new : List ℕ → ℕ) (missing : Missing) : Type 0 where
+pub record MissesFirst (words : List (List ℕ)) (contents : Contents) (command : Command) (keys : List Key) (old new : ShelfCounts) (missing : Missing) : Type 0 where
   pub before : List (Key × ℕ)
   pub after : List (Key × ℕ)
   pub order : wanted_among keys command ≡ before ++ ((missing.key, missing.place) ∷ after)

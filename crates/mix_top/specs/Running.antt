@@ -72,7 +72,7 @@ answers_given old new = answers_since old.outside.rack new.outside.rack
 -- A machine ran from this state, for each outside. For every input that fits what was taken from it, and whatever
 -- answers would come after those that the devices gave, it ran as the definition says: no answer that was given is left
 -- over, and none is missing. Some input fits; where the input tells its bytes, these are the ones.
-pub record Ran (save : Option (List ℕ)) (start : Around → State) (steps : ℕ) (old new : Beside) (result : ℕ) : Type 0 where
+pub record MachineRan (save : Option (List ℕ)) (start : Around → State) (steps : ℕ) (old new : Beside) (result : ℕ) : Type 0 where
   pub taken : List Taken
   pub told : ToldAll taken old.outside.input.left new.outside.input.left
   pub each : (before after : List ℕ) (rest : List (Option ℕ)) → TookAll taken before after

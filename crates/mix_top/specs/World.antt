@@ -9,10 +9,31 @@ use Rattle.toolbox.specs.Calls.{Outside}
 abbrev pub Contents : Type 0
 Contents = Option (List ℕ → Option (List ℕ))
 
--- a shelf: its files, and the count of faults of each name
+-- what a shelf counts for each name: its faults, and the times that the file was too long
+pub record ShelfCounts : Type 0 where
+  pub faults : List ℕ → ℕ
+  pub excesses : List ℕ → ℕ
+
+abbrev pub counting : (List ℕ → ℕ) → (List ℕ → ℕ) → ShelfCounts
+counting faults excesses = record { faults = faults; excesses = excesses }
+
+-- a shelf: its files, and its counts
 pub record Shelf : Type 0 where
   pub contents : Contents
-  pub faults : List ℕ → ℕ
+  pub counts : ShelfCounts
+
+-- the counts of a shelf stay; or that of its faults rose for a name; or that of a file which was too long
+pub record NoneRose (old new : ShelfCounts) : Type 0 where
+  pub faults : CountsStay old.faults new.faults
+  pub excesses : CountsStay old.excesses new.excesses
+
+pub record HasFailed (old new : ShelfCounts) (name : List ℕ) : Type 0 where
+  pub faults : CountRose old.faults new.faults name
+  pub excesses : CountsStay old.excesses new.excesses
+
+pub record HasExceeded (old new : ShelfCounts) (name : List ℕ) : Type 0 where
+  pub faults : CountsStay old.faults new.faults
+  pub excesses : CountRose old.excesses new.excesses name
 
 -- a keeper: the bytes of each name, where it tells them, and the count of faults of each name
 pub record Keep : Type 0 where
@@ -35,8 +56,8 @@ pub record World : Type 0 where
   pub shelf : Shelf
   pub beside : Beside
 
-abbrev pub world : Contents → (List ℕ → ℕ) → Beside → World
-world contents faults beside = record { shelf = record { contents = contents; faults = faults }; beside = beside }
+abbrev pub world : Contents → ShelfCounts → Beside → World
+world contents counts beside = record { shelf = record { contents = contents; counts = counts }; beside = beside }
 
 -- the trace took these bytes and then a last line, and the status is this one; or it failed within that line, and the
 -- status is 7

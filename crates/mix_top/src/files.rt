@@ -1,9 +1,9 @@
 // The files that a command wants.
 ghost use Rattle.std.specs.Prelude.{◌≡◌, IfErr, IfOk, OnOk, map};
 ghost use Rattle.std.specs.String.{string_bytes};
-ghost use Rattle.mix_io.specs.Counts.{CountsStay};
 ghost use Rattle.job_words.specs.Jobs.{NamesFiles, keys_in_order};
 ghost use Rattle.mix_top.specs.Files.{AreFiles, IsOf, bytes_in};
+ghost use Rattle.mix_top.specs.World.{NoneRose, counting};
 ghost use Rattle.mix_top.specs.Parts.{Adds, Misses, MissesFirst, with_file as with_file_of};
 
 use job_words::{Command, Key, file_name};
@@ -38,8 +38,8 @@ pub fn fetch_files<F: Shelf>(
     requires { NamesFiles (map string_bytes words.now) command }
     ensures contents { F.contents shelf.new ≡ F.contents shelf.old }
     ensures files { IfOk result (AreFiles (map string_bytes words.now) (F.contents shelf.old) command) }
-    ensures counts { OnOk result (CountsStay (F.faults shelf.old) (F.faults shelf.new)) }
-    ensures missing { IfErr result (MissesFirst (map string_bytes words.now) (F.contents shelf.old) command keys_in_order (F.faults shelf.old) (F.faults shelf.new)) }
+    ensures counts { OnOk result (NoneRose (counting (F.faults shelf.old) (F.excesses shelf.old)) (counting (F.faults shelf.new) (F.excesses shelf.new))) }
+    ensures missing { IfErr result (MissesFirst (map string_bytes words.now) (F.contents shelf.old) command keys_in_order (counting (F.faults shelf.old) (F.excesses shelf.old)) (counting (F.faults shelf.new) (F.excesses shelf.new))) }
 {
     let none = Fetched {
         program: Files {
@@ -66,8 +66,8 @@ fn add_files<F: Shelf>(
     requires { NamesFiles (map string_bytes words.now) command }
     ensures contents { F.contents shelf.new ≡ F.contents shelf.old }
     ensures files { IfOk result (Adds (map string_bytes words.now) (F.contents shelf.old) command keys.now files) }
-    ensures counts { OnOk result (CountsStay (F.faults shelf.old) (F.faults shelf.new)) }
-    ensures missing { IfErr result (MissesFirst (map string_bytes words.now) (F.contents shelf.old) command keys.now (F.faults shelf.old) (F.faults shelf.new)) }
+    ensures counts { OnOk result (NoneRose (counting (F.faults shelf.old) (F.excesses shelf.old)) (counting (F.faults shelf.new) (F.excesses shelf.new))) }
+    ensures missing { IfErr result (MissesFirst (map string_bytes words.now) (F.contents shelf.old) command keys.now (counting (F.faults shelf.old) (F.excesses shelf.old)) (counting (F.faults shelf.new) (F.excesses shelf.new))) }
 {
     match keys {
         [] => Ok(files),
@@ -161,8 +161,8 @@ fn fetch_file<F: Shelf>(
     requires { NamesFiles (map string_bytes words.now) command }
     ensures contents { F.contents shelf.new ≡ F.contents shelf.old }
     ensures file { IfOk result (IsOf (map string_bytes words.now) (F.contents shelf.old) command key) }
-    ensures counts { OnOk result (CountsStay (F.faults shelf.old) (F.faults shelf.new)) }
-    ensures missing { IfErr result (Misses (map string_bytes words.now) (F.contents shelf.old) command key (F.faults shelf.old) (F.faults shelf.new)) }
+    ensures counts { OnOk result (NoneRose (counting (F.faults shelf.old) (F.excesses shelf.old)) (counting (F.faults shelf.new) (F.excesses shelf.new))) }
+    ensures missing { IfErr result (Misses (map string_bytes words.now) (F.contents shelf.old) command key (counting (F.faults shelf.old) (F.excesses shelf.old)) (counting (F.faults shelf.new) (F.excesses shelf.new))) }
 {
     let Some(place) = command.place(key) else {
         return Ok(None);

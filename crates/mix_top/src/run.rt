@@ -7,7 +7,7 @@ ghost use Rattle.switch_frame.specs.Records.{isa_of};
 ghost use Rattle.mixed_machine.specs.Machine.{IsWhole, flat};
 ghost use Rattle.mix_steps.specs.Beside.{AreSame};
 ghost use Rattle.mix_top.specs.World.{EndsIn, keeping};
-ghost use Rattle.mix_top.specs.Running.{Ran};
+ghost use Rattle.mix_top.specs.Running.{MachineRan};
 ghost use Rattle.mix_top.specs.Ends.{ProgramWay, RunsWay};
 ghost use Rattle.mix_top.specs.Parts.{beside_lent};
 
@@ -78,7 +78,7 @@ pub fn run_machine<'i, 'o, 't, 'd, I: Source, O: Sink, T: Sink, D: Devices, K: K
     keep: &mut K,
 ) -> u8
     requires { IsWhole machine.old.body (isa_of machine.old.active) }
-    ensures ends { EndsIn (option_copied save.entry) (Ran (option_copied save.entry) (flat machine.old.body machine.old.active) steps)
+    ensures ends { EndsIn (option_copied save.entry) (MachineRan (option_copied save.entry) (flat machine.old.body machine.old.active) steps)
         (beside_lent I.left I.faults O.held O.faults T.held T.faults D.state outside.old (keeping (K.kept keep.old) (K.faults keep.old)))
         (beside_lent I.left I.faults O.held O.faults T.held T.faults D.state outside.new (keeping (K.kept keep.new) (K.faults keep.new)))
         result }

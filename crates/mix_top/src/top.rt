@@ -5,7 +5,7 @@ ghost use Rattle.job_words.specs.Jobs.{IsProper, IsProperJob, NamesSave, job_in}
 ghost use Rattle.job_words.specs.Words.{command_of};
 ghost use Rattle.mix_steps.specs.Beside.{AreSame};
 ghost use Rattle.mix_io.specs.Streams.{output};
-ghost use Rattle.mix_top.specs.World.{EndsIn, beside, keeping, world};
+ghost use Rattle.mix_top.specs.World.{EndsIn, beside, counting, keeping, world};
 ghost use Rattle.mix_top.specs.Ends.{Ends, FilesWay, saved_by};
 ghost use Rattle.mix_top.specs.Parts.{AreFor, AreShort, beside_lent};
 
@@ -41,9 +41,9 @@ pub fn mixed_main<F: Shelf, I: Source, O: Sink, T: Sink, D: Devices, K: Keeper>(
     keep: &mut K,
 ) -> u8
     ensures { Ends (map string_bytes words.now)
-        (world (F.contents shelf.old) (F.faults shelf.old)
+        (world (F.contents shelf.old) (counting (F.faults shelf.old) (F.excesses shelf.old))
         (beside (outside_of (I.left input.old) (I.faults input.old) (D.state rack.old) (O.held out.old) (O.faults out.old)) (output (T.held trace.old) (T.faults trace.old)) (keeping (K.kept keep.old) (K.faults keep.old))))
-        (world (F.contents shelf.new) (F.faults shelf.new)
+        (world (F.contents shelf.new) (counting (F.faults shelf.new) (F.excesses shelf.new))
         (beside (outside_of (I.left input.new) (I.faults input.new) (D.state rack.new) (O.held out.new) (O.faults out.new)) (output (T.held trace.new) (T.faults trace.new)) (keeping (K.kept keep.new) (K.faults keep.new))))
         result }
 {
@@ -73,8 +73,8 @@ fn do_command<'i, 'o, 't, 'd, F: Shelf, I: Source, O: Sink, T: Sink, D: Devices,
     requires command { command_of (map string_bytes words.now) ≡ Ok command }
     requires proper { IsProper (map string_bytes words.now) command }
     ensures ends { Ends (map string_bytes words.now)
-        (world (F.contents shelf.old) (F.faults shelf.old) (beside_lent I.left I.faults O.held O.faults T.held T.faults D.state outside.old (keeping (K.kept keep.old) (K.faults keep.old))))
-        (world (F.contents shelf.new) (F.faults shelf.new) (beside_lent I.left I.faults O.held O.faults T.held T.faults D.state outside.new (keeping (K.kept keep.new) (K.faults keep.new))))
+        (world (F.contents shelf.old) (counting (F.faults shelf.old) (F.excesses shelf.old)) (beside_lent I.left I.faults O.held O.faults T.held T.faults D.state outside.old (keeping (K.kept keep.old) (K.faults keep.old))))
+        (world (F.contents shelf.new) (counting (F.faults shelf.new) (F.excesses shelf.new)) (beside_lent I.left I.faults O.held O.faults T.held T.faults D.state outside.new (keeping (K.kept keep.new) (K.faults keep.new))))
         result }
     ensures same { AreSame outside.old outside.new }
 {

@@ -4,10 +4,11 @@ use Rattle.mix_io.specs.Streams.{output}
 use Rattle.mix_top.specs.World.{World}
 use Rattle.mix_top.specs.Ends.{Ends}
 
--- nothing is told, no count of faults has risen, and no device was asked
+-- nothing is told, no count has risen, and no device was asked
 pub record Begins (world : World) : Type 0 where
   pub files : world.shelf.contents ≡ None
-  pub shelf : (name : List ℕ) → world.shelf.faults name ≡ 0
+  pub shelf : (name : List ℕ) → world.shelf.counts.faults name ≡ 0
+  pub excesses : (name : List ℕ) → world.shelf.counts.excesses name ≡ 0
   pub left : world.beside.outside.input.left ≡ None
   pub input : world.beside.outside.input.faults ≡ 0
   pub out : world.beside.outside.out ≡ output None 0
