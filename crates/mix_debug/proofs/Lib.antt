@@ -1,4 +1,5 @@
 pub mod Differ
+pub mod Empty
 pub mod Trips
 pub mod Scanning
 pub mod Narrowing

@@ -54,7 +54,21 @@ pub fn in_memory(reach: Reach, old: &[u8], new: &[u8]) -> Range
 }
 
 /// The range without the pieces at both ends in which no byte has changed.
+#[inline(always)]
 pub fn narrowed(old: &[u8], new: &[u8], range: Range) -> Range
+    requires { Covers range.low range.high old.now new.now }
+    ensures { Covers result.low result.high old.now new.now }
+{
+    if range.high - range.low < PIECE {
+        range
+    } else {
+        without_same(old, new, range)
+    }
+}
+
+/// The same where the range has a piece at least.
+#[inline(never)]
+fn without_same(old: &[u8], new: &[u8], range: Range) -> Range
     requires { Covers range.low range.high old.now new.now }
     ensures { Covers result.low result.high old.now new.now }
 {

@@ -1,6 +1,5 @@
 // The text of where a machine is.
 ghost use Rattle.std.specs.Prelude.{◌≡◌, ◌+◌, ◌≤◌, ◌++◌, [], length};
-ghost use Rattle.call_trace.specs.Names.{set_name as name_of_set};
 ghost use Rattle.mix_io.specs.Counts.{HasCause};
 ghost use Rattle.mix_io.specs.Told.{Puts};
 ghost use Rattle.switch_frame.specs.Chain.{Links, records};
@@ -9,7 +8,8 @@ ghost use Rattle.mix_debug.specs.Crawl.{caller_line, caller_lines, crawl_of, her
 ghost use Rattle.mix_debug.specs.Machines.{IsSound};
 
 use big_memory::Ram;
-use mix_bits::{Isa, Line};
+use call_trace::set_name;
+use mix_bits::Line;
 use mix_engine::Machine;
 use mix_io::{Failed, Sink};
 use switch_frame::{Active, Held, outer_lo, top};
@@ -89,15 +89,4 @@ fn add_place(line: &mut Line, number: u32, file: &Active)
     line.add(set_name(file.isa()));
     line.add(" ");
     line.add_hex(file.pc(), 8);
-}
-
-/// The word for a set of instructions.
-fn set_name(set: Isa) -> &'static str
-    ensures name { result.now ≡ name_of_set set }
-    ensures length { length result.now ≡ 3 }
-{
-    match set {
-        Isa::M68 => "68k",
-        Isa::Ppc => "ppc",
-    }
 }

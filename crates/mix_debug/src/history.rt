@@ -13,7 +13,7 @@ ghost use Rattle.mix_debug.specs.Entries.{block_between as block_between_of};
 use crate::compare::{Range, block_between, frame_between, in_memory, narrowed, stored_in};
 use crate::head::{BlockChange, Head};
 use crate::past::{Past, ROOM, cost};
-use crate::runs::count_changes;
+use crate::runs::changes_in;
 use crate::undo::{copy_range, undo_block, undo_frame};
 use host_heap::{Block, Heap};
 use mix_bits::NoMemory;
@@ -82,7 +82,7 @@ impl History {
         let block = block_between(&self.blocks, machine.body.heap.blocks());
         let reach = stored_in(block, next, top, machine.body.top, &machine.active);
         let range = narrowed(&self.copy, bytes, in_memory(reach, &self.copy, bytes));
-        let changes = count_changes(&self.copy, bytes, range.low, range.high);
+        let changes = changes_in(&self.copy, bytes, range.low, range.high);
         let head = Head {
             file,
             top,

@@ -5,7 +5,7 @@ ghost use Rattle.mix_debug.specs.Entries.{Entry, IsInside, file_cost as file_cos
 ghost use Rattle.mix_debug.specs.Pasts.{IsPast, entries_in};
 
 use crate::head::{Head, Span};
-use crate::runs::push_changes;
+use crate::runs::push_in;
 use crate::undo::undo_runs;
 use big_memory::Ram;
 use circular_buffer::HeapCircularBuffer;
@@ -112,7 +112,7 @@ impl Past {
         ensures entries { entries_in self.new ≡ record { head = head; runs = runs_in low high old.now new.now } ∷ entries_in self.old }
     {
         self.used += cost(&head);
-        push_changes(&mut self.spans, &mut self.olds, old, new, low, high);
+        push_in(&mut self.spans, &mut self.olds, old, new, low, high);
         self.heads.push_front(head);
     }
 

@@ -13,8 +13,28 @@ pub struct Changes {
     pub bytes: u32,
 }
 
+/// Counts the changed bytes of [`low`, `high`), where there are any.
+#[inline(always)]
+pub fn changes_in(old: &[u8], new: &[u8], low: usize, high: usize) -> Changes
+    requires order { low ≤ high }
+    requires old_long { high ≤ length old.now }
+    requires new_long { high ≤ length new.now }
+    requires small { high ≤ 16777216 }
+    ensures runs { result.runs ≡ length (runs_in low high old.now new.now) }
+    ensures bytes { result.bytes ≡ length (olds_of (runs_in low high old.now new.now)) }
+    ensures few { result.runs ≤ 16777216 }
+    ensures small { result.bytes ≤ 16777216 }
+{
+    if low == high {
+        Changes { runs: 0, bytes: 0 }
+    } else {
+        count_changes(old, new, low, high)
+    }
+}
+
 /// Counts the changed bytes of [`low`, `high`).
-pub fn count_changes(old: &[u8], new: &[u8], low: usize, high: usize) -> Changes
+#[inline(never)]
+fn count_changes(old: &[u8], new: &[u8], low: usize, high: usize) -> Changes
     requires order { low ≤ high }
     requires old_long { high ≤ length old.now }
     requires new_long { high ≤ length new.now }
@@ -40,8 +60,36 @@ pub fn count_changes(old: &[u8], new: &[u8], low: usize, high: usize) -> Changes
     changes
 }
 
+/// Puts the changed bytes of [`low`, `high`), if there are any, in front of those that are kept.
+#[inline(always)]
+pub fn push_in(
+    spans: &mut HeapCircularBuffer<Span>,
+    olds: &mut HeapCircularBuffer<u8>,
+    old: &[u8],
+    new: &[u8],
+    low: usize,
+    high: usize,
+)
+    requires order { low ≤ high }
+    requires old_long { high ≤ length old.now }
+    requires new_long { high ≤ length new.now }
+    requires small { high ≤ 16777216 }
+    requires spans_fit { length spans.old.items ≤ spans.old.capacity }
+    requires olds_fit { length olds.old.items ≤ olds.old.capacity }
+    ensures spans { spans.new.items ≡ take spans.old.capacity (spans_of (runs_in low high old.now new.now) ++ spans.old.items) }
+    ensures span_room { spans.new.capacity ≡ spans.old.capacity }
+    ensures olds { olds.new.items ≡ take olds.old.capacity (olds_of (runs_in low high old.now new.now) ++ olds.old.items) }
+    ensures old_room { olds.new.capacity ≡ olds.old.capacity }
+{
+    if low == high {
+        return;
+    }
+    push_changes(spans, olds, old, new, low, high);
+}
+
 /// Puts the changed bytes of [`low`, `high`) in front of those that are kept, the lowest run first.
-pub fn push_changes(
+#[inline(never)]
+fn push_changes(
     spans: &mut HeapCircularBuffer<Span>,
     olds: &mut HeapCircularBuffer<u8>,
     old: &[u8],

@@ -65,6 +65,9 @@ pub fn copy_range(copy: &mut [u8], bytes: &[u8], low: usize, high: usize)
     requires bytes_long { high ≤ length bytes.now }
     ensures { copy.new ≡ put low (part low (high - low) bytes.now) copy.old }
 {
+    if low == high {
+        return;
+    }
     copy[low..high].copy_from_slice(&bytes[low..high]);
 }
 

@@ -2,6 +2,8 @@ pub mod Leaving
 pub mod Effects68
 pub mod Rows68
 pub mod Words68
+pub mod Quick68
 pub mod RowsPpc
+pub mod QuickPpc
 pub mod Went
 pub mod Lifted

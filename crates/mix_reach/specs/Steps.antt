@@ -1,5 +1,5 @@
 -- Where a step of the machine stores: by the instruction, the host function or the frame.
-use Rattle.std.specs.Prelude.{ℕ, ◌+◌, ◌==◌, nat_lt, min, max, not, Bool, ◌&&◌, ◌||◌, if◌then◌else◌, Option, Some, None, Result, Ok, Err}
+use Rattle.std.specs.Prelude.{◌≡◌, ℕ, ◌+◌, ◌==◌, List, nat_lt, min, max, not, Bool, ◌&&◌, ◌||◌, if◌then◌else◌, Option, Some, None, Result, Ok, Err}
 use Rattle.mix_bits.specs.Addresses.{onward}
 use Rattle.mix_bits.specs.declared.size.Size.TheVariants.{Four}
 use Rattle.big_memory.specs.declared.refusals.Access.{Access}
@@ -8,7 +8,9 @@ use Rattle.big_memory.specs.Memory.{Memory, loaded}
 use Rattle.m68_isa.specs.declared.registers.Regs68.{Regs68}
 use Rattle.m68_isa.specs.declared.instructions.Decoded68.{Decoded68}
 use Rattle.m68_isa.specs.declared.instructions.Decoded68.TheVariants.{Op, LineA}
-use Rattle.m68_isa.specs.Decode.{decoded as decoded_68k}
+use Rattle.m68_isa.specs.declared.op.Op68.{Op68}
+use Rattle.m68_isa.specs.First.{First}
+use Rattle.m68_isa.specs.Decode.{decoded as decoded_68k, read}
 use Rattle.m68_ea.specs.Words.{words_at}
 use Rattle.ppc_isa.specs.declared.registers.RegsPpc.{RegsPpc}
 use Rattle.ppc_isa.specs.declared.instruction.InstrPpc.{InstrPpc}
@@ -45,6 +47,13 @@ abbrev pub decoded_stores : Regs68 → Decoded68 → Stores
 decoded_stores r (Op i used) = plain (stores_68k r i)
 decoded_stores r (LineA word) = host_stores (trap_number word) (M68 r)
 decoded_stores r other = plain nothing
+
+-- the words of an instruction tell where it stores, or they and the operation of its first word
+pub record Tells (r : Regs68) (ws : List ℕ) (w : Reach) : Type 0 where
+  pub is : decoded_stores r (decoded_68k ws) ≡ plain w
+
+pub record TellsBy (r : Regs68) (ws : List ℕ) (f : First) (op : Op68) (w : Reach) : Type 0 where
+  pub is : decoded_stores r (read op f ws) ≡ plain w
 
 -- PowerPC code
 abbrev pub word_decoded : RegsPpc → Option InstrPpc → Stores

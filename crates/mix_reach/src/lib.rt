@@ -7,6 +7,7 @@
 mod laws;
 mod m68;
 mod ppc;
+mod quick;
 mod reach;
 mod steps;
 #[cfg(test)]

@@ -124,7 +124,8 @@ pub fn stores(regs: &Regs68, instruction: Instr68) -> Reach
 }
 
 /// A value at a place.
-fn at_place(at: Place68) -> Reach
+#[inline(always)]
+pub fn at_place(at: Place68) -> Reach
     ensures { result ≡ at_place_of at }
 {
     match at {
@@ -180,7 +181,8 @@ fn if_into(to_memory: bool, regs: &Regs68, size: Size, to: Ea) -> Reach
     }
 }
 
-fn pushes(regs: &Regs68) -> Reach
+/// The long below the stack pointer.
+pub fn pushes(regs: &Regs68) -> Reach
     ensures { result ≡ pushes_of regs.now }
 {
     into(regs, Size::Four, Ea::Pre(7))
@@ -207,7 +209,7 @@ fn several(regs: &Regs68, size: Size, to: Ea) -> Reach
 }
 
 /// Values downwards, of which the first one stands at an address.
-fn below(first: u32) -> Reach
+pub fn below(first: u32) -> Reach
     ensures { result ≡ below_of first }
 {
     let first = first as usize;

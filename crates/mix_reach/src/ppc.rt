@@ -1,54 +1,72 @@
 // Where an instruction of PowerPC code stores.
 ghost use Rattle.std.specs.Prelude.{◌≡◌, ◌<◌};
-ghost use Rattle.ppc_isa.specs.Valid.{InRange};
+ghost use Rattle.ppc_isa.specs.Fields.{fields_of};
+ghost use Rattle.ppc_isa.specs.Rows.{decoded};
 ghost use Rattle.ppc_effects.specs.Storage.{index_address as index_address_of, offset_address as offset_address_of};
 ghost use Rattle.ppc_effects.specs.Strings.{length_of as length_of_field};
-ghost use Rattle.mix_reach.specs.RowsPpc.{stores as stores_of, string_at as string_at_of};
+ghost use Rattle.mix_reach.specs.Ranges.{plain, range as range_of};
+ghost use Rattle.mix_reach.specs.RowsPpc.{string_at as string_at_of};
+ghost use Rattle.mix_reach.specs.Steps.{word_decoded};
 
 use crate::reach::{Reach, nothing, range};
-use mix_bits::{Size, onward, sext};
+use mix_bits::onward;
 use ppc_alu::xer_string_length;
 use ppc_effects::base;
-use ppc_isa::{InstrPpc, RegsPpc};
+use ppc_isa::{OpPpc, RegsPpc, a_of, b_of, offset_of, op_of, shift_of};
 
-/// Where an instruction stores, if it is done.
-pub fn stores(regs: &RegsPpc, instruction: InstrPpc) -> Reach
-    requires { InRange instruction }
-    ensures { result ≡ stores_of regs.now instruction }
+/// Where the instruction of a word stores, if it is done.
+#[inline(always)]
+pub fn stores(regs: &RegsPpc, word: u32) -> Reach
+    ensures { word_decoded regs.now (decoded word) ≡ plain result }
 {
-    match instruction {
-        InstrPpc::Store { a, offset, .. } => range(offset_address(regs, a, offset), 4),
-        InstrPpc::StoreIndexed { a, b, .. } => range(index_address(regs, a, b), 4),
-        InstrPpc::StoreReversed { a, b, .. } => range(index_address(regs, a, b), 4),
-        InstrPpc::StoreMultiple { a, offset, .. } => range(offset_address(regs, a, offset), 128),
-        InstrPpc::StoreStringImmediate { a, nb, .. } => {
-            string_at(base(regs, a as usize), length_of(nb))
-        }
-        InstrPpc::StoreStringIndexed { a, b, .. } => {
-            string_at(index_address(regs, a, b), xer_string_length(regs.xer))
-        }
+    match op_of(word) {
+        OpPpc::Stw => at_offset(regs, word, 4),
+        OpPpc::Stwu => at_offset(regs, word, 4),
+        OpPpc::Stb => at_offset(regs, word, 4),
+        OpPpc::Stbu => at_offset(regs, word, 4),
+        OpPpc::Sth => at_offset(regs, word, 4),
+        OpPpc::Sthu => at_offset(regs, word, 4),
+        OpPpc::Stmw => at_offset(regs, word, 128),
+        OpPpc::Stwx => at_index(regs, word),
+        OpPpc::Stwux => at_index(regs, word),
+        OpPpc::Stbx => at_index(regs, word),
+        OpPpc::Stbux => at_index(regs, word),
+        OpPpc::Sthx => at_index(regs, word),
+        OpPpc::Sthux => at_index(regs, word),
+        OpPpc::Stwbrx => at_index(regs, word),
+        OpPpc::Sthbrx => at_index(regs, word),
+        OpPpc::Stswi => string_at(base(regs, a_of(word)), length_of(shift_of(word))),
+        OpPpc::Stswx => string_at(index_address(regs, word), xer_string_length(regs.xer)),
         _ => nothing(),
     }
 }
 
-/// The address (A|0) and a signed offset.
-fn offset_address(regs: &RegsPpc, a: u8, offset: u16) -> u32
-    requires { a < 32 }
-    ensures { result ≡ offset_address_of regs.now a offset }
+/// So many bytes at the address (A|0) and a signed offset.
+#[inline(always)]
+fn at_offset(regs: &RegsPpc, word: u32, n: u32) -> Reach
+    ensures { result ≡ range_of (offset_address_of regs.now (fields_of word).a (fields_of word).low) n }
 {
-    onward(base(regs, a as usize), sext(offset as u32, Size::Two))
+    range(onward(base(regs, a_of(word)), offset_of(word)), n)
+}
+
+/// A value at the address (A|0) and register B.
+#[inline(always)]
+fn at_index(regs: &RegsPpc, word: u32) -> Reach
+    ensures { result ≡ range_of (index_address_of regs.now (fields_of word).a (fields_of word).b) 4 }
+{
+    range(index_address(regs, word), 4)
 }
 
 /// The address (A|0) and register B.
-fn index_address(regs: &RegsPpc, a: u8, b: u8) -> u32
-    requires a { a < 32 }
-    requires b { b < 32 }
-    ensures { result ≡ index_address_of regs.now a b }
+#[inline(always)]
+fn index_address(regs: &RegsPpc, word: u32) -> u32
+    ensures { result ≡ index_address_of regs.now (fields_of word).a (fields_of word).b }
 {
-    onward(base(regs, a as usize), regs.gpr[b as usize])
+    onward(base(regs, a_of(word)), regs.gpr[b_of(word)])
 }
 
 /// The bytes of a string.
+#[inline(always)]
 fn string_at(at: u32, n: u32) -> Reach
     ensures { result ≡ string_at_of at n }
 {
@@ -56,8 +74,9 @@ fn string_at(at: u32, n: u32) -> Reach
 }
 
 /// How many bytes a string has by its field, where 0 stands for 32.
-fn length_of(field: u8) -> u32
+#[inline(always)]
+fn length_of(field: u32) -> u32
     ensures { result ≡ length_of_field field }
 {
-    if field == 0 { 32 } else { field as u32 }
+    if field == 0 { 32 } else { field }
 }

@@ -19,6 +19,7 @@ pub struct Stores {
 }
 
 /// In a range.
+#[inline(always)]
 pub(crate) fn plain(reach: Reach) -> Stores
     ensures { result ≡ plain_of reach }
 {
@@ -36,6 +37,7 @@ pub(crate) fn filling(filled: u32) -> Stores
 }
 
 /// The `n` bytes at an address.
+#[inline(always)]
 pub(crate) fn range(at: u32, n: u32) -> Reach
     ensures { result ≡ range_of at n }
 {
@@ -47,6 +49,7 @@ pub(crate) fn range(at: u32, n: u32) -> Reach
 }
 
 /// No byte.
+#[inline(always)]
 pub(crate) fn nothing() -> Reach
     ensures { result ≡ nothing_of }
 {

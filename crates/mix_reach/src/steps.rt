@@ -5,17 +5,20 @@ ghost use Rattle.toolbox.specs.Functions.{trap_number};
 ghost use Rattle.toolbox.specs.Registers.{operands_of};
 ghost use Rattle.toolbox.specs.declared.function.Function.TheVariants.{BlockMove, NewPtrClear};
 ghost use Rattle.mix_reach.specs.Ranges.{range as range_of};
-ghost use Rattle.mix_reach.specs.Steps.{frame_given_up as frame_given_up_of, frame_made as frame_made_of, host_stores as host_stores_of, next_stores as next_stores_of, reach, word_stores as word_stores_of};
+ghost use Rattle.mix_reach.specs.Steps.{decoded_stores as decoded_stores_of, frame_given_up as frame_given_up_of, frame_made as frame_made_of, host_stores as host_stores_of, next_stores as next_stores_of, reach, word_stores as word_stores_of};
 ghost use Rattle.big_memory.specs.Memory.{loaded};
+ghost use Rattle.m68_isa.specs.Decode.{decoded};
+ghost use Rattle.m68_ea.specs.Words.{words_at};
 ghost use Rattle.mix_bits.specs.declared.size.Size.TheVariants.{Four};
 ghost use Rattle.switch_frame.specs.declared.active.Active.TheVariants.{M68, Ppc};
 
+use crate::quick::{has_five, quick_stores};
 use crate::reach::{Reach, Stores, filling, nothing, plain, range};
 use crate::{m68, ppc};
 use big_memory::{Ram, host_code, in_gate_page};
 use m68_isa::{Decoded68, Regs68};
 use mix_bits::onward;
-use ppc_isa::{RegsPpc, decode_ppc};
+use ppc_isa::RegsPpc;
 use switch_frame::Active;
 use toolbox::{trap_index, trap_laws};
 
@@ -32,15 +35,12 @@ const BLOCK_MOVE: u32 = 7;
 const MOST_FRAME: usize = 192;
 
 /// Where the next step of code stores, unless it makes or gives up a frame.
+#[inline(always)]
 pub fn next_stores(ram: &Ram, active: &Active) -> Stores
     ensures { result ≡ next_stores_of ram.now active.now }
 {
     match active {
-        Active::M68(regs) => match m68::decode_at(ram, regs.pc) {
-            Decoded68::Op(instruction, _) => plain(m68::stores(regs, instruction)),
-            Decoded68::LineA(word) => trap_stores(word, active),
-            _ => plain(nothing()),
-        },
+        Active::M68(regs) => code_stores(ram, regs, active),
         Active::Ppc(regs) => {
             if in_gate_page(regs.pc) {
                 host_stores(host_code(regs.pc), active)
@@ -51,15 +51,41 @@ pub fn next_stores(ram: &Ram, active: &Active) -> Stores
     }
 }
 
+/// The same for 68K code: its first word and its operands tell, or it is decoded.
+#[inline(always)]
+fn code_stores(ram: &Ram, regs: &Regs68, active: &Active) -> Stores
+    requires { active.now ≡ M68 regs.now }
+    ensures { result ≡ decoded_stores_of regs.now (decoded (words_at ram.now regs.now.pc)) }
+{
+    if !has_five(ram, regs.pc) {
+        return instruction_stores(ram, regs, active);
+    }
+    match quick_stores(ram, regs) {
+        Some(reach) => plain(reach),
+        None => instruction_stores(ram, regs, active),
+    }
+}
+
+/// The same for an instruction of 68K code, which is decoded.
+#[inline(never)]
+fn instruction_stores(ram: &Ram, regs: &Regs68, active: &Active) -> Stores
+    requires { active.now ≡ M68 regs.now }
+    ensures { result ≡ decoded_stores_of regs.now (decoded (words_at ram.now regs.now.pc)) }
+{
+    match m68::decode_at(ram, regs.pc) {
+        Decoded68::Op(instruction, _) => plain(m68::stores(regs, instruction)),
+        Decoded68::LineA(word) => trap_stores(word, active),
+        _ => plain(nothing()),
+    }
+}
+
 /// The same for the word of PowerPC code.
+#[inline(always)]
 fn word_stores(ram: &Ram, regs: &RegsPpc) -> Stores
     ensures { result ≡ word_stores_of regs.now (loaded ram.now regs.now.pc Four) }
 {
     match ram.load_long(regs.pc) {
-        Ok(word) => match decode_ppc(word) {
-            Some(instruction) => plain(ppc::stores(regs, instruction)),
-            None => plain(nothing()),
-        },
+        Ok(word) => plain(ppc::stores(regs, word)),
         Err(_) => plain(nothing()),
     }
 }
@@ -73,6 +99,7 @@ fn trap_stores(word: u16, active: &Active) -> Stores
 }
 
 /// The same for the host function of a number.
+#[inline(never)]
 fn host_stores(index: Option<u32>, active: &Active) -> Stores
     ensures { result ≡ host_stores_of index active.now }
 {

@@ -21,6 +21,6 @@ returns-clause-entries c =
     c.keep_in.ensures.entries
     ∙ ap (λ e. within 1048576 (e ∷ entries_in c.args.self.now.past))
     (entry-is c.args.file c.args.top c.args.self.now.copy.items c.args.self.now.blocks.items c.args.machine.now c.isa.result c.isa-2.result c.frame_between.result
-    c.deref.result.now c.blocks-2.result.now c.block_between-block.result c.count_changes-changes.result.runs c.count_changes-changes.result.bytes _
+    c.deref.result.now c.blocks-2.result.now c.block_between-block.result c.changes_in-changes.result.runs c.changes_in-changes.result.bytes _
     c.isa.ensures c.isa-2.ensures c.frame_between.ensures c.deref.ensures.value c.blocks-2.ensures c.block_between-block.ensures
-    (c.count_changes-changes.ensures.runs ∙ ap length counted) (c.count_changes-changes.ensures.bytes ∙ ap (λ rs. length (olds_of rs)) counted) kept)
+    (c.changes_in-changes.ensures.runs ∙ ap length counted) (c.changes_in-changes.ensures.bytes ∙ ap (λ rs. length (olds_of rs)) counted) kept)
