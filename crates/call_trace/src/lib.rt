@@ -11,5 +11,5 @@ mod puts;
 mod tests;
 
 pub use end::End;
-pub use names::fault_name;
+pub use names::{fault_name, set_name};
 pub use puts::{put_ask, put_call, put_end, put_ret};

@@ -6,8 +6,8 @@ use Rattle.mixed_machine.specs.Counts.{Blames, Calm, Counts}
 use Rattle.mixed_machine.specs.Events.{CameBackAt, StopsAt}
 use Rattle.mixed_machine.specs.Outside.{At}
 use Rattle.mix_steps.specs.declared.outside.Outside.{Outside}
-use Rattle.mix_engine.specs.declared.turn.End.{End}
-use Rattle.mix_engine.specs.declared.turn.End.TheVariants.{Back as IsBack, Stop as IsStop}
+use Rattle.mix_engine.specs.declared.turn.TurnEnd.{TurnEnd}
+use Rattle.mix_engine.specs.declared.turn.TurnEnd.TheVariants.{Back as IsBack, Stop as IsStop}
 use Rattle.mix_engine.specs.declared.turn.Turn.{Turn}
 use Rattle.mix_engine.specs.declared.turn.Turn.TheVariants.{Back, Stop as Stopped}
 
@@ -24,7 +24,7 @@ file_of (Back file) = file
 file_of (Stopped file stop) = file
 
 -- an end with the registers
-abbrev pub turn_of : Active → End → Turn
+abbrev pub turn_of : Active → TurnEnd → Turn
 turn_of file IsBack = Back file
 turn_of file (IsStop stop) = Stopped file stop
 

@@ -15,7 +15,7 @@ ghost use Rattle.mix_engine.specs.Start.{start_of};
 ghost use Rattle.mix_engine.specs.Turns.{counts, counts_in};
 
 use crate::runs::run_turns;
-use crate::turn::End;
+use crate::turn::TurnEnd;
 use dev_rack::Devices;
 use host_heap::Heap;
 use mix_bits::NoMemory;
@@ -110,8 +110,8 @@ fn run_beside<'i, 'o, 't, 'd, I: Source, O: Sink, T: Sink, D: Devices>(
     let mut left = steps;
     'turns: loop {
         match run_turns(body, active, outside, &mut left) {
-            End::Back => {}
-            End::Stop(stop) => return stop,
+            TurnEnd::Back => {}
+            TurnEnd::Stop(stop) => return stop,
         }
     }
 }

@@ -11,7 +11,7 @@ ghost use Rattle.mix_io.specs.Streams.{output};
 ghost use Rattle.mix_steps.specs.Beside.{AreSame, machine_beside};
 ghost use Rattle.mix_engine.specs.Turns.{BlamesTurn, TurnsAt, Waits, counts, counts_in, file_of, turn_of};
 
-use crate::turn::{End, Turn};
+use crate::turn::{Turn, TurnEnd};
 use dev_rack::Devices;
 use m68_isa::Regs68;
 use mix_bits::{Fault, FaultKind};
@@ -90,7 +90,7 @@ pub fn run_turns<'i, 'o, 't, 'd, I: Source, O: Sink, T: Sink, D: Devices>(
     active: &mut Active,
     outside: &mut Outside<'i, 'o, 't, 'd, I, O, T, D>,
     steps: &mut u32,
-) -> End
+) -> TurnEnd
     requires { IsWhole body.old (isa_of active.old) }
     ensures whole { IsWhole body.new (isa_of active.new) }
     ensures callers { Waits (callers_of body.old) (turn_of active.new result) (callers_of body.new) }
@@ -109,26 +109,26 @@ pub fn run_turns<'i, 'o, 't, 'd, I: Source, O: Sink, T: Sink, D: Devices>(
             Did::Call => {
                 *steps -= 1;
                 match run_turns(body, active, outside, steps) {
-                    End::Back => {}
-                    End::Stop(stop) => return End::Stop(stop),
+                    TurnEnd::Back => {}
+                    TurnEnd::Stop(stop) => return TurnEnd::Stop(stop),
                 }
             }
             Did::Return => {
                 *steps -= 1;
-                return End::Back;
+                return TurnEnd::Back;
             }
             Did::Exit(code) => {
                 *steps -= 1;
-                return End::Stop(Stop::Exit(code));
+                return TurnEnd::Stop(Stop::Exit(code));
             }
-            Did::Fault => return End::Stop(Stop::Fault(fault)),
-            Did::ReadFault => return End::Stop(Stop::ReadFault),
-            Did::OutFault => return End::Stop(Stop::OutFault),
+            Did::Fault => return TurnEnd::Stop(Stop::Fault(fault)),
+            Did::ReadFault => return TurnEnd::Stop(Stop::ReadFault),
+            Did::OutFault => return TurnEnd::Stop(Stop::OutFault),
             Did::TraceFault => {
                 *steps -= 1;
-                return End::Stop(Stop::TraceFault);
+                return TurnEnd::Stop(Stop::TraceFault);
             }
         }
     }
-    End::Stop(Stop::Limit)
+    TurnEnd::Stop(Stop::Limit)
 }

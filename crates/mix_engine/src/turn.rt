@@ -15,19 +15,19 @@ pub enum Turn {
 
 /// The same without the registers.
 #[derive(Clone, Copy)]
-pub enum End {
+pub enum TurnEnd {
     Back,
     Stop(Stop),
 }
 
-impl End {
+impl TurnEnd {
     /// With the registers.
     pub fn turn(self, active: Active) -> Turn
         ensures { result ≡ turn_of active self }
     {
         match self {
-            End::Back => Turn::Back(active),
-            End::Stop(stop) => Turn::Stop(active, stop),
+            TurnEnd::Back => Turn::Back(active),
+            TurnEnd::Stop(stop) => Turn::Stop(active, stop),
         }
     }
 }

@@ -9,7 +9,7 @@ use Rattle.mixed_machine.specs.declared.stop.Stop.TheVariants.{Exit as ExitStop,
 use Rattle.mixed_machine.specs.Exec.How.{Exited, Faulted, Limited}
 use Rattle.mixed_machine.specs.Machine.{flat}
 use Rattle.mixed_machine.specs.Outside.{At, TookAll, ToldAll, at}
-use Rattle.mixed_machine.specs.Runs.{Ran as RanTo, Runs, sinks_of}
+use Rattle.mixed_machine.specs.Runs.{Ran, Runs, sinks_of}
 use Rattle.mix_sample.specs.Samples.{Steps, nothing}
 use Rattle.mix_sample.specs.declared.sampled.Ending.TheVariants.{Exit as ExitEnding, Fault as FaultEnding, Limit as LimitEnding}
 
@@ -23,17 +23,17 @@ took-none taken told = let fits = told [] refl in subst (λ before. TookAll take
 
 pub alone-exits : (b c : Body) (x y : Active) (code : ℕ) → Runs 1 (alone b x) (alone c y) (ExitStop code) → Steps (flat b x nothing) (flat c y nothing) (ExitEnding code)
 alone-exits b c x y code runs =
-    let ran : RanTo 0 1 runs.left (flat b x nothing) (flat c y nothing) (Exited code) (sinks_of (alone b x)) (sinks_of (alone c y)) = runs.run.each [] [] [] (took-none runs.run.taken runs.run.told) in
+    let ran : Ran 0 1 runs.left (flat b x nothing) (flat c y nothing) (Exited code) (sinks_of (alone b x)) (sinks_of (alone c y)) = runs.run.each [] [] [] (took-none runs.run.taken runs.run.told) in
     record { left = runs.left; ends = ran.ends }
 
 pub alone-faults : (b c : Body) (x y : Active) (fault : Fault) → Runs 1 (alone b x) (alone c y) (FaultStop fault) → Steps (flat b x nothing) (flat c y nothing) (FaultEnding fault)
 alone-faults b c x y fault runs =
-    let ran : RanTo 0 1 runs.left (flat b x nothing) (flat c y nothing) (Faulted fault) (sinks_of (alone b x)) (sinks_of (alone c y)) = runs.run.each [] [] [] (took-none runs.run.taken runs.run.told) in
+    let ran : Ran 0 1 runs.left (flat b x nothing) (flat c y nothing) (Faulted fault) (sinks_of (alone b x)) (sinks_of (alone c y)) = runs.run.each [] [] [] (took-none runs.run.taken runs.run.told) in
     record { left = runs.left; ends = ran.ends }
 
 pub alone-goes : (b c : Body) (x y : Active) → Runs 1 (alone b x) (alone c y) LimitStop → Steps (flat b x nothing) (flat c y nothing) LimitEnding
 alone-goes b c x y runs =
-    let ran : RanTo 0 1 runs.left (flat b x nothing) (flat c y nothing) Limited (sinks_of (alone b x)) (sinks_of (alone c y)) = runs.run.each [] [] [] (took-none runs.run.taken runs.run.told) in
+    let ran : Ran 0 1 runs.left (flat b x nothing) (flat c y nothing) Limited (sinks_of (alone b x)) (sinks_of (alone c y)) = runs.run.each [] [] [] (took-none runs.run.taken runs.run.told) in
     record { left = runs.left; ends = ran.ends }
 
 -- no count of such an outside rises

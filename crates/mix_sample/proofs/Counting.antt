@@ -8,7 +8,7 @@ use Rattle.mixed_machine.specs.State.{State}
 use Rattle.mixed_machine.specs.Crossings.{Counting, gives_up_frame, makes_frame}
 use Rattle.mixed_machine.specs.Machine.{callers_of, flat}
 use Rattle.mixed_machine.proofs.Crossings.{count-exits, count-faults, count-goes_on, count-limit}
-use Rattle.mix_sample.specs.Samples.{Ran, Steps, nothing}
+use Rattle.mix_sample.specs.Samples.{CountedRun, Steps, nothing}
 use Rattle.mix_sample.specs.declared.sampled.Ending.TheVariants.{Exit, Fault, Limit}
 
 -- one more step was done
@@ -27,7 +27,7 @@ counting-on n left s b c x y calls returns before after more fewer some before_i
 
 -- the next step was an exit, or can't be done, or no step is left
 pub ran-exits : (n left calls returns code done : ℕ) (s t u : State) → 0 < left → done ≡ n - left + 1 → Counting n left s t calls returns → Steps t u (Exit code)
-    → Ran n s (record { calls = calls; returns = returns; steps = done; end = Exit code })
+    → CountedRun n s (record { calls = calls; returns = returns; steps = done; end = Exit code })
 ran-exits n left calls returns code done s t u some done_is so_far step =
     let fewer : left ≤ n = so_far.fewer in
     record {
@@ -38,7 +38,7 @@ ran-exits n left calls returns code done s t u some done_is so_far step =
     }
 
 pub ran-faults : (n left calls returns : ℕ) (fault : AFault) (s t u : State) → 0 < left → Counting n left s t calls returns → Steps t u (Fault fault)
-    → Ran n s (record { calls = calls; returns = returns; steps = n - left; end = Fault fault })
+    → CountedRun n s (record { calls = calls; returns = returns; steps = n - left; end = Fault fault })
 ran-faults n left calls returns fault s t u some so_far step =
     record {
       left = left;
@@ -48,7 +48,7 @@ ran-faults n left calls returns fault s t u some so_far step =
     }
 
 pub ran-all : (n left calls returns : ℕ) (s t : State) → left ≡ 0 → Counting n left s t calls returns
-    → Ran n s (record { calls = calls; returns = returns; steps = n; end = Limit })
+    → CountedRun n s (record { calls = calls; returns = returns; steps = n; end = Limit })
 ran-all n left calls returns s t none so_far =
     record {
       left = 0;

@@ -37,7 +37,7 @@ how_of (Fault fault) = Faulted fault
 how_of Limit = Limited
 
 -- what a run of at most so many steps did from a state
-pub record Ran (steps : ℕ) (start : State) (sampled : Sampled) : Type 0 where
+pub record CountedRun (steps : ℕ) (start : State) (sampled : Sampled) : Type 0 where
   pub left : ℕ
   pub last : State
   pub counted : Counted steps left start last (how_of sampled.end) sampled.calls sampled.returns
@@ -47,7 +47,7 @@ pub record Ran (steps : ℕ) (start : State) (sampled : Sampled) : Type 0 where
 pub record IsSample (kib steps n depth : ℕ) (sampled : Sampled) : Type 0 where
   pub program : Program
   pub loaded : sample_program kib n depth ≡ Ok program
-  pub ran : Ran steps (start_of program nothing) sampled
+  pub ran : CountedRun steps (start_of program nothing) sampled
 
 -- a run of one step
 pub record Steps (s t : State) (ending : Ending) : Type 0 where

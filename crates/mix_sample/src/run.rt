@@ -3,7 +3,7 @@ ghost use Rattle.std.specs.Prelude.{◌≡◌, ◌≤◌, IfOk, Ok, length};
 ghost use Rattle.switch_frame.specs.Program.{IsProgram};
 ghost use Rattle.switch_frame.specs.Records.{isa_of};
 ghost use Rattle.mixed_machine.specs.Machine.{IsWhole, callers_of, flat};
-ghost use Rattle.mix_sample.specs.Samples.{IsSample, Ran, Steps, nothing, sample_program, sample_ram, sample_steps};
+ghost use Rattle.mix_sample.specs.Samples.{IsSample, CountedRun, Steps, nothing, sample_program, sample_ram, sample_steps};
 
 use super::nothing::{NoDevices, NoInput, Nowhere};
 use super::sampled::{Ending, Sampled};
@@ -65,7 +65,7 @@ fn want_of_memory(error: LoadError) -> NoMemory
 /// Runs a machine a step at a time, and counts the steps that make a frame and those that give one up.
 fn count_crossings(machine: &mut Machine, steps: u32) -> Sampled
     requires { IsWhole machine.old.body (isa_of machine.old.active) }
-    ensures { Ran steps (flat machine.old.body machine.old.active nothing) result }
+    ensures { CountedRun steps (flat machine.old.body machine.old.active nothing) result }
 {
     let mut left = steps;
     let mut calls = 0;

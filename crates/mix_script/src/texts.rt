@@ -1,6 +1,5 @@
 // The texts of a script on the trace.
 ghost use Rattle.std.specs.Prelude.{◌≡◌, ◌+◌, ◌≤◌, ◌<◌, ◌++◌, [], length};
-ghost use Rattle.call_trace.specs.Names.{set_name as name_of_set};
 ghost use Rattle.mix_io.specs.Streams.{output};
 ghost use Rattle.mix_debug.specs.Crawl.{crawl_of};
 ghost use Rattle.mix_script.specs.Events.{answer, at_line};
@@ -8,8 +7,8 @@ ghost use Rattle.mix_script.specs.Parts.{TellsEnd, TellsTo, traced_of};
 ghost use Rattle.mix_script.specs.Places.{stop_in};
 
 use crate::walk::Stopped;
-use call_trace::{End, put_end};
-use mix_bits::{Isa, Line};
+use call_trace::{End, put_end, set_name};
+use mix_bits::Line;
 use mix_debug::Debug;
 use mix_io::{Failed, Sink};
 use switch_frame::Active;
@@ -71,15 +70,4 @@ fn add_place(line: &mut Line, file: &Active, done: u32)
     line.add(" ");
     line.add_dec(done);
     line.add("\n");
-}
-
-/// The word for a set of instructions.
-fn set_name(set: Isa) -> &'static str
-    ensures name { result.now ≡ name_of_set set }
-    ensures length { length result.now ≡ 3 }
-{
-    match set {
-        Isa::M68 => "68k",
-        Isa::Ppc => "ppc",
-    }
 }

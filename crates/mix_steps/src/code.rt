@@ -43,13 +43,13 @@ pub fn run_code(body: &mut Body, active: &mut Active, fault: &mut Fault, left: &
     ensures codes { CodesAfter (left.old - left.new) result fault.new active.old active.new body.old body.new }
 {
     match active {
-        Active::M68(regs) => run_68k(body, regs, fault, left),
-        Active::Ppc(regs) => run_ppc(body, regs, fault, left),
+        Active::M68(regs) => advance_68k(body, regs, fault, left),
+        Active::Ppc(regs) => advance_ppc(body, regs, fault, left),
     }
 }
 
 #[inline(always)]
-fn run_68k(body: &mut Body, regs: &mut Regs68, fault: &mut Fault, left: &mut u32) -> Code
+fn advance_68k(body: &mut Body, regs: &mut Regs68, fault: &mut Fault, left: &mut u32) -> Code
     requires whole { IsWhole body.old set_m68 }
     requires some { 0 < left.old }
     ensures whole { IsWhole body.new set_m68 }
@@ -76,7 +76,7 @@ fn run_68k(body: &mut Body, regs: &mut Regs68, fault: &mut Fault, left: &mut u32
 }
 
 #[inline(never)]
-fn run_ppc(body: &mut Body, regs: &mut RegsPpc, fault: &mut Fault, left: &mut u32) -> Code
+fn advance_ppc(body: &mut Body, regs: &mut RegsPpc, fault: &mut Fault, left: &mut u32) -> Code
     requires whole { IsWhole body.old set_ppc }
     requires some { 0 < left.old }
     ensures whole { IsWhole body.new set_ppc }

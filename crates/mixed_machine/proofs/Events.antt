@@ -12,12 +12,12 @@ use Rattle.mixed_machine.specs.Step.{step}
 use Rattle.mixed_machine.specs.Exec.{How, exec_to, goes_on, rests, is_back, Leads, GoesTo, Says, Tells, Reads, log, said_of, line_of}
 use Rattle.mixed_machine.specs.Exec.How.{Limited, Exited, Faulted}
 use Rattle.mixed_machine.specs.Exec.End.{Back, Ended}
-use Rattle.mixed_machine.specs.Runs.{Sinks, Took, Going, Ran, CameBack, ReadBroke, OutBroke, TraceBroke, Stops}
+use Rattle.mixed_machine.specs.Runs.{Sinks, SinksTook, Going, Ran, CameBack, ReadBroke, OutBroke, TraceBroke, Stops}
 use Rattle.mixed_machine.proofs.Runs.{exec-continues, ends-reach, backs-continue, limits-last}
 use Rattle.mixed_machine.proofs.Logs.{leads-none, leads-more, leads-append, exec-back, exec-exits, exec-faults, log-continues, log-more, log-exits, log-none}
 
 -- nothing was put
-took-none : (s : State) (o : Sinks) → Took 0 s o o
+took-none : (s : State) (o : Sinks) → SinksTook 0 s o o
 took-none s o =
     record {
       said = subst (Grows o.out o.out) (sym (log-none said_of s)) (grows-none o.out);
@@ -25,8 +25,8 @@ took-none s o =
     }
 
 -- one more step put this
-took-more : (d j : ℕ) (s t u : State) (a b c : Sinks) → Leads d j s t → GoesTo (step t) u → Took j s a b
-    → Grows b.out c.out (said_of (step t)) → Grows b.trace c.trace (line_of (step t)) → Took (j + 1) s a c
+took-more : (d j : ℕ) (s t u : State) (a b c : Sinks) → Leads d j s t → GoesTo (step t) u → SinksTook j s a b
+    → Grows b.out c.out (said_of (step t)) → Grows b.trace c.trace (line_of (step t)) → SinksTook (j + 1) s a c
 took-more d j s t u a b c leads goes took said traced =
     record {
       said = subst (Grows a.out c.out) (sym (log-more said_of d j s t u leads goes)) (grows-more a.out b.out c.out (log said_of j s) (said_of (step t)) took.said said);
@@ -35,7 +35,7 @@ took-more d j s t u a b c leads goes took said traced =
     }
 
 -- more steps put this
-took-append : (d i j : ℕ) (s t : State) (a b c : Sinks) → Leads d i s t → Took i s a b → Took j t b c → Took (i + j) s a c
+took-append : (d i j : ℕ) (s t : State) (a b c : Sinks) → Leads d i s t → SinksTook i s a b → SinksTook j t b c → SinksTook (i + j) s a c
 took-append d i j s t a b c leads first then =
     record {
       said = subst (Grows a.out c.out) (sym (log-continues said_of d i j s t leads)) (grows-more a.out b.out c.out (log said_of i s) (log said_of j t) first.said then.said);
@@ -53,7 +53,7 @@ going-none d n s o stays =
     record {
       fewer = omega arith;
       leads = subst (λ j. Leads d j s s) none (leads-none d s stays);
-      took = subst (λ j. Took j s o o) none (took-none s o);
+      took = subst (λ j. SinksTook j s o o) none (took-none s o);
     }
 
 -- one more step is done
@@ -65,7 +65,7 @@ going-more d n left s t u old now new some so_far goes stays said traced =
     record {
       fewer = omega (arith, fewer);
       leads = subst (λ j. Leads d j s u) one (leads-more d (n - left) s t u so_far.leads goes stays);
-      took = subst (λ j. Took j s old new) one (took-more d (n - left) s t u old now new so_far.leads goes so_far.took said traced);
+      took = subst (λ j. SinksTook j s old new) one (took-more d (n - left) s t u old now new so_far.leads goes so_far.took said traced);
     }
 
 -- the step comes back
@@ -78,7 +78,7 @@ back-now d n left s t u old now new some so_far goes back said traced =
     record {
       fewer = omega (arith, fewer);
       ends = subst (λ j. exec_to d j s ≡ Back u (left - 1)) all (exec-back d (n - left) (left - 1) s t u so_far.leads goes back);
-      took = subst (λ j. Took j s old new) one (took-more d (n - left) s t u old now new so_far.leads goes so_far.took said traced);
+      took = subst (λ j. SinksTook j s old new) one (took-more d (n - left) s t u old now new so_far.leads goes so_far.took said traced);
     }
 
 -- the step limit is reached
@@ -102,7 +102,7 @@ exits-now d n left s t u code old now new some so_far exits same said traced =
       fewer = omega (arith, fewer);
       ends = subst (λ v. exec_to d n s ≡ Ended (Exited code) v (left - 1)) (sym same)
           (subst (λ j. exec_to d j s ≡ Ended (Exited code) t (left - 1)) all (exec-exits d (n - left) (left - 1) s t code so_far.leads exits));
-      took = subst (λ j. Took j s old new) one (record {
+      took = subst (λ j. SinksTook j s old new) one (record {
         said = subst (Grows old.out new.out) (sym (log-exits said_of d (n - left) s t code refl so_far.leads exits)) (grows-silent old.out now.out new.out (log said_of (n - left) s) so_far.took.said said);
         traced = subst (Grows old.trace new.trace) (sym (log-exits line_of d (n - left) s t code refl so_far.leads exits))
             (grows-silent old.trace now.trace new.trace (log line_of (n - left) s) so_far.took.traced traced);
@@ -197,7 +197,7 @@ ran-nested e d n left l s t v how old now new deeper so_far ran =
     record {
       fewer = omega (arith, fewer, less);
       ends = rest-of d n left s t old now so_far ∙ ends-reach d e left l how t v deeper ran.ends;
-      took = subst (λ j. Took j s old new) (added-up n left l fewer less) (took-append d (n - left) (left - l) s t old now new so_far.leads so_far.took ran.took);
+      took = subst (λ j. SinksTook j s old new) (added-up n left l fewer less) (took-append d (n - left) (left - l) s t old now new so_far.leads so_far.took ran.took);
     }
 
 read-nested : (e d n left l : ℕ) (s t v : State) (old now new : Sinks) → d ≤ e → Going d n left s t old now → ReadBroke e left l t v now new → ReadBroke d n l s v old new
@@ -210,7 +210,7 @@ read-nested e d n left l s t v old now new deeper so_far broke =
       fewer = omega (arith, fewer, less);
       leads = subst (λ j. Leads d j s v) all (leads-append d (n - left) (left - l) s t v so_far.leads (ends-reach d e (left - l) 0 Limited t v deeper broke.leads));
       reads = broke.reads;
-      took = subst (λ j. Took j s old new) all (took-append d (n - left) (left - l) s t old now new so_far.leads so_far.took broke.took);
+      took = subst (λ j. SinksTook j s old new) all (took-append d (n - left) (left - l) s t old now new so_far.leads so_far.took broke.took);
     }
 
 out-nested : (e d n left l : ℕ) (s t v : State) (old now new : Sinks) → d ≤ e → Going d n left s t old now → OutBroke e left l t v now new → OutBroke d n l s v old new
@@ -308,7 +308,7 @@ nested-back e d n left l s t v old now new deeper so_far came stays =
     record {
       fewer = omega (arith, fewer, less);
       leads = subst (λ j. Leads d j s v) all (leads-append d (n - left) (left - l) s t v so_far.leads leads);
-      took = subst (λ j. Took j s old new) all (took-append d (n - left) (left - l) s t old now new so_far.leads so_far.took came.took);
+      took = subst (λ j. SinksTook j s old new) all (took-append d (n - left) (left - l) s t old now new so_far.leads so_far.took came.took);
     }
 
 -- a run that was cut, and continued
@@ -320,5 +320,5 @@ cut-stops n m left l s t u a b c stop first then =
     let leads : Leads 0 n s t = subst (λ l. exec_to 0 n s ≡ Ended Limited t l) last ran.ends in
     let all : n ≡ (n + m) - m = omega arith in
     let so_far : Going 0 (n + m) m s t a b =
-    record { fewer = omega arith; leads = subst (λ j. Leads 0 j s t) all leads; took = subst (λ j. Took j s a b) done ran.took } in
+    record { fewer = omega arith; leads = subst (λ j. Leads 0 j s t) all leads; took = subst (λ j. SinksTook j s a b) done ran.took } in
     nested-stops 0 0 (n + m) m l s t u a b c stop (omega arith) so_far then

@@ -2,10 +2,10 @@
 use Rattle.std.specs.Prelude.{ℕ, ◌==◌, Bool, ◌&&◌, if◌then◌else◌, List, [], ◌∷◌, Result, Ok, Err}
 use Rattle.mix_bits.specs.declared.isa.Isa.{Isa}
 use Rattle.mix_bits.specs.declared.fault.FaultKind.TheVariants.{Unmatched}
+use Rattle.mix_bits.specs.Isas.{is_isa}
 use Rattle.big_memory.specs.declared.refusals.Access.{Access}
 use Rattle.big_memory.specs.Map.{exit_gate, return_gate}
 use Rattle.proc_info.specs.Signature.{Signature, signature_in}
-use Rattle.routine_desc.specs.Choice.{is_isa}
 use Rattle.switch_frame.specs.declared.active.Active.{Active}
 use Rattle.switch_frame.specs.Sets.{callee_isa}
 use Rattle.switch_frame.specs.Files.{pc_of, sp_of}

@@ -19,7 +19,7 @@ abbrev pub sinks_of : At → Sinks
 sinks_of a = record { out = a.outside.out; trace = a.trace }
 
 -- both took what j steps from a state put
-pub record Took (j : ℕ) (s : State) (old new : Sinks) : Type 0 where
+pub record SinksTook (j : ℕ) (s : State) (old new : Sinks) : Type 0 where
   pub said : Grows old.out new.out (log said_of j s)
   pub traced : Grows old.trace new.trace (log line_of j s)
 
@@ -27,13 +27,13 @@ pub record Took (j : ℕ) (s : State) (old new : Sinks) : Type 0 where
 pub record Ran (d n left : ℕ) (s t : State) (how : How) (old new : Sinks) : Type 0 where
   pub fewer : left ≤ n
   pub ends : exec_to d n s ≡ Ended how t left
-  pub took : Took (n - left) s old new
+  pub took : SinksTook (n - left) s old new
 
 -- one that came back to fewer than d callers
 pub record CameBack (d n left : ℕ) (s t : State) (old new : Sinks) : Type 0 where
   pub fewer : left ≤ n
   pub ends : exec_to d n s ≡ Back t left
-  pub took : Took (n - left) s old new
+  pub took : SinksTook (n - left) s old new
 
 -- one that the input stopped: the next step is one of those allowed, and reads the input
 pub record ReadBroke (d n left : ℕ) (s t : State) (old new : Sinks) : Type 0 where
@@ -41,7 +41,7 @@ pub record ReadBroke (d n left : ℕ) (s t : State) (old new : Sinks) : Type 0 w
   pub fewer : left ≤ n
   pub leads : Leads d (n - left) s t
   pub reads : Reads (step t)
-  pub took : Took (n - left) s old new
+  pub took : SinksTook (n - left) s old new
 
 -- one that the output stopped: the next step is one of those allowed, and puts something, of which the output
 -- took some front
@@ -83,4 +83,4 @@ pub record Runs (n : ℕ) (a b : At) (stop : Stop) : Type 0 where
 pub record Going (d n left : ℕ) (s t : State) (old new : Sinks) : Type 0 where
   pub fewer : left ≤ n
   pub leads : Leads d (n - left) s t
-  pub took : Took (n - left) s old new
+  pub took : SinksTook (n - left) s old new

@@ -119,6 +119,10 @@ call_of_record caller rec selector = record {
   target = target_of rec;
 }
 
+-- what code at pc wants at the descriptor at an address, of whose records it takes what it does
+abbrev pub wants_desc : Memory → ℕ → ℕ → (List Routine → Result Want Fault) → Result Want Fault
+wants_desc m pc at takes = described pc at (desc_of m at) >>= takes
+
 -- 68K code
 
 -- code of its own set is gone on with, without a call; what has a vector is called
@@ -134,7 +138,7 @@ takes_68k m r records =
 
 -- the descriptor stands at pc
 abbrev pub wants_desc_68k : Memory → Regs68 → Result Want Fault
-wants_desc_68k m r = described r.pc r.pc (desc_of m r.pc) >>= λ records. takes_68k m r records
+wants_desc_68k m r = wants_desc m r.pc r.pc (takes_68k m r)
 
 abbrev pub wants_68k : Memory → Regs68 → Want
 wants_68k m r = settled (wants_desc_68k m r)
@@ -167,7 +171,7 @@ abbrev pub takes_ppc : RegsPpc → ℕ → List Routine → Result Want Fault
 takes_ppc r info records = takes_by r info records (selector_among_ppc records r)
 
 abbrev pub wants_desc_ppc : Memory → RegsPpc → ℕ → ℕ → Result Want Fault
-wants_desc_ppc m r pointer info = described r.pc pointer (desc_of m pointer) >>= λ records. takes_ppc r info records
+wants_desc_ppc m r pointer info = wants_desc m r.pc pointer (takes_ppc r info)
 
 -- the word at the pointer tells which of them stands there
 abbrev pub wants_word : Memory → RegsPpc → ℕ → ℕ → Result ℕ Access → Result Want Fault

@@ -1,22 +1,22 @@
 // What PowerPC code wants.
-ghost use Rattle.std.specs.Prelude.{◌≡◌, ◌+◌, ◌≤◌, length, Ok};
+ghost use Rattle.std.specs.Prelude.{◌≡◌};
 ghost use Rattle.proc_info.specs.Signature.{signature_of};
 ghost use Rattle.proc_info.specs.Views.{signature};
-ghost use Rattle.routine_desc.specs.Read.{Counts};
 ghost use Rattle.routine_desc.specs.Views.{routines};
 ghost use Rattle.mix_bits.specs.declared.size.Size.TheVariants.{Two};
 ghost use Rattle.big_memory.specs.Memory.{loaded};
 ghost use Rattle.mode_switch.specs.Views.{signed_kept, told, wanted_of};
-ghost use Rattle.mode_switch.specs.Wanted.{Means, matched as matched_lem, raw_signature as raw_signature_lem, selector_among_ppc, selector_ppc as selector_ppc_lem, settled, takes_ppc as takes_ppc_lem, wants_desc_ppc, wants_ppc as wants_ppc_lem, wants_raw as wants_raw_lem, wants_word as wants_word_lem};
+ghost use Rattle.mode_switch.specs.Wanted.{Means, matched as matched_lem, raw_signature as raw_signature_lem, selector_among_ppc, selector_ppc as selector_ppc_lem, settled, takes_ppc as takes_ppc_lem, wants_ppc as wants_ppc_lem, wants_raw as wants_raw_lem, wants_word as wants_word_lem};
 
-use crate::records::{FEW, bad_desc, call_of, settle, taken};
+use crate::descriptor::{Asker, wants_desc};
+use crate::records::{bad_desc, call_of, settle, taken};
 use crate::{Call, Target, Wanted};
 use args_ppc::select_ppc;
 use big_memory::Ram;
 use mix_bits::{Fault, FaultKind, Isa};
 use ppc_isa::RegsPpc;
 use proc_info::{Sig, read};
-use routine_desc::{BadDesc, MIXED_MODE_MAGIC, Rec, choose_among, count_records, read_all};
+use routine_desc::{BadDesc, MIXED_MODE_MAGIC, Rec, choose_among};
 use switch_frame::Kind;
 
 /// What PowerPC code wants by CallUniversalProc with a universal pointer and a procInfo. Refusals come in
@@ -36,7 +36,7 @@ fn wants_word(ram: &Ram, regs: &RegsPpc, pointer: u32, info: u32) -> Wanted
     match ram.load_word(pointer) {
         Ok(word) => {
             if word == MIXED_MODE_MAGIC {
-                wants_desc(ram, regs, pointer, info)
+                wants_desc(ram, &Universal { regs, info }, pointer)
             } else {
                 settle(wants_raw(regs, pointer, info))
             }
@@ -75,65 +75,33 @@ fn raw_signature(pc: u32, info: u32) -> Result<Sig, Fault>
     }
 }
 
-/// What it wants at a descriptor.
-fn wants_desc(ram: &Ram, regs: &RegsPpc, pointer: u32, info: u32) -> Wanted
-    ensures { wanted_of result ≡ settled (wants_desc_ppc ram.now regs.now pointer info) }
-{
-    match count_records(ram, pointer) {
-        Ok(count) if count <= FEW => wants_of_few(ram, regs, pointer, info, count),
-        Ok(count) => wants_of_many(ram, regs, pointer, info, count),
-        Err(bad) => Wanted::Refuses(bad_desc(regs.pc, pointer, bad)),
+/// A call by CallUniversalProc with a procInfo.
+#[derive(Clone, Copy)]
+struct Universal<'a> {
+    regs: &'a RegsPpc,
+    info: u32,
+}
+
+impl Asker for Universal<'_> {
+    ghost at = { λ call. call.regs.now.pc };
+
+    ghost takes_of = { λ call m. takes_ppc_lem call.regs.now call.info };
+
+    fn pc(&self) -> u32 {
+        self.regs.pc
     }
-}
 
-/// What it wants at a descriptor of few records.
-fn wants_of_few(ram: &Ram, regs: &RegsPpc, pointer: u32, info: u32, count: u32) -> Wanted
-    requires header { Counts ram.now pointer (Ok count) }
-    requires within { pointer + 12 ≤ length ram.now.bytes }
-    requires few { count ≤ 4 }
-    ensures { wanted_of result ≡ settled (wants_desc_ppc ram.now regs.now pointer info) }
-{
-    let empty = Rec::empty();
-    let mut records = [empty; 4];
-    wants_in(ram, regs, pointer, info, &mut records[..count as usize])
-}
-
-/// What it wants at a descriptor of any number of records.
-#[inline(never)]
-fn wants_of_many(ram: &Ram, regs: &RegsPpc, pointer: u32, info: u32, count: u32) -> Wanted
-    requires header { Counts ram.now pointer (Ok count) }
-    requires within { pointer + 12 ≤ length ram.now.bytes }
-    requires few { count ≤ 64 }
-    ensures { wanted_of result ≡ settled (wants_desc_ppc ram.now regs.now pointer info) }
-{
-    let empty = Rec::empty();
-    let mut records = [empty; 64];
-    wants_in(ram, regs, pointer, info, &mut records[..count as usize])
-}
-
-/// What it wants at a descriptor, which is read into a list with a place for each record.
-#[inline(always)]
-fn wants_in(ram: &Ram, regs: &RegsPpc, pointer: u32, info: u32, records: &mut [Rec]) -> Wanted
-    requires header { Counts ram.now pointer (Ok (length records.old)) }
-    requires within { pointer + 12 ≤ length ram.now.bytes }
-    requires few { length records.old ≤ 64 }
-    ensures { wanted_of result ≡ settled (wants_desc_ppc ram.now regs.now pointer info) }
-{
-    match read_all(ram, pointer, records) {
-        Ok(()) => settle(takes(regs, info, records)),
-        Err(bad) => Wanted::Refuses(bad_desc(regs.pc, pointer, bad)),
+    #[inline(always)]
+    fn takes(&self, _ram: &Ram, records: &[Rec]) -> Result<Wanted, Fault> {
+        let selector = selector_among(self.regs, records);
+        let rec = taken(
+            self.regs.pc,
+            selector,
+            choose_among(records, Isa::Ppc, selector),
+        )?;
+        matched(self.regs.pc, self.info, rec.info)?;
+        Ok(Wanted::Calls(call_of(Isa::Ppc, rec, selector)))
     }
-}
-
-/// What it wants of the records of a descriptor.
-#[inline(always)]
-fn takes(regs: &RegsPpc, info: u32, records: &[Rec]) -> Result<Wanted, Fault>
-    ensures { told result ≡ takes_ppc_lem regs.now info (routines records.now) }
-{
-    let selector = selector_among(regs, records);
-    let rec = taken(regs.pc, selector, choose_among(records, Isa::Ppc, selector))?;
-    matched(regs.pc, info, rec.info)?;
-    Ok(Wanted::Calls(call_of(Isa::Ppc, rec, selector)))
 }
 
 /// The selector of a call by these records: the first one tells whether there is one.

@@ -9,6 +9,7 @@
 mod callee;
 mod code_68k;
 mod code_ppc;
+mod descriptor;
 mod laws;
 mod passed;
 mod records;

@@ -12,9 +12,6 @@ use proc_info::Conv;
 use routine_desc::{BadDesc, Rec, RoutineFlags};
 use switch_frame::Kind;
 
-/// So many records are few: most descriptors have one, and a fat one has two.
-pub const FEW: u32 = 4;
-
 /// What is wanted, or the first refusal.
 #[inline(always)]
 pub fn settle(wanted: Result<Wanted, Fault>) -> Wanted

@@ -1,6 +1,6 @@
 -- The machine starts as its program does.
 use Rattle.std.proofs.Common.{subst}
-use Rattle.mix_sample.specs.Samples.{Ran, nothing}
+use Rattle.mix_sample.specs.Samples.{CountedRun, nothing}
 use Rattle.mix_sample.proofs.run.run_in.Goals as goal
 
 pub returns : goal.returns
@@ -8,5 +8,5 @@ returns c =
     record {
       program = c.in_ok-program.program;
       loaded = c.in_ok-program.ensures.is;
-      ran = subst (λ s. Ran c.args.steps s c.count_crossings.result) (c.in_ok-machine.ensures.state nothing) c.count_crossings.ensures;
+      ran = subst (λ s. CountedRun c.args.steps s c.count_crossings.result) (c.in_ok-machine.ensures.state nothing) c.count_crossings.ensures;
     }
