@@ -1,0 +1,155 @@
+// The lines of a trace as a tree.
+ghost use Rattle.std.specs.Prelude.{◌≡◌, ◌⊎◌, ◌++◌, IfOk, OnOk};
+ghost use Rattle.call_trace.specs.Names.{set_name as name_of_set};
+ghost use Rattle.mix_bits.specs.Text.{hexadecimal};
+ghost use Rattle.proc_info.specs.Signature.{signature_in};
+ghost use Rattle.proc_info.specs.Views.{signature};
+ghost use Rattle.trace_lines.specs.Events.{args_of};
+ghost use Rattle.look_text.specs.Tree.{args_text, called_text, event_text, indent_text, result_text, sized_text, tree_of, values_text};
+
+use super::pieces::{add, add_bytes, add_hex};
+use mix_bits::{Isa, NoMemory, Size};
+use proc_info::{Param, Sig, read};
+use std::alloc::Global;
+use trace_lines::{Crossing, Event};
+
+/// How many calls deep a line stands at most to the right.
+pub const DEEPEST: u32 = 256;
+
+/// A line of a trace as a line of a tree: `depth` calls are open around it, and `name` stands for a call's target. What is
+/// neither a call nor a return stays as it is in the trace.
+#[tactic(auto, unfolding(crate::specs::Tree::tree_of))]
+pub fn tree_line(
+    alloc: Global,
+    depth: u32,
+    name: &[u8],
+    line: &[u8],
+    event: &Event,
+) -> Result<Vec<u8>, NoMemory>
+    ensures { IfOk result (λ text. text.items ≡ tree_of depth name.now line.now event.now) }
+{
+    let mut text = indented(alloc, depth)?;
+    add_event(&mut text, name, line, event)?;
+    add(&mut text, "\n")?;
+    Ok(text)
+}
+
+/// The spaces before a line.
+fn indented(alloc: Global, depth: u32) -> Result<Vec<u8>, NoMemory>
+    ensures { IfOk result (λ text. text.items ≡ indent_text depth) }
+{
+    Ok(vec![in alloc; b' '; 4 * depth.min(DEEPEST) as usize]?)
+}
+
+fn add_event(text: &mut Vec<u8>, name: &[u8], line: &[u8], event: &Event) -> Result<(), NoMemory>
+    ensures { OnOk result (text.new.items ≡ text.old.items ++ event_text name.now line.now event.now) }
+{
+    match event {
+        Event::Called(call) => add_call(text, name, call),
+        Event::Returned(size, value) => add_result(text, *size, *value),
+        Event::Asked(_, _, _) => add_bytes(text, line),
+        Event::Ended(_) => add_bytes(text, line),
+    }
+}
+
+/// `FROM to TO NAME: SIZE VALUE, ..`
+#[tactic(auto, using(crate::proofs::Appends::six))]
+fn add_call(text: &mut Vec<u8>, name: &[u8], call: &Crossing) -> Result<(), NoMemory>
+    ensures { OnOk result (text.new.items ≡ text.old.items ++ called_text name.now call.now) }
+{
+    add(text, set_name(call.kind.caller()))?;
+    add(text, " to ")?;
+    add(text, set_name(call.kind.callee()))?;
+    add(text, " ")?;
+    add_bytes(text, name)?;
+    add_values(text, &signature_for(call.info), call)
+}
+
+/// The signature of a procInfo word, which has one; an empty one else.
+pub fn signature_for(info: u32) -> Sig
+    ensures { signature result ≡ signature_in info }
+{
+    match read(info) {
+        Ok(sig) => sig,
+        Err(_) => Sig::empty(),
+    }
+}
+
+/// Appends the selector and the arguments of a call.
+fn add_values(text: &mut Vec<u8>, sig: &Sig, call: &Crossing) -> Result<(), NoMemory>
+    ensures { OnOk result (text.new.items ≡ text.old.items ++ values_text (signature sig.now) call.now) }
+{
+    match sig.selector {
+        Size::Zero => add_args(text, ": ", sig.params(), args(call)),
+        _ => {
+            add(text, ": selector ")?;
+            add_sized(text, sig.selector, call.selector)?;
+            add_args(text, ", ", sig.params(), args(call))
+        }
+    }
+}
+
+/// The arguments of a call.
+fn args(call: &Crossing) -> &[u32]
+    ensures { result.now ≡ args_of call.now }
+{
+    &call.args[..usize::from(call.count).min(13)]
+}
+
+/// Appends arguments with their sizes.
+#[tactic(auto, using(crate::proofs::Appends::three, crate::proofs::Appends::none))]
+fn add_args(text: &mut Vec<u8>, mark: &str, params: &[Param], args: &[u32]) -> Result<(), NoMemory>
+    ensures { OnOk result (text.new.items ≡ text.old.items ++ args_text mark.now params.now args.now) }
+{
+    match params {
+        [] => Ok(()),
+        [param, params @ ..] => match args {
+            [] => Ok(()),
+            [arg, args @ ..] => {
+                add(text, mark)?;
+                add_sized(text, param.size, *arg)?;
+                add_args(text, ", ", params, args)
+            }
+        },
+    }
+}
+
+/// Appends a value behind the word for its size.
+fn add_sized(text: &mut Vec<u8>, size: Size, value: u32) -> Result<(), NoMemory>
+    ensures { OnOk result (text.new.items ≡ text.old.items ++ sized_text size value) }
+{
+    match size {
+        Size::Zero => add(text, "nothing"),
+        Size::One => add_value(text, "byte ", value, 2),
+        Size::Two => add_value(text, "word ", value, 4),
+        Size::Four => add_value(text, "long ", value, 8),
+    }
+}
+
+#[tactic(auto, using(crate::proofs::Appends::two))]
+fn add_value(text: &mut Vec<u8>, mark: &str, value: u32, digits: u32) -> Result<(), NoMemory>
+    requires { (digits ≡ 2) ⊎ (digits ≡ 4) ⊎ (digits ≡ 8) }
+    ensures { OnOk result (text.new.items ≡ text.old.items ++ (mark.now ++ hexadecimal digits value)) }
+{
+    add(text, mark)?;
+    add_hex(text, value, digits)
+}
+
+/// `gave SIZE VALUE`
+#[tactic(auto, using(crate::proofs::Appends::two))]
+fn add_result(text: &mut Vec<u8>, size: Size, value: u32) -> Result<(), NoMemory>
+    ensures { OnOk result (text.new.items ≡ text.old.items ++ result_text size value) }
+{
+    add(text, "gave ")?;
+    add_sized(text, size, value)
+}
+
+/// The name of a set.
+pub fn set_name(set: Isa) -> &'static str
+    ensures { result.now ≡ name_of_set set }
+{
+    match set {
+        Isa::M68 => "68k",
+        Isa::Ppc => "ppc",
+    }
+}

@@ -1,0 +1,54 @@
+use mix_bits::NoMemory;
+use std::alloc::{AllocError, AllocFailed};
+use std::io;
+use thiserror::Error;
+
+/// Why a trace was not told to its end.
+#[derive(Clone, Copy, Debug, PartialEq, Eq, Error)]
+pub enum LookError {
+    /// The line of this number, counted from 1, or what stands behind the last line feed.
+    #[error("line {0} is no line of a trace")]
+    Line(u64),
+    #[error("a file could not be read to its end")]
+    Read,
+    #[error("the output failed")]
+    Write,
+    #[error("out of memory")]
+    NoMemory,
+}
+
+impl LookError {
+    /// A failure to read, where it is not for want of memory.
+    pub(crate) fn of_read(error: io::Error) -> LookError {
+        match error.kind() {
+            io::ErrorKind::OutOfMemory => LookError::NoMemory,
+            _ => LookError::Read,
+        }
+    }
+
+    /// A failure to write, likewise.
+    pub(crate) fn of_write(error: io::Error) -> LookError {
+        match error.kind() {
+            io::ErrorKind::OutOfMemory => LookError::NoMemory,
+            _ => LookError::Write,
+        }
+    }
+}
+
+impl From<NoMemory> for LookError {
+    fn from(_: NoMemory) -> Self {
+        LookError::NoMemory
+    }
+}
+
+impl From<AllocError> for LookError {
+    fn from(_: AllocError) -> Self {
+        LookError::NoMemory
+    }
+}
+
+impl<T: Drop> From<AllocFailed<T>> for LookError {
+    fn from(_: AllocFailed<T>) -> Self {
+        LookError::NoMemory
+    }
+}

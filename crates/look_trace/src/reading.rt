@@ -1,0 +1,49 @@
+// The lines of a trace, one by one.
+use crate::error::LookError;
+use std::alloc::Global;
+use std::io::BufRead;
+use trace_lines::{Event, read_event};
+
+/// Reads a trace, and counts its lines.
+#[derive(Drop)]
+pub struct Reading<R: BufRead + Drop> {
+    from: R,
+    line: Vec<u8>,
+    number: u64,
+}
+
+impl<R: BufRead + Drop> Reading<R> {
+    pub fn new(alloc: Global, from: R) -> Reading<R> {
+        Reading {
+            from,
+            line: Vec::new(alloc),
+            number: 0,
+        }
+    }
+
+    /// The event of the next line, or none at the end.
+    pub fn next(&mut self) -> Result<Option<Event>, LookError> {
+        self.number = self.number.saturating_add(1);
+        self.line.clear();
+        let count = self
+            .from
+            .read_until(b'\n', &mut self.line)
+            .map_err(LookError::of_read)?;
+        if count == 0 {
+            return Ok(None);
+        }
+        match self.line.pop() {
+            Some(b'\n') => self.event().map(Some),
+            _ => Err(LookError::Line(self.number)),
+        }
+    }
+
+    fn event(&self) -> Result<Event, LookError> {
+        read_event(&self.line).ok_or(LookError::Line(self.number))
+    }
+
+    /// The text of the line that was read last.
+    pub fn text(&self) -> &[u8] {
+        &self.line
+    }
+}

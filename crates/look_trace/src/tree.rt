@@ -1,0 +1,60 @@
+use crate::calls::Calls;
+use crate::error::LookError;
+use crate::names::Names;
+use crate::reading::Reading;
+use look_text::tree_line;
+use std::alloc::Global;
+use std::io::{BufRead, Write};
+use trace_lines::Event;
+
+/// Writes a trace as an indented tree, and behind it how often each routine was called across, by whom. What came
+/// before a line that is refused is written.
+pub fn write_tree<R: BufRead + Drop, W: Write>(
+    alloc: Global,
+    trace: R,
+    names: &Names,
+    out: &mut W,
+) -> Result<(), LookError> {
+    let mut reading = Reading::new(alloc, trace);
+    let mut calls = Calls::new(alloc);
+    for _ in 0..u64::MAX {
+        let Some(event) = reading.next()? else {
+            break;
+        };
+        write_event(alloc, reading.text(), &event, names, &mut calls, out)?;
+    }
+    write(out, b"\ncalls across:\n")?;
+    write(out, &calls.table(alloc, names)?)
+}
+
+/// Writes the line of an event, and opens or ends its call.
+fn write_event<W: Write>(
+    alloc: Global,
+    line: &[u8],
+    event: &Event,
+    names: &Names,
+    calls: &mut Calls,
+    out: &mut W,
+) -> Result<(), LookError> {
+    if let Event::Returned(_, _) = event {
+        calls.leave();
+    }
+    let name = name_of(alloc, event, names)?;
+    write(out, &tree_line(alloc, calls.depth(), &name, line, event)?)?;
+    if let Event::Called(call) = event {
+        calls.enter(call)?;
+    }
+    Ok(())
+}
+
+/// The name of a call's target; none of another event.
+pub fn name_of(alloc: Global, event: &Event, names: &Names) -> Result<Vec<u8>, LookError> {
+    match event {
+        Event::Called(call) => names.name(alloc, call.target),
+        _ => Ok(Vec::new(alloc)),
+    }
+}
+
+pub fn write<W: Write>(out: &mut W, piece: &[u8]) -> Result<(), LookError> {
+    out.write_all(piece).map_err(LookError::of_write)
+}

@@ -1,0 +1,4 @@
+pub mod Looks
+pub mod Labels
+pub mod Reasons
+pub mod Whys

@@ -1,0 +1,16 @@
+//! The words of mixedlook's command line, and why mixedrun refuses words of its own.
+//!
+//! `read_look` answers exactly the command that words ask for, or why there is none; `explain` finds the word that
+//! `job_words` refuses, and what is wrong with it by what `job_words` says of that word alone.
+#![tactic(auto)]
+
+mod ask;
+mod label;
+mod look;
+mod sentence;
+mod why;
+
+pub use label::Label;
+pub use look::{Key, Look, Refusal, read_look};
+pub use sentence::{refusal_text, why_text};
+pub use why::{Why, explain};

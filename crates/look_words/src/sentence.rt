@@ -1,0 +1,124 @@
+// Sentences about words.
+use crate::label::Label;
+use crate::look::{Key, Refusal};
+use crate::why::Why;
+use mix_bits::NoMemory;
+use std::alloc::Global;
+
+/// Why mixedlook refuses words, in a sentence.
+pub fn refusal_text(alloc: Global, words: &[String], refusal: Refusal) -> Result<String, NoMemory> {
+    Ok(match refusal {
+        Refusal::Empty => String::from_str(alloc, "a command is missing")?,
+        Refusal::Command => {
+            let word = word_at(words, 0);
+            format!(in alloc; "{word} is no command")?
+        }
+        Refusal::Unknown(place) => {
+            let word = word_at(words, place);
+            format!(in alloc; "{word} is no KEY=VALUE of this command")?
+        }
+        Refusal::Twice(place) => {
+            let word = word_at(words, place);
+            format!(in alloc; "{word}: the key stands twice")?
+        }
+        Refusal::Value(place, key) => {
+            let word = word_at(words, place);
+            let wants = key_wants(key);
+            format!(in alloc; "{word}: wants {wants}")?
+        }
+        Refusal::Missing(key) => {
+            let text = key.text();
+            let wants = key_wants(key);
+            format!(in alloc; "{text}= is missing, {wants}")?
+        }
+    })
+}
+
+/// What a key of mixedlook wants.
+fn key_wants(key: Key) -> &'static str {
+    match key {
+        Key::Word => "eight upper-case hexadecimal digits",
+        Key::File => "the name of a file",
+        Key::Names => "the name of a file with the output of nm",
+    }
+}
+
+/// Why mixedrun refuses words, in a sentence.
+pub fn why_text(alloc: Global, words: &[String], why: Why) -> Result<String, NoMemory> {
+    Ok(match why {
+        Why::Taken => String::from_str(alloc, "mixedrun takes these words")?,
+        Why::Empty => String::from_str(
+            alloc,
+            "no word: the first one is a command, run, continue, list, sample, assemble or debug",
+        )?,
+        Why::Command => {
+            let word = word_at(words, 0);
+            format!(in alloc;
+                "word 0, {word}, is no command: run, continue, list, sample, assemble or debug"
+            )?
+        }
+        Why::Missing => {
+            let command = word_at(words, 0);
+            let needs = needs(command);
+            format!(in alloc; "a word is missing: {command} needs {needs}")?
+        }
+        Why::Keyless(place) => {
+            let word = word_at(words, place as usize);
+            format!(in alloc;
+                "word {place}, {word}, has no key of mixedrun and an equals sign in front"
+            )?
+        }
+        Why::Key(place, label) => {
+            let word = word_at(words, place as usize);
+            let command = word_at(words, 0);
+            let key = label.text();
+            format!(in alloc; "word {place}, {word}: {command} has no key {key}")?
+        }
+        Why::Value(place, label) => {
+            let word = word_at(words, place as usize);
+            let key = label.text();
+            let wants = label.wants();
+            format!(in alloc; "word {place}, {word}: {key} wants {wants}")?
+        }
+        Why::Again(place, label) => {
+            let word = word_at(words, place as usize);
+            let before = before(label);
+            format!(in alloc; "word {place}, {word}: {before}")?
+        }
+    })
+}
+
+/// What stands before a word that is good alone.
+fn before(label: Label) -> &'static str {
+    match label {
+        Label::Flat => "flat, rsrc or pef stands before it, and flat stands alone",
+        Label::Rsrc => "rsrc or flat stands before it, and flat stands alone",
+        Label::Pef => "pef or flat stands before it, and flat stands alone",
+        _ => "its key stands before it",
+    }
+}
+
+/// What a command of mixedrun needs.
+fn needs(command: &str) -> &'static str {
+    if command == "sample" {
+        "n=N and depth=D"
+    } else if command == "assemble" {
+        "set=SET, text=FILE and at=ADDRESS"
+    } else if command == "continue" {
+        "image=FILE"
+    } else if command == "list" {
+        "at=ADDRESS, count=N, and the file of the main set: flat=FILE, rsrc=FILE, or pef=FILE for main=ppc"
+    } else if command == "debug" {
+        "script=FILE, and the file of the main set: flat=FILE, rsrc=FILE, or pef=FILE for main=ppc"
+    } else {
+        "the file of the main set: flat=FILE, rsrc=FILE, or pef=FILE for main=ppc"
+    }
+}
+
+/// The word at a place, or nothing behind the last one.
+fn word_at(words: &[String], place: usize) -> &str {
+    match words.get(place) {
+        Some(word) => word.as_str(),
+        None => "",
+    }
+}

@@ -1,0 +1,13 @@
+pub mod Padding
+pub mod Short
+pub mod Marks
+pub mod Digits
+pub mod Sized
+pub mod Arguments
+pub mod CallLines
+pub mod Crossings
+pub mod Others
+pub mod Spaces
+pub mod AskLines
+pub mod EndLines
+pub mod Exact

@@ -1,0 +1,4 @@
+pub mod Events
+pub mod Laws
+pub mod Pieces
+pub mod Reading
