@@ -15,7 +15,7 @@ use m68_ea::{
     data_address, find, find_usual, go_on, immediate_at, immediate_words, load, put, put_at,
     put_usual, value,
 };
-use m68_isa::{Regs68, lower_of, mode_of, size_bits_of, upper_of};
+use m68_isa::{Regs68, is_long, lower_of, mode_of, size_bits_of, upper_of};
 use mix_bits::{Fault, Size, trunc, with_low};
 
 /// Changes an operand of this size by an operation with a number. Its extension words begin with word `first`.
@@ -217,10 +217,12 @@ pub fn change_by_register(
 fn change_usual(regs: &mut Regs68, ram: &mut Ram, word: u32, op: Operation, by: u32) -> bool
     ensures { Tries (changed_by op 1 by word regs.old ram.old) result regs.old regs.new ram.old ram.new }
 {
+    if is_long(word) {
+        return change_in_memory(regs, ram, word, 1, Size::Four, op, by);
+    }
     match size_bits_of(word) {
         0 => change_in_memory(regs, ram, word, 1, Size::One, op, by),
-        1 => change_in_memory(regs, ram, word, 1, Size::Two, op, by),
-        _ => change_in_memory(regs, ram, word, 1, Size::Four, op, by),
+        _ => change_in_memory(regs, ram, word, 1, Size::Two, op, by),
     }
 }
 
@@ -265,10 +267,12 @@ pub fn change_register(
     requires { (first_of word).mode ≡ 0 }
     ensures { Does (changed_by op 1 by word regs.old ram.now) result fault.new regs.old regs.new ram.now ram.now }
 {
+    if is_long(word) {
+        return change_low(regs, ram, fault, word, Size::Four, op, by);
+    }
     match size_bits_of(word) {
         0 => change_low(regs, ram, fault, word, Size::One, op, by),
-        1 => change_low(regs, ram, fault, word, Size::Two, op, by),
-        _ => change_low(regs, ram, fault, word, Size::Four, op, by),
+        _ => change_low(regs, ram, fault, word, Size::Two, op, by),
     }
 }
 

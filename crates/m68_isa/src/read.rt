@@ -1,10 +1,12 @@
-ghost use Rattle.std.specs.Prelude.{◌≡◌, ◌<◌};
-ghost use Rattle.m68_isa.specs.First.{condition_of as condition_of_first, first_of, low_byte};
+ghost use Rattle.std.specs.Prelude.{◌≡◌, ◌≢◌};
+ghost use Rattle.m68_isa.specs.First.{first_of, low_byte};
 ghost use Rattle.m68_isa.specs.Decode.{operation};
 ghost use Rattle.m68_isa.specs.Fits.{Fits};
 
 use super::arithmetic::{line_8, line_9, line_b, line_c, line_d};
-use super::fields::{bit8_of, condition_of, line_of, low_byte_of, mode_of, upper_of};
+use super::fields::{
+    bit8_of, condition_of, has_byte_displacement, line_of, low_byte_of, mode_of, upper_of,
+};
 use super::immediates::line_0;
 use super::miscellaneous::line_4;
 use super::moves::{line_1, line_2, line_3};
@@ -66,52 +68,47 @@ fn line_6(word: u32) -> Op68
     ensures value { result ≡ operation (first_of word) }
     ensures fits { Fits result word }
 {
-    match condition_of(word) {
-        0 => always(word),
-        1 => calling(word),
-        _ => conditional(word),
+    if has_byte_displacement(word) {
+        branch_by_byte(word)
+    } else if low_byte_of(word) == 0 {
+        branch_by_word(word)
+    } else {
+        branch_by_long(word)
     }
 }
 
-/// Words 0110 0000: bra.
-fn always(word: u32) -> Op68
+/// A branch with its displacement in the first word.
+fn branch_by_byte(word: u32) -> Op68
     requires line { (first_of word).line ≡ 6 }
-    requires condition { condition_of_first (first_of word) ≡ 0 }
+    requires none { low_byte (first_of word) ≢ 0 }
+    requires mark { low_byte (first_of word) ≢ 255 }
     ensures value { result ≡ operation (first_of word) }
     ensures fits { Fits result word }
 {
-    match low_byte_of(word) {
-        0 => Op68::BraWord,
-        0xff => branch_by_long(word),
-        _ => Op68::BraByte,
+    let condition = condition_of(word);
+    if condition > 1 {
+        Op68::BccByte
+    } else if condition == 0 {
+        Op68::BraByte
+    } else {
+        Op68::BsrByte
     }
 }
 
-/// Words 0110 0001: bsr.
-fn calling(word: u32) -> Op68
+/// A branch with its displacement in the word behind.
+fn branch_by_word(word: u32) -> Op68
     requires line { (first_of word).line ≡ 6 }
-    requires condition { condition_of_first (first_of word) ≡ 1 }
+    requires none { low_byte (first_of word) ≡ 0 }
     ensures value { result ≡ operation (first_of word) }
     ensures fits { Fits result word }
 {
-    match low_byte_of(word) {
-        0 => Op68::BsrWord,
-        0xff => branch_by_long(word),
-        _ => Op68::BsrByte,
-    }
-}
-
-/// Words 0110 but those: bcc.
-fn conditional(word: u32) -> Op68
-    requires line { (first_of word).line ≡ 6 }
-    requires condition { 1 < condition_of_first (first_of word) }
-    ensures value { result ≡ operation (first_of word) }
-    ensures fits { Fits result word }
-{
-    match low_byte_of(word) {
-        0 => Op68::BccWord,
-        0xff => branch_by_long(word),
-        _ => Op68::BccByte,
+    let condition = condition_of(word);
+    if condition > 1 {
+        Op68::BccWord
+    } else if condition == 0 {
+        Op68::BraWord
+    } else {
+        Op68::BsrWord
     }
 }
 

@@ -291,7 +291,7 @@ pub fn do_scc(regs: &mut Regs68, ram: &mut Ram, fault: &mut Fault, word: u32) ->
     ensures { Does (by_op Op68.Scc regs.old ram.old word) result fault.new regs.old regs.new ram.old ram.new }
 {
     let (mode, lower) = (mode_of(word), lower_of(word));
-    let ones = if holds(condition_of(word), regs.ccr) {
+    let ones = if holds(condition_of(word), &regs.ccr) {
         0xFF
     } else {
         0
