@@ -201,12 +201,16 @@ impl Ram {
     /// Stores the low bytes of `v` at `a` where [`Ram::is_open`] tells that they may be stored into, and tells
     /// whether it did; other bytes, some of which may be stored into as well, are left to [`Ram::store_value`].
     #[inline(always)]
-    #[tactic(auto, unfolding(crate::specs::Stores::stored_value))]
+    #[tactic(auto, unfolding(crate::specs::Stores::stored_value), using(crate::proofs::Free::stores_free))]
     pub fn store_if_open(&mut self, a: u32, s: Size, v: u32) -> bool
         ensures { StoresIf (is_open self.old a (bytes_of s)) (stored_value self.old a s v) result self.old self.new }
     {
         self.meets_invariant();
-        self.is_open(a, s.bytes()) && self.store_value(a, s, v).is_ok()
+        let open = self.is_open(a, s.bytes());
+        if open {
+            self.put(a, s, v);
+        }
+        open
     }
 
     /// Stores the low byte of `v` at `a`, as [`Ram::store_value`] does.

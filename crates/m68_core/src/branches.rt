@@ -9,7 +9,7 @@ ghost use Rattle.m68_isa.specs.Targets.{branch_target as target_of};
 ghost use Rattle.m68_isa.specs.Fits.{Fits};
 
 use big_memory::{Did, Ram};
-use m68_ea::{backward, extended_word, go_on, long_at, push};
+use m68_ea::{extended_word, go_on, long_at, push, push_if_open};
 use m68_isa::{Op68, Regs68, branch_target, byte_of, condition_of, holds, lower_of};
 use mix_bits::{Fault, Size, onward, with_low};
 
@@ -157,30 +157,28 @@ fn call_by(
 }
 
 /// Pushes the address of the next instruction, and lets the program go on elsewhere. A stack that is plainly open
-/// needs no call of the store that tests all.
+/// is tried first, since it needs no call and so no register saved.
 #[inline(always)]
 pub fn call(regs: &mut Regs68, ram: &mut Ram, fault: &mut Fault, next: u32, target: u32) -> Did
     ensures { Does (after (called regs.old ram.old next target)) result fault.new regs.old regs.new ram.old ram.new }
 {
-    if ram.is_open(backward(regs.a[7], 4), 4) {
-        call_from(regs, ram, fault, next, target)
+    if push_if_open(regs, ram, next) {
+        regs.pc = target;
+        Did::Next
     } else {
-        call_slowly(regs, ram, fault, next, target)
+        call_on_any_stack(regs, ram, fault, next, target)
     }
 }
 
 /// The same on any stack.
-#[cold]
 #[inline(never)]
-fn call_slowly(regs: &mut Regs68, ram: &mut Ram, fault: &mut Fault, next: u32, target: u32) -> Did
-    ensures { Does (after (called regs.old ram.old next target)) result fault.new regs.old regs.new ram.old ram.new }
-{
-    call_from(regs, ram, fault, next, target)
-}
-
-/// The same.
-#[inline(always)]
-fn call_from(regs: &mut Regs68, ram: &mut Ram, fault: &mut Fault, next: u32, target: u32) -> Did
+fn call_on_any_stack(
+    regs: &mut Regs68,
+    ram: &mut Ram,
+    fault: &mut Fault,
+    next: u32,
+    target: u32,
+) -> Did
     ensures { Does (after (called regs.old ram.old next target)) result fault.new regs.old regs.new ram.old ram.new }
 {
     if push(regs, ram, fault, next) {

@@ -1,9 +1,9 @@
 // Operands in registers, immediate ones, and in memory by the usual modes: (An), (An)+, -(An) and (d16,An).
 // What is refused, stands elsewhere, or is not plainly open to a store, changes nothing here and is left to the
 // calls for operands of any mode.
-ghost use Rattle.std.specs.Prelude.{◌≡◌, ◌+◌, ◌<◌, ◌≤◌, ◌==◌, nat_le, ◌&&◌, ◌||◌, IsTrue, IfSome, IfNone, MatchOption, None, Ok, OnSome, is_ok, true, false, slice_index};
+ghost use Rattle.std.specs.Prelude.{◌≡◌, ◌+◌, ◌<◌, ◌≤◌, ◌==◌, nat_le, ◌&&◌, ◌||◌, IfSome, IfNone, MatchOption, Ok, OnSome, is_ok, true, false, slice_index};
 ghost use Rattle.mix_bits.specs.Sizes.{bytes_of};
-ghost use Rattle.big_memory.specs.Memory.{floor_of, is_open, loaded, refusal};
+ghost use Rattle.big_memory.specs.Memory.{is_open, loaded};
 ghost use Rattle.m68_isa.specs.Operands.{operand_at};
 ghost use Rattle.m68_ea.specs.Operands.{sourced, written_at};
 ghost use Rattle.m68_ea.specs.Places.{with_address};
@@ -13,7 +13,7 @@ ghost use Rattle.m68_ea.specs.declared.places.Place68.TheVariants.{Mem};
 
 use super::places::{backward, step};
 use super::words::{extended_word, immediate_at, immediate_words};
-use big_memory::{GATE_PAGE_END, Ram, memory_laws};
+use big_memory::Ram;
 use m68_isa::Regs68;
 use mix_bits::{Size, onward, trunc};
 
@@ -80,17 +80,6 @@ fn peek(ram: &Ram, a: u32, size: Size) -> Option<u32>
     ensures { MatchOption result (is_ok (loaded ram.now a size) ≡ false) (λ value. loaded ram.now a size ≡ Ok value) }
 {
     ram.load(a, size).ok()
-}
-
-/// Whether `n` bytes lie between the gate page and the stack, where every store is done.
-#[inline(always)]
-pub fn is_below_stack(ram: &Ram, a: u32, n: u32) -> bool
-    ensures is { result ≡ (nat_le 0x2000 a && nat_le (a + n) (floor_of ram.now)) }
-    ensures passes { IsTrue result → refusal ram.now a n ≡ None }
-{
-    memory_laws();
-    ram.meets_invariant();
-    a >= GATE_PAGE_END && u64::from(a) + u64::from(n) <= u64::from(ram.floor())
 }
 
 /// Finds an operand in memory of a usual mode that can be read; its value stands beside it. Nothing is changed.

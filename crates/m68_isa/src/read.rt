@@ -1,5 +1,5 @@
-ghost use Rattle.std.specs.Prelude.{◌≡◌, ◌≢◌};
-ghost use Rattle.m68_isa.specs.First.{first_of, low_byte};
+ghost use Rattle.std.specs.Prelude.{◌≡◌, ◌<◌};
+ghost use Rattle.m68_isa.specs.First.{condition_of as condition_of_first, first_of, low_byte};
 ghost use Rattle.m68_isa.specs.Decode.{operation};
 ghost use Rattle.m68_isa.specs.Fits.{Fits};
 
@@ -68,47 +68,61 @@ fn line_6(word: u32) -> Op68
     ensures value { result ≡ operation (first_of word) }
     ensures fits { Fits result word }
 {
+    let condition = condition_of(word);
+    if condition > 1 {
+        conditional(word)
+    } else if condition == 0 {
+        always(word)
+    } else {
+        calling(word)
+    }
+}
+
+/// Words 0110 0000: bra.
+fn always(word: u32) -> Op68
+    requires line { (first_of word).line ≡ 6 }
+    requires condition { condition_of_first (first_of word) ≡ 0 }
+    ensures value { result ≡ operation (first_of word) }
+    ensures fits { Fits result word }
+{
     if has_byte_displacement(word) {
-        branch_by_byte(word)
+        Op68::BraByte
     } else if low_byte_of(word) == 0 {
-        branch_by_word(word)
+        Op68::BraWord
     } else {
         branch_by_long(word)
     }
 }
 
-/// A branch with its displacement in the first word.
-fn branch_by_byte(word: u32) -> Op68
+/// Words 0110 0001: bsr.
+fn calling(word: u32) -> Op68
     requires line { (first_of word).line ≡ 6 }
-    requires none { low_byte (first_of word) ≢ 0 }
-    requires mark { low_byte (first_of word) ≢ 255 }
+    requires condition { condition_of_first (first_of word) ≡ 1 }
     ensures value { result ≡ operation (first_of word) }
     ensures fits { Fits result word }
 {
-    let condition = condition_of(word);
-    if condition > 1 {
-        Op68::BccByte
-    } else if condition == 0 {
-        Op68::BraByte
-    } else {
+    if has_byte_displacement(word) {
         Op68::BsrByte
+    } else if low_byte_of(word) == 0 {
+        Op68::BsrWord
+    } else {
+        branch_by_long(word)
     }
 }
 
-/// A branch with its displacement in the word behind.
-fn branch_by_word(word: u32) -> Op68
+/// Words 0110 but those: bcc.
+fn conditional(word: u32) -> Op68
     requires line { (first_of word).line ≡ 6 }
-    requires none { low_byte (first_of word) ≡ 0 }
+    requires condition { 1 < condition_of_first (first_of word) }
     ensures value { result ≡ operation (first_of word) }
     ensures fits { Fits result word }
 {
-    let condition = condition_of(word);
-    if condition > 1 {
+    if has_byte_displacement(word) {
+        Op68::BccByte
+    } else if low_byte_of(word) == 0 {
         Op68::BccWord
-    } else if condition == 0 {
-        Op68::BraWord
     } else {
-        Op68::BsrWord
+        branch_by_long(word)
     }
 }
 

@@ -1,4 +1,4 @@
-ghost use Rattle.std.specs.Prelude.{◌≡◌, ◌<◌, true, Ok};
+ghost use Rattle.std.specs.Prelude.{◌≡◌, ◌<◌, ◌≤◌, true, Ok};
 ghost use Rattle.mix_bits.specs.declared.size.Size.{Size as ASize};
 ghost use Rattle.mix_bits.specs.declared.size.Size.TheVariants.{One, Two, Four};
 ghost use Rattle.m68_isa.specs.declared.instructions.Instr68.TheVariants.{Movea};
@@ -7,6 +7,7 @@ ghost use Rattle.m68_isa.specs.Moves.{move_mode};
 ghost use Rattle.m68_isa.specs.Operands.{operand_at};
 ghost use Rattle.m68_isa.specs.Rows.{taken};
 ghost use Rattle.big_memory.specs.Steps.{Does};
+ghost use Rattle.m68_ea.specs.Finds.{IsAt};
 ghost use Rattle.m68_ea.specs.Operands.{sourced};
 ghost use Rattle.m68_ea.specs.Usual.{Tries};
 ghost use Rattle.m68_ea.specs.Words.{words_at};
@@ -16,7 +17,9 @@ ghost use Rattle.m68_movement.specs.Moves.{moved, moves};
 use super::parts::write;
 use big_memory::{Did, Ram, stop};
 use m68_alu::result_flags;
-use m68_ea::{go_on, is_second_good, source, usual_or_immediate, usual_source, usual_write};
+use m68_ea::{
+    data_address, go_on, is_second_good, source, usual_or_immediate, usual_source, usual_write,
+};
 use m68_isa::{Op68, Regs68, lower_of, mode_of, move_mode_of, upper_of};
 use mix_bits::{Fault, FaultKind, Size, sext, trunc, with_low};
 
@@ -128,17 +131,75 @@ fn move_in_other<W: Width>(regs: &mut Regs68, ram: &mut Ram, fault: &mut Fault, 
     }
 }
 
-/// A move of a register to an operand of mode 6 or 7. Other modes, which don't come here, would be done as well.
+/// A move of a register to an operand of mode 6 or 7: a data register to an address is tried. Other modes, which
+/// don't come here, would be done as well.
 #[inline(never)]
 fn move_out_other<W: Width>(regs: &mut Regs68, ram: &mut Ram, fault: &mut Fault, word: u32) -> Did
     ensures { Does (moves W.SIZE regs.old ram.old word) result fault.new regs.old regs.new ram.old ram.new }
 {
-    let to = (move_mode_of(word), upper_of(word));
-    if mode_of(word) == 0 && to.0 > 5 {
-        move_from_register(regs, ram, fault, word, W::SIZE, lower_of(word), to)
-    } else {
-        move_any::<W>(regs, ram, fault, word)
+    let (from, to) = (lower_of(word), (move_mode_of(word), upper_of(word)));
+    if mode_of(word) == 0 {
+        if move_out_far::<W>(regs, ram, fault, word, from, to) {
+            return Did::Next;
+        }
     }
+    move_any::<W>(regs, ram, fault, word)
+}
+
+/// Tries a move of a data register to an operand of mode 6 or 7, a mode and a register, and tells whether it is
+/// done.
+#[inline(always)]
+fn move_out_far<W: Width>(
+    regs: &mut Regs68,
+    ram: &mut Ram,
+    fault: &mut Fault,
+    word: u32,
+    from: usize,
+    to: (u32, usize),
+) -> bool
+    requires from { from < 8 }
+    requires to { to.1 < 8 }
+    ensures { Tries (moved W.SIZE (0, from) to regs.old ram.old word) result regs.old regs.new ram.old ram.new }
+{
+    if to.0 != 6 && (to.0 != 7 || to.1 > 1) {
+        return false;
+    }
+    let mut next = 1;
+    let Some(at) = data_address(regs, ram, fault, word, &mut next, to.0, to.1) else {
+        return false;
+    };
+    match W::SIZE {
+        Size::Zero => false,
+        Size::One => move_out_at(regs, ram, word, Size::One, from, to, at, next),
+        Size::Two => move_out_at(regs, ram, word, Size::Two, from, to, at, next),
+        Size::Four => move_out_at(regs, ram, word, Size::Four, from, to, at, next),
+    }
+}
+
+/// Tries to store a data register of this size where the operand was found, and tells whether it is done.
+#[inline(always)]
+fn move_out_at(
+    regs: &mut Regs68,
+    ram: &mut Ram,
+    word: u32,
+    size: Size,
+    from: usize,
+    to: (u32, usize),
+    at: u32,
+    next: u32,
+) -> bool
+    requires from { from < 8 }
+    requires near { next ≤ 5 }
+    requires found { IsAt regs.old size (operand_at (words_at ram.old regs.old.pc) 1 size to.0 to.1) at next }
+    ensures { Tries (moved size (0, from) to regs.old ram.old word) result regs.old regs.new ram.old ram.new }
+{
+    let value = trunc(regs.d[from], size);
+    if !ram.store_if_open(at, size, value) {
+        return false;
+    }
+    regs.ccr = result_flags(size, value, regs.ccr);
+    go_on(regs, next);
+    true
 }
 
 /// A move of what is in no register.
