@@ -1,5 +1,5 @@
 -- Memory as a list of bytes with a mark for each unit of 16 bytes, and what a call on it answers.
-use Rattle.std.specs.Prelude.{◌≡◌, ℕ, ◌+◌, ◌-◌, ◌*◌, ◌/◌, ◌%◌, ◌<◌, ◌≤◌, ◌==◌, nat_lt, nat_le, Bool, false, ◌&&◌, ◌||◌, if◌then◌else◌, List, length, replicate, slice_range, slice_index_or, Option, Some, None, Result, Ok, Err, MatchOption}
+use Rattle.std.specs.Prelude.{◌≡◌, ℕ, ◌+◌, ◌-◌, ◌*◌, ◌/◌, ◌%◌, ◌<◌, ◌≤◌, ◌==◌, nat_lt, nat_le, Bool, false, not, ◌&&◌, ◌||◌, if◌then◌else◌, List, length, replicate, slice_range, slice_index_or, Option, Some, None, Result, Ok, Err, MatchOption}
 use Rattle.std.specs.List.{list_any}
 use Rattle.byteorder.specs.Endian.{big_bytes}
 use Rattle.mix_bits.specs.declared.size.Size.{Size}
@@ -49,6 +49,11 @@ meets_gate a n = nat_lt a gate_page_end && nat_lt gate_page (a + n)
 -- whether one of the n bytes at a, at least one, lies in a guarded unit
 abbrev pub meets_guard : Memory → ℕ → ℕ → Bool
 meets_guard m a n = list_any (λ mark. mark) (slice_range m.marks (a / 16) ((a + n - 1) / 16 + 1))
+
+-- whether the n bytes at a, at least one, lie in memory above the gate page, in one unit, which is not guarded
+abbrev pub is_open : Memory → ℕ → ℕ → Bool
+is_open m a n =
+    nat_lt 0 n && (nat_le gate_page_end a && (in_memory m a n && (nat_le (a % 16 + n) 16 && not (slice_index_or m.marks (a / 16) false))))
 
 -- the same as a relation: no unit of these bytes is guarded
 abbrev pub IsFree : Memory → ℕ → ℕ → Type 0

@@ -1,5 +1,5 @@
 -- Stores that are done as a whole or refused as a whole, and what they leave of memory.
-use Rattle.std.specs.Prelude.{◌≡◌, ◌≢◌, ◌⊎◌, ℕ, zero, suc, ◌<◌, ◌≤◌, List, [], ◌∷◌, length, slice_index, Option, Some, None, Result, Ok, Err}
+use Rattle.std.specs.Prelude.{◌≡◌, Bool, true, false, ◌≢◌, ◌⊎◌, ℕ, zero, suc, ◌<◌, ◌≤◌, List, [], ◌∷◌, length, slice_index, Option, Some, None, Result, Ok, Err}
 use Rattle.mix_bits.specs.declared.size.Size.{Size}
 use Rattle.mix_bits.specs.declared.size.Size.TheVariants.{Four}
 use Rattle.mix_bits.specs.Sizes.{bytes_of}
@@ -56,3 +56,8 @@ with_longs a (v ∷ vs) m = with_longs (onward a 4) vs (stored m a Four v)
 abbrev pub Stores : {T : Type 0} → Result T Access → Result Memory Access → Memory → Memory → Type 0
 Stores (Ok done) all old new = (all ≡ Ok new) × OnlyFree old new
 Stores (Err e) all old new = (all ≡ Err e) × (new ≡ old)
+
+-- a call that stores where that is plainly open: all is done, or nothing
+abbrev pub StoresIf : Bool → Result Memory Access → Bool → Memory → Memory → Type 0
+StoresIf plain all true old new = (plain ≡ true) × (all ≡ Ok new) × OnlyFree old new
+StoresIf plain all false old new = (plain ≡ false) × (new ≡ old)

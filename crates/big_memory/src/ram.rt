@@ -4,9 +4,9 @@ ghost use Rattle.byteorder.specs.Endian.{big_bytes};
 ghost use Rattle.mix_bits.specs.Sizes.{bytes_of, modulus};
 ghost use Rattle.mix_bits.specs.declared.size.Size.TheVariants.{One, Two, Four};
 ghost use Rattle.big_memory.specs.Lists.{part};
-ghost use Rattle.big_memory.specs.Memory.{IsRam, IsDoneUnless, IsDoneUnlessRefused, copied, copy_refusal, filled, floor_of, in_memory, loaded, meets_gate, meets_guard, refusal, stored, with_bytes, with_marks, zeroed};
+ghost use Rattle.big_memory.specs.Memory.{IsRam, IsDoneUnless, IsDoneUnlessRefused, copied, copy_refusal, filled, floor_of, in_memory, is_open, loaded, meets_gate, meets_guard, refusal, stored, with_bytes, with_marks, zeroed};
 ghost use Rattle.big_memory.specs.Numbers.{AreBytes, AreLongs, bytes_of_longs, long_at, longs_at};
-ghost use Rattle.big_memory.specs.Stores.{Stores, longs_refusal, stored_long, stored_longs, stored_value, with_longs};
+ghost use Rattle.big_memory.specs.Stores.{Stores, StoresIf, longs_refusal, stored_long, stored_longs, stored_value, with_longs};
 
 use super::map::{GATE_PAGE, GATE_PAGE_END};
 use super::refusals::Access;
@@ -196,6 +196,21 @@ impl Ram {
     {
         self.meets_invariant();
         self.store(a, s, v)
+    }
+
+    /// Stores the low bytes of `v` at `a` where [`Ram::is_open`] tells that they may be stored into, and tells
+    /// whether it did; other bytes, some of which may be stored into as well, are left to [`Ram::store_value`].
+    #[inline(always)]
+    #[tactic(auto, unfolding(crate::specs::Stores::stored_value), using(crate::proofs::Free::stores_free))]
+    pub fn store_if_open(&mut self, a: u32, s: Size, v: u32) -> bool
+        ensures { StoresIf (is_open self.old a (bytes_of s)) (stored_value self.old a s v) result self.old self.new }
+    {
+        self.meets_invariant();
+        let open = self.is_open(a, s.bytes());
+        if open {
+            self.put(a, s, v);
+        }
+        open
     }
 
     /// Stores the low byte of `v` at `a`, as [`Ram::store_value`] does.
@@ -415,7 +430,8 @@ impl Ram {
     /// gate page, in one unit, which is not guarded. Others may be stored into as well.
     #[inline(always)]
     #[tactic(auto, using(crate::proofs::Guarded::open_unit))]
-    fn is_open(&self, a: u32, n: u32) -> bool
+    pub fn is_open(&self, a: u32, n: u32) -> bool
+        ensures is { result ≡ is_open self.now a n }
         ensures open { IsTrue result → refusal self.now a n ≡ None }
         ensures within { IsTrue result → a + n ≤ length self.now.bytes }
         ensures some { IsTrue result → 0 < n }

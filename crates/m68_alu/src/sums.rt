@@ -1,10 +1,10 @@
 // Sums and differences.
-ghost use Rattle.std.specs.Prelude.{◌≡◌, ◌≢◌, ◌<◌, ◌≤ℤ◌, pos, neg_ℤ, FitsSigned};
+ghost use Rattle.std.specs.Prelude.{◌≡◌, ◌≢◌, ◌<◌, nat_le, ◌≤ℤ◌, pos, neg_ℤ, FitsSigned};
 ghost use Rattle.std.specs.Int.{w64};
 ghost use Rattle.mix_bits.specs.Sizes.{modulus as modulus_lem, signed_of};
 ghost use Rattle.mix_bits.specs.declared.size.Size.TheVariants.{Zero};
 ghost use Rattle.m68_alu.specs.Sizes.{leaves as leaves_lem};
-ghost use Rattle.m68_alu.specs.Sums.{compared, difference as difference_lem, difference_of, difference_value as difference_value_lem, difference_with_x, signed_difference, signed_total, sum as sum_lem, sum_of, sum_value as sum_value_lem, sum_with_x, with_old_zero};
+ghost use Rattle.m68_alu.specs.Sums.{compared, difference as difference_lem, difference_of, difference_value as difference_value_lem, difference_with_x, signed_difference, signed_total, sum as sum_lem, sum_of, sum_value as sum_value_lem, sum_with_x, total as total_lem, with_old_zero};
 
 use super::sizes::{is_negative, leaves, modulus, signed};
 use m68_isa::Ccr;
@@ -98,7 +98,7 @@ fn sum(s: Size, d: u32, r: u32, carry: bool) -> Out
     ensures below { result.value < modulus_lem s }
 {
     let value = sum_value(s, d, r, carry);
-    let out = u64::from(d) + (u64::from(r) + u64::from(carry)) >= modulus(s);
+    let out = carries(s, d, r, carry, value);
     Out {
         value,
         ccr: Ccr {
@@ -109,6 +109,17 @@ fn sum(s: Size, d: u32, r: u32, carry: bool) -> Out
             c: out,
         },
     }
+}
+
+/// Whether a sum, cut to the size, has left it: then it is less than its first part.
+#[inline(always)]
+fn carries(s: Size, d: u32, r: u32, carry: bool, value: u32) -> bool
+    requires d { d < modulus_lem s }
+    requires r { r < modulus_lem s }
+    requires value { value ≡ sum_value_lem s d r carry }
+    ensures { result ≡ nat_le (modulus_lem s) (total_lem d r carry) }
+{
+    value < d || carry && value == d
 }
 
 /// The difference of two values of a size and a borrow.

@@ -15,7 +15,7 @@ ghost use Rattle.m68_effects.specs.Parts.{after};
 use big_memory::{Did, Ram};
 use m68_alu::cmp;
 use m68_ea::{go_on, immediate_at, immediate_words, source, usual_source};
-use m68_isa::{Ccr, Op68, Regs68, bit8_of, lower_of, mode_of, size_bits_of, upper_of};
+use m68_isa::{Ccr, Op68, Regs68, bit8_of, is_long, lower_of, mode_of, size_bits_of, upper_of};
 use mix_bits::{Fault, Size, sext, trunc};
 
 /// The flags of a destination less a source, X as it was.
@@ -58,10 +58,12 @@ fn compare_registers(regs: &mut Regs68, ram: &Ram, fault: &mut Fault, word: u32)
     requires { (first_of word).mode ≡ 0 }
     ensures { Does (by_op Op68.Cmp regs.old ram.now word) result fault.new regs.old regs.new ram.now ram.now }
 {
+    if is_long(word) {
+        return with_other(regs, ram, fault, word, Size::Four);
+    }
     match size_bits_of(word) {
         0 => with_other(regs, ram, fault, word, Size::One),
-        1 => with_other(regs, ram, fault, word, Size::Two),
-        _ => with_other(regs, ram, fault, word, Size::Four),
+        _ => with_other(regs, ram, fault, word, Size::Two),
     }
 }
 
@@ -84,10 +86,12 @@ fn with_other(regs: &mut Regs68, ram: &Ram, fault: &mut Fault, word: u32, size: 
 fn compare_usual(regs: &mut Regs68, ram: &Ram, word: u32) -> bool
     ensures { Tries (by_op Op68.Cmp regs.old ram.now word) result regs.old regs.new ram.now ram.now }
 {
+    if is_long(word) {
+        return compare_sized(regs, ram, word, Size::Four);
+    }
     match size_bits_of(word) {
         0 => compare_sized(regs, ram, word, Size::One),
-        1 => compare_sized(regs, ram, word, Size::Two),
-        _ => compare_sized(regs, ram, word, Size::Four),
+        _ => compare_sized(regs, ram, word, Size::Two),
     }
 }
 

@@ -9,7 +9,7 @@ ghost use Rattle.m68_isa.specs.Targets.{branch_target as target_of};
 ghost use Rattle.m68_isa.specs.Fits.{Fits};
 
 use big_memory::{Did, Ram};
-use m68_ea::{extended_word, go_on, long_at, push};
+use m68_ea::{extended_word, go_on, long_at, push, push_if_open};
 use m68_isa::{Op68, Regs68, branch_target, byte_of, condition_of, holds, lower_of};
 use mix_bits::{Fault, Size, onward, with_low};
 
@@ -69,7 +69,7 @@ pub fn do_bcc_byte(regs: &mut Regs68, ram: &Ram, fault: &mut Fault, word: u32) -
     requires { Fits Op68.BccByte word }
     ensures { Does (by_op Op68.BccByte regs.old ram.now word) result fault.new regs.old regs.new ram.now ram.now }
 {
-    if holds(condition_of(word), regs.ccr) {
+    if holds(condition_of(word), &regs.ccr) {
         branch(regs, byte_of(word))
     } else {
         go_on(regs, 1)
@@ -82,7 +82,7 @@ pub fn do_bcc_word(regs: &mut Regs68, ram: &Ram, fault: &mut Fault, word: u32) -
     requires { Fits Op68.BccWord word }
     ensures { Does (by_op Op68.BccWord regs.old ram.now word) result fault.new regs.old regs.new ram.now ram.now }
 {
-    if holds(condition_of(word), regs.ccr) {
+    if holds(condition_of(word), &regs.ccr) {
         branch(regs, extended_word(ram, regs.pc, 1))
     } else {
         go_on(regs, 2)
@@ -95,7 +95,7 @@ pub fn do_bcc_long(regs: &mut Regs68, ram: &Ram, fault: &mut Fault, word: u32) -
     requires { Fits Op68.BccLong word }
     ensures { Does (by_op Op68.BccLong regs.old ram.now word) result fault.new regs.old regs.new ram.now ram.now }
 {
-    if holds(condition_of(word), regs.ccr) {
+    if holds(condition_of(word), &regs.ccr) {
         branch(regs, long_at(ram, regs.pc, 1))
     } else {
         go_on(regs, 3)
@@ -108,7 +108,7 @@ pub fn do_bcc_long(regs: &mut Regs68, ram: &Ram, fault: &mut Fault, word: u32) -
 pub fn do_dbcc(regs: &mut Regs68, ram: &Ram, fault: &mut Fault, word: u32) -> Did
     ensures { Does (by_op Op68.Dbcc regs.old ram.now word) result fault.new regs.old regs.new ram.now ram.now }
 {
-    if holds(condition_of(word), regs.ccr) {
+    if holds(condition_of(word), &regs.ccr) {
         return go_on(regs, 2);
     }
     let register = lower_of(word);
@@ -156,9 +156,29 @@ fn call_by(
     call(regs, ram, fault, onward(regs.pc, 2 * words), target)
 }
 
-/// Pushes the address of the next instruction, and lets the program go on elsewhere.
+/// Pushes the address of the next instruction, and lets the program go on elsewhere. A stack that is plainly open
+/// is tried first, since it needs no call and so no register saved.
 #[inline(always)]
 pub fn call(regs: &mut Regs68, ram: &mut Ram, fault: &mut Fault, next: u32, target: u32) -> Did
+    ensures { Does (after (called regs.old ram.old next target)) result fault.new regs.old regs.new ram.old ram.new }
+{
+    if push_if_open(regs, ram, next) {
+        regs.pc = target;
+        Did::Next
+    } else {
+        call_on_any_stack(regs, ram, fault, next, target)
+    }
+}
+
+/// The same on any stack.
+#[inline(never)]
+fn call_on_any_stack(
+    regs: &mut Regs68,
+    ram: &mut Ram,
+    fault: &mut Fault,
+    next: u32,
+    target: u32,
+) -> Did
     ensures { Does (after (called regs.old ram.old next target)) result fault.new regs.old regs.new ram.old ram.new }
 {
     if push(regs, ram, fault, next) {

@@ -107,15 +107,15 @@ abbrev pub Puts : Regs68 → Memory → Size → Target → ℕ → Bool → Fau
 Puts r m s t v true cell q n = (written_at r m t.place s v ≡ Ok (q, n)) × OnlyFree m n × KeepsControl r q
 Puts r m s t v false cell q n = (written_at r m t.place s v ≡ Err cell) × (q ≡ before r t) × (n ≡ m)
 
--- a value that is written where an operand was found in memory; or nothing is changed
-abbrev pub PutsAt : Result (Regs68 × Memory) Fault → Bool → Fault → Regs68 → Memory → Memory → Type 0
-PutsAt all true cell r m n = (all ≡ Ok (r, n)) × OnlyFree m n
-PutsAt all false cell r m n = (all ≡ Err cell) × (n ≡ m)
-
 -- a long that is pushed, and a value that is popped; a refused one changes nothing
 abbrev pub Pushes : Result (Regs68 × Memory) Fault → Bool → Fault → Regs68 → Regs68 → Memory → Memory → Type 0
 Pushes all true cell r q m n = (all ≡ Ok (q, n)) × OnlyFree m n × KeepsOthers r q
 Pushes all false cell r q m n = (all ≡ Err cell) × (q ≡ r) × (n ≡ m)
+
+-- the same of a push where the place is plainly open; else nothing is changed
+abbrev pub PushesIf : Bool → Result (Regs68 × Memory) Fault → Bool → Regs68 → Regs68 → Memory → Memory → Type 0
+PushesIf plain all true r q m n = (all ≡ Ok (q, n)) × OnlyFree m n × KeepsOthers r q
+PushesIf plain all false r q m n = (plain ≡ false) × (q ≡ r) × (n ≡ m)
 
 abbrev pub Pops : Result (Regs68 × ℕ) Fault → Option ℕ → Fault → Regs68 → Regs68 → Type 0
 Pops all (Some v) cell r q = (all ≡ Ok (q, v)) × KeepsOthers r q × (with_address q 7 (slice_index r.a 7) ≡ r)

@@ -16,12 +16,10 @@ mod words;
 
 pub use accesses::{load, read_at, store, write_at};
 pub use laws::tried_laws;
-pub use operands::{Target, control, data_address, find, put, put_at, source, value};
+pub use operands::{Target, control, data_address, find, put, source, value};
 pub use places::{Place68, backward, place};
-pub use stack::{pop, push, push_onto};
-pub use usual::{
-    Usual, find_usual, is_below_stack, put_usual, usual_or_immediate, usual_source, usual_write,
-};
+pub use stack::{pop, push, push_if_open};
+pub use usual::{Usual, find_usual, put_usual, usual_or_immediate, usual_source, usual_write};
 pub use words::{
     extended_word, go_on, immediate_at, immediate_words, is_second_good, long_at, word_at,
 };

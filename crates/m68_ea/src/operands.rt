@@ -4,9 +4,8 @@ ghost use Rattle.m68_isa.specs.Classes.{in_class};
 ghost use Rattle.m68_isa.specs.Operands.{operand_at, special_at};
 ghost use Rattle.m68_isa.specs.Classes.Class.{Control};
 ghost use Rattle.mix_bits.specs.declared.size.Size.TheVariants.{One, Two, Four};
-ghost use Rattle.m68_ea.specs.Finds.{Finds, FindsAddress, FindsAt, FindsControl, FindsIndexed, FindsPlace, HasFound, HasTarget, Puts, PutsAt, Reads, Takes};
+ghost use Rattle.m68_ea.specs.Finds.{Finds, FindsAddress, FindsAt, FindsControl, FindsIndexed, FindsPlace, HasFound, HasTarget, Puts, Reads, Takes};
 ghost use Rattle.mix_bits.specs.declared.fault.FaultKind.TheVariants.{Illegal};
-ghost use Rattle.m68_ea.specs.Operands.{written_at};
 ghost use Rattle.m68_ea.specs.Places.{placed, with_address};
 ghost use Rattle.m68_ea.specs.Words.{words_at};
 ghost use Rattle.m68_ea.specs.declared.places.Place68.TheVariants.{Mem};
@@ -172,21 +171,6 @@ pub fn put(
         }
         Place68::Imm(_) => true,
     }
-}
-
-/// Stores a value where an operand was found in memory, and tells whether it did; or its fault is in the cell.
-#[inline(always)]
-pub fn put_at(
-    regs: &Regs68,
-    ram: &mut Ram,
-    fault: &mut Fault,
-    at: u32,
-    size: Size,
-    value: u32,
-) -> bool
-    ensures { PutsAt (written_at regs.now ram.old (Mem at) size value) result fault.new regs.now ram.old ram.new }
-{
-    store(ram, fault, regs.pc, at, size, value)
 }
 
 /// The value of an operand of any mode, with its increment or decrement applied.

@@ -1,8 +1,10 @@
-ghost use Rattle.std.specs.Prelude.{◌<◌};
+ghost use Rattle.std.specs.Prelude.{◌<◌, slice_index};
 ghost use Rattle.mix_bits.specs.declared.size.Size.TheVariants.{Four};
 ghost use Rattle.m68_isa.specs.declared.ea.Ea.TheVariants.{Post, Pre};
-ghost use Rattle.m68_ea.specs.Finds.{Pops, Pushes};
+ghost use Rattle.m68_ea.specs.Finds.{Pops, Pushes, PushesIf};
+ghost use Rattle.big_memory.specs.Memory.{is_open};
 ghost use Rattle.m68_ea.specs.Operands.{put_into, sourced};
+ghost use Rattle.m68_ea.specs.Places.{backward as backward_of};
 
 use super::accesses::{load, store};
 use super::places::{backward, step};
@@ -35,6 +37,20 @@ pub fn push_onto(
     let done = store(ram, fault, regs.pc, at, size, value);
     if done {
         regs.a[register] = at;
+    }
+    done
+}
+
+/// Pushes a long where the place below the stack is plainly open, and tells whether it did; else nothing is
+/// changed, and it is left to [`push`].
+#[inline(always)]
+pub fn push_if_open(regs: &mut Regs68, ram: &mut Ram, value: u32) -> bool
+    ensures { PushesIf (is_open ram.old (backward_of (slice_index regs.old.a 7) 4) 4) (put_into regs.old ram.old Four (Pre 7) value) result regs.old regs.new ram.old ram.new }
+{
+    let at = backward(regs.a[7], 4);
+    let done = ram.store_if_open(at, Size::Four, value);
+    if done {
+        regs.a[7] = at;
     }
     done
 }

@@ -1,18 +1,19 @@
 // Operands in registers, immediate ones, and in memory by the usual modes: (An), (An)+, -(An) and (d16,An).
-// What is refused, or stands elsewhere, changes nothing here and is left to the calls for operands of any mode.
-ghost use Rattle.std.specs.Prelude.{◌≡◌, ◌+◌, ◌<◌, ◌≤◌, ◌==◌, nat_le, ◌&&◌, ◌||◌, IsTrue, IfSome, IfNone, MatchOption, None, Ok, OnSome, is_ok, true, false, slice_index};
-ghost use Rattle.big_memory.specs.Memory.{floor_of, loaded, refusal};
-ghost use Rattle.big_memory.specs.Stores.{stored_value};
+// What is refused, stands elsewhere, or is not plainly open to a store, changes nothing here and is left to the
+// calls for operands of any mode.
+ghost use Rattle.std.specs.Prelude.{◌≡◌, ◌+◌, ◌<◌, ◌≤◌, ◌==◌, nat_le, ◌&&◌, ◌||◌, IfSome, IfNone, MatchOption, Ok, OnSome, is_ok, true, false, slice_index};
+ghost use Rattle.mix_bits.specs.Sizes.{bytes_of};
+ghost use Rattle.big_memory.specs.Memory.{is_open, loaded};
 ghost use Rattle.m68_isa.specs.Operands.{operand_at};
 ghost use Rattle.m68_ea.specs.Operands.{sourced, written_at};
 ghost use Rattle.m68_ea.specs.Places.{with_address};
-ghost use Rattle.m68_ea.specs.Usual.{FindsUsual, IsLeft, IsUsual, Pokes, PutsUsual, TakesUsual, WritesUsual, is_usual};
+ghost use Rattle.m68_ea.specs.Usual.{FindsUsual, IsLeft, IsUsual, PutsUsual, TakesUsual, WritesUsual, is_usual};
 ghost use Rattle.m68_ea.specs.Words.{words_at};
 ghost use Rattle.m68_ea.specs.declared.places.Place68.TheVariants.{Mem};
 
 use super::places::{backward, step};
 use super::words::{extended_word, immediate_at, immediate_words};
-use big_memory::{GATE_PAGE_END, Ram, memory_laws};
+use big_memory::Ram;
 use m68_isa::Regs68;
 use mix_bits::{Size, onward, trunc};
 
@@ -81,25 +82,6 @@ fn peek(ram: &Ram, a: u32, size: Size) -> Option<u32>
     ram.load(a, size).ok()
 }
 
-/// Stores a value at an address where that can be done, and tells whether it did.
-#[inline(always)]
-fn poke(ram: &mut Ram, a: u32, size: Size, value: u32) -> bool
-    ensures { Pokes (stored_value ram.old a size value) result ram.old ram.new }
-{
-    ram.store_value(a, size, value).is_ok()
-}
-
-/// Whether `n` bytes lie between the gate page and the stack, where every store is done.
-#[inline(always)]
-pub fn is_below_stack(ram: &Ram, a: u32, n: u32) -> bool
-    ensures is { result ≡ (nat_le 0x2000 a && nat_le (a + n) (floor_of ram.now)) }
-    ensures passes { IsTrue result → refusal ram.now a n ≡ None }
-{
-    memory_laws();
-    ram.meets_invariant();
-    a >= GATE_PAGE_END && u64::from(a) + u64::from(n) <= u64::from(ram.floor())
-}
-
 /// Finds an operand in memory of a usual mode that can be read; its value stands beside it. Nothing is changed.
 #[inline(always)]
 pub fn find_usual(
@@ -122,8 +104,8 @@ pub fn find_usual(
     Some((found, value))
 }
 
-/// Stores a value where an operand of a usual mode was found, with its increment or decrement, and tells
-/// whether it did; else nothing is changed.
+/// Stores a value where an operand of a usual mode was found and the place is plainly open, with its increment
+/// or decrement, and tells whether it did; else nothing is changed.
 #[inline(always)]
 pub fn put_usual(
     regs: &mut Regs68,
@@ -135,9 +117,9 @@ pub fn put_usual(
 ) -> bool
     requires { lower < 8 }
     ensures { let then = with_address regs.old lower found.after in
-        PutsUsual then (written_at then ram.old (Mem found.at) size value) result regs.old regs.new ram.old ram.new }
+        PutsUsual (is_open ram.old found.at (bytes_of size)) then (written_at then ram.old (Mem found.at) size value) result regs.old regs.new ram.old ram.new }
 {
-    let done = poke(ram, found.at, size, value);
+    let done = ram.store_if_open(found.at, size, value);
     if done {
         regs.a[lower] = found.after;
     }
@@ -235,7 +217,7 @@ fn source_in_memory(
 }
 
 /// Writes a value into memory of a usual mode, and tells whether it did; an increment or decrement is
-/// applied. An operand of another mode, or one that can't be stored into, is not written.
+/// applied. An operand of another mode, or one that isn't plainly open, is not written.
 #[inline(always)]
 pub fn usual_write(
     regs: &mut Regs68,
@@ -253,9 +235,9 @@ pub fn usual_write(
 {
     let before = regs.a[lower];
     match mode {
-        2 => poke(ram, before, size, value),
+        2 => ram.store_if_open(before, size, value),
         3 => {
-            let done = poke(ram, before, size, value);
+            let done = ram.store_if_open(before, size, value);
             if done {
                 regs.a[lower] = onward(before, step(lower, size));
             }
@@ -263,7 +245,7 @@ pub fn usual_write(
         }
         4 => {
             let at = backward(before, step(lower, size));
-            let done = poke(ram, at, size, value);
+            let done = ram.store_if_open(at, size, value);
             if done {
                 regs.a[lower] = at;
             }
@@ -271,7 +253,7 @@ pub fn usual_write(
         }
         5 => {
             let at = onward(before, extended_word(ram, regs.pc, *next));
-            let done = poke(ram, at, size, value);
+            let done = ram.store_if_open(at, size, value);
             if done {
                 *next += 1;
             }

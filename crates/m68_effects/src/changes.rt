@@ -1,6 +1,6 @@
 // Operands that an operation changes.
 ghost use Rattle.std.specs.Prelude.{◌≡◌, ◌≢◌, ◌+◌, ◌<◌, ◌≤◌, slice_index};
-ghost use Rattle.mix_bits.specs.declared.size.Size.TheVariants.{Zero};
+ghost use Rattle.mix_bits.specs.declared.size.Size.TheVariants.{Zero, One, Two, Four};
 ghost use Rattle.m68_isa.specs.First.{first_of, size_of};
 ghost use Rattle.m68_isa.specs.Operands.{immediate_at as immediate_at_of, immediate_words as immediate_words_of, operand_at};
 ghost use Rattle.big_memory.specs.Steps.{Does};
@@ -12,10 +12,9 @@ ghost use Rattle.m68_effects.specs.Operations.{changed_at, changed_by};
 use super::operation::{Operation, apply};
 use big_memory::{Did, Ram};
 use m68_ea::{
-    data_address, find, find_usual, go_on, immediate_at, immediate_words, load, put, put_at,
-    put_usual, value,
+    data_address, find, find_usual, go_on, immediate_at, immediate_words, put, put_usual, value,
 };
-use m68_isa::{Regs68, lower_of, mode_of, size_bits_of, upper_of};
+use m68_isa::{Regs68, is_long, lower_of, mode_of, size_bits_of, upper_of};
 use mix_bits::{Fault, Size, trunc, with_low};
 
 /// Changes an operand of this size by an operation with a number. Its extension words begin with word `first`.
@@ -160,40 +159,67 @@ fn change_far(
     let Some(at) = data_address(regs, ram, fault, word, &mut next, mode, lower) else {
         return Did::Stop;
     };
-    match size_bits_of(word) {
-        0 => change_at(regs, ram, fault, word, Size::One, op, by, at, next),
-        1 => change_at(regs, ram, fault, word, Size::Two, op, by, at, next),
-        _ => change_at(regs, ram, fault, word, Size::Four, op, by, at, next),
+    if change_there(regs, ram, word, op, by, at, next) {
+        Did::Next
+    } else {
+        change_other(regs, ram, fault, word, op, by)
     }
 }
 
-/// Changes an operand of this size in memory, where it was found, by an operation with a number.
+/// Tries to change an operand of the size in bits 7 and 6 where it was found in memory, and tells whether it is
+/// done.
+#[inline(always)]
+fn change_there(
+    regs: &mut Regs68,
+    ram: &mut Ram,
+    word: u32,
+    op: Operation,
+    by: u32,
+    at: u32,
+    next: u32,
+) -> bool
+    requires near { next ≤ 5 }
+    requires byte { IsAt regs.old One (operand_at (words_at ram.old regs.old.pc) 1 One (first_of word).mode (first_of word).lower) at next }
+    requires word { IsAt regs.old Two (operand_at (words_at ram.old regs.old.pc) 1 Two (first_of word).mode (first_of word).lower) at next }
+    requires long { IsAt regs.old Four (operand_at (words_at ram.old regs.old.pc) 1 Four (first_of word).mode (first_of word).lower) at next }
+    ensures { Tries (changed_by op 1 by word regs.old ram.old) result regs.old regs.new ram.old ram.new }
+{
+    if is_long(word) {
+        return change_at(regs, ram, word, Size::Four, op, by, at, next);
+    }
+    match size_bits_of(word) {
+        0 => change_at(regs, ram, word, Size::One, op, by, at, next),
+        _ => change_at(regs, ram, word, Size::Two, op, by, at, next),
+    }
+}
+
+/// The same of this size.
 #[inline(always)]
 fn change_at(
     regs: &mut Regs68,
     ram: &mut Ram,
-    fault: &mut Fault,
     word: u32,
     size: Size,
     op: Operation,
     by: u32,
     at: u32,
     next: u32,
-) -> Did
+) -> bool
     requires some { size ≢ Zero }
     requires near { next ≤ 5 }
     requires found { IsAt regs.old size (operand_at (words_at ram.old regs.old.pc) 1 size (first_of word).mode (first_of word).lower) at next }
-    ensures { Does (changed_at size op 1 by word regs.old ram.old) result fault.new regs.old regs.new ram.old ram.new }
+    ensures { Tries (changed_at size op 1 by word regs.old ram.old) result regs.old regs.new ram.old ram.new }
 {
-    let Some(old) = load(ram, fault, regs.pc, at, size) else {
-        return Did::Stop;
+    let Ok(old) = ram.load(at, size) else {
+        return false;
     };
     let out = apply(op, size, old, by, regs.ccr);
-    if !put_at(regs, ram, fault, at, size, out.value) {
-        return Did::Stop;
+    if !ram.store_if_open(at, size, out.value) {
+        return false;
     }
     regs.ccr = out.ccr;
-    go_on(regs, next)
+    go_on(regs, next);
+    true
 }
 
 /// The same by the data register of bits 11 to 9.
@@ -217,10 +243,12 @@ pub fn change_by_register(
 fn change_usual(regs: &mut Regs68, ram: &mut Ram, word: u32, op: Operation, by: u32) -> bool
     ensures { Tries (changed_by op 1 by word regs.old ram.old) result regs.old regs.new ram.old ram.new }
 {
+    if is_long(word) {
+        return change_in_memory(regs, ram, word, 1, Size::Four, op, by);
+    }
     match size_bits_of(word) {
         0 => change_in_memory(regs, ram, word, 1, Size::One, op, by),
-        1 => change_in_memory(regs, ram, word, 1, Size::Two, op, by),
-        _ => change_in_memory(regs, ram, word, 1, Size::Four, op, by),
+        _ => change_in_memory(regs, ram, word, 1, Size::Two, op, by),
     }
 }
 
@@ -265,10 +293,12 @@ pub fn change_register(
     requires { (first_of word).mode ≡ 0 }
     ensures { Does (changed_by op 1 by word regs.old ram.now) result fault.new regs.old regs.new ram.now ram.now }
 {
+    if is_long(word) {
+        return change_low(regs, ram, fault, word, Size::Four, op, by);
+    }
     match size_bits_of(word) {
         0 => change_low(regs, ram, fault, word, Size::One, op, by),
-        1 => change_low(regs, ram, fault, word, Size::Two, op, by),
-        _ => change_low(regs, ram, fault, word, Size::Four, op, by),
+        _ => change_low(regs, ram, fault, word, Size::Two, op, by),
     }
 }
 

@@ -12,7 +12,7 @@ ghost use Rattle.m68_effects.specs.Operations.{taken_at, taken_by};
 use super::operation::{Operation, apply};
 use big_memory::{Did, Ram};
 use m68_ea::{data_address, go_on, immediate_at, immediate_words, load, source, usual_source};
-use m68_isa::{Regs68, lower_of, mode_of, size_bits_of, upper_of};
+use m68_isa::{Regs68, is_long, lower_of, mode_of, size_bits_of, upper_of};
 use mix_bits::{Fault, Size, trunc, with_low};
 
 /// Changes the data register of bits 11 to 9 by an operation with another data register, of the size in bits 7
@@ -28,10 +28,12 @@ pub fn take_register(
     requires { (first_of word).mode ≡ 0 }
     ensures { Does (taken_by op word regs.old ram.now) result fault.new regs.old regs.new ram.now ram.now }
 {
+    if is_long(word) {
+        return take_low(regs, ram, fault, word, Size::Four, op);
+    }
     match size_bits_of(word) {
         0 => take_low(regs, ram, fault, word, Size::One, op),
-        1 => take_low(regs, ram, fault, word, Size::Two, op),
-        _ => take_low(regs, ram, fault, word, Size::Four, op),
+        _ => take_low(regs, ram, fault, word, Size::Two, op),
     }
 }
 
@@ -212,10 +214,12 @@ fn take_data_sized(
 fn take_usual(regs: &mut Regs68, ram: &Ram, word: u32, op: Operation) -> bool
     ensures { Tries (taken_by op word regs.old ram.now) result regs.old regs.new ram.now ram.now }
 {
+    if is_long(word) {
+        return take_in_memory(regs, ram, word, Size::Four, op);
+    }
     match size_bits_of(word) {
         0 => take_in_memory(regs, ram, word, Size::One, op),
-        1 => take_in_memory(regs, ram, word, Size::Two, op),
-        _ => take_in_memory(regs, ram, word, Size::Four, op),
+        _ => take_in_memory(regs, ram, word, Size::Two, op),
     }
 }
 

@@ -6,9 +6,9 @@ use super::registers::Ccr;
 /// Whether a condition, from 0 to 15, holds of the condition codes
 /// (M68000 Family Programmer's Reference Manual, table 3-19).
 #[inline]
-pub fn holds(condition: u32, ccr: Ccr) -> bool
+pub fn holds(condition: u32, ccr: &Ccr) -> bool
     requires { condition < 16 }
-    ensures { result ≡ holds condition ccr }
+    ensures { result ≡ holds condition ccr.now }
 {
     match condition {
         0 => true,
@@ -32,8 +32,8 @@ pub fn holds(condition: u32, ccr: Ccr) -> bool
 
 /// Whether N and V are the same.
 #[inline(always)]
-fn is_not_less(ccr: Ccr) -> bool
-    ensures { result ≡ is_not_less ccr }
+fn is_not_less(ccr: &Ccr) -> bool
+    ensures { result ≡ is_not_less ccr.now }
 {
     if ccr.n { ccr.v } else { !ccr.v }
 }

@@ -1,4 +1,4 @@
-ghost use Rattle.std.specs.Prelude.{◌≡◌, ◌≢◌, ◌<◌, ◌*◌, ◌+◌, ◌%◌, ◌==◌, nat_lt};
+ghost use Rattle.std.specs.Prelude.{◌≡◌, ◌≢◌, ◌⊎◌, ◌<◌, ◌*◌, ◌+◌, ◌%◌, ◌==◌, nat_lt, true, false};
 ghost use Rattle.mix_bits.specs.Sizes.{sign_extended};
 ghost use Rattle.m68_isa.specs.First.{first_of, size_of, long_or_word, low_byte, condition_of, one_to_eight};
 ghost use Rattle.m68_isa.specs.Immediates.{logic_op, bit_op};
@@ -86,6 +86,19 @@ pub fn size_of(word: u32) -> Size
     }
 }
 
+/// Whether the size of bits 7 and 6 is the long, the one that programs use most: one test of the word.
+#[inline(always)]
+pub fn is_long(word: u32) -> bool
+    ensures long { result ≡ true → size_of (first_of word).size ≡ Size.Four }
+    ensures short { result ≡ false → (first_of word).size < 2 }
+{
+    match size_bits_of(word) {
+        0 => false,
+        1 => false,
+        _ => true,
+    }
+}
+
 /// The size of bit 8: word or long.
 #[inline(always)]
 pub fn long_or_word_of(word: u32) -> Size
@@ -136,6 +149,16 @@ pub fn low_byte_of(word: u32) -> u32
     ensures { result ≡ low_byte (first_of word) }
 {
     word % 0x100
+}
+
+/// Whether the displacement of a branch is the byte in bits 7 to 0 itself: 0 stands for a word behind, and 255
+/// for a long.
+#[inline(always)]
+pub fn has_byte_displacement(word: u32) -> bool
+    ensures near { result ≡ true → (low_byte (first_of word) ≢ 0) × (low_byte (first_of word) ≢ 255) }
+    ensures far { result ≡ false → (low_byte (first_of word) ≡ 0) ⊎ (low_byte (first_of word) ≡ 255) }
+{
+    (low_byte_of(word) + 1) % 0x100 > 1
 }
 
 /// The number of addq, subq and of a shift, from 1 to 8, where the field's 0 stands for 8.

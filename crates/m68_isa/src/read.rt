@@ -4,7 +4,9 @@ ghost use Rattle.m68_isa.specs.Decode.{operation};
 ghost use Rattle.m68_isa.specs.Fits.{Fits};
 
 use super::arithmetic::{line_8, line_9, line_b, line_c, line_d};
-use super::fields::{bit8_of, condition_of, line_of, low_byte_of, mode_of, upper_of};
+use super::fields::{
+    bit8_of, condition_of, has_byte_displacement, line_of, low_byte_of, mode_of, upper_of,
+};
 use super::immediates::line_0;
 use super::miscellaneous::line_4;
 use super::moves::{line_1, line_2, line_3};
@@ -66,10 +68,13 @@ fn line_6(word: u32) -> Op68
     ensures value { result ≡ operation (first_of word) }
     ensures fits { Fits result word }
 {
-    match condition_of(word) {
-        0 => always(word),
-        1 => calling(word),
-        _ => conditional(word),
+    let condition = condition_of(word);
+    if condition > 1 {
+        conditional(word)
+    } else if condition == 0 {
+        always(word)
+    } else {
+        calling(word)
     }
 }
 
@@ -80,10 +85,12 @@ fn always(word: u32) -> Op68
     ensures value { result ≡ operation (first_of word) }
     ensures fits { Fits result word }
 {
-    match low_byte_of(word) {
-        0 => Op68::BraWord,
-        0xff => branch_by_long(word),
-        _ => Op68::BraByte,
+    if has_byte_displacement(word) {
+        Op68::BraByte
+    } else if low_byte_of(word) == 0 {
+        Op68::BraWord
+    } else {
+        branch_by_long(word)
     }
 }
 
@@ -94,10 +101,12 @@ fn calling(word: u32) -> Op68
     ensures value { result ≡ operation (first_of word) }
     ensures fits { Fits result word }
 {
-    match low_byte_of(word) {
-        0 => Op68::BsrWord,
-        0xff => branch_by_long(word),
-        _ => Op68::BsrByte,
+    if has_byte_displacement(word) {
+        Op68::BsrByte
+    } else if low_byte_of(word) == 0 {
+        Op68::BsrWord
+    } else {
+        branch_by_long(word)
     }
 }
 
@@ -108,10 +117,12 @@ fn conditional(word: u32) -> Op68
     ensures value { result ≡ operation (first_of word) }
     ensures fits { Fits result word }
 {
-    match low_byte_of(word) {
-        0 => Op68::BccWord,
-        0xff => branch_by_long(word),
-        _ => Op68::BccByte,
+    if has_byte_displacement(word) {
+        Op68::BccByte
+    } else if low_byte_of(word) == 0 {
+        Op68::BccWord
+    } else {
+        branch_by_long(word)
     }
 }
 

@@ -2,8 +2,8 @@
 ghost use Rattle.std.specs.Prelude.{◌≡◌, ◌≢◌, ◌<◌, ◌==◌, ◌%◌};
 ghost use Rattle.mix_bits.specs.Addresses.{onward as onward_of};
 ghost use Rattle.mix_bits.specs.declared.size.Size.TheVariants.{Zero};
-ghost use Rattle.m68_isa.specs.First.{first_of};
-ghost use Rattle.m68_isa.specs.Shifts.{shift_count, shift_op};
+ghost use Rattle.m68_isa.specs.First.{first_of, size_of};
+ghost use Rattle.m68_isa.specs.Shifts.{shift_count};
 ghost use Rattle.big_memory.specs.Steps.{Does};
 ghost use Rattle.m68_effects.specs.Ops.{by_op};
 ghost use Rattle.m68_effects.specs.Parts.{after};
@@ -13,39 +13,50 @@ use big_memory::{Did, Ram};
 use m68_alu::shift;
 use m68_ea::{find, go_on, put, value};
 use m68_isa::{
-    Op68, Regs68, ShiftCount, ShiftOp, is_left, lower_of, memory_shift_of, mode_of,
+    Op68, Regs68, ShiftCount, ShiftOp, is_left, is_long, lower_of, memory_shift_of, mode_of,
     register_shift_of, shift_count_of, size_bits_of,
 };
 use mix_bits::{Fault, Size, with_low};
 
-/// asl, asr, lsl, lsr, roxl, roxr, rol and ror: a data register by a count.
+/// asl, asr, lsl, lsr, roxl, roxr, rol and ror: a data register by a count. Arithmetic shifts stand apart, since
+/// the others need no register saved.
 #[inline(never)]
 pub fn do_shift(regs: &mut Regs68, ram: &Ram, fault: &mut Fault, word: u32) -> Did
     ensures { Does (by_op Op68.Shift regs.old ram.now word) result fault.new regs.old regs.new ram.now ram.now }
 {
-    match size_bits_of(word) {
-        0 => shift_sized(regs, ram, fault, word, Size::One),
-        1 => shift_sized(regs, ram, fault, word, Size::Two),
-        _ => shift_sized(regs, ram, fault, word, Size::Four),
-    }
-}
-
-/// A data register of this size by the kind of shift in bits 4 and 3.
-#[inline(always)]
-fn shift_sized(regs: &mut Regs68, ram: &Ram, fault: &mut Fault, word: u32, size: Size) -> Did
-    requires { size ≢ Zero }
-    ensures { let f = first_of word in
-        Does (after (shift_effect regs.old ram.now (onward_of regs.old.pc 2) (shift_op (f.mode % 4)) (f.bit8 == 1) size (shift_count f) f.lower)) result fault.new regs.old regs.new ram.now ram.now }
-{
     match register_shift_of(word) {
-        ShiftOp::As => shift_either_way(regs, ram, fault, word, ShiftOp::As, size),
-        ShiftOp::Ls => shift_either_way(regs, ram, fault, word, ShiftOp::Ls, size),
-        ShiftOp::Rox => shift_either_way(regs, ram, fault, word, ShiftOp::Rox, size),
-        ShiftOp::Ro => shift_either_way(regs, ram, fault, word, ShiftOp::Ro, size),
+        ShiftOp::As => shift_arithmetically(regs, ram, fault, word),
+        ShiftOp::Ls => shift_by(regs, ram, fault, word, ShiftOp::Ls),
+        ShiftOp::Rox => shift_by(regs, ram, fault, word, ShiftOp::Rox),
+        ShiftOp::Ro => shift_by(regs, ram, fault, word, ShiftOp::Ro),
     }
 }
 
-/// The same by one kind of shift, to the left or to the right by bit 8.
+/// asl and asr of a data register.
+#[inline(never)]
+fn shift_arithmetically(regs: &mut Regs68, ram: &Ram, fault: &mut Fault, word: u32) -> Did
+    ensures { let f = first_of word in
+        Does (after (shift_effect regs.old ram.now (onward_of regs.old.pc 2) ShiftOp.As (f.bit8 == 1) (size_of f.size) (shift_count f) f.lower)) result fault.new regs.old regs.new ram.now ram.now }
+{
+    shift_by(regs, ram, fault, word, ShiftOp::As)
+}
+
+/// A data register by one kind of shift, of the size in bits 7 and 6.
+#[inline(always)]
+fn shift_by(regs: &mut Regs68, ram: &Ram, fault: &mut Fault, word: u32, op: ShiftOp) -> Did
+    ensures { let f = first_of word in
+        Does (after (shift_effect regs.old ram.now (onward_of regs.old.pc 2) op (f.bit8 == 1) (size_of f.size) (shift_count f) f.lower)) result fault.new regs.old regs.new ram.now ram.now }
+{
+    if is_long(word) {
+        return shift_either_way(regs, ram, fault, word, op, Size::Four);
+    }
+    match size_bits_of(word) {
+        0 => shift_either_way(regs, ram, fault, word, op, Size::One),
+        _ => shift_either_way(regs, ram, fault, word, op, Size::Two),
+    }
+}
+
+/// The same of this size, to the left or to the right by bit 8.
 #[inline(always)]
 fn shift_either_way(
     regs: &mut Regs68,

@@ -1,4 +1,4 @@
-ghost use Rattle.std.specs.Prelude.{◌≡◌, ◌<◌, true, Ok};
+ghost use Rattle.std.specs.Prelude.{◌≡◌, ◌<◌, ◌≤◌, true, Ok};
 ghost use Rattle.mix_bits.specs.declared.size.Size.{Size as ASize};
 ghost use Rattle.mix_bits.specs.declared.size.Size.TheVariants.{One, Two, Four};
 ghost use Rattle.m68_isa.specs.declared.instructions.Instr68.TheVariants.{Movea};
@@ -7,6 +7,7 @@ ghost use Rattle.m68_isa.specs.Moves.{move_mode};
 ghost use Rattle.m68_isa.specs.Operands.{operand_at};
 ghost use Rattle.m68_isa.specs.Rows.{taken};
 ghost use Rattle.big_memory.specs.Steps.{Does};
+ghost use Rattle.m68_ea.specs.Finds.{IsAt};
 ghost use Rattle.m68_ea.specs.Operands.{sourced};
 ghost use Rattle.m68_ea.specs.Usual.{Tries};
 ghost use Rattle.m68_ea.specs.Words.{words_at};
@@ -17,7 +18,7 @@ use super::parts::write;
 use big_memory::{Did, Ram, stop};
 use m68_alu::result_flags;
 use m68_ea::{
-    go_on, is_second_good, push_onto, source, usual_or_immediate, usual_source, usual_write,
+    data_address, go_on, is_second_good, source, usual_or_immediate, usual_source, usual_write,
 };
 use m68_isa::{Op68, Regs68, lower_of, mode_of, move_mode_of, upper_of};
 use mix_bits::{Fault, FaultKind, Size, sext, trunc, with_low};
@@ -96,8 +97,6 @@ fn do_move<W: Width>(regs: &mut Regs68, ram: &mut Ram, fault: &mut Fault, word: 
         }
     } else if mode_of(word) > 1 {
         move_in_memory::<W>(regs, ram, fault, word)
-    } else if move_mode_of(word) == 4 {
-        move_onto_stack::<W>(regs, ram, fault, word)
     } else {
         move_register::<W>(regs, ram, fault, word)
     }
@@ -132,27 +131,75 @@ fn move_in_other<W: Width>(regs: &mut Regs68, ram: &mut Ram, fault: &mut Fault, 
     }
 }
 
-/// A move of a register to an operand of mode 6 or 7. Other modes, which don't come here, would be done as well.
+/// A move of a register to an operand of mode 6 or 7: a data register to an address is tried. Other modes, which
+/// don't come here, would be done as well.
 #[inline(never)]
 fn move_out_other<W: Width>(regs: &mut Regs68, ram: &mut Ram, fault: &mut Fault, word: u32) -> Did
     ensures { Does (moves W.SIZE regs.old ram.old word) result fault.new regs.old regs.new ram.old ram.new }
 {
-    let to = (move_mode_of(word), upper_of(word));
-    if mode_of(word) == 0 && to.0 > 5 {
-        move_from_register(regs, ram, fault, word, W::SIZE, lower_of(word), to)
-    } else {
-        move_any::<W>(regs, ram, fault, word)
+    let (from, to) = (lower_of(word), (move_mode_of(word), upper_of(word)));
+    if mode_of(word) == 0 {
+        if move_out_far::<W>(regs, ram, fault, word, from, to) {
+            return Did::Next;
+        }
+    }
+    move_any::<W>(regs, ram, fault, word)
+}
+
+/// Tries a move of a data register to an operand of mode 6 or 7, a mode and a register, and tells whether it is
+/// done.
+#[inline(always)]
+fn move_out_far<W: Width>(
+    regs: &mut Regs68,
+    ram: &mut Ram,
+    fault: &mut Fault,
+    word: u32,
+    from: usize,
+    to: (u32, usize),
+) -> bool
+    requires from { from < 8 }
+    requires to { to.1 < 8 }
+    ensures { Tries (moved W.SIZE (0, from) to regs.old ram.old word) result regs.old regs.new ram.old ram.new }
+{
+    if to.0 != 6 && (to.0 != 7 || to.1 > 1) {
+        return false;
+    }
+    let mut next = 1;
+    let Some(at) = data_address(regs, ram, fault, word, &mut next, to.0, to.1) else {
+        return false;
+    };
+    match W::SIZE {
+        Size::Zero => false,
+        Size::One => move_out_at(regs, ram, word, Size::One, from, to, at, next),
+        Size::Two => move_out_at(regs, ram, word, Size::Two, from, to, at, next),
+        Size::Four => move_out_at(regs, ram, word, Size::Four, from, to, at, next),
     }
 }
 
-/// A move of a register onto a stack.
-#[inline(never)]
-fn move_onto_stack<W: Width>(regs: &mut Regs68, ram: &mut Ram, fault: &mut Fault, word: u32) -> Did
-    requires from { (first_of word).mode < 2 }
-    requires to { move_mode (first_of word) ≡ 4 }
-    ensures { Does (moves W.SIZE regs.old ram.old word) result fault.new regs.old regs.new ram.old ram.new }
+/// Tries to store a data register of this size where the operand was found, and tells whether it is done.
+#[inline(always)]
+fn move_out_at(
+    regs: &mut Regs68,
+    ram: &mut Ram,
+    word: u32,
+    size: Size,
+    from: usize,
+    to: (u32, usize),
+    at: u32,
+    next: u32,
+) -> bool
+    requires from { from < 8 }
+    requires near { next ≤ 5 }
+    requires found { IsAt regs.old size (operand_at (words_at ram.old regs.old.pc) 1 size to.0 to.1) at next }
+    ensures { Tries (moved size (0, from) to regs.old ram.old word) result regs.old regs.new ram.old ram.new }
 {
-    move_before(regs, ram, fault, word, W::SIZE)
+    let value = trunc(regs.d[from], size);
+    if !ram.store_if_open(at, size, value) {
+        return false;
+    }
+    regs.ccr = result_flags(size, value, regs.ccr);
+    go_on(regs, next);
+    true
 }
 
 /// A move of what is in no register.
@@ -222,21 +269,6 @@ fn move_out(regs: &mut Regs68, ram: &mut Ram, word: u32, size: Size) -> bool
     regs.ccr = result_flags(size, value, regs.ccr);
     go_on(regs, next);
     true
-}
-
-/// A move of this size of a register to the place before an address register.
-#[inline(always)]
-fn move_before(regs: &mut Regs68, ram: &mut Ram, fault: &mut Fault, word: u32, size: Size) -> Did
-    requires from { (first_of word).mode < 2 }
-    requires to { move_mode (first_of word) ≡ 4 }
-    ensures { Does (moves size regs.old ram.old word) result fault.new regs.old regs.new ram.old ram.new }
-{
-    let value = register_value(regs, ram, size, mode_of(word), lower_of(word));
-    if !push_onto(regs, ram, fault, upper_of(word), size, value) {
-        return Did::Stop;
-    }
-    regs.ccr = result_flags(size, value, regs.ccr);
-    go_on(regs, 1)
 }
 
 /// The value of an operand in a register.
@@ -360,6 +392,18 @@ fn move_between(
 pub fn do_movea_word(regs: &mut Regs68, ram: &Ram, fault: &mut Fault, word: u32) -> Did
     ensures { Does (by_op Op68.MoveaWord regs.old ram.now word) result fault.new regs.old regs.new ram.now ram.now }
 {
+    if movea_usual(regs, ram, word, Size::Two) {
+        Did::Next
+    } else {
+        movea_word_of_any(regs, ram, fault, word)
+    }
+}
+
+/// movea.w of an operand of any mode.
+#[inline(never)]
+fn movea_word_of_any(regs: &mut Regs68, ram: &Ram, fault: &mut Fault, word: u32) -> Did
+    ensures { Does (by_op Op68.MoveaWord regs.old ram.now word) result fault.new regs.old regs.new ram.now ram.now }
+{
     let (mode, lower) = (mode_of(word), lower_of(word));
     move_to_address(
         regs,
@@ -378,6 +422,18 @@ pub fn do_movea_word(regs: &mut Regs68, ram: &Ram, fault: &mut Fault, word: u32)
 pub fn do_movea_long(regs: &mut Regs68, ram: &Ram, fault: &mut Fault, word: u32) -> Did
     ensures { Does (by_op Op68.MoveaLong regs.old ram.now word) result fault.new regs.old regs.new ram.now ram.now }
 {
+    if movea_usual(regs, ram, word, Size::Four) {
+        Did::Next
+    } else {
+        movea_long_of_any(regs, ram, fault, word)
+    }
+}
+
+/// movea.l of an operand of any mode.
+#[inline(never)]
+fn movea_long_of_any(regs: &mut Regs68, ram: &Ram, fault: &mut Fault, word: u32) -> Did
+    ensures { Does (by_op Op68.MoveaLong regs.old ram.now word) result fault.new regs.old regs.new ram.now ram.now }
+{
     let (mode, lower) = (mode_of(word), lower_of(word));
     move_to_address(
         regs,
@@ -389,6 +445,24 @@ pub fn do_movea_long(regs: &mut Regs68, ram: &Ram, fault: &mut Fault, word: u32)
         lower,
         upper_of(word),
     )
+}
+
+/// Tries a move of this size of a register, or of memory of a usual mode, into an address register, and tells
+/// whether it is done.
+#[inline(always)]
+fn movea_usual(regs: &mut Regs68, ram: &Ram, word: u32, size: Size) -> bool
+    ensures { let f = first_of word in
+        let from = operand_at (words_at ram.now regs.old.pc) 1 size f.mode f.lower in
+        Tries (runs_made regs.old ram.now word (taken (Movea size from.ea f.upper) from)) result regs.old regs.new ram.now ram.now }
+{
+    let upper = upper_of(word);
+    let mut next = 1;
+    let Some(value) = usual_source(regs, ram, &mut next, size, mode_of(word), lower_of(word)) else {
+        return false;
+    };
+    regs.a[upper] = sext(value, size);
+    go_on(regs, next);
+    true
 }
 
 /// A move of this size into an address register.

@@ -15,7 +15,7 @@ ghost use Rattle.m68_movement.specs.Along.{Loads, StoresOpen};
 use super::along::{store_along, store_down};
 use arrayvec::ArrayVec;
 use big_memory::{Did, Ram, memory_laws};
-use m68_ea::{backward, control, go_on, is_below_stack, load, word_at};
+use m68_ea::{backward, control, go_on, load, word_at};
 use m68_isa::{Op68, Regs68, lower_of, mode_of, transfer_size_of};
 use mix_bits::{Fault, Size, digit, onward, sext};
 
@@ -90,7 +90,7 @@ fn store_open(regs: &Regs68, ram: &mut Ram, size: Size, mask: u32, base: u32) ->
 fn is_open(ram: &Ram, a: u32) -> bool
     ensures { IsTrue result → refusal ram.now a 64 ≡ None }
 {
-    is_below_stack(ram, a, SIXTEEN_LONGS) || ram.probe(a, SIXTEEN_LONGS).is_ok()
+    ram.is_below_stack(a, SIXTEEN_LONGS) || ram.probe(a, SIXTEEN_LONGS).is_ok()
 }
 
 /// Stores the registers of a mask downwards from an address, none of which is refused, and tells where the

@@ -1,5 +1,6 @@
 // Instructions of one operand.
 ghost use Rattle.std.specs.Prelude.{◌≡◌, ◌<◌, ◌≤◌};
+ghost use Rattle.mix_bits.specs.declared.size.Size.TheVariants.{One, Two, Four};
 ghost use Rattle.m68_isa.specs.declared.instructions.Instr68.TheVariants.{Clr, Tst};
 ghost use Rattle.m68_isa.specs.First.{first_of};
 ghost use Rattle.m68_isa.specs.Operands.{operand_at};
@@ -13,8 +14,8 @@ ghost use Rattle.m68_effects.specs.Ops.{by_op, runs_made};
 use super::parts::write;
 use big_memory::{Did, Ram};
 use m68_alu::result_flags;
-use m68_ea::{data_address, find, go_on, load, put, put_at, source, usual_source, value};
-use m68_isa::{Op68, Regs68, condition_of, holds, lower_of, mode_of, size_bits_of};
+use m68_ea::{data_address, find, go_on, load, put, source, usual_source, value};
+use m68_isa::{Op68, Regs68, condition_of, holds, is_long, lower_of, mode_of, size_bits_of};
 use mix_bits::{Fault, Size, with_low};
 
 /// clr: zeros into an operand.
@@ -37,10 +38,12 @@ fn clr_register(regs: &mut Regs68, ram: &Ram, fault: &mut Fault, word: u32) -> D
     ensures { Does (by_op Op68.Clr regs.old ram.now word) result fault.new regs.old regs.new ram.now ram.now }
 {
     let lower = lower_of(word);
+    if is_long(word) {
+        return clear_in_register(regs, ram, fault, word, Size::Four, lower);
+    }
     match size_bits_of(word) {
         0 => clear_in_register(regs, ram, fault, word, Size::One, lower),
-        1 => clear_in_register(regs, ram, fault, word, Size::Two, lower),
-        _ => clear_in_register(regs, ram, fault, word, Size::Four, lower),
+        _ => clear_in_register(regs, ram, fault, word, Size::Two, lower),
     }
 }
 
@@ -57,35 +60,46 @@ fn clr_elsewhere(regs: &mut Regs68, ram: &mut Ram, fault: &mut Fault, word: u32)
     let Some(at) = data_address(regs, ram, fault, word, &mut next, mode, lower) else {
         return Did::Stop;
     };
-    match size_bits_of(word) {
-        0 => clear_at(regs, ram, fault, word, Size::One, at, next),
-        1 => clear_at(regs, ram, fault, word, Size::Two, at, next),
-        _ => clear_at(regs, ram, fault, word, Size::Four, at, next),
+    if clear_there(regs, ram, word, at, next) {
+        Did::Next
+    } else {
+        clr_operand(regs, ram, fault, word)
     }
 }
 
-/// Zeros of this size into memory, where the operand was found.
+/// Tries to store zeros of the size in bits 7 and 6 where the operand was found, and tells whether it did.
 #[inline(always)]
-fn clear_at(
-    regs: &mut Regs68,
-    ram: &mut Ram,
-    fault: &mut Fault,
-    word: u32,
-    size: Size,
-    at: u32,
-    next: u32,
-) -> Did
+fn clear_there(regs: &mut Regs68, ram: &mut Ram, word: u32, at: u32, next: u32) -> bool
+    requires near { next ≤ 5 }
+    requires byte { IsAt regs.old One (operand_at (words_at ram.old regs.old.pc) 1 One (first_of word).mode (first_of word).lower) at next }
+    requires word { IsAt regs.old Two (operand_at (words_at ram.old regs.old.pc) 1 Two (first_of word).mode (first_of word).lower) at next }
+    requires long { IsAt regs.old Four (operand_at (words_at ram.old regs.old.pc) 1 Four (first_of word).mode (first_of word).lower) at next }
+    ensures { Tries (by_op Op68.Clr regs.old ram.old word) result regs.old regs.new ram.old ram.new }
+{
+    if is_long(word) {
+        return clear_at(regs, ram, word, Size::Four, at, next);
+    }
+    match size_bits_of(word) {
+        0 => clear_at(regs, ram, word, Size::One, at, next),
+        _ => clear_at(regs, ram, word, Size::Two, at, next),
+    }
+}
+
+/// The same of this size.
+#[inline(always)]
+fn clear_at(regs: &mut Regs68, ram: &mut Ram, word: u32, size: Size, at: u32, next: u32) -> bool
     requires near { next ≤ 5 }
     requires found { IsAt regs.old size (operand_at (words_at ram.old regs.old.pc) 1 size (first_of word).mode (first_of word).lower) at next }
     ensures { let f = first_of word in
         let to = operand_at (words_at ram.old regs.old.pc) 1 size f.mode f.lower in
-        Does (runs_made regs.old ram.old word (taken (Clr size to.ea) to)) result fault.new regs.old regs.new ram.old ram.new }
+        Tries (runs_made regs.old ram.old word (taken (Clr size to.ea) to)) result regs.old regs.new ram.old ram.new }
 {
-    if !put_at(regs, ram, fault, at, size, 0) {
-        return Did::Stop;
+    if !ram.store_if_open(at, size, 0) {
+        return false;
     }
     regs.ccr = result_flags(size, 0, regs.ccr);
-    go_on(regs, next)
+    go_on(regs, next);
+    true
 }
 
 /// clr of any other operand.
@@ -206,10 +220,12 @@ fn test_at(
 fn tst_usual(regs: &mut Regs68, ram: &Ram, word: u32) -> bool
     ensures { Tries (by_op Op68.Tst regs.old ram.now word) result regs.old regs.new ram.now ram.now }
 {
+    if is_long(word) {
+        return test_usual(regs, ram, word, Size::Four);
+    }
     match size_bits_of(word) {
         0 => test_usual(regs, ram, word, Size::One),
-        1 => test_usual(regs, ram, word, Size::Two),
-        _ => test_usual(regs, ram, word, Size::Four),
+        _ => test_usual(regs, ram, word, Size::Two),
     }
 }
 
@@ -291,7 +307,7 @@ pub fn do_scc(regs: &mut Regs68, ram: &mut Ram, fault: &mut Fault, word: u32) ->
     ensures { Does (by_op Op68.Scc regs.old ram.old word) result fault.new regs.old regs.new ram.old ram.new }
 {
     let (mode, lower) = (mode_of(word), lower_of(word));
-    let ones = if holds(condition_of(word), regs.ccr) {
+    let ones = if holds(condition_of(word), &regs.ccr) {
         0xFF
     } else {
         0

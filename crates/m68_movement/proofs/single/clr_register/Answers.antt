@@ -1,16 +1,16 @@
 use Rattle.std.proofs.Common.{◌≡◌, arith}
-use Rattle.mix_bits.specs.declared.size.Size.TheVariants.{Four}
-use Rattle.m68_isa.specs.First.{first_of, size_of}
-use Rattle.m68_movement.proofs.Sizes.{long_size}
+use Rattle.std.proofs.lemmas.Bool.Decides.{nat_tests}
+use Rattle.mix_bits.specs.declared.size.Size.TheVariants.{Two}
+use Rattle.m68_isa.specs.First.{size_of}
 use Rattle.m68_movement.proofs.single.clr_register.Goals as goal
 
-pub returns-in-0 : goal.returns-in-0
-returns-in-0 c = rw (← c.size_bits_of.ensures.is, c.in-0.is, c.requires, ← c.lower_of-lower.ensures.is) c.clear_in_register.ensures
+pub returns-then-is_long : goal.returns-then-is_long
+returns-then-is_long c = rw (c.is_long.ensures.long c.if-is_long.true, c.requires, ← c.lower_of-lower.ensures.is) c.clear_in_register.ensures
 
-pub returns-in-1 : goal.returns-in-1
-returns-in-1 c = rw (← c.size_bits_of.ensures.is, c.in-1.is, c.requires, ← c.lower_of-lower.ensures.is) c.clear_in_register-in-1.ensures
+pub returns-in-0 : goal.returns-in-0
+returns-in-0 c = rw (← c.size_bits_of.ensures.is, c.in-0.is, c.requires, ← c.lower_of-lower.ensures.is) c.clear_in_register-in-0.ensures
 
 pub returns-in_default : goal.returns-in_default
 returns-in_default c =
-    let size : size_of (first_of c.args.word).size ≡ Four = long_size (first_of c.args.word).size (omega arith) (omega arith) in
-    rw (size, c.requires, ← c.lower_of-lower.ensures.is) c.clear_in_register-in_default.ensures
+    let two : size_of c.size_bits_of.result ≡ Two = grind (arith, nat_tests, c.is_long.ensures.short c.if-is_long.false, c.size_bits_of.ensures.is) in
+    rw (← c.size_bits_of.ensures.is, two, c.requires, ← c.lower_of-lower.ensures.is) c.clear_in_register-in_default.ensures
