@@ -59,6 +59,11 @@ fn append_values(
 {
     match params {
         [] => Ok(()),
+        [only] => {
+            let place = place_for(route, base, only, 0);
+            values.push(value_at(regs, ram, place, only.size)?);
+            Ok(())
+        }
         [first, rest @ ..] => {
             let place = place_for(route, base, first, widths(rest));
             values.push(value_at(regs, ram, place, first.size)?);

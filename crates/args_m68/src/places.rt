@@ -113,6 +113,7 @@ fn place_numbered(code: u8) -> Place
 
 /// The place of a parameter. The lowest of this and the later ones begins `base` bytes above the return
 /// address, and the later ones take `later` bytes.
+#[inline(always)]
 pub fn place_for(route: Route, base: u32, param: &Param, later: u32) -> Place
     requires base { base ≤ 1000 }
     requires later { later ≤ 1000 }
@@ -127,6 +128,7 @@ pub fn place_for(route: Route, base: u32, param: &Param, later: u32) -> Place
 }
 
 /// Where the lowest of the later parameters begins.
+#[inline(always)]
 pub fn next_base(route: Route, base: u32) -> u32
     requires { base ≤ 1000 }
     ensures value { result ≡ next_base_lem route base }

@@ -55,12 +55,17 @@ pub fn put_result68(sig: &Sig, value: u32, regs: &mut Regs68, ram: &mut Ram) -> 
     ensures popped { OnOk result (slice_index regs.new.a 7 ≡ (slice_index regs.old.a 7 + popped_lem (signature sig.now)) % 2 ^ 32) }
     ensures free { OnlyFree ram.old ram.new }
 {
-    let mut after = *regs;
-    set_register(&mut after.a, 7, above_sp(regs, popped(sig)));
+    let sp = regs.a[7];
+    let after = above_sp(regs, popped(sig));
+    set_register(&mut regs.a, 7, after);
     let place = result_place(route_for(sig.conv), sig.place);
-    put_at(&mut after, ram, place, sig.result, value)?;
-    *regs = after;
-    Ok(())
+    match put_at(regs, ram, place, sig.result, value) {
+        Ok(()) => Ok(()),
+        Err(access) => {
+            set_register(&mut regs.a, 7, sp);
+            Err(access)
+        }
+    }
 }
 
 /// Puts a value into one of some registers.

@@ -18,6 +18,7 @@ pub fn above_sp(regs: &Regs68, from: u32) -> u32
 }
 
 /// What stands at a place, cut to its size; a condition bit as 1 or 0.
+#[inline(always)]
 pub fn value_at(regs: &Regs68, ram: &Ram, place: Place, size: Size) -> Result<u32, Access>
     requires { IsThere place }
     ensures { result ≡ value_at_lem regs.now ram.now place size }

@@ -1,13 +1,17 @@
 -- Laws of marks that are packed in bytes.
-use Rattle.std.proofs.Common.{◌≡◌, ◌≢◌, inl, inr, ℕ, zero, suc, ◌+◌, ◌-◌, ◌*◌, ◌/◌, ◌%◌, ◌^◌, ◌<◌, ◌≤◌, ◌==◌, drop, Bool, true, false, List, [], ◌∷◌, ◌++◌, length, get_or, set, replicate, slice_range, bit_and, bit_or, arith, sym, ◌∙◌, ap, refl}
+use Rattle.std.proofs.Common.{◌≡◌, ◌≢◌, inl, inr, ℕ, zero, suc, ◌+◌, ◌-◌, ◌*◌, ◌/◌, ◌%◌, ◌^◌, ◌<◌, ◌≤◌, ◌==◌, drop, Bool, true, false, List, [], ◌∷◌, ◌++◌, length, get_or, set, replicate, slice_range, ◌⊎◌, bit_and, bit_or, arith, sym, ◌∙◌, ap, refl, lit<}
 use Rattle.std.specs.List.{list_any}
 use Rattle.std.specs.Int.{bit_at, w8}
-use Rattle.std.proofs.lemmas.List.{get_or-map, set-append_left, set-append_right, get_or_append_left, get_or-append_right, get_or-set_same, get_or-set_other, length-set, ext_get_or, replicate-append-replicate, length-take, length-drop, get_or-take, get_or-drop}
+use Rattle.std.proofs.lemmas.List.{get_or-map, get_or_append_left, get_or-append_right, get_or-set_same, get_or-set_other, length-set, ext_get_or, replicate-append-replicate, length-replicate, get_or-replicate, length-take, length-drop, get_or-take, get_or-drop}
 use Rattle.std.proofs.lemmas.List.Folds.{list_any_at}
-use Rattle.std.proofs.lemmas.Bool.{cases_eq, eqb-true}
-use Rattle.std.proofs.lemmas.Nat.Bits.{bit_at-zero, bit_at_set_same, bit_at_set_other, bit_at_clear_same, bit_at_clear_other}
+use Rattle.std.proofs.Math.Nat.{pow-le-pow_right}
+use Rattle.std.proofs.lemmas.Nat.{pow_pos}
+use Rattle.std.proofs.lemmas.Bool.{cases_eq, cases_lt, eqb-true}
+use Rattle.std.proofs.lemmas.Nat.Bits.{bit_at-zero, bit_at-lt, bit_at_and, bit_at_or, bit_at_not, bit_at_mask_inside, bit_at_mask_below, bit_at_mask_above}
 use Rattle.mix_bits.proofs.Every.{every_at}
+use Rattle.big_memory.specs.Lists.{put}
 use Rattle.big_memory.specs.Marks.{places_in, marks_in, marks_of}
+use Rattle.big_memory.proofs.Lists.{length-put, put-append, get_or-put_inside, get_or-put_outside}
 
 -- eight marks a byte
 pub length-marks : (guard : List ℕ) → length (marks_of guard) ≡ 8 * length guard
@@ -30,15 +34,6 @@ get_or-marks_in : (byte place : ℕ) → place < 8 → get_or (marks_in byte) pl
 get_or-marks_in byte place small =
     get_or-map (λ k. bit_at byte k == 1) places_in place 0 false small ∙ ap (λ k. bit_at byte k == 1) (place_at place small)
 
--- bytes that agree but in one bit
-set-marks_in : (byte new place : ℕ) (on : Bool) → place < 8 → (bit_at new place == 1) ≡ on → ((k : ℕ) → k < 8 → k ≢ place → bit_at new k ≡ bit_at byte k) → marks_in new ≡ set (marks_in byte) place on
-set-marks_in byte new place on small same other =
-    ext_get_or false _ _ (sym (length-set (marks_in byte) place on)) (λ k within.
-    elim (cases_eq k place) [
-      | inl here ↦ rw here (get_or-marks_in new place small ∙ same ∙ sym (get_or-set_same (marks_in byte) place on false small))
-      | inr there ↦ get_or-marks_in new k within ∙ ap (λ bit. bit == 1) (other k within there) ∙ sym (get_or-marks_in byte k within) ∙ sym (get_or-set_other (marks_in byte) place k on false there)
-    ])
-
 -- the mark of a unit stands in its byte
 get_or-marks : (guard : List ℕ) (q r k : ℕ) → k ≡ 8 * q + r → r < 8 → q < length guard → get_or (marks_of guard) k false ≡ get_or (marks_in (get_or guard q 0)) r false
 get_or-marks [] q r k unit small within = absurd (omega arith)
@@ -47,24 +42,74 @@ get_or-marks (x ∷ xs) zero r k unit small within =
 get_or-marks (x ∷ xs) (suc q) r k unit small within =
     get_or-append_right (marks_in x) (marks_of xs) 8 k false refl (omega arith) ∙ get_or-marks xs q r (k - 8) (omega arith) small (omega arith)
 
--- a byte of the guard replaced by one with another mark
-set-marks : (guard : List ℕ) (q r k byte : ℕ) (on : Bool) → k ≡ 8 * q + r → r < 8 → q < length guard → marks_in byte ≡ set (marks_in (get_or guard q 0)) r on → marks_of (set guard q byte) ≡ set (marks_of guard) k on
-set-marks [] q r k byte on unit small within one = absurd (omega arith)
-set-marks (x ∷ xs) zero r k byte on unit small within one =
-    let same : k ≡ r = omega arith in
-    rw same (ap (λ marks. marks ++ marks_of xs) one ∙ sym (set-append_left (marks_in x) (marks_of xs) r on small))
-set-marks (x ∷ xs) (suc q) r k byte on unit small within one =
-    ap (λ marks. marks_in x ++ marks) (set-marks xs q r (k - 8) byte on (omega arith) small (omega arith) one)
-    ∙ sym (set-append_right (marks_in x) (marks_of xs) 8 k on refl (omega arith))
-
 -- the same for a unit's number
 pub get_or-marks_at : (guard : List ℕ) (unit : ℕ) → unit < length (marks_of guard) → get_or (marks_of guard) unit false ≡ (bit_at (get_or guard (unit / 8) 0) (unit % 8) == 1)
 get_or-marks_at guard unit within =
     get_or-marks guard (unit / 8) (unit % 8) unit (omega arith) (omega arith) (omega (arith, length-marks guard)) ∙ get_or-marks_in _ _ (omega arith)
 
-pub set-marks_at : (guard : List ℕ) (unit byte : ℕ) (on : Bool) → unit < length (marks_of guard) → marks_in byte ≡ set (marks_in (get_or guard (unit / 8) 0)) (unit % 8) on → marks_of (set guard (unit / 8) byte) ≡ set (marks_of guard) unit on
-set-marks_at guard unit byte on within one =
-    set-marks guard (unit / 8) (unit % 8) unit byte on (omega arith) (omega arith) (omega (arith, length-marks guard)) one
+-- a unit in a byte of the guard that was replaced, and one in another byte
+get_or-marks_same : (guard : List ℕ) (q k new : ℕ) → q < length guard → k / 8 ≡ q → get_or (marks_of (set guard q new)) k false ≡ (bit_at new (k % 8) == 1)
+get_or-marks_same guard q k new within here =
+    let there : k < length (marks_of (set guard q new)) = omega (arith, length-marks (set guard q new), length-set guard q new) in
+    let byte : get_or (set guard q new) (k / 8) 0 ≡ new = rw here (get_or-set_same guard q new 0 within) in
+    get_or-marks_at (set guard q new) k there ∙ ap (λ b. bit_at b (k % 8) == 1) byte
+
+get_or-marks_other : (guard : List ℕ) (q k new : ℕ) → k < length (marks_of guard) → k / 8 ≢ q → get_or (marks_of (set guard q new)) k false ≡ get_or (marks_of guard) k false
+get_or-marks_other guard q k new within other =
+    let there : k < length (marks_of (set guard q new)) = omega (arith, length-marks guard, length-marks (set guard q new), length-set guard q new) in
+    get_or-marks_at (set guard q new) k there ∙ ap (λ b. bit_at b (k % 8) == 1) (get_or-set_other guard q (k / 8) new 0 other) ∙ sym (get_or-marks_at guard k within)
+
+-- a unit whose bit stays
+get_or-marks_kept : (guard : List ℕ) (q k new : ℕ) → q < length guard → k < length (marks_of guard) → (k / 8 ≡ q → bit_at new (k % 8) ≡ bit_at (get_or guard q 0) (k % 8)) → get_or (marks_of (set guard q new)) k false ≡ get_or (marks_of guard) k false
+get_or-marks_kept guard q k new byte within kept =
+    elim (cases_eq (k / 8) q) [
+      | inl here ↦
+          get_or-marks_same guard q k new byte here ∙ ap (λ bit. bit == 1) (kept here)
+          ∙ ap (λ b. bit_at (get_or guard b 0) (k % 8) == 1) (sym here) ∙ sym (get_or-marks_at guard k within)
+      | inr other ↦ get_or-marks_other guard q k new within other
+    ]
+
+-- a byte of the guard replaced by one with another run of marks
+pub put-marks : (guard : List ℕ) (q place end new : ℕ) (on : Bool) → q < length guard → place ≤ end → end ≤ 8
+    → ((k : ℕ) → place ≤ k → k < end → (bit_at new k == 1) ≡ on)
+    → ((k : ℕ) → k < place → bit_at new k ≡ bit_at (get_or guard q 0) k)
+    → ((k : ℕ) → end ≤ k → k < 8 → bit_at new k ≡ bit_at (get_or guard q 0) k)
+    → marks_of (set guard q new) ≡ put (8 * q + place) (replicate (end - place) on) (marks_of guard)
+put-marks guard q place end new on byte order within inside below above =
+    let run = replicate (end - place) on in
+    let many : length run ≡ end - place = length-replicate (end - place) on in
+    let long : length (marks_of (set guard q new)) ≡ length (marks_of guard) = omega (arith, length-marks guard, length-marks (set guard q new), length-set guard q new) in
+    let room : 8 * q + place + length run ≤ length (marks_of guard) = omega (arith, length-marks guard) in
+    let same : length (put (8 * q + place) run (marks_of guard)) ≡ length (marks_of guard) = length-put (8 * q + place) run (marks_of guard) room in
+    ext_get_or false _ _ (long ∙ sym same) (λ k small.
+    let there : k < length (marks_of guard) = omega (arith, small) in
+    let outside : (k < 8 * q + place) ⊎ (8 * q + place + length run ≤ k) → get_or (marks_of (set guard q new)) k false ≡ get_or (put (8 * q + place) run (marks_of guard)) k false
+    = λ apart. get_or-marks_kept guard q k new byte there (λ here.
+    elim apart [
+      | inl low ↦ below (k % 8) (omega arith)
+      | inr high ↦ above (k % 8) (omega arith) (omega arith)
+    ])
+    ∙ sym (get_or-put_outside (8 * q + place) k run (marks_of guard) false room apart) in
+    elim (cases_lt k (8 * q + place)) [
+      | inl low ↦ outside (inl low)
+      | inr from ↦
+          elim (cases_lt k (8 * q + end)) [
+            | inl to ↦
+                get_or-marks_same guard q k new byte (omega arith) ∙ inside (k % 8) (omega arith) (omega arith)
+                ∙ sym (get_or-put_inside (8 * q + place) k run (marks_of guard) false room from (omega arith) ∙ get_or-replicate (end - place) (k - (8 * q + place)) on false (omega arith))
+            | inr high ↦ outside (inr (omega arith))
+          ]
+    ])
+
+-- a run of marks goes on
+pub put-runs : (at n m k : ℕ) (on : Bool) (marks : List Bool) → k ≡ at + n → k + m ≤ length marks → put k (replicate m on) (put at (replicate n on) marks) ≡ put at (replicate (n + m) on) marks
+put-runs at n m k on marks place within =
+    let many : length (replicate n on) ≡ n = length-replicate n on in
+    let more : length (replicate m on) ≡ m = length-replicate m on in
+    let here : at + length (replicate n on) ≡ k = omega arith in
+    ap (λ p. put p (replicate m on) (put at (replicate n on) marks)) (sym here)
+    ∙ sym (put-append at (replicate n on) (replicate m on) marks (omega arith))
+    ∙ ap (λ run. put at run marks) (replicate-append-replicate n m on)
 
 -- the units of a byte that marks nothing
 pub get_or-marks_clear : (guard : List ℕ) (unit k : ℕ) → unit % 8 ≡ 0 → unit + 8 ≤ length (marks_of guard) → get_or guard (unit / 8) 0 ≡ 0 → unit ≤ k → k < unit + 8 → get_or (marks_of guard) k false ≡ false
@@ -92,11 +137,42 @@ any_found marks from to k within after before set =
     (omega (arith, length-take (to - from) (drop from marks), length-drop from marks))
     (get_or-take (to - from) (drop from marks) (k - from) false (omega arith) ∙ get_or-drop from marks (k - from) false ∙ ap (λ n. get_or marks n false) place ∙ set)
 
--- what the code's masks do
-pub marks_in-or : (byte place : ℕ) → place < 8 → marks_in (bit_or byte (1 * 2 ^ place % 256)) ≡ set (marks_in byte) place true
-marks_in-or byte place small =
-    set-marks_in byte _ place true small (ap (λ bit. bit == 1) (bit_at_set_same w8 byte place small)) (λ k within other. bit_at_set_other w8 byte place small k other)
+-- a mask of ones from a place up to another, and the bits beside it
+mask_outside : (place end k : ℕ) → (k < place) ⊎ (end ≤ k) → bit_at (2 ^ end - 2 ^ place) k ≡ 0
+mask_outside place end k (inl low) = bit_at_mask_below place end k low
+mask_outside place end k (inr high) = bit_at_mask_above place end k high
 
-pub marks_in-and : (byte place : ℕ) → place < 8 → marks_in (bit_and byte (255 - 1 * 2 ^ place % 256)) ≡ set (marks_in byte) place false
-marks_in-and byte place small =
-    set-marks_in byte _ place false small (ap (λ bit. bit == 1) (bit_at_clear_same w8 byte place small)) (λ k within other. bit_at_clear_other w8 byte place small k within other)
+mask-small : (place end : ℕ) → end ≤ 8 → 2 ^ end - 2 ^ place < 2 ^ 8
+mask-small place end small =
+    let most : 2 ^ end ≤ 2 ^ 8 = pow-le-pow_right (lit< tt) small in
+    let some : 0 < 2 ^ place = pow_pos place in
+    omega arith
+
+-- a power that one byte has a bit for, as the code makes it
+pub power-fits : (k : ℕ) → k ≤ 8 → 1 * 2 ^ k % 2 ^ 16 ≡ 2 ^ k
+power-fits k small = let most : 2 ^ k ≤ 2 ^ 8 = pow-le-pow_right (lit< tt) small in omega arith
+
+pub mask-is : (place end : ℕ) → place ≤ end → end ≤ 8 → 1 * 2 ^ end % 2 ^ 16 - 1 * 2 ^ place % 2 ^ 16 ≡ 2 ^ end - 2 ^ place
+mask-is place end order small = let first = power-fits place (omega arith) in let last = power-fits end small in rw (first, last) refl
+
+mask_not : (place end k : ℕ) → end ≤ 8 → k < 8 → bit_at (255 - (2 ^ end - 2 ^ place)) k ≡ 1 - bit_at (2 ^ end - 2 ^ place) k
+mask_not place end k small within = bit_at_not w8 (2 ^ end - 2 ^ place) k (mask-small place end small) within
+
+-- what the code's masks do
+pub bits-or : (byte place end k : ℕ) → place ≤ k → k < end → bit_at (bit_or byte (2 ^ end - 2 ^ place)) k ≡ 1
+bits-or byte place end k from to =
+    bit_at_or byte (2 ^ end - 2 ^ place) k ∙ omega (arith, bit_at_mask_inside place end k from to, bit_at-lt byte k)
+
+pub bits-or_kept : (byte place end k : ℕ) → (k < place) ⊎ (end ≤ k) → bit_at (bit_or byte (2 ^ end - 2 ^ place)) k ≡ bit_at byte k
+bits-or_kept byte place end k apart =
+    bit_at_or byte (2 ^ end - 2 ^ place) k ∙ omega (arith, mask_outside place end k apart)
+
+pub bits-and : (byte place end k : ℕ) → end ≤ 8 → place ≤ k → k < end → bit_at (bit_and byte (255 - (2 ^ end - 2 ^ place))) k ≡ 0
+bits-and byte place end k small from to =
+    bit_at_and byte (255 - (2 ^ end - 2 ^ place)) k
+    ∙ omega (arith, mask_not place end k small (omega arith), bit_at_mask_inside place end k from to)
+
+pub bits-and_kept : (byte place end k : ℕ) → end ≤ 8 → k < 8 → (k < place) ⊎ (end ≤ k) → bit_at (bit_and byte (255 - (2 ^ end - 2 ^ place))) k ≡ bit_at byte k
+bits-and_kept byte place end k small within apart =
+    bit_at_and byte (255 - (2 ^ end - 2 ^ place)) k
+    ∙ omega (arith, mask_not place end k small within, mask_outside place end k apart, bit_at-lt byte k)

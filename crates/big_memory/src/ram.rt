@@ -4,8 +4,8 @@ ghost use Rattle.byteorder.specs.Endian.{big_bytes};
 ghost use Rattle.mix_bits.specs.Sizes.{bytes_of, modulus};
 ghost use Rattle.mix_bits.specs.declared.size.Size.TheVariants.{One, Two, Four};
 ghost use Rattle.big_memory.specs.Lists.{part};
-ghost use Rattle.big_memory.specs.Memory.{IsRam, IsDoneUnless, IsDoneUnlessRefused, copied, copy_refusal, filled, floor_of, in_memory, is_open, loaded, meets_gate, meets_guard, refusal, stored, with_bytes, with_marks, zeroed};
-ghost use Rattle.big_memory.specs.Numbers.{AreBytes, AreLongs, bytes_of_longs, long_at, longs_at};
+ghost use Rattle.big_memory.specs.Memory.{IsDoneUnless, IsDoneUnlessRefused, IsRam, copied, copy_refusal, filled, floor_of, in_memory, is_open, loaded, meets_gate, meets_guard, refusal, stored, with_bytes, with_marks, zeroed};
+ghost use Rattle.big_memory.specs.Numbers.{AreBytes, AreLongs, bytes_of_longs, long_at, longs_at, number_at};
 ghost use Rattle.big_memory.specs.Stores.{Stores, StoresIf, longs_refusal, stored_long, stored_longs, stored_value, with_longs};
 
 use super::map::{GATE_PAGE, GATE_PAGE_END};
@@ -142,6 +142,15 @@ impl Ram {
         ensures { result ≡ loaded self.now a Four }
     {
         self.load(a, Size::Four)
+    }
+
+    /// The number in the bytes at `a`, which lie in memory.
+    #[inline(always)]
+    pub fn read(&self, a: u32, s: Size) -> u32
+        requires { a + bytes_of s ≤ length self.now.bytes }
+        ensures { result ≡ number_at a (bytes_of s) self.now.bytes }
+    {
+        bytes::read_number(&self.bytes, a as usize, s)
     }
 
     /// The long at `a`, which lies in memory.

@@ -124,6 +124,7 @@ fn add_arguments(line: &mut Line, params: &[Param], args: &[u32])
 }
 
 /// Appends a mark and a value in as many digits as its size has, and nothing where it has no size.
+#[inline(always)]
 fn add_marked(line: &mut Line, mark: &str, size: Size, value: u32)
     requires { length line.old + length mark.now + 8 ≤ 160 }
     ensures text { line.new ≡ line.old ++ marked mark.now size value }
@@ -138,12 +139,23 @@ fn add_marked(line: &mut Line, mark: &str, size: Size, value: u32)
 }
 
 /// Appends a mark and hexadecimal digits.
+#[inline(always)]
 fn add_digits(line: &mut Line, mark: &str, value: u32, digits: u32)
     requires digits { (digits ≡ 2) ⊎ (digits ≡ 4) ⊎ (digits ≡ 8) }
     requires room { length line.old + length mark.now + digits ≤ 160 }
     ensures { line.new ≡ line.old ++ (mark.now ++ hexadecimal digits value) }
 {
     line.add(mark);
+    add_value(line, value, digits);
+}
+
+/// Appends hexadecimal digits, by a call: the mark before them is one byte or two, and known where it is added.
+#[inline(never)]
+fn add_value(line: &mut Line, value: u32, digits: u32)
+    requires digits { (digits ≡ 2) ⊎ (digits ≡ 4) ⊎ (digits ≡ 8) }
+    requires room { length line.old + digits ≤ 160 }
+    ensures { line.new ≡ line.old ++ hexadecimal digits value }
+{
     line.add_hex(value, digits);
 }
 

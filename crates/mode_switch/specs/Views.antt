@@ -1,14 +1,7 @@
 -- Kept calls and what is passed to them, as the definitions have them.
 use Rattle.std.specs.Prelude.{ℕ, List, Result, Ok, Err}
-use Rattle.std.specs.Borrow.{Bor}
-use Rattle.mix_bits.specs.declared.fault.Fault.{Fault}
 use Rattle.big_memory.specs.declared.refusals.Access.{Access}
-use Rattle.proc_info.specs.declared.sig.Sig.{Sig}
-use Rattle.proc_info.specs.Signature.{Signature}
 use Rattle.proc_info.specs.Views.{signature}
-use Rattle.routine_desc.specs.declared.record.Rec.{Rec}
-use Rattle.routine_desc.specs.Layout.{Routine}
-use Rattle.routine_desc.specs.Views.{routine}
 use Rattle.args_m68.specs.Gather.{words_of}
 use Rattle.switch_frame.specs.declared.active.Active.{Active}
 use Rattle.switch_frame.specs.Files.{at_pc}
@@ -28,19 +21,6 @@ abbrev pub wanted_of : Wanted → Want
 wanted_of (Calls call) = IsCall (crossing call)
 wanted_of (Jumps target) = IsJump target
 wanted_of (Refuses fault) = IsRefusal fault
-
-abbrev pub told : Result Wanted Fault → Result Want Fault
-told (Ok wanted) = Ok (wanted_of wanted)
-told (Err fault) = Err fault
-
-abbrev pub signed_kept : Result Sig Fault → Result Signature Fault
-signed_kept (Ok sig) = Ok (signature sig)
-signed_kept (Err fault) = Err fault
-
--- a record that was taken
-abbrev pub taken_record : Result (Bor Rec) Fault → Result Routine Fault
-taken_record (Ok rec) = Ok (routine rec.now)
-taken_record (Err fault) = Err fault
 
 -- what is passed, beside the caller as it goes on behind the call
 abbrev pub args_of : Passed → List ℕ

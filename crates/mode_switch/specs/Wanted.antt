@@ -161,11 +161,11 @@ wants_raw r pointer info = raw_signature r.pc info (signature_of info) >>= λ si
 abbrev pub matched : ℕ → ℕ → ℕ → Result (Unit {0}) Fault
 matched pc info found = if info == found then Ok tt else Err (record { kind = Mismatch; pc = pc; detail = info; also = found })
 
+abbrev pub called_by : ℕ → ℕ → Option ℕ → Routine → Result Want Fault
+called_by pc info selector rec = matched pc info rec.info >>= λ same. Ok (Calls (call_of_record set_ppc rec selector))
+
 abbrev pub takes_by : RegsPpc → ℕ → List Routine → Option ℕ → Result Want Fault
-takes_by r info records selector =
-    taken r.pc selector (choice records set_ppc selector) >>= λ rec.
-    matched r.pc info rec.info >>= λ same.
-    Ok (Calls (call_of_record set_ppc rec selector))
+takes_by r info records selector = taken r.pc selector (choice records set_ppc selector) >>= called_by r.pc info selector
 
 abbrev pub takes_ppc : RegsPpc → ℕ → List Routine → Result Want Fault
 takes_ppc r info records = takes_by r info records (selector_among_ppc records r)

@@ -6,7 +6,7 @@ ghost use Rattle.mode_switch.specs.Views.{wanted_of};
 ghost use Rattle.mode_switch.specs.Wanted.{Means, goes_by as goes_by_lem, loaded_or_fault, selector_68k as selector_68k_lem, selector_among_68k, takes_68k as takes_68k_lem, target_of as target_of_lem, wants_68k as wants_68k_lem};
 
 use crate::descriptor::{Asker, wants_desc};
-use crate::records::{call_of, taken, target_of};
+use crate::records::{call_of, no_record, target_of};
 use crate::{Target, Wanted};
 use args_m68::select68;
 use big_memory::Ram;
@@ -34,10 +34,14 @@ impl Asker for Regs68 {
     }
 
     #[inline(always)]
-    fn takes(&self, ram: &Ram, records: &[Rec]) -> Result<Wanted, Fault> {
-        let selector = selector_among(ram, self, records)?;
-        let rec = taken(self.pc, selector, choose_among(records, Isa::M68, selector))?;
-        Ok(goes_by(rec, selector))
+    fn takes(&self, ram: &Ram, records: &[Rec]) -> Wanted {
+        match selector_among(ram, self, records) {
+            Ok(selector) => match choose_among(records, Isa::M68, selector) {
+                Some(rec) => goes_by(rec, selector),
+                None => no_record(self.pc, selector),
+            },
+            Err(fault) => Wanted::Refuses(fault),
+        }
     }
 }
 
@@ -66,6 +70,7 @@ fn selector(ram: &Ram, regs: &Regs68, sig: &Sig) -> Result<Option<u32>, Fault>
 }
 
 /// Code of its own set is gone on with, and what has a vector is called.
+#[inline(always)]
 fn goes_by(rec: &Rec, selector: Option<u32>) -> Wanted
     ensures { wanted_of result ≡ goes_by_lem (target_of_lem (routine rec.now)) (routine rec.now) selector }
 {

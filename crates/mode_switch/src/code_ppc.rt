@@ -1,15 +1,14 @@
 // What PowerPC code wants.
 ghost use Rattle.std.specs.Prelude.{◌≡◌};
-ghost use Rattle.proc_info.specs.Signature.{signature_of};
 ghost use Rattle.proc_info.specs.Views.{signature};
-ghost use Rattle.routine_desc.specs.Views.{routines};
+ghost use Rattle.routine_desc.specs.Views.{routine, routines};
 ghost use Rattle.mix_bits.specs.declared.size.Size.TheVariants.{Two};
 ghost use Rattle.big_memory.specs.Memory.{loaded};
-ghost use Rattle.mode_switch.specs.Views.{signed_kept, told, wanted_of};
-ghost use Rattle.mode_switch.specs.Wanted.{Means, matched as matched_lem, raw_signature as raw_signature_lem, selector_among_ppc, selector_ppc as selector_ppc_lem, settled, takes_ppc as takes_ppc_lem, wants_ppc as wants_ppc_lem, wants_raw as wants_raw_lem, wants_word as wants_word_lem};
+ghost use Rattle.mode_switch.specs.Views.{wanted_of};
+ghost use Rattle.mode_switch.specs.Wanted.{Means, called_by as called_by_lem, selector_among_ppc, selector_ppc as selector_ppc_lem, settled, takes_ppc as takes_ppc_lem, wants_ppc as wants_ppc_lem, wants_raw as wants_raw_lem, wants_word as wants_word_lem};
 
 use crate::descriptor::{Asker, wants_desc};
-use crate::records::{bad_desc, call_of, settle, taken};
+use crate::records::{bad_desc, call_of, no_record};
 use crate::{Call, Target, Wanted};
 use args_ppc::select_ppc;
 use big_memory::Ram;
@@ -38,7 +37,7 @@ fn wants_word(ram: &Ram, regs: &RegsPpc, pointer: u32, info: u32) -> Wanted
             if word == MIXED_MODE_MAGIC {
                 wants_desc(ram, &Universal { regs, info }, pointer)
             } else {
-                settle(wants_raw(regs, pointer, info))
+                wants_raw(regs, pointer, info)
             }
         }
         Err(_) => Wanted::Refuses(bad_desc(regs.pc, pointer, BadDesc::Access)),
@@ -46,29 +45,22 @@ fn wants_word(ram: &Ram, regs: &RegsPpc, pointer: u32, info: u32) -> Wanted
 }
 
 /// What it wants of raw 68K code.
-fn wants_raw(regs: &RegsPpc, pointer: u32, info: u32) -> Result<Wanted, Fault>
-    ensures { told result ≡ wants_raw_lem regs.now pointer info }
-{
-    let sig = raw_signature(regs.pc, info)?;
-    Ok(Wanted::Calls(Call {
-        kind: Kind::PpcToM68,
-        info,
-        sig,
-        selector: selector(regs, &sig),
-        passes: sig.conv.is_dispatched(),
-        target: Target::Code(pointer),
-    }))
-}
-
-/// The signature of the procInfo.
-fn raw_signature(pc: u32, info: u32) -> Result<Sig, Fault>
-    ensures { signed_kept result ≡ raw_signature_lem pc info (signature_of info) }
+#[inline(always)]
+fn wants_raw(regs: &RegsPpc, pointer: u32, info: u32) -> Wanted
+    ensures { wanted_of result ≡ settled (wants_raw_lem regs.now pointer info) }
 {
     match read(info) {
-        Ok(sig) => Ok(sig),
-        Err(bad) => Err(Fault {
+        Ok(sig) => Wanted::Calls(Call {
+            kind: Kind::PpcToM68,
+            info,
+            sig,
+            selector: selector(regs, &sig),
+            passes: sig.conv.is_dispatched(),
+            target: Target::Code(pointer),
+        }),
+        Err(bad) => Wanted::Refuses(Fault {
             kind: FaultKind::Info,
-            pc,
+            pc: regs.pc,
             detail: info,
             also: bad.code(),
         }),
@@ -92,15 +84,12 @@ impl Asker for Universal<'_> {
     }
 
     #[inline(always)]
-    fn takes(&self, _ram: &Ram, records: &[Rec]) -> Result<Wanted, Fault> {
+    fn takes(&self, _ram: &Ram, records: &[Rec]) -> Wanted {
         let selector = selector_among(self.regs, records);
-        let rec = taken(
-            self.regs.pc,
-            selector,
-            choose_among(records, Isa::Ppc, selector),
-        )?;
-        matched(self.regs.pc, self.info, rec.info)?;
-        Ok(Wanted::Calls(call_of(Isa::Ppc, rec, selector)))
+        match choose_among(records, Isa::Ppc, selector) {
+            Some(rec) => called_by(self.regs.pc, self.info, rec, selector),
+            None => no_record(self.regs.pc, selector),
+        }
     }
 }
 
@@ -125,18 +114,19 @@ fn selector(regs: &RegsPpc, sig: &Sig) -> Option<u32>
     }
 }
 
-/// Another procInfo than the record's is refused.
-fn matched(pc: u32, info: u32, found: u32) -> Result<(), Fault>
-    ensures { result ≡ matched_lem pc info found }
+/// The call of a record. Another procInfo than the record's is refused.
+#[inline(always)]
+fn called_by(pc: u32, info: u32, rec: &Rec, selector: Option<u32>) -> Wanted
+    ensures { wanted_of result ≡ settled (called_by_lem pc info selector (routine rec.now)) }
 {
-    if info == found {
-        Ok(())
+    if info == rec.info {
+        Wanted::Calls(call_of(Isa::Ppc, rec, selector))
     } else {
-        Err(Fault {
+        Wanted::Refuses(Fault {
             kind: FaultKind::Mismatch,
             pc,
             detail: info,
-            also: found,
+            also: rec.info,
         })
     }
 }

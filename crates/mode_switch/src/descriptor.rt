@@ -5,13 +5,12 @@ ghost use Rattle.big_memory.specs.Memory.{Memory};
 ghost use Rattle.routine_desc.specs.Layout.{Routine};
 ghost use Rattle.routine_desc.specs.Read.{Counts};
 ghost use Rattle.routine_desc.specs.Views.{routines};
-ghost use Rattle.mode_switch.specs.Views.{told, wanted_of};
+ghost use Rattle.mode_switch.specs.Views.{wanted_of};
 ghost use Rattle.mode_switch.specs.Wanted.{Want, settled, wants_desc as wants_desc_lem};
 
 use crate::Wanted;
-use crate::records::{bad_desc, settle};
+use crate::records::bad_desc;
 use big_memory::Ram;
-use mix_bits::Fault;
 use routine_desc::{Rec, count_records, read_all};
 
 /// So many records are few: most descriptors have one, and a fat one has two.
@@ -28,8 +27,8 @@ pub trait Asker {
         ensures { result ≡ at self.now };
 
     /// What it wants of the records.
-    fn takes(&self, ram: &Ram, records: &[Rec]) -> Result<Wanted, Fault>
-        ensures { told result ≡ takes_of self.now ram.now (routines records.now) };
+    fn takes(&self, ram: &Ram, records: &[Rec]) -> Wanted
+        ensures { wanted_of result ≡ settled (takes_of self.now ram.now (routines records.now)) };
 }
 
 /// What it wants at the descriptor at `pointer`.
@@ -77,7 +76,7 @@ fn wants_in<A: Asker>(ram: &Ram, asker: &A, pointer: u32, records: &mut [Rec]) -
     ensures { wanted_of result ≡ settled (wants_desc_lem ram.now (A.at asker.now) pointer (A.takes_of asker.now ram.now)) }
 {
     match read_all(ram, pointer, records) {
-        Ok(()) => settle(asker.takes(ram, records)),
+        Ok(()) => asker.takes(ram, records),
         Err(bad) => Wanted::Refuses(bad_desc(asker.pc(), pointer, bad)),
     }
 }

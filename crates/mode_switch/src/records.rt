@@ -1,27 +1,19 @@
 // What both sets ask of a routine descriptor.
 ghost use Rattle.std.specs.Prelude.{◌≡◌, ◌&&◌, not};
+ghost use Rattle.mix_bits.specs.Faults.{fault_at};
+ghost use Rattle.mix_bits.specs.declared.fault.FaultKind.TheVariants.{NoRecord};
 ghost use Rattle.proc_info.specs.Codes.{is_dispatched};
 ghost use Rattle.routine_desc.specs.Layout.{has_flag};
-ghost use Rattle.routine_desc.specs.Views.{picked, routine};
-ghost use Rattle.mode_switch.specs.Views.{crossing, taken_record, told, wanted_of};
-ghost use Rattle.mode_switch.specs.Wanted.{bad_desc as bad_desc_lem, call_of_record, settled, taken as taken_lem, target_of as target_of_lem};
+ghost use Rattle.routine_desc.specs.Views.{routine};
+ghost use Rattle.mode_switch.specs.Views.{crossing, wanted_of};
+ghost use Rattle.mode_switch.specs.Wanted.{bad_desc as bad_desc_lem, call_of_record, or_zero, target_of as target_of_lem};
+ghost use Rattle.mode_switch.specs.Wanted.Want.{Refuses};
 
 use crate::{Call, Target, Wanted};
 use mix_bits::{Fault, FaultKind, Isa};
 use proc_info::Conv;
 use routine_desc::{BadDesc, Rec, RoutineFlags};
 use switch_frame::Kind;
-
-/// What is wanted, or the first refusal.
-#[inline(always)]
-pub fn settle(wanted: Result<Wanted, Fault>) -> Wanted
-    ensures { wanted_of result ≡ settled (told wanted) }
-{
-    match wanted {
-        Ok(wanted) => wanted,
-        Err(fault) => Wanted::Refuses(fault),
-    }
-}
 
 /// The fault of a descriptor at an address.
 pub fn bad_desc(pc: u32, at: u32, bad: BadDesc) -> Fault
@@ -35,17 +27,16 @@ pub fn bad_desc(pc: u32, at: u32, bad: BadDesc) -> Fault
     }
 }
 
-/// The record that was chosen.
-pub fn taken<'a>(pc: u32, selector: Option<u32>, chosen: Option<&'a Rec>) -> Result<&'a Rec, Fault>
-    ensures { taken_record result ≡ taken_lem pc selector (picked chosen.entry) }
+/// No record was chosen.
+#[cold]
+pub fn no_record(pc: u32, selector: Option<u32>) -> Wanted
+    ensures { wanted_of result ≡ Refuses (fault_at pc NoRecord (or_zero selector)) }
 {
-    match chosen {
-        Some(rec) => Ok(rec),
-        None => Err(Fault::at(pc, FaultKind::NoRecord, selector.unwrap_or(0))),
-    }
+    Wanted::Refuses(Fault::at(pc, FaultKind::NoRecord, selector.unwrap_or(0)))
 }
 
 /// The target of a record.
+#[inline(always)]
 pub fn target_of(rec: &Rec) -> Target
     ensures { result ≡ target_of_lem (routine rec.now) }
 {
@@ -57,6 +48,7 @@ pub fn target_of(rec: &Rec) -> Target
 }
 
 /// The call of a record by code of a set.
+#[inline(always)]
 pub fn call_of(caller: Isa, rec: &Rec, selector: Option<u32>) -> Call
     ensures { crossing result ≡ call_of_record caller (routine rec.now) selector }
 {

@@ -1,5 +1,6 @@
 // Loads and stores of several registers.
-ghost use Rattle.std.specs.Prelude.{◌≡◌, ◌-◌, ◌<◌, ◌≤◌, Ok};
+ghost use Rattle.std.specs.Prelude.{◌≡◌, ◌+◌, ◌-◌, ◌*◌, ◌<◌, ◌≤◌, length, Ok};
+ghost use Rattle.big_memory.specs.Memory.{IsRam};
 ghost use Rattle.big_memory.specs.Steps.{Does};
 ghost use Rattle.ppc_isa.specs.Fields.{fields_of};
 ghost use Rattle.ppc_effects.specs.Effects.{runs};
@@ -42,6 +43,24 @@ fn load_registers(regs: &mut RegsPpc, ram: &Ram, fault: &mut Fault, first: usize
     requires { first < 32 }
     ensures { Does (load_multiple_of regs.old ram.now first at) result fault.new regs.old regs.new ram.now ram.now }
 {
+    ram.meets_invariant();
+    if ram.has(at, 4 * (32 - first as u32)) {
+        load_whole(ram, at, first, &mut regs.gpr);
+        advance(regs);
+        Did::Next
+    } else {
+        load_each(regs, ram, fault, first, at)
+    }
+}
+
+/// The same, one after another, where they don't lie in memory as one piece.
+#[cold]
+#[inline(never)]
+#[tactic(auto, using(big_memory::proofs::Free::nothing_free))]
+fn load_each(regs: &mut RegsPpc, ram: &Ram, fault: &mut Fault, first: usize, at: u32) -> Did
+    requires { first < 32 }
+    ensures { Does (load_multiple_of regs.old ram.now first at) result fault.new regs.old regs.new ram.now ram.now }
+{
     match test_words(ram, at, 32 - first as u32) {
         Ok(()) => {
             load_words(ram, at, first, &mut regs.gpr);
@@ -52,15 +71,22 @@ fn load_registers(regs: &mut RegsPpc, ram: &Ram, fault: &mut Fault, first: usize
     }
 }
 
+/// Loads words, which lie in memory, into the registers from `first` on.
+#[inline(always)]
+fn load_whole(ram: &Ram, at: u32, first: usize, gpr: &mut [u32; 32])
+    requires ram { IsRam ram.now }
+    requires register { first < 32 }
+    requires within { at + 4 * (32 - first) ≤ length ram.now.bytes }
+    ensures { in_order (load_word ram.now at first) gpr.old (32 - first) ≡ Ok gpr.new }
+{
+    ram.read_longs(at, &mut gpr[first..]);
+}
+
 /// Whether words one after another can be loaded, or the first refusal.
 fn test_words(ram: &Ram, at: u32, count: u32) -> Result<(), Access>
     requires { count ≤ 32 }
     ensures { WordsTested ram.now at count result }
 {
-    ram.meets_invariant();
-    if count > 0 && ram.has(at, 4 * count) {
-        return Ok(());
-    }
     for k in 0..count {
         ram.load_long(onward(at, 4 * k))?;
     }

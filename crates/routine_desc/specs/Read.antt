@@ -13,7 +13,7 @@ use Rattle.routine_desc.specs.declared.record.Rec.{Rec}
 use Rattle.routine_desc.specs.declared.record.BadDesc.{BadDesc}
 use Rattle.routine_desc.specs.declared.record.BadDesc.TheVariants.{Info, Mixed}
 use Rattle.routine_desc.specs.Layout.{Routine, bad_header, bad_record, record_at}
-use Rattle.routine_desc.specs.Views.{routines}
+use Rattle.routine_desc.specs.Views.{routine, routines}
 
 -- the value, unless a rule is broken
 abbrev pub unless_broken : {A : Type 0} → Option BadDesc → Result A BadDesc → Result A BadDesc
@@ -77,6 +77,11 @@ Reads m a result = Answers a (desc_of m a) result
 -- the same once the header is good
 abbrev pub ReadsBody : Memory → ℕ → Result Desc BadDesc → Type 0
 ReadsBody m a result = Answers a (body_of m a) result
+
+-- a record that was read, or the refusal of it
+abbrev pub FillsRecord : {E : Type 0} → Memory → ℕ → ℕ → Rec → Result E BadDesc → Type 0
+FillsRecord m a p new (Ok done) = read_record m a p ≡ Ok (routine new)
+FillsRecord m a p new (Err e) = read_record m a p ≡ Err e
 
 -- a list filled with the first records, as many as it has places, or the refusal of one of them
 abbrev pub FillsRecords : {E : Type 0} → Memory → ℕ → List Rec → List Rec → Result E BadDesc → Type 0

@@ -1,9 +1,8 @@
 -- Kept records, as the definitions have them.
-use Rattle.std.specs.Prelude.{List, map, Option, Some, None, Result, Ok, Err}
+use Rattle.std.specs.Prelude.{List, map, Option, Some, None}
 use Rattle.std.specs.Borrow.{Bor}
 use Rattle.proc_info.specs.Views.{signature}
 use Rattle.routine_desc.specs.declared.record.Rec.{Rec}
-use Rattle.routine_desc.specs.declared.record.BadDesc.{BadDesc}
 use Rattle.routine_desc.specs.Layout.{Routine}
 
 abbrev pub routine : Rec → Routine
@@ -12,11 +11,6 @@ routine rec =
 
 abbrev pub routines : List Rec → List Routine
 routines recs = map routine recs
-
--- a record that a call answers
-abbrev pub answered : Result Rec BadDesc → Result Routine BadDesc
-answered (Ok rec) = Ok (routine rec)
-answered (Err bad) = Err bad
 
 -- one of those that stand in a list
 abbrev pub picked : Option (Bor Rec) → Option Routine

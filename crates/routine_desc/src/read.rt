@@ -6,8 +6,8 @@ ghost use Rattle.big_memory.specs.Numbers.{number_at};
 ghost use Rattle.routine_desc.specs.Layout.{are_good_flags, bad_header, bad_record, code_at, no_routine, record_at, target_of};
 ghost use Rattle.proc_info.specs.Codes.{conv_at};
 ghost use Rattle.proc_info.specs.Views.{signature};
-ghost use Rattle.routine_desc.specs.Views.{answered, routine, routines};
-ghost use Rattle.routine_desc.specs.Read.{Counts, FillsBody, FillsRecords, Reads, ReadsBody, TellsHeader, all_alike as all_alike_lem, is_alike as is_alike_lem, is_dispatched_in, read_record as read_record_lem};
+ghost use Rattle.routine_desc.specs.Views.{routine, routines};
+ghost use Rattle.routine_desc.specs.Read.{Counts, FillsBody, FillsRecord, FillsRecords, Reads, ReadsBody, TellsHeader, all_alike as all_alike_lem, is_alike as is_alike_lem, is_dispatched_in};
 
 use super::flags::RoutineFlags;
 use super::record::{BadDesc, Desc, MIXED_MODE_MAGIC, MOST_RECORDS, Rec};
@@ -131,15 +131,19 @@ fn broken_record(ram: &Ram, p: u32) -> Option<BadDesc>
     }
 }
 
-/// A record, or the rule that it breaks.
+/// Reads a record, or answers the rule that it breaks; then the record is as it was.
+#[inline(never)]
 #[tactic(auto, unfolding(crate::specs::Read::read_record))]
-fn read_record(ram: &Ram, a: u32, p: u32) -> Result<Rec, BadDesc>
-    ensures { answered result ≡ read_record_lem ram.now a p }
+fn read_record(ram: &Ram, a: u32, p: u32, rec: &mut Rec) -> Result<(), BadDesc>
+    ensures { FillsRecord ram.now a p rec.new result }
 {
     match broken_record(ram, p) {
         Some(bad) => Err(bad),
         None => match read(number(ram, p, Size::Four)) {
-            Ok(sig) => Ok(record(ram, a, p, &sig)),
+            Ok(sig) => {
+                *rec = record(ram, a, p, &sig);
+                Ok(())
+            }
             Err(bad) => Err(BadDesc::Info(bad)),
         },
     }
@@ -203,8 +207,9 @@ fn read_records(ram: &Ram, a: u32, recs: &mut [Rec]) -> Result<(), BadDesc>
 {
     ram.meets_invariant();
     for k in 0..recs.len() {
-        match read_record(ram, a, a + HEADER_BYTES + RECORD_BYTES * k as u32) {
-            Ok(rec) => recs[k] = rec,
+        let p = a + HEADER_BYTES + RECORD_BYTES * k as u32;
+        match read_record(ram, a, p, &mut recs[k]) {
+            Ok(()) => {}
             Err(bad) => return Err(bad),
         }
     }
@@ -252,12 +257,10 @@ fn is_dispatched(code: u32) -> bool
 }
 
 /// The number in the bytes at `a`.
+#[inline(always)]
 fn number(ram: &Ram, a: u32, s: Size) -> u32
     requires { a + bytes_of s ≤ length ram.now.bytes }
     ensures { result ≡ number_at a (bytes_of s) ram.now.bytes }
 {
-    match ram.load(a, s) {
-        Ok(number) => number,
-        Err(_) => unreachable!(),
-    }
+    ram.read(a, s)
 }

@@ -83,6 +83,7 @@ pub fn write_file(ram: &mut Ram, a: u32, file: &Active)
     }
 }
 
+// The registers are copied first: of a copy it is known that memory is apart from it, and several are turned at once.
 fn write_m68(ram: &mut Ram, at: u32, file: &Regs68)
     requires ram { IsRam ram.old }
     requires within { at + 80 ≤ length ram.old.bytes }
@@ -90,8 +91,9 @@ fn write_m68(ram: &mut Ram, at: u32, file: &Regs68)
     ensures ram { IsRam ram.new }
     ensures file { IsFile (Active.M68 file.now) }
 {
-    ram.fix_longs(at, &file.d);
-    ram.fix_longs(at + 32, &file.a);
+    let (d, a) = (file.d, file.a);
+    ram.fix_longs(at, &d);
+    ram.fix_longs(at + 32, &a);
     ram.fix_longs(at + 64, &[file.pc, file.ccr.bits(), 0, 0]);
 }
 
@@ -102,7 +104,8 @@ fn write_ppc(ram: &mut Ram, at: u32, file: &RegsPpc)
     ensures ram { IsRam ram.new }
     ensures file { IsFile (Active.Ppc file.now) }
 {
-    ram.fix_longs(at, &file.gpr);
+    let gpr = file.gpr;
+    ram.fix_longs(at, &gpr);
     ram.fix_longs(
         at + 128,
         &[file.cr, file.lr, file.ctr, file.xer, file.pc, 0, 0, 0],

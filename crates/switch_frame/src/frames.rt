@@ -37,6 +37,7 @@ pub fn push(ram: &mut Ram, top: &mut u32, held: &Held)
 }
 
 /// The caller in the innermost frame, or in the frame that begins at `top`. None is there exactly for 0.
+#[inline(always)]
 pub fn top(ram: &Ram, top: u32) -> Option<Held>
     requires { Links ram.now top (records ram.now.bytes top) }
     ensures value { result ≡ innermost (records ram.now.bytes top) }

@@ -1,12 +1,8 @@
-use Rattle.std.proofs.Common.{◌≡◌, ◌*◌, ℕ, below_more, Ok, sym, ◌∙◌}
+use Rattle.std.proofs.Common.{◌≡◌, ◌*◌, ℕ, below_more, Ok}
 use Rattle.mix_bits.specs.Addresses.{onward}
 use Rattle.mix_bits.specs.declared.size.Size.TheVariants.{Four}
 use Rattle.big_memory.specs.Memory.{loaded}
-use Rattle.ppc_storage.proofs.Whole.{words_in}
 use Rattle.ppc_storage.proofs.multiple.test_words.Goals as goal
-
-pub returns-then-has : goal.returns-then-has
-returns-then-has c = words_in c.args.ram.now c.args.at c.args.count c.meets_invariant.ensures (sym c.has.ensures.is ∙ c.if-has.true)
 
 pub loop-k-preserved : goal.loop-k-preserved
 loop-k-preserved c =

@@ -1,6 +1,6 @@
 use Rattle.std.proofs.Common.{◌-◌}
 use Rattle.ppc_storage.proofs.Order.{words-refused}
-use Rattle.ppc_storage.proofs.multiple.load_registers.Goals as goal
+use Rattle.ppc_storage.proofs.multiple.load_each.Goals as goal
 
 pub returns-in-Err : goal.returns-in-Err
 returns-in-Err c =
