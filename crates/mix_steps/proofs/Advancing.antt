@@ -101,3 +101,14 @@ codes-whole Gate cell before after b new whole codes = subst (λ w. IsWhole new 
 
 pub once : (code : Code) (cell : AFault) (before after : Active) (b new : Body) → Codes code cell before after b new → CodesAfter 0 code cell before after b new
 once code cell before after b new codes = record { active = before; body = b; own = (refl, refl); last = codes }
+
+no-own : (k : ℕ) (before after : Active) (b new : Body) → k ≡ 0 → AreOwn k before after b new → (after ≡ before) × (new ≡ b)
+no-own zero before after b new none own = own
+no-own (suc k) before after b new none own = absurd (omega (arith, none))
+
+-- the only one that is allowed
+pub only-one : (left : ℕ) (code : Code) (cell : AFault) (before after : Active) (b new : Body) → 0 < left → left ≤ 1 → CodesAfter (1 - left) code cell before after b new
+    → Codes code cell before after b new
+only-one left code cell before after b new some few codes =
+    let none = no-own (1 - left) before codes.active b codes.body (omega (arith, some, few)) codes.own in
+    subst (λ x. Codes code cell before after x new) none.1 (subst (λ w. Codes code cell w after codes.body new) none.0 codes.last)

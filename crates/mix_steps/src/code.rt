@@ -69,12 +69,13 @@ fn once_68k(body: &mut Body, regs: &mut Regs68, fault: &mut Fault) -> Code
     code_68k(body, regs, fault)
 }
 
-#[inline(never)]
+#[inline(always)]
 fn once_ppc(body: &mut Body, regs: &mut RegsPpc, fault: &mut Fault) -> Code
     requires { IsWhole body.old set_ppc }
     ensures { Codes result fault.new (Ppc regs.old) (Ppc regs.new) body.old body.new }
 {
-    code_ppc(body, regs, fault)
+    let mut left = 1;
+    advance_ppc(body, regs, fault, &mut left)
 }
 
 #[inline(always)]
