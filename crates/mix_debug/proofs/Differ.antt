@@ -1,11 +1,11 @@
 -- Runs of bytes in which two lists differ.
-use Rattle.std.proofs.Common.{◌≡◌, ℕ, suc, ◌<◌, ◌==◌, List, [], ◌∷◌, ◌++◌, length, inl, inr, arith, ap, sym, ◌∙◌, refl, zero, ◌+◌, ◌≤◌, not, ◌||◌, Bool, true, false, get_or, subst, nat_lt, nat_le}
+use Rattle.std.proofs.Common.{◌≡◌, ℕ, suc, ◌<◌, ◌==◌, List, [], ◌∷◌, ◌++◌, length, inl, inr, arith, ap, sym, ◌∙◌, refl, zero, ◌+◌, ◌≤◌, not, ◌||◌, Bool, true, false, get_or, subst}
 use Rattle.std.proofs.lemmas.Bool.{cases_Bool, eq-eqb, eqb-false}
 use Rattle.std.proofs.lemmas.Bool.Decides.{nat_tests}
 use Rattle.std.proofs.lemmas.List.{append_assoc, length-append, places, same_lists}
 use Rattle.big_memory.specs.Lists.{put}
 use Rattle.std.specs.List.{list_any}
-use Rattle.mix_debug.specs.Runs.{AreApart, AreMaximal, Run, RunsAreMaximal, Undoes, holds, joined, runs_from, undone}
+use Rattle.mix_debug.specs.Runs.{AreApart, Run, RunsAreMaximal, Undoes, holds, joined, runs_from, undone}
 
 -- a byte and those behind it go in one after another
 put-step : (at x : ℕ) (ys b : List ℕ) → at < length b → put at (x ∷ ys) b ≡ put (suc at) ys (put at (x ∷ []) b)

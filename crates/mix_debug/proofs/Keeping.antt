@@ -22,6 +22,7 @@ use Rattle.mix_debug.specs.Pasts.{IsPast, entries_in}
 use Rattle.mix_debug.specs.Machines.{IsSound, Kept, before, cost_between, earlier, fitting}
 use Rattle.mix_debug.specs.Histories.{IsHistory, KeepsBeside, entry_of}
 use Rattle.mix_debug.specs.Trails.{Keeps, TakesBack, Trail, history_room}
+use Rattle.mix_debug.specs.declared.past.Past.{Past}
 use Rattle.mix_debug.proofs.Blocks.{heap-back}
 use Rattle.mix_debug.proofs.Differ.{undoes}
 use Rattle.mix_debug.proofs.Guarding.{frame-back, same-long}
@@ -283,7 +284,7 @@ takes-back m n e es rest bs is back =
 pub keeps-view : (done : Bool) (m n : Machine) (h k : History) (bs : List ℕ) → KeepsBeside done m n h k
     → Keeps done (record { machine = m; kept = earlier m (entries_in h.past); breaks = bs }) (record { machine = n; kept = earlier n (entries_in k.past); breaks = bs })
 keeps-view true m n h k bs keeps = keeps
-keeps-view false m n h k bs keeps = (keeps.0, ap (λ x. earlier x (entries_in k.past)) keeps.0 ∙ ap (λ (x : History). earlier m (entries_in x.past)) keeps.1)
+keeps-view false m n h k bs keeps = (keeps.0, ap (λ x. earlier x (entries_in k.past)) keeps.0 ∙ ap (earlier m) keeps.1)
 
 -- the machine that a step led to, or the same one
 pub long-kept : (m n : Machine) (h : History) → IsHistory m h → IsSound n → Followed m.body n.body → length h.copy.items ≡ length n.body.ram.bytes
@@ -291,3 +292,20 @@ long-kept m n h here there moved = ap length here.copied ∙ sym (same-long m.bo
 
 pub same-history : (m n : Machine) (h : History) → n ≡ m → IsHistory m h → IsHistory n h
 same-history m n h same here = subst (λ x. IsHistory x h) (sym same) here
+
+-- what is kept beside a machine, where the registers were written before a step
+written : (m : Machine) (h : History) (q : Past) → IsHistory m h → IsPast q → entries_in q ≡ entries_in h.past → IsHistory m (record h { past = q })
+written m h q here past entries =
+    record {
+      whole = here.whole;
+      copied = here.copied;
+      blocks = here.blocks;
+      heap = here.heap;
+      room = here.room;
+      past = past;
+      entries = subst (All (IsEntry (length m.body.ram.bytes))) (sym entries) here.entries;
+      wholes = subst (λ es. All (λ k. IsSound k.machine) (earlier m es)) (sym entries) here.wholes;
+    }
+
+pub prepared : (m : Machine) (h k : History) → IsHistory m h → k ≡ record h { past = k.past } → IsPast k.past → entries_in k.past ≡ entries_in h.past → IsHistory m k
+prepared m h k here beside past entries = subst (IsHistory m) (sym beside) (written m h k.past here past entries)

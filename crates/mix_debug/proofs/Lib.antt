@@ -12,3 +12,7 @@ pub mod Keeping
 pub mod Undoing
 pub mod Telling
 pub mod Below
+pub mod Windows
+pub mod Still
+pub mod Rooms
+pub mod Holding

@@ -1,12 +1,12 @@
 -- What a step changed lies where it stored.
-use Rattle.std.proofs.Common.{◌≡◌, ◌⊎◌, ℕ, zero, suc, ◌+◌, ◌-◌, ◌<◌, ◌≤◌, ◌==◌, nat_lt, min, Bool, true, false, not, if◌then◌else◌, List, [], ◌++◌, length, take, drop, get_or, Option, Some, None, arith, ap, sym, subst, ◌∙◌, refl, inl, inr}
-use Rattle.std.proofs.lemmas.Bool.{cases_Bool, cases_lt, le-ltb}
+use Rattle.std.proofs.Common.{◌≡◌, ◌⊎◌, ℕ, ◌+◌, ◌<◌, ◌≤◌, ◌==◌, nat_lt, min, Bool, true, false, not, if◌then◌else◌, List, [], ◌++◌, length, take, drop, get_or, Option, Some, None, arith, ap, sym, subst, ◌∙◌, refl, inl, inr}
+use Rattle.std.proofs.lemmas.Bool.{le-ltb}
 use Rattle.std.proofs.lemmas.Grind.{same_number_lists}
 use Rattle.std.proofs.lemmas.List.{get_or-drop, get_or-take, length-drop, length-take-le}
 use Rattle.std.proofs.lemmas.List.Filters.{length-filter_both}
 use Rattle.host_heap.specs.declared.block.Block.{Block}
 use Rattle.host_heap.specs.Space.{Space, rounded}
-use Rattle.host_heap.specs.Place.{freed, without}
+use Rattle.host_heap.specs.Place.{without}
 use Rattle.host_heap.specs.Sound.{IsSound as IsSoundHeap}
 use Rattle.switch_frame.specs.declared.active.Active.{Active}
 use Rattle.switch_frame.specs.Records.{isa_of}
@@ -23,7 +23,7 @@ use Rattle.mix_reach.specs.Steps.{next_stores, reach}
 use Rattle.mix_reach.specs.Laws.{MakesNone, StoredIn, StoredInBlock}
 use Rattle.mix_reach.proofs.Lifted.{stores_where_told}
 use Rattle.mix_debug.specs.declared.head.BlockChange.{BlockChange}
-use Rattle.mix_debug.specs.declared.head.BlockChange.TheVariants.{Stays, Made, Freed}
+use Rattle.mix_debug.specs.declared.head.BlockChange.TheVariants.{Stays, Made}
 use Rattle.mix_debug.specs.Entries.{block_between, first_other, freed_of, made_of}
 use Rattle.mix_debug.specs.Reaches.{SameBlocks, stored_in}
 use Rattle.mix_debug.specs.Runs.{Covers}
@@ -73,7 +73,7 @@ by-tests true less x y next old new active none = refl
 by-tests false true x y next old new active none = absurd (let e : true ≡ false = none in cc)
 by-tests false false x y next old new active none = not-made y next old new active
 
-fewer-told : (old new : List Block) (next : Stores) (top last : ℕ) (active : Active) → length new ≤ length old → stored_in (block_between old new) next top last active ≡ reach next top last active
+pub fewer-told : (old new : List Block) (next : Stores) (top last : ℕ) (active : Active) → length new ≤ length old → stored_in (block_between old new) next top last active ≡ reach next top last active
 fewer-told old new next top last active few =
     by-tests (length new == length old) (nat_lt (length old) (length new)) (first_other new old) (first_other old new) next top last active (le-ltb (length old) (length new) few)
 

@@ -8,6 +8,7 @@ use Rattle.switch_frame.specs.Sets.{frame_size}
 use Rattle.host_heap.specs.declared.block.Block.{Block}
 use Rattle.host_heap.specs.Space.{Space}
 use Rattle.host_heap.specs.Place.{can_place, freed, placed}
+use Rattle.mix_debug.specs.declared.head.Effect.{Effect}
 use Rattle.mix_debug.specs.declared.head.Head.{Head}
 use Rattle.mix_debug.specs.declared.head.Span.{Span}
 use Rattle.mix_debug.specs.declared.head.FrameChange.{FrameChange}
@@ -20,6 +21,14 @@ use Rattle.mix_debug.specs.Runs.{Run, olds_of}
 pub record Entry : Type 0 where
   pub head : Head
   pub runs : List Run
+
+-- registers, and what a step did that began with them
+abbrev pub head_with : Active → Effect → Head
+head_with file e = record { file = file; top = e.top; frame = e.frame; block = e.block; runs = e.runs; olds = e.olds }
+
+-- a step that changed nothing but registers
+abbrev pub still : ℕ → Effect
+still top = record { top = top; frame = FrameStays; block = BlockStays; runs = 0; olds = 0 }
 
 -- how many bytes of history a step takes beside its runs: its register file, top and block
 abbrev pub file_cost : Active → ℕ
@@ -80,11 +89,11 @@ unfoldable pub all_olds : List Entry → List ℕ
 all_olds [] = []
 all_olds (e ∷ es) = olds_of e.runs ++ all_olds es
 
--- heads, runs and bytes are those of some steps, one after another
-pub record Spells (heads : List Head) (spans : List Span) (olds : List ℕ) (es : List Entry) : Type 0 where
-  pub heads_are : heads ≡ heads_of es
-  pub spans_are : spans ≡ all_spans es
-  pub olds_are : olds ≡ all_olds es
+-- heads, runs and bytes are those of some steps, one after another: the first h, s and o of them
+pub record Spells (h s o : ℕ) (heads : List Head) (spans : List Span) (olds : List ℕ) (es : List Entry) : Type 0 where
+  pub heads_are : heads ≡ take h (heads_of es)
+  pub spans_are : spans ≡ take s (all_spans es)
+  pub olds_are : olds ≡ take o (all_olds es)
   pub counted : All IsCounted es
 
 -- the runs of the newest step

@@ -38,8 +38,8 @@ pub record IsHistory (m : Machine) (h : History) : Type 0 where
   pub wholes : All (λ k. IsSound k.machine) (earlier m (entries_in h.past))
 
 -- a step from one machine to another is kept beside them, with as many earlier ones as there is room for; one that is not
--- done changes nothing
+-- done changes neither the machine nor what is kept
 abbrev pub KeepsBeside : Bool → Machine → Machine → History → History → Type 0
 KeepsBeside true old new before after =
     earlier new (entries_in after.past) ≡ fitting 1048576 (record { machine = old; cost = cost_between old new } ∷ earlier old (entries_in before.past))
-KeepsBeside false old new before after = (new ≡ old) × (after ≡ before)
+KeepsBeside false old new before after = (new ≡ old) × (entries_in after.past ≡ entries_in before.past)

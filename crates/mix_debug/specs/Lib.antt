@@ -1,5 +1,6 @@
 pub mod Runs
 pub mod Entries
+pub mod Rows
 pub mod Pasts
 pub mod Machines
 pub mod Reaches

@@ -17,11 +17,11 @@ ghost use Rattle.mix_debug.specs.Trails.{Keeps, TakesBack, Trail, is_done as is_
 
 use crate::crawl::put_crawl;
 use crate::history::History;
-use crate::step::{Step, is_done, step_of};
+use crate::step::{Step, done_of, is_done, step_of};
 use arrayvec::ArrayVec;
 use dev_rack::Devices;
 use mix_bits::NoMemory;
-use mix_engine::{Machine, Stop, run};
+use mix_engine::{Machine, Stop, step};
 use mix_io::{Failed, Sink, Source};
 use mix_reach::next_stores;
 use std::alloc::Global;
@@ -183,13 +183,13 @@ fn advance<I: Source, O: Sink, T: Sink, D: Devices>(
     ensures devices { Accounts (D.state rack.old) (D.state rack.new) }
     ensures keeps { KeepsBeside (is_done_by result) machine.old machine.new history.old history.new }
 {
-    let file = machine.active;
     let top = machine.body.top;
     let next = next_stores(&machine.body.ram, &machine.active);
-    let stop = run(machine, input, out, trace, rack, 1);
+    history.prepare(&machine.active);
+    let stop = step(machine, input, out, trace, rack);
     if !is_done(stop) {
         return stop;
     }
-    history.keep(machine, file, top, next);
-    stop
+    history.keep(machine, top, next);
+    done_of(stop)
 }

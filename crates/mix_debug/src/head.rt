@@ -32,6 +32,16 @@ pub struct Head {
     pub olds: u32,
 }
 
+/// The same without the registers.
+#[derive(Clone, Copy)]
+pub struct Effect {
+    pub top: u32,
+    pub frame: FrameChange,
+    pub block: BlockChange,
+    pub runs: u32,
+    pub olds: u32,
+}
+
 /// Where a run of changed bytes lies.
 #[derive(Clone, Copy)]
 pub struct Span {

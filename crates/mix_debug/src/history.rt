@@ -1,8 +1,8 @@
 // What is kept beside a machine: a copy of its memory and of its list of blocks, and the steps that can be taken back.
 ghost use Rattle.std.specs.Prelude.{◌≡◌, ◌<◌, ◌≤◌, ◌∷◌, [], IfOk, length, vec_capacity};
 ghost use Rattle.host_heap.specs.Sound.{IsSound as IsSoundHeap};
-ghost use Rattle.mix_debug.specs.Runs.{olds_of, runs_in};
 ghost use Rattle.mix_debug.specs.Entries.{Entry, heap_before, within};
+ghost use Rattle.mix_debug.specs.Rows.{ready_in};
 ghost use Rattle.mix_debug.specs.Pasts.{IsPast, entries_in};
 ghost use Rattle.mix_debug.specs.Machines.{IsSound, before};
 ghost use Rattle.mix_debug.specs.Histories.{IsHistory, entry_of};
@@ -11,8 +11,8 @@ ghost use Rattle.mix_reach.specs.Ranges.{Beside};
 ghost use Rattle.mix_debug.specs.Entries.{block_between as block_between_of};
 
 use crate::compare::{Range, block_between, frame_between, in_memory, narrowed, stored_in};
-use crate::head::{BlockChange, Head};
-use crate::past::{Past, ROOM, cost};
+use crate::head::{BlockChange, Effect};
+use crate::past::{Past, ROOM};
 use crate::runs::changes_in;
 use crate::undo::{copy_range, undo_block, undo_frame};
 use host_heap::{Block, Heap};
@@ -59,9 +59,22 @@ impl History {
         self.past.len()
     }
 
-    /// Keeps the step that led to a machine from these registers and from the frame that began at `top`. What the step
-    /// changed of memory is looked for where it stored.
-    pub fn keep(&mut self, machine: &Machine, file: Active, top: u32, next: Stores)
+    /// Writes the registers before a step where they are kept if it is done.
+    #[inline(always)]
+    pub fn prepare(&mut self, file: &Active)
+        requires { IsPast self.old.past }
+        ensures past { IsPast self.new.past }
+        ensures entries { entries_in self.new.past ≡ entries_in self.old.past }
+        ensures beside { self.new ≡ record self.old { past = self.new.past } }
+        ensures ready { ready_in self.new.past.heads ≡ file.now }
+    {
+        self.past.prepare(file);
+    }
+
+    /// Keeps the step that led to a machine from the registers that were written and from the frame that began at `top`. What
+    /// the step changed of memory is looked for where it stored.
+    #[inline(always)]
+    pub fn keep(&mut self, machine: &Machine, top: u32, next: Stores)
         requires copied { length self.old.copy.items ≡ length machine.now.body.ram.bytes }
         requires stored { Beside (stored_in_of (block_between_of self.old.blocks.items machine.now.body.heap.blocks) next top machine.now.body.top machine.now.active)
             self.old.copy.items machine.now.body.ram.bytes }
@@ -76,22 +89,54 @@ impl History {
         ensures room { 4096 ≤ vec_capacity self.new.blocks }
         ensures past { IsPast self.new.past }
         ensures entries { entries_in self.new.past
-            ≡ within ROOM (entry_of file top self.old.copy.items self.old.blocks.items machine.now ∷ entries_in self.old.past) }
+            ≡ within ROOM (entry_of (ready_in self.old.past.heads) top self.old.copy.items self.old.blocks.items machine.now ∷ entries_in self.old.past) }
+    {
+        let body = &machine.body;
+        body.heap.every_heap_is_sound();
+        let none_stored = next.reach.low == next.reach.high;
+        let same_frames = body.top == top;
+        let same_blocks = body.heap.blocks().len() == self.blocks.len();
+        if none_stored & same_frames & same_blocks {
+            self.past.keep_still(top);
+        } else {
+            self.keep_changes(machine, top, next);
+        }
+    }
+
+    /// The same for any step.
+    #[inline(never)]
+    fn keep_changes(&mut self, machine: &Machine, top: u32, next: Stores)
+        requires copied { length self.old.copy.items ≡ length machine.now.body.ram.bytes }
+        requires stored { Beside (stored_in_of (block_between_of self.old.blocks.items machine.now.body.heap.blocks) next top machine.now.body.top machine.now.active)
+            self.old.copy.items machine.now.body.ram.bytes }
+        requires same_blocks { SameBlocks self.old.blocks.items machine.now.body.heap.blocks }
+        requires room { 4096 ≤ vec_capacity self.old.blocks }
+        requires past { IsPast self.old.past }
+        requires old_small { top ≤ 16777216 }
+        requires new_small { machine.now.body.top ≤ 16777216 }
+        ensures copied { self.new.copy.items ≡ machine.now.body.ram.bytes }
+        ensures blocks { self.new.blocks.items ≡ machine.now.body.heap.blocks }
+        ensures heap { IsSoundHeap machine.now.body.heap }
+        ensures room { 4096 ≤ vec_capacity self.new.blocks }
+        ensures past { IsPast self.new.past }
+        ensures entries { entries_in self.new.past
+            ≡ within ROOM (entry_of (ready_in self.old.past.heads) top self.old.copy.items self.old.blocks.items machine.now ∷ entries_in self.old.past) }
     {
         let bytes = machine.body.ram.bytes();
         let block = block_between(&self.blocks, machine.body.heap.blocks());
         let reach = stored_in(block, next, top, machine.body.top, &machine.active);
         let range = narrowed(&self.copy, bytes, in_memory(reach, &self.copy, bytes));
         let changes = changes_in(&self.copy, bytes, range.low, range.high);
-        let head = Head {
-            file,
+        let set = self.past.ready_isa();
+        let effect = Effect {
             top,
-            frame: frame_between(top, machine.body.top, file.isa(), machine.active.isa()),
+            frame: frame_between(top, machine.body.top, set, machine.active.isa()),
             block,
             runs: changes.runs,
             olds: changes.bytes,
         };
-        keep_in(&mut self.past, head, &self.copy, bytes, range);
+        self.past
+            .keep(effect, &self.copy, bytes, range.low, range.high);
         copy_range(&mut self.copy, bytes, range.low, range.high);
         follow_blocks(&mut self.blocks, &machine.body.heap);
     }
@@ -108,30 +153,6 @@ impl History {
         undo_blocks(&mut self.blocks, &mut machine.body.heap, head.block);
         machine.body.top = head.top;
         machine.active = head.file;
-    }
-}
-
-/// Keeps a step whose changed bytes lie in a range, and as many earlier ones as there is room for beside it.
-fn keep_in(past: &mut Past, head: Head, old: &[u8], new: &[u8], range: Range)
-    requires past { IsPast past.old }
-    requires order { range.low ≤ range.high }
-    requires old_long { range.high ≤ length old.now }
-    requires new_long { range.high ≤ length new.now }
-    requires small { range.high ≤ 16777216 }
-    requires runs { head.runs ≡ length (runs_in range.low range.high old.now new.now) }
-    requires olds { head.olds ≡ length (olds_of (runs_in range.low range.high old.now new.now)) }
-    requires few { head.runs ≤ 16777216 }
-    requires bytes { head.olds ≤ 16777216 }
-    ensures past { IsPast past.new }
-    ensures entries { entries_in past.new
-        ≡ within ROOM (record { head = head; runs = runs_in range.low range.high old.now new.now } ∷ entries_in past.old) }
-{
-    let cost = cost(&head);
-    if cost > ROOM {
-        past.clear();
-    } else {
-        past.trim(ROOM - cost);
-        past.push(head, old, new, range.low, range.high);
     }
 }
 

@@ -9,6 +9,7 @@ mod compare;
 mod crawl;
 mod debug;
 mod head;
+mod heads;
 mod history;
 mod laws;
 mod past;

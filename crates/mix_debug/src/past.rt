@@ -1,23 +1,24 @@
-// The steps that are kept, in three rings: heads, runs, and old bytes. The newest step stands in front.
-ghost use Rattle.std.specs.Prelude.{◌≡◌, ◌+◌, ◌<◌, ◌≤◌, ◌^◌, ◌∷◌, ◌++◌, [], All, IfOk, length};
+// The steps that are kept, in three rings: heads, runs, and old bytes. The newest step stands in front. Older steps than those
+// for which there is room in the history may stand behind them, until they are overwritten or a step is taken back.
+ghost use Rattle.std.specs.Prelude.{◌≡◌, ◌<◌, ◌≤◌, ◌∷◌, [], All, IfOk, length, true};
 ghost use Rattle.mix_debug.specs.Runs.{olds_of, runs_in, undone};
-ghost use Rattle.mix_debug.specs.Entries.{Entry, IsInside, file_cost as file_cost_of, head_cost, newest, within};
+ghost use Rattle.mix_debug.specs.Entries.{IsInside, all_olds, all_spans, file_cost as file_cost_of, head_cost, head_with, newest, still, within};
+ghost use Rattle.mix_debug.specs.Rows.{ready_in};
+ghost use Rattle.switch_frame.specs.Records.{isa_of};
 ghost use Rattle.mix_debug.specs.Pasts.{IsPast, entries_in};
 
-use crate::head::{Head, Span};
+use crate::head::{BlockChange, Effect, FrameChange, Head, Span};
+use crate::heads::Heads;
 use crate::runs::push_in;
 use crate::undo::undo_runs;
 use big_memory::Ram;
 use circular_buffer::HeapCircularBuffer;
-use mix_bits::NoMemory;
+use mix_bits::{Isa, NoMemory};
 use std::alloc::Global;
 use switch_frame::Active;
 
 /// How many bytes of history are kept.
 pub const ROOM: u32 = 1_048_576;
-
-/// How many steps fit at most: each takes at least 98 bytes.
-const MOST_HEADS: usize = 10_700;
 
 /// How many runs fit at most: each takes at least 8 bytes.
 const MOST_SPANS: usize = 131_072;
@@ -25,11 +26,19 @@ const MOST_SPANS: usize = 131_072;
 /// Steps that can be taken back.
 #[derive(Drop)]
 pub struct Past {
-    heads: HeapCircularBuffer<Head>,
+    heads: Heads,
     spans: HeapCircularBuffer<Span>,
     olds: HeapCircularBuffer<u8>,
-    /// How many bytes of history they take.
-    used: u32,
+    /// Whether there is room for all steps that stand in the rings.
+    trimmed: bool,
+}
+
+/// How many steps there is room for, and how many runs and bytes they changed.
+#[derive(Clone, Copy)]
+struct Counts {
+    steps: usize,
+    spans: usize,
+    olds: usize,
 }
 
 impl Past {
@@ -39,10 +48,10 @@ impl Past {
         ensures empty { IfOk result (λ p. entries_in p ≡ []) }
     {
         Ok(Past {
-            heads: HeapCircularBuffer::with_capacity(alloc, MOST_HEADS)?,
+            heads: Heads::new(alloc)?,
             spans: HeapCircularBuffer::with_capacity(alloc, MOST_SPANS)?,
             olds: HeapCircularBuffer::with_capacity(alloc, ROOM as usize)?,
-            used: 0,
+            trimmed: true,
         })
     }
 
@@ -51,69 +60,105 @@ impl Past {
         requires { IsPast self.now }
         ensures { result ≡ length (entries_in self.now) }
     {
-        self.heads.len() as u32
+        self.fitting().steps as u32
     }
 
-    /// Forgets all steps.
-    pub fn clear(&mut self)
+    /// Writes the registers before a step where they are kept if it is done.
+    #[inline(always)]
+    pub fn prepare(&mut self, file: &Active)
         requires { IsPast self.old }
         ensures past { IsPast self.new }
-        ensures empty { entries_in self.new ≡ [] }
+        ensures entries { entries_in self.new ≡ entries_in self.old }
+        ensures ready { ready_in self.new.heads ≡ file.now }
     {
-        self.heads.clear();
-        self.spans.clear();
-        self.olds.clear();
-        self.used = 0;
+        self.heads.prepare(file);
     }
 
-    /// Forgets the oldest steps until the others take at most `room` bytes.
-    pub fn trim(&mut self, room: u32)
+    /// The set of the registers that were written.
+    pub fn ready_isa(&self) -> Isa
+        requires { IsPast self.now }
+        ensures { result ≡ isa_of (ready_in self.now.heads) }
+    {
+        self.heads.ready().isa()
+    }
+
+    /// Keeps a step that changed nothing but registers. Those before it were written.
+    #[inline(always)]
+    pub fn keep_still(&mut self, top: u32)
         requires { IsPast self.old }
         ensures past { IsPast self.new }
-        ensures entries { entries_in self.new ≡ within room (entries_in self.old) }
-        ensures used { self.new.used ≤ room }
+        ensures entries { entries_in self.new
+            ≡ within ROOM (record { head = head_with (ready_in self.old.heads) (still top); runs = [] } ∷ entries_in self.old) }
     {
-        'trim: while self.used > room {
-            self.forget_oldest();
-        }
+        self.trimmed = false;
+        self.heads.push(Effect {
+            top,
+            frame: FrameChange::Stays,
+            block: BlockChange::Stays,
+            runs: 0,
+            olds: 0,
+        });
     }
 
-    /// Forgets the oldest step.
-    fn forget_oldest(&mut self)
-        requires past { IsPast self.old }
-        requires some { 0 < self.old.used }
-        ensures past { IsPast self.new }
-        ensures entries { (e : Entry) × (entries_in self.old ≡ entries_in self.new ++ e ∷ []) }
-        ensures fewer { self.new.used < self.old.used }
-    {
-        match self.heads.pop_back() {
-            Some(head) => {
-                let spans = self.spans.len() - head.runs as usize;
-                let olds = self.olds.len() - head.olds as usize;
-                self.spans.truncate_back(spans);
-                self.olds.truncate_back(olds);
-                self.used -= cost(&head);
-            }
-            None => unreachable!(),
-        }
-    }
-
-    /// Keeps a step whose changed bytes lie in [`low`, `high`).
-    pub fn push(&mut self, head: Head, old: &[u8], new: &[u8], low: usize, high: usize)
+    /// Keeps a step whose changed bytes lie in [`low`, `high`). The registers before it were written.
+    pub fn keep(&mut self, effect: Effect, old: &[u8], new: &[u8], low: usize, high: usize)
         requires past { IsPast self.old }
         requires order { low ≤ high }
         requires old_long { high ≤ length old.now }
         requires new_long { high ≤ length new.now }
         requires small { high ≤ 16777216 }
-        requires runs { head.runs ≡ length (runs_in low high old.now new.now) }
-        requires olds { head.olds ≡ length (olds_of (runs_in low high old.now new.now)) }
-        requires room { self.old.used + head_cost head ≤ ROOM }
+        requires runs { effect.runs ≡ length (runs_in low high old.now new.now) }
+        requires olds { effect.olds ≡ length (olds_of (runs_in low high old.now new.now)) }
         ensures past { IsPast self.new }
-        ensures entries { entries_in self.new ≡ record { head = head; runs = runs_in low high old.now new.now } ∷ entries_in self.old }
+        ensures entries { entries_in self.new
+            ≡ within ROOM (record { head = head_with (ready_in self.old.heads) effect; runs = runs_in low high old.now new.now } ∷ entries_in self.old) }
     {
-        self.used += cost(&head);
+        self.trimmed = false;
         push_in(&mut self.spans, &mut self.olds, old, new, low, high);
-        self.heads.push_front(head);
+        self.heads.push(effect);
+    }
+
+    /// Which of the newest steps there is room for.
+    fn fitting(&self) -> Counts
+        requires { IsPast self.now }
+        ensures steps { result.steps ≡ length (entries_in self.now) }
+        ensures spans { result.spans ≡ length (all_spans (entries_in self.now)) }
+        ensures olds { result.olds ≡ length (all_olds (entries_in self.now)) }
+        ensures few { result.steps ≤ 10700 }
+    {
+        let mut steps = 0;
+        let mut spans = 0;
+        let mut olds = 0;
+        let mut left = u64::from(ROOM);
+        'steps: while steps < self.heads.len() {
+            let head = self.heads.at(steps);
+            let cost = cost(head);
+            if cost > left {
+                return Counts { steps, spans, olds };
+            }
+            left -= cost;
+            steps += 1;
+            spans += head.runs as usize;
+            olds += head.olds as usize;
+        }
+        Counts { steps, spans, olds }
+    }
+
+    /// Forgets the steps for which there is no room.
+    fn trim(&mut self)
+        requires { IsPast self.old }
+        ensures past { IsPast self.new }
+        ensures entries { entries_in self.new ≡ entries_in self.old }
+        ensures trimmed { self.new.trimmed ≡ true }
+    {
+        if self.trimmed {
+            return;
+        }
+        let counts = self.fitting();
+        self.heads.shorten(counts.steps);
+        self.spans.truncate_back(counts.spans);
+        self.olds.truncate_back(counts.olds);
+        self.trimmed = true;
     }
 
     /// Gives up the newest step: its old bytes are written to both memories.
@@ -127,27 +172,22 @@ impl Past {
         ensures ram { ram.new ≡ record ram.old { bytes = undone (newest (entries_in self.old)) ram.old.bytes } }
         ensures copied { copy.new ≡ ram.new.bytes }
     {
-        match self.heads.pop_front() {
-            Some(head) => {
-                undo_runs(&mut self.spans, &mut self.olds, head.runs, ram, copy);
-                self.used -= cost(&head);
-                head
-            }
-            None => unreachable!(),
-        }
+        self.trim();
+        let head = self.heads.pop();
+        undo_runs(&mut self.spans, &mut self.olds, head.runs, ram, copy);
+        head
     }
 }
 
 /// How many bytes of history a step takes.
-pub fn cost(head: &Head) -> u32
-    requires { head_cost head.now < 2 ^ 32 }
+fn cost(head: &Head) -> u64
     ensures { result ≡ head_cost head.now }
 {
-    file_cost(&head.file) + 8 * head.runs + head.olds
+    file_cost(&head.file) + 8 * u64::from(head.runs) + u64::from(head.olds)
 }
 
 /// How many of them its register file takes, with top and block.
-pub fn file_cost(file: &Active) -> u32
+fn file_cost(file: &Active) -> u64
     ensures { result ≡ file_cost_of file.now }
 {
     match file {

@@ -1,4 +1,4 @@
-ghost use Rattle.std.specs.Prelude.{◌≡◌};
+ghost use Rattle.std.specs.Prelude.{◌≡◌, true};
 ghost use Rattle.mix_debug.specs.Trails.{is_done as is_done_by, step_of as step_by, stop_of};
 
 use mixed_machine::Stop;
@@ -30,5 +30,17 @@ pub(crate) fn is_done(stop: Stop) -> bool
     match stop {
         Stop::Limit | Stop::TraceFault => true,
         _ => false,
+    }
+}
+
+/// The same answer of a step that is done, which tells nothing beside.
+#[inline(always)]
+pub(crate) fn done_of(stop: Stop) -> Stop
+    requires { is_done_by stop ≡ true }
+    ensures { result ≡ stop }
+{
+    match stop {
+        Stop::TraceFault => Stop::TraceFault,
+        _ => Stop::Limit,
     }
 }

@@ -2,3 +2,4 @@ pub mod Counting
 pub mod Ways
 pub mod Looping
 pub mod Starting
+pub mod Once

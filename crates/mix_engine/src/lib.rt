@@ -7,10 +7,12 @@
 #![tactic(auto)]
 
 mod machine;
+mod one_step;
 mod runs;
 mod turn;
 
 pub use machine::{Machine, run};
 pub use mixed_machine::{Body, Stop};
+pub use one_step::step;
 pub use runs::{run_m68, run_ppc};
 pub use turn::Turn;

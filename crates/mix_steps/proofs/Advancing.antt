@@ -13,9 +13,10 @@ use Rattle.mixed_machine.specs.Step.{step}
 use Rattle.mixed_machine.specs.Machine.{IsWhole, flat}
 use Rattle.mixed_machine.specs.Outside.{At, at}
 use Rattle.mixed_machine.specs.Acts.{Acts}
+use Rattle.mix_steps.specs.declared.code.Code.{Code}
 use Rattle.mix_steps.specs.declared.code.Code.TheVariants.{Next as Goes_on, Leave, Stop, Gate}
 use Rattle.mix_steps.specs.Laws.{AreLaws}
-use Rattle.mix_steps.specs.Cores.{AreOwn, CodesAfter, IsOwn, leaves_code}
+use Rattle.mix_steps.specs.Cores.{AreOwn, Codes, CodesAfter, IsOwn, leaves_code}
 use Rattle.mix_steps.specs.Does.{Does}
 use Rattle.mix_steps.specs.Advances.{Advances, GoesOn}
 use Rattle.mix_steps.proofs.Amid.{acts-from, amid, does-change}
@@ -90,3 +91,24 @@ advances-leave laws k did told cell before mid b body o a c codes acts =
           (same-at codes.body body codes.active mid o a codes.last.2 codes.last.3)
           (λ around. codes.last.0 around ∙ ap (λ w. leaves_code w (flat codes.body codes.active around) told.detail) (sym codes.last.2)) acts;
     }
+
+-- one by itself
+pub codes-whole : (code : Code) (cell : AFault) (before after : Active) (b new : Body) → IsWhole b (isa_of before) → Codes code cell before after b new → IsWhole new (isa_of after)
+codes-whole Goes_on cell before after b new whole codes = codes.1
+codes-whole Leave cell before after b new whole codes = subst (λ w. IsWhole new (isa_of w)) (sym codes.2) (subst (λ x. IsWhole x (isa_of before)) (sym codes.3) whole)
+codes-whole Stop cell before after b new whole codes = subst (λ w. IsWhole new (isa_of w)) (sym codes.1) (subst (λ x. IsWhole x (isa_of before)) (sym codes.2) whole)
+codes-whole Gate cell before after b new whole codes = subst (λ w. IsWhole new (isa_of w)) (sym codes.1) (subst (λ x. IsWhole x (isa_of before)) (sym codes.2) whole)
+
+pub once : (code : Code) (cell : AFault) (before after : Active) (b new : Body) → Codes code cell before after b new → CodesAfter 0 code cell before after b new
+once code cell before after b new codes = record { active = before; body = b; own = (refl, refl); last = codes }
+
+no-own : (k : ℕ) (before after : Active) (b new : Body) → k ≡ 0 → AreOwn k before after b new → (after ≡ before) × (new ≡ b)
+no-own zero before after b new none own = own
+no-own (suc k) before after b new none own = absurd (omega (arith, none))
+
+-- the only one that is allowed
+pub only-one : (left : ℕ) (code : Code) (cell : AFault) (before after : Active) (b new : Body) → 0 < left → left ≤ 1 → CodesAfter (1 - left) code cell before after b new
+    → Codes code cell before after b new
+only-one left code cell before after b new some few codes =
+    let none = no-own (1 - left) before codes.active b codes.body (omega (arith, some, few)) codes.own in
+    subst (λ x. Codes code cell before after x new) none.1 (subst (λ w. Codes code cell w after codes.body new) none.0 codes.last)

@@ -48,6 +48,36 @@ pub fn run_code(body: &mut Body, active: &mut Active, fault: &mut Fault, left: &
     }
 }
 
+/// One instruction at pc, in the same way.
+#[inline(always)]
+pub fn run_once(body: &mut Body, active: &mut Active, fault: &mut Fault) -> Code
+    requires { IsWhole body.old (isa_of active.old) }
+    ensures whole { IsWhole body.new (isa_of active.new) }
+    ensures codes { Codes result fault.new active.old active.new body.old body.new }
+{
+    match active {
+        Active::M68(regs) => once_68k(body, regs, fault),
+        Active::Ppc(regs) => once_ppc(body, regs, fault),
+    }
+}
+
+#[inline(never)]
+fn once_68k(body: &mut Body, regs: &mut Regs68, fault: &mut Fault) -> Code
+    requires { IsWhole body.old set_m68 }
+    ensures { Codes result fault.new (M68 regs.old) (M68 regs.new) body.old body.new }
+{
+    code_68k(body, regs, fault)
+}
+
+#[inline(always)]
+fn once_ppc(body: &mut Body, regs: &mut RegsPpc, fault: &mut Fault) -> Code
+    requires { IsWhole body.old set_ppc }
+    ensures { Codes result fault.new (Ppc regs.old) (Ppc regs.new) body.old body.new }
+{
+    let mut left = 1;
+    advance_ppc(body, regs, fault, &mut left)
+}
+
 #[inline(always)]
 fn advance_68k(body: &mut Body, regs: &mut Regs68, fault: &mut Fault, left: &mut u32) -> Code
     requires whole { IsWhole body.old set_m68 }

@@ -18,4 +18,4 @@ mod refuse;
 mod step;
 
 pub use outside::Outside;
-pub use step::advance;
+pub use step::{advance, advance_once};

@@ -5,7 +5,7 @@ ghost use Rattle.mixed_machine.specs.Machine.{IsWhole};
 ghost use Rattle.mix_steps.specs.Advances.{Advances};
 ghost use Rattle.mix_steps.specs.Beside.{AreSame, machine_beside};
 
-use crate::code::{Code, run_code};
+use crate::code::{Code, run_code, run_once};
 use crate::host::leave_code;
 use crate::laws::body_laws;
 use crate::leave::leave;
@@ -39,6 +39,29 @@ pub fn advance<'i, 'o, 't, 'd, I: Source, O: Sink, T: Sink, D: Devices>(
 {
     body_laws();
     match run_code(body, active, fault, left) {
+        Code::Next => Did::Next,
+        Code::Stop => Did::Fault,
+        Code::Gate => leave(body, active, outside.trace, fault),
+        Code::Leave => leave_code(body, active, outside, fault),
+    }
+}
+
+/// One step of the active set, in the same way.
+#[inline(always)]
+pub fn advance_once<'i, 'o, 't, 'd, I: Source, O: Sink, T: Sink, D: Devices>(
+    body: &mut Body,
+    active: &mut Active,
+    outside: &mut Outside<'i, 'o, 't, 'd, I, O, T, D>,
+    fault: &mut Fault,
+) -> Did
+    requires { IsWhole body.old (isa_of active.old) }
+    ensures does { Advances 0 result fault.new
+        (machine_beside I.left I.faults O.held O.faults T.held T.faults D.state body.old active.old outside.old)
+        (machine_beside I.left I.faults O.held O.faults T.held T.faults D.state body.new active.new outside.new) }
+    ensures same { AreSame outside.old outside.new }
+{
+    body_laws();
+    match run_once(body, active, fault) {
         Code::Next => Did::Next,
         Code::Stop => Did::Fault,
         Code::Gate => leave(body, active, outside.trace, fault),

@@ -1,26 +1,43 @@
-use Rattle.std.proofs.Common.{◌∷◌, length, ap, sym, ◌∙◌}
-use Rattle.mix_debug.specs.Entries.{within}
+use Rattle.std.proofs.Common.{◌≡◌, ◌==◌, ◌&&◌, ◌∷◌, Bool, true, false, length, ap, sym, subst, refl, ◌∙◌}
+use Rattle.std.proofs.lemmas.Bool.{eqb-true}
+use Rattle.mix_reach.specs.declared.reach.Reach.{Reach}
+use Rattle.mix_reach.specs.Ranges.{Beside}
+use Rattle.mix_debug.specs.Entries.{Entry, within}
+use Rattle.mix_debug.specs.Rows.{ready_in}
 use Rattle.mix_debug.specs.Pasts.{entries_in}
-use Rattle.mix_debug.specs.Runs.{olds_of}
-use Rattle.mix_debug.proofs.Keeping.{copy-kept, entry-is}
-use Rattle.mix_debug.proofs.Narrowing.{runs-found}
+use Rattle.mix_debug.proofs.Still.{all_same, still_entry, stored_still}
 use Rattle.mix_debug.proofs.history.History.keep.Goals as goal
 
-pub returns-clause-copied : goal.returns-clause-copied
-returns-clause-copied c =
-    copy-kept c.args.self.now.copy.len c.narrowed-range.result.low c.narrowed-range.result.high c.args.self.now.copy.items c.deref-2.result.now c.deref_mut.result.now c.bytes-bytes.result.now
-    c.args.machine.now.body.ram.bytes c.copy_range.new.copy c.deref-2.ensures.value c.deref_mut.ensures.value c.bytes-bytes.ensures.is c.requires.copied c.narrowed-range.ensures c.copy_range.ensures (sym c.deref_mut.ensures.len)
+parts : (a b c : Bool) → ((a && b) && c) ≡ true → (a ≡ true) × (b ≡ true) × (c ≡ true)
+parts true true true all = (refl, refl, refl)
+parts true true false all = absurd (let e : false ≡ true = all in cc)
+parts true false c all = absurd (let e : false ≡ true = all in cc)
+parts false b c all = absurd (let e : false ≡ true = all in cc)
 
-pub returns-clause-entries : goal.returns-clause-entries
-returns-clause-entries c =
-    let low = c.narrowed-range.result.low in
-    let high = c.narrowed-range.result.high in
-    let ram = c.args.machine.now.body.ram.bytes in
-    let counted = runs-found low high c.args.self.now.copy.items c.deref-2.result.now c.deref-4.result.now c.bytes-bytes.result.now ram c.deref-2.ensures.value c.deref-4.ensures.value c.bytes-bytes.ensures.is c.requires.copied c.narrowed-range.ensures in
-    let kept = runs-found low high c.args.self.now.copy.items c.deref-2.result.now c.deref-5.result.now c.bytes-bytes.result.now ram c.deref-2.ensures.value c.deref-5.ensures.value c.bytes-bytes.ensures.is c.requires.copied c.narrowed-range.ensures in
-    c.keep_in.ensures.entries
-    ∙ ap (λ e. within 1048576 (e ∷ entries_in c.args.self.now.past))
-    (entry-is c.args.file c.args.top c.args.self.now.copy.items c.args.self.now.blocks.items c.args.machine.now c.isa.result c.isa-2.result c.frame_between.result
-    c.deref.result.now c.blocks-2.result.now c.block_between-block.result c.changes_in-changes.result.runs c.changes_in-changes.result.bytes _
-    c.isa.ensures c.isa-2.ensures c.frame_between.ensures c.deref.ensures.value c.blocks-2.ensures c.block_between-block.ensures
-    (c.changes_in-changes.ensures.runs ∙ ap length counted) (c.changes_in-changes.ensures.bytes ∙ ap (λ rs. length (olds_of rs)) counted) kept)
+pub returns-then-none_stored-same_frames-clause-copied : goal.returns-then-none_stored-same_frames-clause-copied
+returns-then-none_stored-same_frames-clause-copied c =
+    let test = parts (c.args.next.reach.low == c.args.next.reach.high) (c.args.machine.now.body.top == c.args.top) (length c.blocks-2.result.now == c.len.result) c.if-none_stored-same_frames.true in
+    let blocks = c.args.self.now.blocks.items in
+    let news = c.args.machine.now.body.heap.blocks in
+    let long : length news ≡ length blocks = ap length (sym c.blocks-2.ensures) ∙ eqb-true (length c.blocks-2.result.now) c.len.result test.2 ∙ c.len.ensures ∙ c.args.self.now.blocks.ok.0 in
+    let tops : c.args.machine.now.body.top ≡ c.args.top = eqb-true c.args.machine.now.body.top c.args.top test.1 in
+    let told = stored_still blocks news c.args.next c.args.top c.args.machine.now.body.top c.args.machine.now.active long tops in
+    let same : c.args.machine.now.body.ram.bytes ≡ c.args.self.now.copy.items =
+    all_same c.args.next.reach c.args.self.now.copy.items c.args.machine.now.body.ram.bytes (eqb-true c.args.next.reach.low c.args.next.reach.high test.0)
+    (subst (λ (w : Reach). Beside w c.args.self.now.copy.items c.args.machine.now.body.ram.bytes) told c.requires.stored) in
+    sym same
+
+pub returns-then-none_stored-same_frames-clause-entries : goal.returns-then-none_stored-same_frames-clause-entries
+returns-then-none_stored-same_frames-clause-entries c =
+    let test = parts (c.args.next.reach.low == c.args.next.reach.high) (c.args.machine.now.body.top == c.args.top) (length c.blocks-2.result.now == c.len.result) c.if-none_stored-same_frames.true in
+    let blocks = c.args.self.now.blocks.items in
+    let news = c.args.machine.now.body.heap.blocks in
+    let long : length news ≡ length blocks = ap length (sym c.blocks-2.ensures) ∙ eqb-true (length c.blocks-2.result.now) c.len.result test.2 ∙ c.len.ensures ∙ c.args.self.now.blocks.ok.0 in
+    let tops : c.args.machine.now.body.top ≡ c.args.top = eqb-true c.args.machine.now.body.top c.args.top test.1 in
+    let told = stored_still blocks news c.args.next c.args.top c.args.machine.now.body.top c.args.machine.now.active long tops in
+    let same : c.args.machine.now.body.ram.bytes ≡ c.args.self.now.copy.items =
+    all_same c.args.next.reach c.args.self.now.copy.items c.args.machine.now.body.ram.bytes (eqb-true c.args.next.reach.low c.args.next.reach.high test.0)
+    (subst (λ (w : Reach). Beside w c.args.self.now.copy.items c.args.machine.now.body.ram.bytes) told c.requires.stored) in
+    c.keep_still.ensures.entries
+    ∙ ap (λ (e : Entry). within 1048576 (e ∷ entries_in c.args.self.now.past))
+    (still_entry (ready_in c.args.self.now.past.heads) c.args.top c.args.self.now.copy.items blocks c.args.machine.now tops long same)

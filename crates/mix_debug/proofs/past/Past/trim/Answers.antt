@@ -1,21 +1,25 @@
-use Rattle.std.proofs.Common.{◌≡◌, ◌<◌, ◌++◌, ◌∷◌, [], ap, sym, ◌∙◌, arith}
-use Rattle.mix_debug.specs.Entries.{total, within}
-use Rattle.mix_debug.specs.Pasts.{entries_in}
-use Rattle.mix_debug.proofs.Spelling.{within-all, within-last}
+use Rattle.std.proofs.Common.{true, arith, ap, take, ◌∙◌}
+use Rattle.circular_buffer.specs.Buffer.{buffer}
+use Rattle.mix_debug.specs.declared.past.Past.{Past}
+use Rattle.mix_debug.specs.Rows.{heads_in}
+use Rattle.mix_debug.proofs.Holding.{few-held, shortened}
 use Rattle.mix_debug.proofs.past.Past.trim.Goals as goal
 
-pub trim-preserved : goal.trim-preserved
-trim-preserved c =
-    let e = c.forget_oldest.ensures.entries in
-    let used : c.trim.self.used ≡ total (entries_in c.trim.self) = c.trim.invariant.past.used in
-    let all : total (entries_in c.trim.self) ≡ total (entries_in c.forget_oldest.new.self ++ e.0 ∷ []) = ap total e.1 in
-    let over : c.args.room < total (entries_in c.forget_oldest.new.self ++ e.0 ∷ []) = omega (arith, c.trim-test.true, used, all) in
-    record {
-      past = c.forget_oldest.ensures.past;
-      entries = sym (within-last c.args.room (entries_in c.forget_oldest.new.self) e.0 over) ∙ ap (within c.args.room) (sym e.1) ∙ c.trim.invariant.entries;
-    }
+pub shorten-requires-clause-some : goal.shorten-requires-clause-some
+shorten-requires-clause-some c = let few = few-held c.args.self.now c.requires in omega (arith, few, c.fitting-counts.ensures.steps)
+
+pub returns-clause-past : goal.returns-clause-past
+returns-clause-past c =
+    let p : Past = c.args.self.now in
+    let q : Past = record { heads = c.shorten.new.self; spans = c.truncate_back.new.self; olds = c.truncate_back-2.new.self; trimmed = true } in
+    let left = shortened p q c.requires c.shorten.ensures.row (c.shorten.ensures.left ∙ ap (λ n. take n (heads_in p.heads)) c.fitting-counts.ensures.steps)
+    (c.truncate_back.ensures ∙ ap (λ n. buffer (take n p.spans.items) p.spans.capacity) c.fitting-counts.ensures.spans) (c.truncate_back-2.ensures ∙ ap (λ n. buffer (take n p.olds.items) p.olds.capacity) c.fitting-counts.ensures.olds) in
+    left.past
 
 pub returns-clause-entries : goal.returns-clause-entries
 returns-clause-entries c =
-    let used : c.trim.self.used ≡ total (entries_in c.trim.self) = c.trim.invariant.past.used in
-    sym (within-all c.args.room (entries_in c.trim.self) (omega (arith, used, c.trim-test.false))) ∙ c.trim.invariant.entries
+    let p : Past = c.args.self.now in
+    let q : Past = record { heads = c.shorten.new.self; spans = c.truncate_back.new.self; olds = c.truncate_back-2.new.self; trimmed = true } in
+    let left = shortened p q c.requires c.shorten.ensures.row (c.shorten.ensures.left ∙ ap (λ n. take n (heads_in p.heads)) c.fitting-counts.ensures.steps)
+    (c.truncate_back.ensures ∙ ap (λ n. buffer (take n p.spans.items) p.spans.capacity) c.fitting-counts.ensures.spans) (c.truncate_back-2.ensures ∙ ap (λ n. buffer (take n p.olds.items) p.olds.capacity) c.fitting-counts.ensures.olds) in
+    left.entries_are
