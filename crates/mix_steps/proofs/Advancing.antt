@@ -1,5 +1,5 @@
 -- Steps that code does by itself, one after another, and the step behind them.
-use Rattle.std.proofs.Common.{◌≡◌, ℕ, zero, suc, ◌-◌, ◌<◌, ◌≤◌, arith, sym, ap, ◌∙◌, subst}
+use Rattle.std.proofs.Common.{◌≡◌, ℕ, zero, suc, ◌-◌, ◌<◌, ◌≤◌, arith, refl, sym, ap, ◌∙◌, subst}
 use Rattle.mix_bits.specs.declared.fault.Fault.{Fault as AFault}
 use Rattle.mix_io.specs.Streams.{Output}
 use Rattle.switch_frame.specs.declared.active.Active.{Active}
