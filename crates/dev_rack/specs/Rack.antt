@@ -11,13 +11,17 @@ pub record State : Type 0 where
   pub slots : List (Option Seen)
   pub journal : List Asked
 
+-- how many asks a journal holds at the most
+abbrev pub journal_limit : ℕ
+journal_limit = 4096
+
 -- devices in the slots from 0 on, with no ask yet
 abbrev pub fresh : List Seen → State
 fresh devices = record { slots = map Some devices; journal = [] }
 
 -- the device in the slot was asked this word once, and one entry says so
 pub record Answered (old : State) (slot word : ℕ) (result : Result ℕ DeviceFailed) (new : State) : Type 0 where
-  pub room : length old.journal < 4096
+  pub room : length old.journal < journal_limit
   pub heard : HeardAt old.slots new.slots slot word result
   pub noted : new.journal ≡ old.journal ++ (record { slot = slot; word = word; answer = result_ok result }) ∷ []
 
@@ -26,7 +30,7 @@ abbrev pub Asks : State → ℕ → ℕ → Answer → State → Type 0
 Asks old slot word (Word answer) new = Answered old slot word (Ok answer) new
 Asks old slot word Failed new = Answered old slot word (Err (record {})) new
 Asks old slot word Empty new = (device_at old.slots slot ≡ None) × (new ≡ old)
-Asks old slot word Full new = IsSome (device_at old.slots slot) × (length old.journal ≡ 4096) × (new ≡ old)
+Asks old slot word Full new = IsSome (device_at old.slots slot) × (length old.journal ≡ journal_limit) × (new ≡ old)
 
 -- an eject: the slot of a device holds none afterwards, and an empty slot stays as it is
 abbrev pub Ejects : State → ℕ → Bool → State → Type 0

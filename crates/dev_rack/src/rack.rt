@@ -1,5 +1,6 @@
 // A rack of boxed devices.
 ghost use Rattle.std.specs.Prelude.{◌≡◌, ◌≤◌, IfOk, vec_len, vec_capacity, map};
+ghost use Rattle.dev_rack.specs.Rack.{journal_limit};
 
 use super::answers::{Answer, Asked};
 use super::devices::Devices;
@@ -7,16 +8,16 @@ use super::slots::{ask_at, empty_at, filled, holds_device};
 use mix_io::{Device, Failed, NoMemory};
 use std::alloc::Global;
 
-/// How many asks the journal holds.
-const ENTRIES: usize = 4096;
+/// How many asks a journal holds at the most.
+const JOURNAL_LIMIT: usize = 4096;
 
 /// Holds up to eight devices.
 #[derive(Drop)]
 pub struct Rack {
     slots: Vec<Option<Box<dyn Device>>>,
     journal: Vec<Asked>,
-    ghost room: { 4096 ≤ vec_capacity journal },
-    ghost within: { vec_len journal ≤ 4096 },
+    ghost room: { journal_limit ≤ vec_capacity journal },
+    ghost within: { vec_len journal ≤ journal_limit },
 }
 
 impl Rack {
@@ -31,7 +32,7 @@ impl Rack {
     {
         Ok(Rack {
             slots: filled(alloc, devices)?,
-            journal: Vec::with_capacity(alloc, ENTRIES)?,
+            journal: Vec::with_capacity(alloc, JOURNAL_LIMIT)?,
         })
     }
 }
@@ -48,7 +49,7 @@ impl Devices for Rack {
         if !holds_device(&self.slots, slot) {
             return Answer::Empty;
         }
-        if self.journal.len() == ENTRIES {
+        if self.journal.len() == JOURNAL_LIMIT {
             return Answer::Full;
         }
         let result = ask_at(&mut self.slots, slot, word);

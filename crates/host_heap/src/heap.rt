@@ -11,7 +11,7 @@ use crate::blocks::{add, begins_at, can_append, can_place, lowest_fit, remove, r
 use std::alloc::{AllocError, Global};
 use std::marker::Model;
 
-// How many blocks a heap holds at the most.
+/// How many blocks a heap holds at the most.
 pub const BLOCK_LIMIT: usize = 4096;
 
 /// A range of addresses and the blocks of it that are in use. Contracts see its bounds and the list of its blocks.

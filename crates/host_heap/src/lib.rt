@@ -11,7 +11,7 @@ mod tests;
 
 pub use block::Block;
 pub use blocks::may_follow;
-pub use heap::Heap;
+pub use heap::{BLOCK_LIMIT, Heap};
 pub use laws::{
     block_laws, empty_heap_is_sound, freeing_keeps_sound, freeing_undoes_taking,
     lowest_fit_is_lowest, place_is_aligned, place_is_unique, placing_laws, taking_keeps_sound,

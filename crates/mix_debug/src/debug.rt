@@ -10,7 +10,7 @@ ghost use Rattle.mixed_machine.specs.Runs.{Runs};
 ghost use Rattle.mix_io.specs.Counts.{HasCause};
 ghost use Rattle.mix_io.specs.Streams.{output};
 ghost use Rattle.mix_io.specs.Told.{Puts};
-ghost use Rattle.mix_engine.specs.Turns.{counts};
+ghost use Rattle.toolbox.specs.Blames.{counts};
 ghost use Rattle.mix_debug.specs.Crawl.{crawl_of};
 ghost use Rattle.mix_debug.specs.Histories.{IsHistory, KeepsBeside};
 ghost use Rattle.mix_debug.specs.Trails.{Keeps, TakesBack, Trail, is_done as is_done_by, step_of as step_by, stop_of};

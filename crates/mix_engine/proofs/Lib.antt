@@ -1,4 +1,3 @@
-pub mod Counting
 pub mod Ways
 pub mod Looping
 pub mod Starting

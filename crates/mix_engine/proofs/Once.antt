@@ -6,7 +6,8 @@ use Rattle.mixed_machine.specs.declared.did.Did.{Did}
 use Rattle.mixed_machine.specs.declared.did.Did.TheVariants.{Exit, Fault as FaultDid, ReadFault, OutFault, TraceFault}
 use Rattle.mixed_machine.specs.declared.stop.Stop.TheVariants.{Exit as ExitStop, Fault as FaultStop, Limit, ReadFault as ReadStop, OutFault as OutStop, TraceFault as TraceStop}
 use Rattle.mixed_machine.specs.Acts.{Acts}
-use Rattle.mixed_machine.specs.Counts.{Calm, counts_of}
+use Rattle.toolbox.specs.Blames.{Calm}
+use Rattle.mixed_machine.specs.Counts.{counts_of}
 use Rattle.mixed_machine.specs.Events.{IsDone}
 use Rattle.mixed_machine.specs.Machine.{IsWhole}
 use Rattle.mixed_machine.specs.Outside.{At}

@@ -1,22 +1,17 @@
 -- How the run of one instruction set ends: where its innermost caller goes on, or where the machine stops.
-use Rattle.std.specs.Prelude.{◌≡◌, ℕ, List, ◌∷◌}
+use Rattle.std.specs.Prelude.{◌≡◌, ℕ, ◌≤◌, List, ◌∷◌, length}
 use Rattle.switch_frame.specs.declared.active.Active.{Active}
-use Rattle.switch_frame.specs.Records.{Record}
-use Rattle.mixed_machine.specs.Counts.{Blames, Calm, Counts}
+use Rattle.switch_frame.specs.Records.{Record, isa_of}
+use Rattle.dev_rack.specs.Accounts.{Accounts}
+use Rattle.toolbox.specs.Blames.{Calm, Counts}
+use Rattle.mixed_machine.specs.Counts.{Blames, counts_of}
 use Rattle.mixed_machine.specs.Events.{CameBackAt, StopsAt}
+use Rattle.mixed_machine.specs.Machine.{IsWhole, callers_of}
 use Rattle.mixed_machine.specs.Outside.{At}
-use Rattle.mix_steps.specs.declared.outside.Outside.{Outside}
 use Rattle.mix_engine.specs.declared.turn.TurnEnd.{TurnEnd}
 use Rattle.mix_engine.specs.declared.turn.TurnEnd.TheVariants.{Back as IsBack, Stop as IsStop}
 use Rattle.mix_engine.specs.declared.turn.Turn.{Turn}
 use Rattle.mix_engine.specs.declared.turn.Turn.TheVariants.{Back, Stop as Stopped}
-
-abbrev pub counts : ℕ → ℕ → ℕ → Counts
-counts input out trace = record { input = input; out = out; trace = trace }
-
--- those of what lies outside
-abbrev pub counts_in : {I O T D : Type 0} → (I → ℕ) → (O → ℕ) → (T → ℕ) → Outside I O T D → Counts
-counts_in input out trace o = counts (input o.input.now) (out o.out.now) (trace o.trace.now)
 
 -- the registers that it hands back
 abbrev pub file_of : Turn → Active
@@ -42,3 +37,12 @@ Waits old (Stopped file stop) new = Unit {0}
 abbrev pub BlamesTurn : Turn → Counts → Counts → Type 0
 BlamesTurn (Back file) old new = Calm old new
 BlamesTurn (Stopped file stop) old new = Blames stop old new
+
+-- a run of at most n steps, down to the callers at its start, with `left` steps left at its end
+pub record Turned (n left : ℕ) (a b : At) (turn : Turn) : Type 0 where
+  pub whole : IsWhole b.body (isa_of b.active)
+  pub callers : Waits (callers_of a.body) turn (callers_of b.body)
+  pub run : TurnsAt (length (callers_of a.body)) n left a b turn
+  pub fewer : left ≤ n
+  pub blames : BlamesTurn turn (counts_of a) (counts_of b)
+  pub devices : Accounts a.outside.rack b.outside.rack

@@ -3,16 +3,16 @@ ghost use Rattle.std.specs.Prelude.{◌≡◌, IfOk};
 ghost use Rattle.switch_frame.specs.Program.{IsProgram};
 ghost use Rattle.switch_frame.specs.Records.{isa_of};
 ghost use Rattle.dev_rack.specs.Accounts.{Accounts};
-ghost use Rattle.toolbox.specs.Calls.{outside as outside_of};
+ghost use Rattle.toolbox.specs.Blames.{counts};
+ghost use Rattle.toolbox.specs.Calls.{counts_beside, outside as outside_of};
 ghost use Rattle.toolbox.specs.Effects.{Around};
 ghost use Rattle.mixed_machine.specs.Counts.{Blames};
 ghost use Rattle.mixed_machine.specs.Machine.{IsWhole, flat};
 ghost use Rattle.mixed_machine.specs.Outside.{at};
 ghost use Rattle.mixed_machine.specs.Runs.{Runs};
-ghost use Rattle.mix_steps.specs.Beside.{AreSame, machine_beside};
+ghost use Rattle.mix_steps.specs.Beside.{AreSame, machine_beside, outside_lent, trace_lent};
 ghost use Rattle.mix_io.specs.Streams.{output};
 ghost use Rattle.mix_engine.specs.Start.{start_of};
-ghost use Rattle.mix_engine.specs.Turns.{counts, counts_in};
 
 use crate::runs::run_turns;
 use crate::turn::TurnEnd;
@@ -103,7 +103,9 @@ fn run_beside<'i, 'o, 't, 'd, I: Source, O: Sink, T: Sink, D: Devices>(
     ensures run { Runs steps
         (machine_beside I.left I.faults O.held O.faults T.held T.faults D.state body.old active.old outside.old)
         (machine_beside I.left I.faults O.held O.faults T.held T.faults D.state body.new active.new outside.new) result }
-    ensures blames { Blames result (counts_in I.faults O.faults T.faults outside.old) (counts_in I.faults O.faults T.faults outside.new) }
+    ensures blames { Blames result
+        (counts_beside (outside_lent I.left I.faults O.held O.faults D.state outside.old) (trace_lent T.held T.faults outside.old))
+        (counts_beside (outside_lent I.left I.faults O.held O.faults D.state outside.new) (trace_lent T.held T.faults outside.new)) }
     ensures devices { Accounts (D.state outside.old.rack.now) (D.state outside.new.rack.now) }
     ensures same { AreSame outside.old outside.new }
 {

@@ -1,15 +1,13 @@
 // A loop of steps that calls itself for each callee, and the ways into it for each instruction set.
-ghost use Rattle.std.specs.Prelude.{◌≤◌, length};
 ghost use Rattle.mix_bits.specs.declared.isa.Isa.TheVariants.{M68 as set_m68, Ppc as set_ppc};
 ghost use Rattle.switch_frame.specs.declared.active.Active.TheVariants.{M68, Ppc};
 ghost use Rattle.switch_frame.specs.Records.{isa_of};
-ghost use Rattle.dev_rack.specs.Accounts.{Accounts};
 ghost use Rattle.toolbox.specs.Calls.{outside as outside_of};
-ghost use Rattle.mixed_machine.specs.Machine.{IsWhole, callers_of};
+ghost use Rattle.mixed_machine.specs.Machine.{IsWhole};
 ghost use Rattle.mixed_machine.specs.Outside.{at};
 ghost use Rattle.mix_io.specs.Streams.{output};
 ghost use Rattle.mix_steps.specs.Beside.{AreSame, machine_beside};
-ghost use Rattle.mix_engine.specs.Turns.{BlamesTurn, TurnsAt, Waits, counts, counts_in, file_of, turn_of};
+ghost use Rattle.mix_engine.specs.Turns.{Turned, file_of, turn_of};
 
 use crate::turn::{Turn, TurnEnd};
 use dev_rack::Devices;
@@ -33,24 +31,11 @@ pub fn run_m68<I: Source, O: Sink, T: Sink, D: Devices>(
     steps: &mut u32,
 ) -> Turn
     requires { IsWhole body.old set_m68 }
-    ensures whole { IsWhole body.new (isa_of (file_of result)) }
-    ensures callers { Waits (callers_of body.old) result (callers_of body.new) }
-    ensures run { TurnsAt (length (callers_of body.old)) steps.old steps.new
+    ensures { Turned steps.old steps.new
         (at body.old (M68 regs) (outside_of (I.left input.old) (I.faults input.old) (D.state rack.old) (O.held out.old) (O.faults out.old)) (output (T.held trace.old) (T.faults trace.old)))
         (at body.new (file_of result) (outside_of (I.left input.new) (I.faults input.new) (D.state rack.new) (O.held out.new) (O.faults out.new)) (output (T.held trace.new) (T.faults trace.new))) result }
-    ensures fewer { steps.new ≤ steps.old }
-    ensures blames { BlamesTurn result (counts (I.faults input.old) (O.faults out.old) (T.faults trace.old)) (counts (I.faults input.new) (O.faults out.new) (T.faults trace.new)) }
-    ensures devices { Accounts (D.state rack.old) (D.state rack.new) }
 {
-    let mut active = Active::M68(regs);
-    let mut outside = Outside {
-        input,
-        out,
-        trace,
-        rack,
-    };
-    let end = run_turns(body, &mut active, &mut outside, steps);
-    end.turn(active)
+    run_active(body, Active::M68(regs), input, out, trace, rack, steps)
 }
 
 /// Runs PowerPC code in the same way.
@@ -64,16 +49,28 @@ pub fn run_ppc<I: Source, O: Sink, T: Sink, D: Devices>(
     steps: &mut u32,
 ) -> Turn
     requires { IsWhole body.old set_ppc }
-    ensures whole { IsWhole body.new (isa_of (file_of result)) }
-    ensures callers { Waits (callers_of body.old) result (callers_of body.new) }
-    ensures run { TurnsAt (length (callers_of body.old)) steps.old steps.new
+    ensures { Turned steps.old steps.new
         (at body.old (Ppc regs) (outside_of (I.left input.old) (I.faults input.old) (D.state rack.old) (O.held out.old) (O.faults out.old)) (output (T.held trace.old) (T.faults trace.old)))
         (at body.new (file_of result) (outside_of (I.left input.new) (I.faults input.new) (D.state rack.new) (O.held out.new) (O.faults out.new)) (output (T.held trace.new) (T.faults trace.new))) result }
-    ensures fewer { steps.new ≤ steps.old }
-    ensures blames { BlamesTurn result (counts (I.faults input.old) (O.faults out.old) (T.faults trace.old)) (counts (I.faults input.new) (O.faults out.new) (T.faults trace.new)) }
-    ensures devices { Accounts (D.state rack.old) (D.state rack.new) }
 {
-    let mut active = Active::Ppc(regs);
+    run_active(body, Active::Ppc(regs), input, out, trace, rack, steps)
+}
+
+/// Runs code of the set that is active.
+fn run_active<I: Source, O: Sink, T: Sink, D: Devices>(
+    body: &mut Body,
+    mut active: Active,
+    input: &mut I,
+    out: &mut O,
+    trace: &mut T,
+    rack: &mut D,
+    steps: &mut u32,
+) -> Turn
+    requires { IsWhole body.old (isa_of active) }
+    ensures { Turned steps.old steps.new
+        (at body.old active (outside_of (I.left input.old) (I.faults input.old) (D.state rack.old) (O.held out.old) (O.faults out.old)) (output (T.held trace.old) (T.faults trace.old)))
+        (at body.new (file_of result) (outside_of (I.left input.new) (I.faults input.new) (D.state rack.new) (O.held out.new) (O.faults out.new)) (output (T.held trace.new) (T.faults trace.new))) result }
+{
     let mut outside = Outside {
         input,
         out,
@@ -92,14 +89,9 @@ pub fn run_turns<'i, 'o, 't, 'd, I: Source, O: Sink, T: Sink, D: Devices>(
     steps: &mut u32,
 ) -> TurnEnd
     requires { IsWhole body.old (isa_of active.old) }
-    ensures whole { IsWhole body.new (isa_of active.new) }
-    ensures callers { Waits (callers_of body.old) (turn_of active.new result) (callers_of body.new) }
-    ensures run { TurnsAt (length (callers_of body.old)) steps.old steps.new
+    ensures turned { Turned steps.old steps.new
         (machine_beside I.left I.faults O.held O.faults T.held T.faults D.state body.old active.old outside.old)
         (machine_beside I.left I.faults O.held O.faults T.held T.faults D.state body.new active.new outside.new) (turn_of active.new result) }
-    ensures fewer { steps.new ≤ steps.old }
-    ensures blames { BlamesTurn (turn_of active.new result) (counts_in I.faults O.faults T.faults outside.old) (counts_in I.faults O.faults T.faults outside.new) }
-    ensures devices { Accounts (D.state outside.old.rack.now) (D.state outside.new.rack.now) }
     ensures same { AreSame outside.old outside.new }
 {
     let mut fault = Fault::at(0, FaultKind::Illegal, 0);

@@ -1,5 +1,5 @@
 -- A spelling is kept piece by piece.
-use Rattle.std.proofs.Common.{◌≡◌, ℕ, zero, suc, ◌+◌, ◌-◌, ◌*◌, ◌/◌, ◌<◌, ◌≤◌, Bool, true, false, cond, List, [], ◌∷◌, ◌++◌, length, take, drop, get_or, Option, Result, Ok, Err, arith, ap, sym, subst, ◌∙◌, refl, append_assoc, add-one}
+use Rattle.std.proofs.Common.{◌≡◌, ℕ, zero, suc, ◌+◌, ◌-◌, ◌*◌, ◌/◌, ◌<◌, false, cond, List, [], ◌∷◌, ◌++◌, length, take, drop, get_or, Option, Ok, Err, arith, ap, sym, subst, ◌∙◌, refl, append_assoc, add-one}
 use Rattle.std.proofs.lemmas.List.{append-nil, take-append-drop, take_more}
 use Rattle.byteorder.specs.Endian.{big_bytes}
 use Rattle.big_memory.specs.Lists.{part}
@@ -7,7 +7,7 @@ use Rattle.big_memory.specs.Numbers.{bytes_of_longs}
 use Rattle.big_memory.proofs.Numbers.{bytes_join}
 use Rattle.host_heap.specs.declared.block.Block.{Block}
 use Rattle.mix_io.specs.declared.errors.Failed.{Failed}
-use Rattle.mix_io.specs.Counts.{CountsStay, NamedCause, Rose}
+use Rattle.mix_io.specs.Counts.{CountsStay}
 use Rattle.mix_io.specs.Kept.{KeepsMore, Saves}
 use Rattle.mix_io.proofs.Keeps.{nothing-kept, saves-join, saves-front}
 use Rattle.switch_frame.specs.Records.{isa_of, longs_of_file}
@@ -24,18 +24,6 @@ saving-none old before name = record { kept = nothing-kept old name; calm = λ n
 
 pub saving-more : (a b c : Option (List ℕ → List ℕ)) (p q r : List ℕ → ℕ) (name xs ys : List ℕ) → IsSaving a b p q name xs → Saves b c name ys (Ok (record {})) → CountsStay q r → IsSaving a c p r name (xs ++ ys)
 saving-more a b c p q r name xs ys first second calm = record { kept = saves-join a b c name xs ys (Ok (record {})) first.kept second; calm = λ n. calm n ∙ first.calm n }
-
--- the count of a call behind others
-pub cause-then : (p q r : List ℕ → ℕ) (name : List ℕ) (failed : Bool) → CountsStay p q → NamedCause q r name failed → NamedCause p r name failed
-cause-then p q r name true calm rose = record {
-  rose = subst (λ n. Rose n (r name)) (calm name) rose.rose;
-  later = λ n. subst (λ k. k ≤ r n) (calm n) (rose.later n);
-}
-cause-then p q r name false calm stay = λ n. stay n ∙ calm n
-
--- a last piece ends what is saved
-pub saved-last : (a b c : Option (List ℕ → List ℕ)) (p q : List ℕ → ℕ) (name xs ys : List ℕ) (result : Result (Unit {0}) Failed) → IsSaving a b p q name xs → Saves b c name ys result → Saves a c name (xs ++ ys) result
-saved-last a b c p q name xs ys result first second = saves-join a b c name xs ys result first.kept second
 
 -- a failure within one of the pieces
 pub saved-front : (a b c : Option (List ℕ → List ℕ)) (p q : List ℕ → ℕ) (name xs ys zs whole : List ℕ) (failed : Failed) → IsSaving a b p q name xs → Saves b c name ys (Err failed) → whole ≡ (xs ++ ys) ++ zs → Saves a c name whole (Err failed)

@@ -19,10 +19,6 @@ use Rattle.mix_image.proofs.Placing.{blocks-next, blocks-start, blocks-stop}
 
 -- ---- the outcome of a chain
 
-pub value-of : {A : Type 0} (r : Result A ImageError) (done : Unit {0}) → Ok done ≡ outcome r → (x : A) × (r ≡ Ok x)
-value-of (Ok x) done is = (x, refl)
-value-of (Err e) done is = absurd (cc)
-
 pub refusal-of : {A : Type 0} (r : Result A ImageError) (e : ImageError) → Err e ≡ outcome r → r ≡ Err e
 refusal-of (Ok x) e is = absurd (cc)
 refusal-of (Err f) e is = let same : e ≡ f = cc in ap Err (sym same)
@@ -40,10 +36,6 @@ same-outcome (Err e) f g same = refl
 pub same-test : {A B : Type 0} (a b : Bool) (e : ImageError) (x : A) (y : B) → a ≡ b → outcome (only_if a e x) ≡ outcome (only_if b e y)
 same-test true b e x y same = ap (λ c. outcome (only_if c e y)) same
 same-test false b e x y same = ap (λ c. outcome (only_if c e y)) same
-
-pub outcome-done : {A B : Type 0} (r : Result A ImageError) (f : A → B) → outcome (r >>= λ x. Ok (f x)) ≡ outcome r
-outcome-done (Ok x) f = refl
-outcome-done (Err e) f = refl
 
 -- ---- blocks
 

@@ -1,6 +1,7 @@
 -- What every head that is read meets.
 use Rattle.std.specs.Prelude.{◌≡◌, ◌*◌, ◌%◌, ◌≤◌}
 use Rattle.switch_frame.specs.Program.{start_sp_of}
+use Rattle.host_heap.specs.Space.{block_limit}
 use Rattle.mix_image.specs.declared.head.Head.{Head}
 
 pub record IsHead (head : Head) : Type 0 where
@@ -11,4 +12,4 @@ pub record IsHead (head : Head) : Type 0 where
   pub behind : 65536 ≤ head.low
   pub ordered : head.low ≤ head.high
   pub whole : head.high ≡ 768 * head.kib
-  pub few : head.count ≤ 4096
+  pub few : head.count ≤ block_limit

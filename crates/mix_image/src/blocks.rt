@@ -1,5 +1,6 @@
 // The blocks of the heap in an image.
 ghost use Rattle.std.specs.Prelude.{◌≡◌, ◌%◌, ◌<◌, ◌≤◌, length, MatchResult, Ok, Err};
+ghost use Rattle.host_heap.specs.Space.{block_limit};
 ghost use Rattle.mix_image.specs.Fields.{block_from, blocks_from, empty_heap};
 ghost use Rattle.mix_image.specs.Restoring.{Gives};
 ghost use Rattle.mix_image.specs.Testing.{end_from, outcome};
@@ -15,7 +16,7 @@ pub fn test_blocks(bytes: &[u8], low: u32, high: u32, count: u32) -> Result<(), 
     requires first { low % 16 ≡ 0 }
     requires last { high % 16 ≡ 0 }
     requires ordered { low ≤ high }
-    requires few { count ≤ 4096 }
+    requires few { count ≤ block_limit }
     ensures { result ≡ outcome (blocks_from bytes.now (empty_heap low high) count) }
 {
     let mut end = u64::from(low);
@@ -28,7 +29,7 @@ pub fn test_blocks(bytes: &[u8], low: u32, high: u32, count: u32) -> Result<(), 
 /// Where the block with this number ends, which is to stand behind `end` and to end by `high`.
 fn test_block(bytes: &[u8], end: u64, high: u32, k: u32) -> Result<u64, ImageError>
     requires small { length bytes.now ≤ 17825792 }
-    requires few { k < 4096 }
+    requires few { k < block_limit }
     ensures { result ≡ end_from bytes.now end high k }
 {
     let place = 36 + 8 * k as usize;
@@ -53,7 +54,7 @@ pub fn read_blocks(
     requires first { low % 16 ≡ 0 }
     requires last { high % 16 ≡ 0 }
     requires ordered { low ≤ high }
-    requires few { count ≤ 4096 }
+    requires few { count ≤ block_limit }
     ensures { Gives result (blocks_from bytes.now (empty_heap low high) count) }
 {
     let mut heap = Heap::new(alloc, low, high)?;
@@ -66,7 +67,7 @@ pub fn read_blocks(
 /// Puts the block with this number behind all others.
 fn read_block(bytes: &[u8], heap: &mut Heap, k: u32) -> Result<(), ImageError>
     requires small { length bytes.now ≤ 17825792 }
-    requires few { k < 4096 }
+    requires few { k < block_limit }
     ensures { MatchResult result (λ _. block_from bytes.now heap.old k ≡ Ok heap.new) (λ e. block_from bytes.now heap.old k ≡ Err e) }
 {
     let place = 36 + 8 * k as usize;

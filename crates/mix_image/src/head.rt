@@ -3,15 +3,14 @@ ghost use Rattle.std.specs.Prelude.{◌≡◌, ◌*◌, ◌%◌, ◌≤◌, ℕ,
 ghost use Rattle.switch_frame.specs.Program.{start_sp_of};
 ghost use Rattle.mix_image.specs.declared.error.ImageError.{ImageError};
 ghost use Rattle.mix_image.specs.Fields.{are_bounds, bounds_of, count_of, head_of, kib_of, magic_of, main_of, set_of, start_of};
+ghost use Rattle.host_heap.specs.Space.{block_limit};
 ghost use Rattle.mix_image.specs.Heads.{IsHead};
 
 use crate::ImageError;
 use crate::longs::{MARK_FIRST, MARK_SECOND, long, short};
+use host_heap::BLOCK_LIMIT;
 use mix_bits::Isa;
 use switch_frame::start_sp_of;
-
-/// At most so many blocks stand in a heap.
-const MOST_BLOCKS: u32 = 4096;
 
 /// Where the heap of a program may begin at the lowest.
 const PROGRAM_START: u32 = 0x1_0000;
@@ -138,10 +137,10 @@ fn are_bounds(low: u32, high: u32, kib: u32) -> bool
 fn read_count(bytes: &[u8]) -> Result<u32, ImageError>
     requires { length bytes.now ≤ 17825792 }
     ensures exact { result ≡ count_of bytes.now }
-    ensures fits { IfOk result (λ count. count ≤ 4096) }
+    ensures fits { IfOk result (λ count. count ≤ block_limit) }
 {
     let count = long(bytes, 32)?;
-    if count <= MOST_BLOCKS {
+    if count as usize <= BLOCK_LIMIT {
         Ok(count)
     } else {
         Err(ImageError::Block(count))

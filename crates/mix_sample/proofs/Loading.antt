@@ -1,5 +1,5 @@
 -- The sample image is loaded.
-use Rattle.std.proofs.Common.{◌≡◌, ◌≢◌, ℕ, ◌+◌, ◌-◌, ◌/◌, ◌*◌, ◌≤◌, ◌==◌, List, length, Bool, true, false, Option, Some, None, Result, Ok, Err, nat_lt, nat_eq, if◌then◌else◌, ◌^◌, sym, ap, ◌∙◌, subst, refl, arith}
+use Rattle.std.proofs.Common.{◌≡◌, ◌≢◌, ℕ, ◌+◌, ◌-◌, ◌/◌, ◌*◌, ◌≤◌, ◌==◌, List, length, false, Some, None, Result, Ok, Err, if◌then◌else◌, ◌^◌, sym, ap, ◌∙◌, subst, refl, arith}
 use Rattle.std.proofs.lemmas.Bool.Decides.{nat_tests}
 use Rattle.std.proofs.lemmas.List.{length-replicate}
 use Rattle.mix_bits.specs.declared.isa.Isa.TheVariants.{M68}
@@ -16,7 +16,6 @@ use Rattle.mix_load.specs.ContainerImage.{with_container}
 use Rattle.mix_load.specs.Outcome.{unless}
 use Rattle.mix_load.specs.declared.error.File.TheVariants.{Flat, Pef, Rsrc}
 use Rattle.mix_load.specs.declared.error.LoadError.TheVariants.{NoMemory, Empty, Rsrc as NoFork, NoCode, Far, JumpTable, Pef as NoHead, TooLarge, Reloc, Unresolved, NoMain}
-use Rattle.mix_bits.specs.Multiples.{rounded_up}
 use Rattle.mix_load.specs.Start.{program_of}
 use Rattle.mix_gen.specs.Sample.{sample_files, sample_image}
 use Rattle.mix_gen.proofs.Images.{length-sample}

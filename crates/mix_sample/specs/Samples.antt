@@ -2,18 +2,18 @@
 use Rattle.std.specs.Prelude.{◌≡◌, ℕ, ◌-◌, ◌*◌, [], Result, Ok}
 use Rattle.mix_bits.specs.declared.isa.Isa.TheVariants.{M68}
 use Rattle.switch_frame.specs.declared.program.Program.{Program}
+use Rattle.switch_frame.specs.Records.{isa_of}
+use Rattle.call_trace.specs.declared.end.End.{End}
 use Rattle.toolbox.specs.Effects.{Around}
 use Rattle.mixed_machine.specs.State.{State}
 use Rattle.mixed_machine.specs.Exec.{How, exec}
-use Rattle.mixed_machine.specs.Exec.How.{Limited, Exited, Faulted}
 use Rattle.mixed_machine.specs.Exec.End.{Ended}
+use Rattle.mixed_machine.specs.Endings.{end_of}
 use Rattle.mixed_machine.specs.Crossings.{Counted}
 use Rattle.mix_engine.specs.Start.{start_of}
 use Rattle.mix_load.specs.Load.{load_of}
 use Rattle.mix_load.specs.declared.error.LoadError.{LoadError}
 use Rattle.mix_gen.specs.Sample.{sample_files}
-use Rattle.mix_sample.specs.declared.sampled.Ending.{Ending}
-use Rattle.mix_sample.specs.declared.sampled.Ending.TheVariants.{Exit, Fault, Limit}
 use Rattle.mix_sample.specs.declared.sampled.Sampled.{Sampled}
 
 -- no input, no device and no answer
@@ -31,16 +31,13 @@ sample_steps = 4294967295
 unfoldable pub sample_program : ℕ → ℕ → ℕ → Result Program LoadError
 sample_program kib n depth = load_of (sample_files n depth) M68 (1024 * kib)
 
-abbrev pub how_of : Ending → How
-how_of (Exit code) = Exited code
-how_of (Fault fault) = Faulted fault
-how_of Limit = Limited
-
 -- what a run of at most so many steps did from a state
 pub record CountedRun (steps : ℕ) (start : State) (sampled : Sampled) : Type 0 where
   pub left : ℕ
   pub last : State
-  pub counted : Counted steps left start last (how_of sampled.end) sampled.calls sampled.returns
+  pub how : How
+  pub counted : Counted steps left start last how sampled.calls sampled.returns
+  pub end_is : sampled.end ≡ end_of (isa_of last.active) how
   pub done : sampled.steps ≡ steps - left
 
 -- what the run of the sample did
@@ -50,6 +47,8 @@ pub record IsSample (kib steps n depth : ℕ) (sampled : Sampled) : Type 0 where
   pub ran : CountedRun steps (start_of program nothing) sampled
 
 -- a run of one step
-pub record Steps (s t : State) (ending : Ending) : Type 0 where
+pub record Steps (s t : State) (end : End) : Type 0 where
   pub left : ℕ
-  pub ends : exec 1 s ≡ Ended (how_of ending) t left
+  pub how : How
+  pub ends : exec 1 s ≡ Ended how t left
+  pub end_is : end ≡ end_of (isa_of t.active) how

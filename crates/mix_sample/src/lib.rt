@@ -7,4 +7,4 @@ mod run;
 mod sampled;
 
 pub use run::run_sample;
-pub use sampled::{Ending, Sampled};
+pub use sampled::Sampled;

@@ -6,7 +6,8 @@ ghost use Rattle.mixed_machine.specs.Machine.{IsWhole, callers_of, flat};
 ghost use Rattle.mix_sample.specs.Samples.{IsSample, CountedRun, Steps, nothing, sample_program, sample_ram, sample_steps};
 
 use super::nothing::{NoDevices, NoInput, Nowhere};
-use super::sampled::{Ending, Sampled};
+use super::sampled::Sampled;
+use call_trace::End;
 use mix_bits::{Isa, NoMemory};
 use mix_engine::{Machine, Stop, run};
 use mix_gen::sample;
@@ -73,26 +74,26 @@ fn count_crossings(machine: &mut Machine, steps: u32) -> Sampled
     'steps: while left > 0 {
         let before = live(machine);
         match step_alone(machine) {
-            Ending::Limit => {
+            End::Limit => {
                 let after = live(machine);
                 left -= 1;
                 calls += u32::from(before < after);
                 returns += u32::from(after < before);
             }
-            Ending::Exit(code) => {
+            End::Exit(code) => {
                 return Sampled {
                     calls,
                     returns,
                     steps: steps - left + 1,
-                    end: Ending::Exit(code),
+                    end: End::Exit(code),
                 };
             }
-            Ending::Fault(fault) => {
+            End::Fault(set, fault) => {
                 return Sampled {
                     calls,
                     returns,
                     steps: steps - left,
-                    end: Ending::Fault(fault),
+                    end: End::Fault(set, fault),
                 };
             }
         }
@@ -101,12 +102,12 @@ fn count_crossings(machine: &mut Machine, steps: u32) -> Sampled
         calls,
         returns,
         steps,
-        end: Ending::Limit,
+        end: End::Limit,
     }
 }
 
 /// One step of a machine to which nothing outside is given.
-fn step_alone(machine: &mut Machine) -> Ending
+fn step_alone(machine: &mut Machine) -> End
     requires { IsWhole machine.old.body (isa_of machine.old.active) }
     ensures whole { IsWhole machine.new.body (isa_of machine.new.active) }
     ensures step { Steps (flat machine.old.body machine.old.active nothing) (flat machine.new.body machine.new.active nothing) result }
@@ -119,9 +120,9 @@ fn step_alone(machine: &mut Machine) -> Ending
         &mut NoDevices,
         1,
     ) {
-        Stop::Exit(code) => Ending::Exit(code),
-        Stop::Fault(fault) => Ending::Fault(fault),
-        Stop::Limit => Ending::Limit,
+        Stop::Exit(code) => End::Exit(code),
+        Stop::Fault(fault) => End::Fault(machine.active.isa(), fault),
+        Stop::Limit => End::Limit,
         Stop::ReadFault => unreachable!(),
         Stop::OutFault => unreachable!(),
         Stop::TraceFault => unreachable!(),

@@ -1,15 +1,4 @@
-use mix_bits::Fault;
-
-/// How the run of a sample ended.
-#[derive(Clone, Copy, Debug, PartialEq, Eq)]
-pub enum Ending {
-    /// The program ended with this code.
-    Exit(u32),
-    /// The next step can't be done.
-    Fault(Fault),
-    /// All steps that were allowed are done.
-    Limit,
-}
+use call_trace::End;
 
 /// What the run of a sample did.
 #[derive(Clone, Copy, Debug, PartialEq, Eq)]
@@ -20,5 +9,5 @@ pub struct Sampled {
     pub returns: u32,
     /// How many steps were done; an exit is one, and a fault is none.
     pub steps: u32,
-    pub end: Ending,
+    pub end: End,
 }

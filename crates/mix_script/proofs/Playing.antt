@@ -1,13 +1,13 @@
 -- Events that were done, one after the other.
-use Rattle.std.proofs.Common.{◌≡◌, ℕ, ◌<◌, List, [], ◌∷◌, ◌++◌, length, Option, Some, None, refl, sym, ap, ◌∙◌, subst, append_assoc, append-nil}
+use Rattle.std.proofs.Common.{◌≡◌, List, [], ◌∷◌, ◌++◌, Option, Some, None, refl, sym, ap, ◌∙◌, subst, append_assoc}
 use Rattle.mix_io.specs.Streams.{Breaks, Grows}
 use Rattle.mix_io.proofs.Streams.{breaks-after, grows-more, grows-none}
 use Rattle.mixed_machine.specs.Runs.{Sinks}
 use Rattle.mix_script.specs.Sessions.{Session}
 use Rattle.mix_script.specs.Events.{Event, after, lines_by, said_by}
 use Rattle.mix_script.specs.Plays.{AllDone, Played}
-use Rattle.mix_script.specs.declared.walk.Stopped.{Stopped}
-use Rattle.mix_script.specs.declared.walk.Stopped.TheVariants.{Input, Output, Trace}
+use Rattle.toolbox.specs.declared.broken.Broken.{Broken}
+use Rattle.toolbox.specs.declared.broken.Broken.TheVariants.{Input, Output, Trace}
 
 pub after-append : (s : Session) (xs ys : List Event) → after s (xs ++ ys) ≡ after (after s xs) ys
 unfolding after
@@ -42,7 +42,7 @@ all-more xs ys s t u a b c first more =
     }
 
 -- more were done, or some of them
-pub played-more : (stop : Option Stopped) (xs ys : List Event) (s t u : Session) (a b c : Sinks) → AllDone xs s t a b → Played stop ys t u b c → Played stop (xs ++ ys) s u a c
+pub played-more : (stop : Option Broken) (xs ys : List Event) (s t u : Session) (a b c : Sinks) → AllDone xs s t a b → Played stop ys t u b c → Played stop (xs ++ ys) s u a c
 played-more None xs ys s t u a b c first more = all-more xs ys s t u a b c first more
 played-more (Some Input) xs ys s t u a b c first more =
     record {
@@ -85,7 +85,7 @@ played-more (Some Trace) xs ys s t u a b c first more =
 longer : (xs before behind more : List Event) (e : Event) → xs ≡ before ++ (e ∷ behind) → xs ++ more ≡ before ++ (e ∷ (behind ++ more))
 longer xs before behind more e is = ap (λ zs. zs ++ more) is ∙ append_assoc before (e ∷ behind) more
 
-pub played-front : (stopped : Stopped) (xs more : List Event) (s t : Session) (a b : Sinks) → Played (Some stopped) xs s t a b → Played (Some stopped) (xs ++ more) s t a b
+pub played-front : (stopped : Broken) (xs more : List Event) (s t : Session) (a b : Sinks) → Played (Some stopped) xs s t a b → Played (Some stopped) (xs ++ more) s t a b
 played-front Input xs more s t a b part =
     record {
       before = part.before;
@@ -121,5 +121,5 @@ played-front Trace xs more s t a b part =
     }
 
 -- the same events
-pub played-as : (stop : Option Stopped) (xs ys : List Event) (s t : Session) (a b : Sinks) → xs ≡ ys → Played stop xs s t a b → Played stop ys s t a b
+pub played-as : (stop : Option Broken) (xs ys : List Event) (s t : Session) (a b : Sinks) → xs ≡ ys → Played stop xs s t a b → Played stop ys s t a b
 played-as stop xs ys s t a b same played = subst (λ zs. Played stop zs s t a b) same played

@@ -72,9 +72,6 @@ no-bytes : (xs : List ℕ) → length xs ≡ 0 → xs ≡ []
 no-bytes [] none = refl
 no-bytes (x ∷ xs) none = absurd (omega (arith, none))
 
-pub tested-ends : (text : List ℕ) (number : ℕ) (rest : List ℕ) → Tested text number rest → length rest ≡ 0 → bad_in (script_of text) ≡ None
-tested-ends text number rest tested none = tested.same ∙ ap (λ r. bad_in (commands_from number (lines_of r))) (no-bytes rest none)
-
 -- a text without a bad line has the commands of its lines
 pub record IsScript (number : ℕ) (lines : List (List ℕ)) : Type 0 where
   pub commands : commands_from number lines ≡ Ok (commands_among lines)
@@ -121,6 +118,3 @@ takes-command text line behind o takes all read =
       left = are.1;
       taken = taken-by (commands_among (lines_of text)) (commands_among (lines_of behind)) o (command_in line) (ap commands_among (taken-lines text line behind takes)) are.0 read;
     }
-
-pub no-command : (text : List ℕ) → length text ≡ 0 → commands_among (lines_of text) ≡ []
-no-command text none = ap (λ t. commands_among (lines_of t)) (no-bytes text none)

@@ -1,5 +1,5 @@
 -- A step of a debugger, as a step of the sessions that it stands for.
-use Rattle.std.proofs.Common.{◌≡◌, ℕ, zero, suc, ◌+◌, ◌-◌, ◌<◌, ◌≤◌, nat_le, nat_lt, Bool, true, false, if◌then◌else◌, List, [], ◌∷◌, ◌++◌, length, map, Option, Some, None, arith, ap, sym, subst, ◌∙◌, refl, append-nil}
+use Rattle.std.proofs.Common.{◌≡◌, ℕ, suc, ◌+◌, ◌-◌, ◌<◌, ◌≤◌, nat_le, Bool, true, false, if◌then◌else◌, List, [], ◌∷◌, ◌++◌, length, map, arith, ap, sym, subst, ◌∙◌, refl, append-nil}
 use Rattle.std.proofs.lemmas.Bool.Decides.{nat_tests}
 use Rattle.mix_bits.specs.declared.fault.Fault.{Fault as AFault}
 use Rattle.mix_bits.specs.declared.isa.Isa.{Isa}
@@ -9,10 +9,11 @@ use Rattle.switch_frame.proofs.Seen.{seen_is_memory}
 use Rattle.toolbox.specs.Calls.{Outside}
 use Rattle.toolbox.specs.Effects.{Around}
 use Rattle.dev_rack.specs.Accounts.{Accounts}
+use Rattle.toolbox.specs.Blames.{BlamesOnly}
 use Rattle.mixed_machine.specs.Counts.{Blames}
 use Rattle.mixed_machine.specs.Exec.{GoesTo, Leads, Reads, Says, Tells, exec_to, goes_on, is_back, line_of, log, log_then, rests, said_of}
 use Rattle.mixed_machine.specs.Exec.How.{Limited, Exited, Faulted}
-use Rattle.mixed_machine.specs.Exec.End.{Back, Ended}
+use Rattle.mixed_machine.specs.Exec.End.{Ended}
 use Rattle.mixed_machine.specs.Machine.{callers_of, flat, memory_of}
 use Rattle.mixed_machine.specs.Next.{Next, Effects}
 use Rattle.mixed_machine.specs.Next.Next.{Goes, Exits, Faults}
@@ -27,14 +28,12 @@ use Rattle.mix_debug.specs.Entries.{file_cost}
 use Rattle.mix_debug.specs.Machines.{IsSound, Kept, cost_between, fitting as fitting_kept}
 use Rattle.mix_debug.specs.Runs.{runs_cost, runs_from}
 use Rattle.mix_debug.specs.Trails.{Keeps, Trail, history_room, is_done}
-use Rattle.mix_script.specs.Sessions.{Past, Session, cost_of, fitting, past_of, session_of, stepped, with_around}
+use Rattle.mix_script.specs.Sessions.{Past, Session, cost_of, fitting, past_of, session_of, stepped}
 use Rattle.mix_script.specs.Events.{Event, after, lines_by, said_by, steps_to}
-use Rattle.mix_script.specs.Places.{BlamesBy, Over, Place, counts_in, place, sinks_in}
-use Rattle.mix_script.specs.Plays.{AllDone, Played}
-use Rattle.mix_script.specs.Parts.{DoesOnce, EndsAt, GoesOn, halt_in, once_of}
+use Rattle.mix_script.specs.Places.{Over, Place, counts_in, place, sinks_in}
+use Rattle.mix_script.specs.Plays.{AllDone}
+use Rattle.mix_script.specs.Parts.{DoesOnce, halt_in, once_of}
 use Rattle.mix_script.specs.declared.walk.Once.{Once}
-use Rattle.mix_script.specs.declared.walk.Stopped.{Stopped}
-use Rattle.mix_script.specs.declared.walk.Stopped.TheVariants.{Input, Output as Out, Trace}
 
 -- ---- a run of one step
 
@@ -320,7 +319,7 @@ once-done old new x y a b left TraceFault set set_is few is broke =
       };
     }
 
-blames-once : (set : Isa) (stop : Stop) (a b : Place) → Blames stop (counts_in a) (counts_in b) → BlamesBy (halt_in (once_of set stop)) (counts_in a) (counts_in b)
+blames-once : (set : Isa) (stop : Stop) (a b : Place) → Blames stop (counts_in a) (counts_in b) → BlamesOnly (halt_in (once_of set stop)) (counts_in a) (counts_in b)
 blames-once set (Exit code) a b blames = blames
 blames-once set (Fault fault) a b blames = blames
 blames-once set Limit a b blames = blames
@@ -336,10 +335,12 @@ once-over old new o p v w stop set set_is is runs blames devices =
     record {
       blames = blames-once set stop (place old o v) (place new p w) blames;
       devices = devices;
-      taken = runs.run.taken;
-      told = runs.run.told;
-      each = λ before after rest took.
-          once-done old new _ _ (sinks_in (place old o v)) (sinks_in (place new p w)) runs.left stop set set_is runs.fewer is (runs.run.each before after rest took);
+      claim = record {
+        taken = runs.run.taken;
+        told = runs.run.told;
+        each = λ before after rest took.
+            once-done old new _ _ (sinks_in (place old o v)) (sinks_in (place new p w)) runs.left stop set set_is runs.fewer is (runs.run.each before after rest took);
+      };
     }
 
 pub once-does : (old new : Trail) (o p : Outside) (v w : Output) (stop : Stop) (set : Isa) (once : Once) → set ≡ isa_of old.machine.active → once ≡ once_of set stop → IsStep old new stop

@@ -1,8 +1,8 @@
 -- Texts on the trace, and the commands of a script.
-use Rattle.std.proofs.Common.{◌≡◌, ℕ, ◌+◌, ◌<◌, ◌≤◌, ◌==◌, ◌&&◌, nat_lt, not, Bool, true, false, if◌then◌else◌, List, [], ◌∷◌, ◌++◌, length, Option, Some, None, Result, Ok, Err, arith, ap, sym, subst, ◌∙◌, refl, append-nil, append_assoc, length-append}
+use Rattle.std.proofs.Common.{◌≡◌, ℕ, ◌<◌, ◌==◌, ◌&&◌, nat_lt, not, Bool, true, false, if◌then◌else◌, List, [], ◌∷◌, ◌++◌, length, Option, Some, None, arith, ap, sym, subst, ◌∙◌, refl, append-nil, append_assoc, length-append}
 use Rattle.std.specs.Prelude.{codes, filter}
 use Rattle.std.specs.List.{list_any}
-use Rattle.mix_io.specs.Streams.{Breaks, Grows, Output}
+use Rattle.mix_io.specs.Streams.{Grows, Output}
 use Rattle.mix_io.proofs.Streams.{grows-none}
 use Rattle.call_trace.specs.Lines.{end_line}
 use Rattle.call_trace.specs.declared.end.End.{End}
@@ -17,20 +17,22 @@ use Rattle.mix_debug.specs.Crawl.{caller_lines, crawl_of, here_line, place_of}
 use Rattle.mix_debug.specs.Trails.{Trail}
 use Rattle.mix_script.specs.Sessions.{Session, session_of}
 use Rattle.mix_script.specs.Events.{Event, Walk, after, answer, at_line, can_set, is_set, end_events, events_in, events_of, lines_by, said_by, tells, told, told_behind}
-use Rattle.mix_script.specs.Places.{BlamesBy, Over, Place, counts_in, place, sinks_in}
+use Rattle.mix_script.specs.Places.{Over, Place, counts_in, place, sinks_in}
 use Rattle.mix_script.specs.Plays.{AllDone, Does, Played}
-use Rattle.mix_script.specs.Parts.{TellsEnd, TellsTo, WalkedBy, Walks, WalksBack}
+use Rattle.mix_script.specs.Parts.{TellsEnd, TellsTo, Walks, WalksBack}
 use Rattle.mix_script.specs.declared.command.Command.{Command}
 use Rattle.mix_script.specs.declared.command.Command.TheVariants.{Break, Clear, Where}
-use Rattle.mix_script.specs.declared.walk.Stopped.{Stopped}
-use Rattle.mix_script.specs.declared.walk.Stopped.TheVariants.{Input, Output as Out, Trace}
+use Rattle.toolbox.specs.declared.broken.Broken.{Broken}
+use Rattle.toolbox.specs.declared.broken.Broken.TheVariants.{Input, Output as Out, Trace}
 use Rattle.mix_script.specs.declared.walk.Walked.{Walked}
-use Rattle.mix_script.proofs.Overs.{calm-none, over-beside, over-more, over-none, over-same}
+use Rattle.toolbox.specs.Blames.{BlamesOnly}
+use Rattle.toolbox.proofs.Blaming.{calm-first}
+use Rattle.mix_script.proofs.Overs.{over-beside, over-more, over-none, over-same}
 use Rattle.mix_script.proofs.Playing.{all-more, all-none, played-as, played-front, played-more}
 
 -- ---- one text
 
-played-text : (stop : Option Stopped) (text : List ℕ) (s t : Session) (out : Output) (x y : Output) → 0 < length text → TellsTo text x y stop
+played-text : (stop : Option Broken) (text : List ℕ) (s t : Session) (out : Output) (x y : Output) → 0 < length text → TellsTo text x y stop
     → Played stop (tells text t ∷ []) s t (record { out = out; trace = x }) (record { out = out; trace = y })
 unfolding after said_by lines_by
 played-text None text s t out x y some grows =
@@ -40,14 +42,14 @@ played-text (Some Out) text s t out x y some none = absurd none
 played-text (Some Trace) text s t out x y some breaks =
     record { before = []; event = tells text t; behind = []; order = refl; tells = some; end_is = refl; said = grows-none out; traced = breaks }
 
-blames-text : (stop : Option Stopped) (text : List ℕ) (t u : Trail) (o : Outside) (x y : Output) → TellsTo text x y stop → BlamesBy stop (counts_in (place t o x)) (counts_in (place u o y))
+blames-text : (stop : Option Broken) (text : List ℕ) (t u : Trail) (o : Outside) (x y : Output) → TellsTo text x y stop → BlamesOnly stop (counts_in (place t o x)) (counts_in (place u o y))
 blames-text None text t u o x y grows = record { input = refl; out = refl; trace = grows.calm }
 blames-text (Some Input) text t u o x y none = absurd none
 blames-text (Some Out) text t u o x y none = absurd none
 blames-text (Some Trace) text t u o x y breaks = record { input = refl; out = refl; trace = breaks.rose }
 
 -- a debugger did one event, which has a text alone
-pub does-text : (events : Session → List Event) (stop : Option Stopped) (text : List ℕ) (t u : Trail) (o : Outside) (x y : Output)
+pub does-text : (events : Session → List Event) (stop : Option Broken) (text : List ℕ) (t u : Trail) (o : Outside) (x y : Output)
     → ((around : Around) → events (session_of t around) ≡ tells text (session_of u around) ∷ []) → 0 < length text → TellsTo text x y stop → Does events (place t o x) (place u o y) stop
 does-text events stop text t u o x y is some told_to =
     over-beside stop (λ s r. Played stop (events s) s r (sinks_in (place t o x)) (sinks_in (place u o y))) t u o x y (blames-text stop text t u o x y told_to)
@@ -56,23 +58,23 @@ does-text events stop text t u o x y is some told_to =
 
 -- ---- events after events
 
-pub does-more : (first more : Session → List Event) (a b c : Place) (stop : Option Stopped) → Does first a b None → Does more b c stop → Does (λ s. first s ++ more (after s (first s))) a c stop
+pub does-more : (first more : Session → List Event) (a b c : Place) (stop : Option Broken) → Does first a b None → Does more b c stop → Does (λ s. first s ++ more (after s (first s))) a c stop
 does-more first more a b c stop did does =
     over-more stop _ _ _ a b c (λ x y z all part.
     played-more stop (first (session_of a.trail x)) (more (after (session_of a.trail x) (first (session_of a.trail x)))) _ _ _ (sinks_in a) (sinks_in b) (sinks_in c) all
     (played-as stop (more (session_of b.trail y)) _ _ _ (sinks_in b) (sinks_in c) (ap more all.end_is) part))
     did does
 
-pub does-front : (first more : Session → List Event) (a b : Place) (stopped : Stopped) → Does first a b (Some stopped) → Does (λ s. first s ++ more (after s (first s))) a b (Some stopped)
+pub does-front : (first more : Session → List Event) (a b : Place) (stopped : Broken) → Does first a b (Some stopped) → Does (λ s. first s ++ more (after s (first s))) a b (Some stopped)
 does-front first more a b stopped did =
     over-same (Some stopped) _ _ a b (λ x y part. played-front stopped (first (session_of a.trail x)) (more (after (session_of a.trail x) (first (session_of a.trail x)))) _ _ (sinks_in a) (sinks_in b) part) did
 
-pub does-as : (f g : Session → List Event) (a b : Place) (stop : Option Stopped) → ((around : Around) → f (session_of a.trail around) ≡ g (session_of a.trail around)) → Does f a b stop → Does g a b stop
+pub does-as : (f g : Session → List Event) (a b : Place) (stop : Option Broken) → ((around : Around) → f (session_of a.trail around) ≡ g (session_of a.trail around)) → Does f a b stop → Does g a b stop
 does-as f g a b stop same does = over-same stop _ _ a b (λ x y part. played-as stop (f (session_of a.trail x)) (g (session_of a.trail x)) _ _ (sinks_in a) (sinks_in b) (same x) part) does
 
 -- ---- what is told behind steps
 
-does-end : (end : Option End) (stop : Option Stopped) (t : Trail) (o : Outside) (x y : Output) → ((e : End) → 0 < length (end_line e)) → TellsEnd end x y stop → Does (end_events end) (place t o x) (place t o y) stop
+does-end : (end : Option End) (stop : Option Broken) (t : Trail) (o : Outside) (x y : Output) → ((e : End) → 0 < length (end_line e)) → TellsEnd end x y stop → Does (end_events end) (place t o x) (place t o y) stop
 does-end None stop t o x y some same =
     subst (λ r. Does (end_events None) (place t o x) (place t o y) r) (sym same.1)
     (subst (λ w. Does (end_events None) (place t o x) (place t o w) None) (sym same.0)
@@ -91,14 +93,14 @@ place_event count s = tells (at_line count s.state.active) s ∷ []
 behind-as : (end : Option End) (count : ℕ) (s : Session) → end_events end s ++ place_event count (after s (end_events end s)) ≡ told_behind end count s
 behind-as end count s = ap (λ t. end_events end s ++ place_event count t) (after-end end s)
 
-pub does-behind : (end : Option End) (count : ℕ) (stop : Option Stopped) (t : Trail) (o : Outside) (x y z : Output) → ((e : End) → 0 < length (end_line e)) → 0 < length (at_line count t.machine.active)
+pub does-behind : (end : Option End) (count : ℕ) (stop : Option Broken) (t : Trail) (o : Outside) (x y z : Output) → ((e : End) → 0 < length (end_line e)) → 0 < length (at_line count t.machine.active)
     → TellsEnd end x y None → TellsTo (at_line count t.machine.active) y z stop → Does (told_behind end count) (place t o x) (place t o z) stop
 does-behind end count stop t o x y z some some_place end_told place_told =
     does-as (λ s. end_events end s ++ place_event count (after s (end_events end s))) (told_behind end count) (place t o x) (place t o z) stop (λ around. behind-as end count (session_of t around))
     (does-more (end_events end) (place_event count) (place t o x) (place t o y) (place t o z) stop (does-end end None t o x y some end_told)
     (does-text (place_event count) stop (at_line count t.machine.active) t t o y z (λ around. refl) some_place place_told))
 
-pub does-behind_front : (end : Option End) (count : ℕ) (stopped : Stopped) (t : Trail) (o : Outside) (x y : Output) → ((e : End) → 0 < length (end_line e))
+pub does-behind_front : (end : Option End) (count : ℕ) (stopped : Broken) (t : Trail) (o : Outside) (x y : Output) → ((e : End) → 0 < length (end_line e))
     → TellsEnd end x y (Some stopped) → Does (told_behind end count) (place t o x) (place t o y) (Some stopped)
 does-behind_front end count stopped t o x y some end_told =
     does-as (λ s. end_events end s ++ place_event count (after s (end_events end s))) (told_behind end count) (place t o x) (place t o y) (Some stopped) (λ around. behind-as end count (session_of t around))
@@ -111,7 +113,7 @@ walk-told w walked s t a b walks =
     ap (λ e. w.steps ++ told_behind e walked.done t) (sym walks.ending)
     ∙ (ap (λ n. w.steps ++ told_behind w.ending n t) (sym walks.count) ∙ ap (λ r. w.steps ++ told_behind w.ending (length w.steps) r) walks.all.end_is)
 
-pub does-walk : (walk : Session → Walk) (walked : Walked) (a b c : Place) (stop : Option Stopped) → Over None (λ s t. Walks (walk s) walked s t (sinks_in a) (sinks_in b)) a b
+pub does-walk : (walk : Session → Walk) (walked : Walked) (a b c : Place) (stop : Option Broken) → Over None (λ s t. Walks (walk s) walked s t (sinks_in a) (sinks_in b)) a b
     → Does (told_behind walked.end walked.done) b c stop → Does (λ s. told s (walk s)) a c stop
 does-walk walk walked a b c stop walks does =
     over-more stop _ _ _ a b c (λ x y z own part.
@@ -120,7 +122,7 @@ does-walk walk walked a b c stop walks does =
     (played-more stop (walk (session_of a.trail x)).steps (told_behind walked.end walked.done (session_of b.trail y)) _ _ _ (sinks_in a) (sinks_in b) (sinks_in c) own.all part))
     walks does
 
-pub does-walk_front : (walk : Session → Walk) (a b : Place) (stopped : Stopped) → Over (Some stopped) (λ s t. Played (Some stopped) (walk s).steps s t (sinks_in a) (sinks_in b)) a b
+pub does-walk_front : (walk : Session → Walk) (a b : Place) (stopped : Broken) → Over (Some stopped) (λ s t. Played (Some stopped) (walk s).steps s t (sinks_in a) (sinks_in b)) a b
     → Does (λ s. told s (walk s)) a b (Some stopped)
 does-walk_front walk a b stopped part =
     over-same (Some stopped) _ _ a b (λ x y own.
@@ -144,7 +146,7 @@ walks-of_back w walked s t a walks =
 pub walks-beside : (walk : Session → Walk) (walked : Walked) (t u : Trail) (o : Outside) (x : Output) → ((around : Around) → WalksBack (walk (session_of t around)) walked (session_of t around) (session_of u around))
     → Over None (λ s r. Walks (walk s) walked s r (sinks_in (place t o x)) (sinks_in (place u o x))) (place t o x) (place u o x)
 walks-beside walk walked t u o x walks =
-    over-beside None (λ s r. Walks (walk s) walked s r (sinks_in (place t o x)) (sinks_in (place u o x))) t u o x x (calm-none (counts_in (place t o x)))
+    over-beside None (λ s r. Walks (walk s) walked s r (sinks_in (place t o x)) (sinks_in (place u o x))) t u o x x (calm-first (counts_in (place t o x)))
     (λ around. walks-of_back (walk (session_of t around)) walked (session_of t around) (session_of u around) (sinks_in (place t o x)) (walks around))
 
 -- ---- the commands of a script
@@ -180,14 +182,14 @@ pub running-on : (commands left rest : List Command) (c : Command) (a b d : Plac
 running-on commands left rest c a b d is running does =
     over-more None _ _ _ a b d (λ x y z so_far all. running-one commands left rest c _ _ _ (sinks_in a) (sinks_in b) (sinks_in d) is so_far all) running does
 
-running-part : (commands left rest : List Command) (c : Command) (stopped : Stopped) (s t u : Session) (a b d : Sinks) → left ≡ c ∷ rest → Running commands left s t a b → Played (Some stopped) (events_of c t) t u b d
+running-part : (commands left rest : List Command) (c : Command) (stopped : Broken) (s t u : Session) (a b d : Sinks) → left ≡ c ∷ rest → Running commands left s t a b → Played (Some stopped) (events_of c t) t u b d
     → Played (Some stopped) (events_in commands s) s u a d
 running-part commands left rest c stopped s t u a b d is running part =
     let more : List Event = events_in rest (after t (events_of c t)) in
     played-as (Some stopped) (running.events ++ (events_of c t ++ more)) (events_in commands s) s u a d (sym (events-more commands left rest c s t running.events is running.order))
     (played-more (Some stopped) running.events (events_of c t ++ more) s t u a b d running.all (played-front stopped (events_of c t) more t u b d part))
 
-pub running-stops : (commands left rest : List Command) (c : Command) (stopped : Stopped) (a b d : Place) → left ≡ c ∷ rest → RunningAt commands left a b → Does (events_of c) b d (Some stopped)
+pub running-stops : (commands left rest : List Command) (c : Command) (stopped : Broken) (a b d : Place) → left ≡ c ∷ rest → RunningAt commands left a b → Does (events_of c) b d (Some stopped)
     → Does (events_in commands) a d (Some stopped)
 running-stops commands left rest c stopped a b d is running does =
     over-more (Some stopped) _ _ _ a b d (λ x y z so_far part. running-part commands left rest c stopped _ _ _ (sinks_in a) (sinks_in b) (sinks_in d) is so_far part) running does
@@ -226,7 +228,7 @@ some-crawl m =
     omega (arith, whole, here)
 
 -- the place of a machine that is the debugger's
-pub told-place : (count : ℕ) (m n : Machine) (x y : Output) (stop : Option Stopped) → m ≡ n → TellsTo (at_line count m.active) x y stop → TellsTo (at_line count n.active) x y stop
+pub told-place : (count : ℕ) (m n : Machine) (x y : Output) (stop : Option Broken) → m ≡ n → TellsTo (at_line count m.active) x y stop → TellsTo (at_line count n.active) x y stop
 told-place count m n x y stop same told_to = subst (λ (k : Machine). TellsTo (at_line count k.active) x y stop) same told_to
 
 -- an address was set, or not
@@ -236,7 +238,7 @@ set-event a done t u around exact is =
     ap (λ b. tells (answer b) (record (session_of t around) { breaks = if b then t.breaks ++ a ∷ [] else t.breaks }) ∷ []) (sym exact)
     ∙ ap (λ (v : Trail). tells (answer done) (session_of v around) ∷ []) (sym is)
 
-pub does-set : (a : ℕ) (done : Bool) (t u : Trail) (o : Outside) (x y : Output) (stop : Option Stopped) → done ≡ (not (list_any (λ b. b == a) t.breaks) && nat_lt (length t.breaks) 64)
+pub does-set : (a : ℕ) (done : Bool) (t u : Trail) (o : Outside) (x y : Output) (stop : Option Broken) → done ≡ (not (list_any (λ b. b == a) t.breaks) && nat_lt (length t.breaks) 64)
     → u ≡ record t { breaks = if done then t.breaks ++ a ∷ [] else t.breaks } → TellsTo (answer done) x y stop → Does (events_of (Break a)) (place t o x) (place u o y) stop
 does-set a done t u o x y stop exact is told_to =
     does-text (events_of (Break a)) stop (answer done) t u o x y (λ around. set-event a done t u around exact is) (some-answer done) told_to
@@ -247,7 +249,7 @@ clear-event a done t u around exact is =
     ap (λ b. tells (answer b) (record (session_of t around) { breaks = filter (λ c. not (c == a)) t.breaks }) ∷ []) (sym exact)
     ∙ ap (λ (v : Trail). tells (answer done) (session_of v around) ∷ []) (sym is)
 
-pub does-cleared : (a : ℕ) (done : Bool) (t u : Trail) (o : Outside) (x y : Output) (stop : Option Stopped) → done ≡ list_any (λ b. b == a) t.breaks
+pub does-cleared : (a : ℕ) (done : Bool) (t u : Trail) (o : Outside) (x y : Output) (stop : Option Broken) → done ≡ list_any (λ b. b == a) t.breaks
     → u ≡ record t { breaks = filter (λ b. not (b == a)) t.breaks } → TellsTo (answer done) x y stop → Does (events_of (Clear a)) (place t o x) (place u o y) stop
 does-cleared a done t u o x y stop exact is told_to =
     does-text (events_of (Clear a)) stop (answer done) t u o x y (λ around. clear-event a done t u around exact is) (some-answer done) told_to
@@ -256,5 +258,5 @@ crawl-event : (t : Trail) (around : Around) → events_of Where (session_of t ar
 unfolding crawl_of
 crawl-event t around = refl
 
-pub does-crawl : (t : Trail) (o : Outside) (x y : Output) (stop : Option Stopped) → TellsTo (crawl_of t.machine) x y stop → Does (events_of Where) (place t o x) (place t o y) stop
+pub does-crawl : (t : Trail) (o : Outside) (x y : Output) (stop : Option Broken) → TellsTo (crawl_of t.machine) x y stop → Does (events_of Where) (place t o x) (place t o y) stop
 does-crawl t o x y stop told_to = does-text (events_of Where) stop (crawl_of t.machine) t t o x y (crawl-event t) (some-crawl t.machine) told_to

@@ -1,6 +1,5 @@
 -- Steps of a command, one after the other.
-use Rattle.std.proofs.Common.{◌≡◌, ℕ, zero, suc, ◌+◌, ◌-◌, ◌<◌, ◌≤◌, Bool, true, false, if◌then◌else◌, List, [], ◌∷◌, ◌++◌, length, map, Option, Some, None, Result, Ok, Err, arith, ap, sym, subst, ◌∙◌, refl, append-nil, append_assoc, length-append}
-use Rattle.switch_frame.specs.Records.{isa_of}
+use Rattle.std.proofs.Common.{◌≡◌, ℕ, suc, ◌+◌, ◌-◌, ◌<◌, ◌≤◌, Bool, true, false, if◌then◌else◌, List, [], ◌∷◌, ◌++◌, length, map, Some, None, Ok, Err, arith, ap, sym, subst, ◌∙◌, refl, append-nil, append_assoc, length-append}
 use Rattle.call_trace.specs.declared.end.End.{End}
 use Rattle.call_trace.specs.declared.end.End.TheVariants.{Exit, Fault, Limit}
 use Rattle.toolbox.specs.Effects.{Around}
@@ -15,11 +14,10 @@ use Rattle.mix_script.specs.Sessions.{Past, Session, past_of, returned, session_
 use Rattle.mix_script.specs.Events.{Event, Walk, after, back_by, backward, forward, goes_back, halts, lines_by, onward, said_by, steps_to, stops, walk_by}
 use Rattle.mix_script.specs.Places.{Over, Place, sinks_in}
 use Rattle.mix_script.specs.Plays.{AllDone, Played}
-use Rattle.mix_script.specs.Parts.{DoesOnce, EndsAt, GoesForward, GoesOn, WalkedBy, Walks, WalksBack}
+use Rattle.mix_script.specs.Parts.{DoesOnce, EndsAt, GoesForward, GoesOn, Walks, WalksBack}
 use Rattle.mix_script.specs.declared.walk.Once.TheVariants.{Went, Ended, Halted}
-use Rattle.mix_script.specs.declared.walk.Stopped.{Stopped}
+use Rattle.toolbox.specs.declared.broken.Broken.{Broken}
 use Rattle.mix_script.specs.declared.walk.Until.{Until}
-use Rattle.mix_script.specs.declared.walk.Walked.{Walked}
 use Rattle.mix_script.proofs.Overs.{over-more, over-none, over-same}
 use Rattle.mix_script.proofs.Playing.{after-append, all-more, all-none, lines-append, played-as, played-front, played-more, said-append}
 
@@ -140,7 +138,7 @@ going-ended until count done end a b c more going ends =
     over-more None _ _ _ a b c (λ x y z so_far one. ended-one until count done end _ _ _ (sinks_in a) (sinks_in b) (sinks_in c) more so_far one) going ends
 
 -- where the outside failed
-halted-one : (until : Until) (count done : ℕ) (stopped : Stopped) (s t u : Session) (a b c : Sinks) → done < count → Going until count done s t a b → GoesOn (Some stopped) t u b c
+halted-one : (until : Until) (count done : ℕ) (stopped : Broken) (s t u : Session) (a b c : Sinks) → done < count → Going until count done s t a b → GoesOn (Some stopped) t u b c
     → Played (Some stopped) (forward until count s).steps s u a c
 halted-one until count done stopped s t u a b c more going went =
     let event : Event = steps_to t went.next went.effects in
@@ -150,7 +148,7 @@ halted-one until count done stopped s t u a b c more going went =
     played-as (Some stopped) (going.events ++ (event ∷ rest.steps)) (forward until count s).steps s u a c (sym (ap (λ w. w.steps) order))
     (played-more (Some stopped) going.events (event ∷ rest.steps) s t u a b c going.all (played-front stopped (event ∷ []) rest.steps t u b c went.played))
 
-pub going-halted : (until : Until) (count done : ℕ) (stopped : Stopped) (a b c : Place) → done < count → GoingAt until count done a b
+pub going-halted : (until : Until) (count done : ℕ) (stopped : Broken) (a b c : Place) → done < count → GoingAt until count done a b
     → Over (Some stopped) (λ s t. DoesOnce (Halted stopped) s t (sinks_in b) (sinks_in c)) b c → GoesForward until count a c (Err stopped)
 going-halted until count done stopped a b c more going went =
     over-more (Some stopped) _ _ _ a b c (λ x y z so_far one. halted-one until count done stopped _ _ _ (sinks_in a) (sinks_in b) (sinks_in c) more so_far one) going went

@@ -1,5 +1,5 @@
 -- What the parts of a run of a script do.
-use Rattle.std.specs.Prelude.{◌≡◌, ℕ, ◌≤◌, List, [], ◌∷◌, length, Option, Some, None, Result, Ok, Err}
+use Rattle.std.specs.Prelude.{◌≡◌, ℕ, List, [], ◌∷◌, length, Option, Some, None, Result, Ok, Err}
 use Rattle.mix_bits.specs.declared.isa.Isa.{Isa}
 use Rattle.mix_io.specs.Streams.{Output, Grows, Breaks}
 use Rattle.mix_io.specs.declared.errors.Failed.{Failed}
@@ -15,13 +15,13 @@ use Rattle.mixed_machine.specs.Runs.{Sinks}
 use Rattle.mixed_machine.specs.declared.stop.Stop.{Stop}
 use Rattle.mixed_machine.specs.declared.stop.Stop.TheVariants.{Exit, Fault, Limit, ReadFault, OutFault, TraceFault}
 use Rattle.mix_script.specs.Sessions.{Session}
-use Rattle.mix_script.specs.Events.{Event, Walk, after, backward, forward, lines_by, said_by, steps_to}
+use Rattle.mix_script.specs.Events.{Walk, after, forward, lines_by, said_by, steps_to}
 use Rattle.mix_script.specs.Places.{Over, Place, sinks_in, stop_in}
 use Rattle.mix_script.specs.Plays.{AllDone, Played}
 use Rattle.mix_script.specs.declared.walk.Once.{Once}
 use Rattle.mix_script.specs.declared.walk.Once.TheVariants.{Went, Ended, Halted}
-use Rattle.mix_script.specs.declared.walk.Stopped.{Stopped}
-use Rattle.mix_script.specs.declared.walk.Stopped.TheVariants.{Input, Output as Out, Trace}
+use Rattle.toolbox.specs.declared.broken.Broken.{Broken}
+use Rattle.toolbox.specs.declared.broken.Broken.TheVariants.{Input, Output as Out, Trace}
 use Rattle.mix_script.specs.declared.walk.Until.{Until}
 use Rattle.mix_script.specs.declared.walk.Walked.{Walked}
 
@@ -34,13 +34,13 @@ once_of set ReadFault = Halted Input
 once_of set OutFault = Halted Out
 once_of set TraceFault = Halted Trace
 
-abbrev pub halt_in : Once → Option Stopped
+abbrev pub halt_in : Once → Option Broken
 halt_in Went = None
 halt_in (Ended end) = None
 halt_in (Halted stopped) = Some stopped
 
 -- a step that goes on, as far as it was done
-pub record GoesOn (stop : Option Stopped) (s t : Session) (old new : Sinks) : Type 0 where
+pub record GoesOn (stop : Option Broken) (s t : Session) (old new : Sinks) : Type 0 where
   pub next : State
   pub effects : Effects
   pub goes : step s.state ≡ Goes next effects
@@ -65,11 +65,11 @@ pub record Walks (w : Walk) (walked : Walked) (s t : Session) (old new : Sinks) 
   pub count : length w.steps ≡ walked.done
   pub ending : w.ending ≡ walked.end
 
-abbrev pub WalkedBy : Result Walked Stopped → Walk → Session → Session → Sinks → Sinks → Type 0
+abbrev pub WalkedBy : Result Walked Broken → Walk → Session → Session → Sinks → Sinks → Type 0
 WalkedBy (Ok walked) w s t old new = Walks w walked s t old new
 WalkedBy (Err stopped) w s t old new = Played (Some stopped) w.steps s t old new
 
-abbrev pub GoesForward : Until → ℕ → Place → Place → Result Walked Stopped → Type 0
+abbrev pub GoesForward : Until → ℕ → Place → Place → Result Walked Broken → Type 0
 GoesForward until count a b result = Over (stop_in result) (λ s t. WalkedBy result (forward until count s) s t (sinks_in a) (sinks_in b)) a b
 
 -- all steps back, which put nothing
@@ -81,18 +81,18 @@ pub record WalksBack (w : Walk) (walked : Walked) (s t : Session) : Type 0 where
   pub ending : w.ending ≡ walked.end
 
 -- the trace took a text, or failed within it
-abbrev pub TellsTo : List ℕ → Output → Output → Option Stopped → Type 0
+abbrev pub TellsTo : List ℕ → Output → Output → Option Broken → Type 0
 TellsTo text old new None = Grows old new text
 TellsTo text old new (Some Input) = ⊥
 TellsTo text old new (Some Out) = ⊥
 TellsTo text old new (Some Trace) = Breaks old new [] text
 
 -- the end line of a program that ended
-abbrev pub TellsEnd : Option End → Output → Output → Option Stopped → Type 0
+abbrev pub TellsEnd : Option End → Output → Output → Option Broken → Type 0
 TellsEnd None old new stop = (new ≡ old) × (stop ≡ None)
 TellsEnd (Some end) old new stop = TellsTo (end_line end) old new stop
 
 -- what a put on the trace tells
-abbrev pub traced_of : Result (Unit {0}) Failed → Result (Unit {0}) Stopped
+abbrev pub traced_of : Result (Unit {0}) Failed → Result (Unit {0}) Broken
 traced_of (Ok done) = Ok done
 traced_of (Err failed) = Err Trace

@@ -1,6 +1,5 @@
 -- A session of the debugger: a state of the machine, which steps lead forward and back.
 use Rattle.std.specs.Prelude.{ℕ, ◌+◌, ◌-◌, nat_le, if◌then◌else◌, List, [], ◌∷◌, map}
-use Rattle.switch_frame.specs.declared.active.Active.{Active}
 use Rattle.toolbox.specs.Effects.{Around}
 use Rattle.mixed_machine.specs.Machine.{flat}
 use Rattle.mixed_machine.specs.State.{State, seen}

@@ -16,4 +16,3 @@ pub use command::Command;
 pub use laws::script_laws;
 pub use run::run_script;
 pub use script::{BadLine, Script};
-pub use walk::Stopped;

@@ -8,11 +8,12 @@ ghost use Rattle.mix_script.specs.Plays.{Does, Plays};
 use crate::command::Command;
 use crate::script::Script;
 use crate::texts::{tell_answer, tell_crawl, tell_end, tell_place};
-use crate::walk::{Stopped, Until, Walked, live, walk_back, walk_forward};
+use crate::walk::{Until, Walked, live, walk_back, walk_forward};
 use dev_rack::Devices;
 use mix_debug::Debug;
 use mix_io::{Sink, Source};
 use mix_steps::Outside;
+use toolbox::Broken;
 
 /// Does the commands of a script, one after the other, and puts their texts among the lines of the steps; where the outside
 /// fails, it ends there.
@@ -20,7 +21,7 @@ pub fn run_script<'i, 'o, 't, 'd, I: Source, O: Sink, T: Sink, D: Devices>(
     debug: &mut Debug,
     script: Script<'_>,
     outside: &mut Outside<'i, 'o, 't, 'd, I, O, T, D>,
-) -> Result<(), Stopped>
+) -> Result<(), Broken>
     ensures plays { Plays script.entry
         (place_beside I.left I.faults O.held O.faults T.held T.faults D.state debug.old outside.old)
         (place_beside I.left I.faults O.held O.faults T.held T.faults D.state debug.new outside.new)
@@ -44,7 +45,7 @@ fn do_command<'i, 'o, 't, 'd, I: Source, O: Sink, T: Sink, D: Devices>(
     debug: &mut Debug,
     command: Command,
     outside: &mut Outside<'i, 'o, 't, 'd, I, O, T, D>,
-) -> Result<(), Stopped>
+) -> Result<(), Broken>
     ensures does { Does (events_of command)
         (place_beside I.left I.faults O.held O.faults T.held T.faults D.state debug.old outside.old)
         (place_beside I.left I.faults O.held O.faults T.held T.faults D.state debug.new outside.new)
@@ -67,7 +68,7 @@ fn go_over<'i, 'o, 't, 'd, I: Source, O: Sink, T: Sink, D: Devices>(
     debug: &mut Debug,
     count: u32,
     outside: &mut Outside<'i, 'o, 't, 'd, I, O, T, D>,
-) -> Result<(), Stopped>
+) -> Result<(), Broken>
     ensures does { Does (events_of (Command.Over count))
         (place_beside I.left I.faults O.held O.faults T.held T.faults D.state debug.old outside.old)
         (place_beside I.left I.faults O.held O.faults T.held T.faults D.state debug.new outside.new)
@@ -84,7 +85,7 @@ fn go_forward<'i, 'o, 't, 'd, I: Source, O: Sink, T: Sink, D: Devices>(
     until: Until,
     count: u32,
     outside: &mut Outside<'i, 'o, 't, 'd, I, O, T, D>,
-) -> Result<(), Stopped>
+) -> Result<(), Broken>
     ensures does { Does (λ s. told s (forward until count s))
         (place_beside I.left I.faults O.held O.faults T.held T.faults D.state debug.old outside.old)
         (place_beside I.left I.faults O.held O.faults T.held T.faults D.state debug.new outside.new)
@@ -102,7 +103,7 @@ fn go_back<'i, 'o, 't, 'd, I: Source, O: Sink, T: Sink, D: Devices>(
     debug: &mut Debug,
     count: u32,
     outside: &mut Outside<'i, 'o, 't, 'd, I, O, T, D>,
-) -> Result<(), Stopped>
+) -> Result<(), Broken>
     ensures does { Does (events_of (Command.Back count))
         (place_beside I.left I.faults O.held O.faults T.held T.faults D.state debug.old outside.old)
         (place_beside I.left I.faults O.held O.faults T.held T.faults D.state debug.new outside.new)
@@ -118,7 +119,7 @@ fn tell<'i, 'o, 't, 'd, I: Source, O: Sink, T: Sink, D: Devices>(
     debug: &Debug,
     walked: Walked,
     outside: &mut Outside<'i, 'o, 't, 'd, I, O, T, D>,
-) -> Result<(), Stopped>
+) -> Result<(), Broken>
     ensures does { Does (told_behind walked.end walked.done)
         (place_beside I.left I.faults O.held O.faults T.held T.faults D.state debug.now outside.old)
         (place_beside I.left I.faults O.held O.faults T.held T.faults D.state debug.now outside.new)
@@ -136,7 +137,7 @@ fn set_break<'i, 'o, 't, 'd, I: Source, O: Sink, T: Sink, D: Devices>(
     debug: &mut Debug,
     a: u32,
     outside: &mut Outside<'i, 'o, 't, 'd, I, O, T, D>,
-) -> Result<(), Stopped>
+) -> Result<(), Broken>
     ensures does { Does (events_of (Command.Break a))
         (place_beside I.left I.faults O.held O.faults T.held T.faults D.state debug.old outside.old)
         (place_beside I.left I.faults O.held O.faults T.held T.faults D.state debug.new outside.new)
@@ -152,7 +153,7 @@ fn clear_break<'i, 'o, 't, 'd, I: Source, O: Sink, T: Sink, D: Devices>(
     debug: &mut Debug,
     a: u32,
     outside: &mut Outside<'i, 'o, 't, 'd, I, O, T, D>,
-) -> Result<(), Stopped>
+) -> Result<(), Broken>
     ensures does { Does (events_of (Command.Clear a))
         (place_beside I.left I.faults O.held O.faults T.held T.faults D.state debug.old outside.old)
         (place_beside I.left I.faults O.held O.faults T.held T.faults D.state debug.new outside.new)
@@ -167,7 +168,7 @@ fn clear_break<'i, 'o, 't, 'd, I: Source, O: Sink, T: Sink, D: Devices>(
 fn crawl<'i, 'o, 't, 'd, I: Source, O: Sink, T: Sink, D: Devices>(
     debug: &Debug,
     outside: &mut Outside<'i, 'o, 't, 'd, I, O, T, D>,
-) -> Result<(), Stopped>
+) -> Result<(), Broken>
     ensures does { Does (events_of Command.Where)
         (place_beside I.left I.faults O.held O.faults T.held T.faults D.state debug.now outside.old)
         (place_beside I.left I.faults O.held O.faults T.held T.faults D.state debug.now outside.new)

@@ -6,15 +6,15 @@ ghost use Rattle.mix_script.specs.Events.{answer, at_line};
 ghost use Rattle.mix_script.specs.Parts.{TellsEnd, TellsTo, traced_of};
 ghost use Rattle.mix_script.specs.Places.{stop_in};
 
-use crate::walk::Stopped;
 use call_trace::{End, put_end, set_name};
 use mix_bits::Line;
 use mix_debug::Debug;
 use mix_io::{Failed, Sink};
 use switch_frame::Active;
+use toolbox::Broken;
 
 /// Puts the end line of a program that ended.
-pub fn tell_end<T: Sink>(end: Option<End>, trace: &mut T) -> Result<(), Stopped>
+pub fn tell_end<T: Sink>(end: Option<End>, trace: &mut T) -> Result<(), Broken>
     ensures { TellsEnd end (output (T.held trace.old) (T.faults trace.old)) (output (T.held trace.new) (T.faults trace.new)) (stop_in result) }
 {
     match end {
@@ -24,7 +24,7 @@ pub fn tell_end<T: Sink>(end: Option<End>, trace: &mut T) -> Result<(), Stopped>
 }
 
 /// Puts where the code is after so many steps: `at SET PC K`.
-pub fn tell_place<T: Sink>(file: &Active, done: u32, trace: &mut T) -> Result<(), Stopped>
+pub fn tell_place<T: Sink>(file: &Active, done: u32, trace: &mut T) -> Result<(), Broken>
     ensures { TellsTo (at_line done file.now) (output (T.held trace.old) (T.faults trace.old)) (output (T.held trace.new) (T.faults trace.new)) (stop_in result) }
 {
     let mut line = Line::new();
@@ -33,7 +33,7 @@ pub fn tell_place<T: Sink>(file: &Active, done: u32, trace: &mut T) -> Result<()
 }
 
 /// Puts `yes` or `no`.
-pub fn tell_answer<T: Sink>(done: bool, trace: &mut T) -> Result<(), Stopped>
+pub fn tell_answer<T: Sink>(done: bool, trace: &mut T) -> Result<(), Broken>
     ensures { TellsTo (answer done) (output (T.held trace.old) (T.faults trace.old)) (output (T.held trace.new) (T.faults trace.new)) (stop_in result) }
 {
     let text: &[u8] = if done { b"yes\n" } else { b"no\n" };
@@ -41,19 +41,19 @@ pub fn tell_answer<T: Sink>(done: bool, trace: &mut T) -> Result<(), Stopped>
 }
 
 /// Puts where the code is, and where each suspended caller.
-pub fn tell_crawl<T: Sink>(debug: &Debug, trace: &mut T) -> Result<(), Stopped>
+pub fn tell_crawl<T: Sink>(debug: &Debug, trace: &mut T) -> Result<(), Broken>
     ensures { TellsTo (crawl_of debug.now.machine) (output (T.held trace.old) (T.faults trace.old)) (output (T.held trace.new) (T.faults trace.new)) (stop_in result) }
 {
     traced(debug.crawl(trace))
 }
 
 /// What a failed put on the trace tells.
-fn traced(put: Result<(), Failed>) -> Result<(), Stopped>
+fn traced(put: Result<(), Failed>) -> Result<(), Broken>
     ensures { result ≡ traced_of put }
 {
     match put {
         Ok(()) => Ok(()),
-        Err(_) => Err(Stopped::Trace),
+        Err(_) => Err(Broken::Trace),
     }
 }
 

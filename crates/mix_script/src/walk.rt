@@ -17,6 +17,7 @@ use mix_io::{Sink, Source};
 use mix_steps::Outside;
 use mixed_machine::Stop;
 use switch_frame::depth;
+use toolbox::Broken;
 
 /// Where a command ends that does up to so many steps.
 #[derive(Clone, Copy)]
@@ -27,14 +28,6 @@ pub enum Until {
     Breakpoint,
     /// Also where no more than so many frames are live.
     Frames(u32),
-}
-
-/// What of the outside failed, and so ended a script.
-#[derive(Clone, Copy, Debug, PartialEq, Eq)]
-pub enum Stopped {
-    Input,
-    Output,
-    Trace,
 }
 
 /// Steps that were done or taken back, and the end of the program, where they came to it.
@@ -52,7 +45,7 @@ pub enum Once {
     /// The program ends here.
     Ended(End),
     /// The outside failed.
-    Halted(Stopped),
+    Halted(Broken),
 }
 
 /// Does up to so many steps.
@@ -61,7 +54,7 @@ pub fn walk_forward<'i, 'o, 't, 'd, I: Source, O: Sink, T: Sink, D: Devices>(
     until: Until,
     count: u32,
     outside: &mut Outside<'i, 'o, 't, 'd, I, O, T, D>,
-) -> Result<Walked, Stopped>
+) -> Result<Walked, Broken>
     ensures walks { GoesForward until count
         (place_beside I.left I.faults O.held O.faults T.held T.faults D.state debug.old outside.old)
         (place_beside I.left I.faults O.held O.faults T.held T.faults D.state debug.new outside.new)
@@ -125,9 +118,9 @@ fn once_at(set: Isa, stop: Stop) -> Once
         Stop::Exit(code) => Once::Ended(End::Exit(code)),
         Stop::Fault(fault) => Once::Ended(End::Fault(set, fault)),
         Stop::Limit => Once::Went,
-        Stop::ReadFault => Once::Halted(Stopped::Input),
-        Stop::OutFault => Once::Halted(Stopped::Output),
-        Stop::TraceFault => Once::Halted(Stopped::Trace),
+        Stop::ReadFault => Once::Halted(Broken::Input),
+        Stop::OutFault => Once::Halted(Broken::Output),
+        Stop::TraceFault => Once::Halted(Broken::Trace),
     }
 }
 

@@ -22,10 +22,6 @@ use Rattle.mix_steps.specs.Advances.{Advances, GoesOn}
 use Rattle.mix_steps.proofs.Amid.{acts-from, amid, does-change}
 use Rattle.mix_steps.proofs.Leavings.{same-at, stopped}
 
--- none yet
-pub own-none : (n : ℕ) (before : Active) (b : Body) → AreOwn (n - n) before before b b
-own-none n before b = let none : 0 ≡ n - n = omega arith in subst (λ k. AreOwn k before before b b) none (refl, refl)
-
 -- one more
 pub own-more : (n left : ℕ) (before mid after : Active) (b body new : Body) → 0 < left → left ≤ n → AreOwn (n - left) before mid b body → IsOwn mid after body new
     → AreOwn (n - (left - 1)) before after b new

@@ -5,6 +5,7 @@ use Rattle.mix_io.specs.Streams.{Output}
 use Rattle.mix_io.proofs.Streams.{grows-none}
 use Rattle.switch_frame.specs.declared.active.Active.{Active}
 use Rattle.switch_frame.specs.Records.{isa_of}
+use Rattle.toolbox.specs.Blames.{BlamesOnly}
 use Rattle.toolbox.specs.Calls.{Outside}
 use Rattle.toolbox.specs.Effects.{Around}
 use Rattle.mixed_machine.specs.declared.body.Body.{Body}
@@ -17,10 +18,11 @@ use Rattle.mixed_machine.specs.Machine.{IsWhole, callers_of, flat}
 use Rattle.mixed_machine.specs.Outside.{At, at, around_at, answers_between, state_of}
 use Rattle.mixed_machine.specs.Counts.{counts_of}
 use Rattle.mixed_machine.specs.Runs.{Sinks, sinks_of}
-use Rattle.mixed_machine.specs.Acts.{Acts, BlamesBy, Done}
+use Rattle.mixed_machine.specs.Acts.{Acts, Done, broken_by}
 use Rattle.mix_steps.specs.Laws.{AreLaws}
 use Rattle.mix_steps.specs.Does.{Does, IsInside, beside}
-use Rattle.mix_steps.proofs.Over.{over-quiet, told-none}
+use Rattle.mixed_machine.proofs.Over.{told-none}
+use Rattle.mix_steps.proofs.Over.{over-quiet}
 
 -- the same of an equal step
 pub done-by : (x y : Next) (did : Did) (cell : AFault) (s t : State) (old new : Sinks) → x ≡ y → Done y did cell s t old new → Done x did cell s t old new
@@ -28,7 +30,7 @@ done-by x y did cell s t old new same done = subst (λ z. Done z did cell s t ol
 
 -- only the count of the trace may have risen
 blames-inside : (x : Next) (did : Did) (cell : AFault) (s t : State) (old new : Body) (before after : Active) (o : Outside) (a b : Output)
-    → IsInside did → Done x did cell s t (beside o.out a) (beside o.out b) → BlamesBy did (counts_of (at old before o a)) (counts_of (at new after o b))
+    → IsInside did → Done x did cell s t (beside o.out a) (beside o.out b) → BlamesOnly (broken_by did) (counts_of (at old before o a)) (counts_of (at new after o b))
 blames-inside x IsNext cell s t old new before after o a b inside done = record { input = refl; out = refl; trace = done.put.trace.calm }
 blames-inside x Call cell s t old new before after o a b inside done = record { input = refl; out = refl; trace = done.put.trace.calm }
 blames-inside x Return cell s t old new before after o a b inside done = record { input = refl; out = refl; trace = done.put.trace.calm }

@@ -13,9 +13,9 @@ use Rattle.switch_frame.specs.Records.{Record, isa_of}
 use Rattle.toolbox.specs.Effects.{Around}
 use Rattle.mixed_machine.specs.declared.body.Body.{Body}
 use Rattle.mixed_machine.specs.declared.did.Did.{Did}
-use Rattle.mixed_machine.specs.declared.did.Did.TheVariants.{Next as IsNext, Call, Return, Exit, Fault, TraceFault}
+use Rattle.mixed_machine.specs.declared.did.Did.TheVariants.{Call, Return, Exit, Fault, TraceFault}
 use Rattle.mixed_machine.specs.State.{State}
-use Rattle.mixed_machine.specs.Next.{Next, quiet, traced}
+use Rattle.mixed_machine.specs.Next.{Next, traced}
 use Rattle.mixed_machine.specs.Next.Next.{Goes, Exits, Faults}
 use Rattle.mixed_machine.specs.Machine.{IsWhole, callers_of, flat}
 use Rattle.mixed_machine.specs.Acts.{Done}
@@ -53,18 +53,6 @@ does-exit grows x code cell b active a whole is =
       callers = refl;
       inside = tt;
       done = λ around out. record { state = (refl, refl); put = record { out = grows out; trace = grows a } };
-    })
-
--- a quiet step of the same code
-pub does-next : NothingGrows → (x : State → Next) (t : State → State) (cell : AFault) (b : Body) (before after : Active) (a : Output) → IsWhole b (isa_of after)
-    → ((around : Around) → x (flat b before around) ≡ Goes (t (flat b before around)) quiet) → ((around : Around) → flat b after around ≡ t (flat b before around))
-    → Does x IsNext cell b b before after a a
-does-next grows x t cell b before after a whole is to =
-    does-same (λ s. Goes (t s) quiet) x IsNext cell b b before after a a is (record {
-      whole = whole;
-      callers = refl;
-      inside = tt;
-      done = λ around out. record { state = to around; put = record { out = grows out; trace = grows a } };
     })
 
 -- a call, a return, and either of them whose line failed

@@ -81,11 +81,6 @@ readied laws more b ram set kind lo hi sp stack whole place floor ends is =
       rest = refl;
     })
 
--- a caller was called as the chain says
-pub caller-called : (main : Isa) (caller : Active) (rs : List Record) → isa_of caller ≡ active_set main rs → IsCalled caller rs
-caller-called main caller [] is = tt
-caller-called main caller (r ∷ rs) is = sym is
-
 outermost-more : (main : Isa) (r : Record) (rs : List Record) → caller_isa r.kind ≡ active_set main rs → IsOutermost main rs → IsOutermost main (r ∷ rs)
 outermost-more main r [] is all = is
 outermost-more main r (s ∷ rs) is all = all

@@ -34,7 +34,8 @@ use Rattle.mixed_machine.specs.Runs.{sinks_of}
 use Rattle.mixed_machine.specs.Acts.{Acts, Done}
 use Rattle.mix_steps.specs.Laws.{AreLaws}
 use Rattle.mix_steps.proofs.Changed.{altered, changed, seen-is}
-use Rattle.mix_steps.proofs.Over.{over-quiet, over-taken, some-took, told-kept, told-none}
+use Rattle.mixed_machine.proofs.Over.{told-none}
+use Rattle.mix_steps.proofs.Over.{over-quiet, over-taken, some-took, told-kept}
 use Rattle.mix_io.proofs.Streams.{grows-none}
 use Rattle.mix_steps.proofs.Amid.{amid, done-by}
 use Rattle.mix_steps.proofs.Doing.{does-exit, does-fault}

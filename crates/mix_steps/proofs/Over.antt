@@ -1,19 +1,11 @@
 -- Claims on the states that a machine stands for, by a step that takes nothing from the input or one thing.
-use Rattle.std.proofs.Common.{◌≡◌, ℕ, List, [], ◌∷◌, ◌++◌, map, Option, Some, None, refl, sym, ap, ◌∙◌, subst}
-use Rattle.std.proofs.Math.Seq.{drop-length}
+use Rattle.std.proofs.Common.{◌≡◌, ℕ, List, [], ◌∷◌, ◌++◌, Option, Some, None, refl, sym, ap, ◌∙◌, subst}
 use Rattle.std.specs.Io.KnownBytes.{Keeps}
-use Rattle.dev_rack.specs.Rack.{State as Rack}
 use Rattle.toolbox.specs.Calls.{Taken, Took, Told, answers_since}
 use Rattle.toolbox.specs.Calls.Taken.{Nothing, Byte, TheEnd}
 use Rattle.mixed_machine.specs.State.{State}
+use Rattle.mixed_machine.proofs.Over.{since-none}
 use Rattle.mixed_machine.specs.Outside.{At, Over, ToldAll, answers_between, state_of}
-
--- a journal that stays has no new entries
-no-answers : (r : Rack) → answers_since r r ≡ []
-no-answers r = ap (map (λ e. e.answer)) (drop-length r.journal)
-
-pub told-none : (x : Option (List ℕ)) → ToldAll [] x x
-told-none x after is = (after, is, refl)
 
 pub told-kept : (x y : Option (List ℕ)) → Keeps x y → ToldAll [] x y
 told-kept None y kept after is = (after, tt, refl)
@@ -27,7 +19,7 @@ told-one t x y told after is = let one = told after is in (one.0, one.1, (after,
 pub over-quiet : (P : State → State → Type 0) (a b : At) → a.outside.rack ≡ b.outside.rack → ToldAll [] a.outside.input.left b.outside.input.left
     → ((input : List ℕ) (answers : List (Option ℕ)) → P (state_of a input answers) (state_of b input answers)) → Over P a b
 over-quiet P a b rack told same =
-    let none : answers_between a b ≡ [] = ap (λ r. answers_since r b.outside.rack) rack ∙ no-answers b.outside.rack in
+    let none : answers_between a b ≡ [] = ap (λ r. answers_since r b.outside.rack) rack ∙ since-none b.outside.rack in
     record {
       taken = [];
       told = told;

@@ -1,5 +1,5 @@
 -- The step at a gate, from what its parts answer.
-use Rattle.std.proofs.Common.{◌≡◌, true, false, List, [], ◌∷◌, drop, suc, length, Some, None, Result, refl, sym, ap, ◌∙◌, subst}
+use Rattle.std.proofs.Common.{◌≡◌, true, false, List, [], ◌∷◌, drop, suc, length, Some, Result, refl, sym, ap, ◌∙◌, subst}
 use Rattle.std.specs.Prelude.{if◌then◌else◌}
 use Rattle.mix_bits.specs.declared.isa.Isa.{Isa}
 use Rattle.mix_bits.specs.declared.fault.Fault.{Fault as AFault}
@@ -53,10 +53,6 @@ gate-waits s r outer callers here = ap (at_gate_of s) callers ∙ ap (λ b. if b
 pub first-is : (held : Held) (rs : List Record) → Some held ≡ innermost rs → rs ≡ record_of held ∷ drop 1 rs
 first-is held [] is = cc
 first-is held (r ∷ rs) is = let same : held ≡ held_of r (suc (length rs)) = cc in ap (λ h. record_of h ∷ rs) (sym same)
-
-pub none-is : (rs : List Record) → None ≡ innermost rs → rs ≡ []
-none-is [] is = refl
-none-is (r ∷ rs) is = cc
 
 -- a machine in which a result was stored while the frame is live
 pub given : AreLaws → (b : Body) (ram : Memory) (set : Isa) → IsWhole b set → OnlyFree b.ram ram → IsChanged b (record b { ram = ram }) set

@@ -3,14 +3,19 @@ use Rattle.std.proofs.Common.{◌≡◌, ℕ, ◌==◌, true, false, Bool, inl, 
 use Rattle.std.specs.Prelude.{IsSomeAnd, MatchBool}
 use Rattle.mix_bits.specs.declared.isa.Isa.{Isa}
 use Rattle.mix_io.specs.Counts.{CountRose, CountsStay, Rose}
-use Rattle.mix_io.specs.Streams.{Output, Breaks}
+use Rattle.mix_io.specs.Streams.{Output as Sink, Breaks}
 use Rattle.dev_rack.specs.Accounts.{Accounts}
 use Rattle.dev_rack.proofs.Steps.{accounts-none}
-use Rattle.mixed_machine.specs.Counts.{Counts, Blames}
+use Rattle.toolbox.specs.declared.broken.Broken.{Broken}
+use Rattle.toolbox.specs.declared.broken.Broken.TheVariants.{Input, Output, Trace}
+use Rattle.toolbox.specs.Blames.{BlamesOnly, Counts}
+use Rattle.toolbox.specs.Calls.{counts_beside}
+use Rattle.mixed_machine.specs.Counts.{Blames}
 use Rattle.mixed_machine.specs.declared.stop.Stop.{Stop}
 use Rattle.mixed_machine.specs.declared.stop.Stop.TheVariants.{Exit, Fault, Limit, ReadFault, OutFault, TraceFault}
 use Rattle.mix_engine.specs.declared.machine.Machine.{Machine}
 use Rattle.mix_top.specs.World.{Beside, Keep, Accounted, Closes, Early, EndsIn, OnlyPuts, PutsText, RoseAt, RoseFor}
+use Rattle.mix_top.specs.Running.{broken_status}
 use Rattle.mix_top.specs.Parts.{Finishes, Keeps}
 
 -- a count that stays, where the status is another one; and one that rose, where it is this one
@@ -38,26 +43,58 @@ pub record IsPlain (status : ℕ) : Type 0 where
   pub trace : (status == 7) ≡ false
   pub keep : (status == 8) ≡ false
 
--- a last line, after which the trace may be the only one that failed
-pub accounted-closes : (save : Option (List ℕ)) (old new : Beside) (mid : Output) (line : List ℕ) (status result : ℕ) → IsPlain status
-    → new.outside.input.faults ≡ old.outside.input.faults → new.outside.out.faults ≡ old.outside.out.faults → mid.faults ≡ old.trace.faults
-    → CountsStay old.keep.faults new.keep.faults → Accounts old.outside.rack new.outside.rack → Closes mid new.trace [] line status result → Accounted save old new result
-accounted-closes save old new mid line status result plain input out trace keep devices (inl (grows, same)) =
+-- the counts of the three
+abbrev pub counts_at : Beside → Counts
+counts_at w = counts_beside w.outside w.trace
+
+-- no count rose, and the status tells of none
+pub accounted-plain : (save : Option (List ℕ)) (old new : Beside) (status result : ℕ) → IsPlain status → result ≡ status → BlamesOnly None (counts_at old) (counts_at new)
+    → CountsStay old.keep.faults new.keep.faults → Accounts old.outside.rack new.outside.rack → Accounted save old new result
+accounted-plain save old new status result plain same calm keep devices =
     record {
-      input = quiet 5 status result old.outside.input.faults new.outside.input.faults plain.input same input;
-      out = quiet 6 status result old.outside.out.faults new.outside.out.faults plain.out same out;
-      trace = quiet 7 status result old.trace.faults new.trace.faults plain.trace same (grows.calm ∙ trace);
+      input = quiet 5 status result old.outside.input.faults new.outside.input.faults plain.input same calm.input;
+      out = quiet 6 status result old.outside.out.faults new.outside.out.faults plain.out same calm.out;
+      trace = quiet 7 status result old.trace.faults new.trace.faults plain.trace same calm.trace;
       keep = steady save status result old.keep new.keep plain.keep same keep;
       devices = devices;
     }
-accounted-closes save old new mid line status result plain input out trace keep devices (inr (breaks, same)) =
+
+-- the count of what failed rose, and the status tells it
+pub accounted-broke : (save : Option (List ℕ)) (broken : Broken) (old new : Beside) (result : ℕ) → result ≡ broken_status broken → BlamesOnly (Some broken) (counts_at old) (counts_at new)
+    → CountsStay old.keep.faults new.keep.faults → Accounts old.outside.rack new.outside.rack → Accounted save old new result
+accounted-broke save Input old new result same blames keep devices =
     record {
-      input = quiet 5 7 result old.outside.input.faults new.outside.input.faults refl same input;
-      out = quiet 6 7 result old.outside.out.faults new.outside.out.faults refl same out;
-      trace = loud 7 result old.trace.faults new.trace.faults refl same (subst (λ n. Rose n new.trace.faults) trace breaks.rose);
+      input = loud 5 result old.outside.input.faults new.outside.input.faults refl same blames.input;
+      out = quiet 6 5 result old.outside.out.faults new.outside.out.faults refl same blames.out;
+      trace = quiet 7 5 result old.trace.faults new.trace.faults refl same blames.trace;
+      keep = steady save 5 result old.keep new.keep refl same keep;
+      devices = devices;
+    }
+accounted-broke save Output old new result same blames keep devices =
+    record {
+      input = quiet 5 6 result old.outside.input.faults new.outside.input.faults refl same blames.input;
+      out = loud 6 result old.outside.out.faults new.outside.out.faults refl same blames.out;
+      trace = quiet 7 6 result old.trace.faults new.trace.faults refl same blames.trace;
+      keep = steady save 6 result old.keep new.keep refl same keep;
+      devices = devices;
+    }
+accounted-broke save Trace old new result same blames keep devices =
+    record {
+      input = quiet 5 7 result old.outside.input.faults new.outside.input.faults refl same blames.input;
+      out = quiet 6 7 result old.outside.out.faults new.outside.out.faults refl same blames.out;
+      trace = loud 7 result old.trace.faults new.trace.faults refl same blames.trace;
       keep = steady save 7 result old.keep new.keep refl same keep;
       devices = devices;
     }
+
+-- a last line, after which the trace may be the only one that failed
+pub accounted-closes : (save : Option (List ℕ)) (old new : Beside) (mid : Sink) (line : List ℕ) (status result : ℕ) → IsPlain status
+    → new.outside.input.faults ≡ old.outside.input.faults → new.outside.out.faults ≡ old.outside.out.faults → mid.faults ≡ old.trace.faults
+    → CountsStay old.keep.faults new.keep.faults → Accounts old.outside.rack new.outside.rack → Closes mid new.trace [] line status result → Accounted save old new result
+accounted-closes save old new mid line status result plain input out trace keep devices (inl (grows, same)) =
+    accounted-plain save old new status result plain same (record { input = input; out = out; trace = grows.calm ∙ trace }) keep devices
+accounted-closes save old new mid line status result plain input out trace keep devices (inr (breaks, same)) =
+    accounted-broke save Trace old new result same (record { input = input; out = out; trace = subst (λ n. Rose n new.trace.faults) trace breaks.rose }) keep devices
 
 -- a call that ended before any step
 pub accounted-early : (save : Option (List ℕ)) (old new : Beside) (line : List ℕ) (status result : ℕ) → IsPlain status → Early old new line status result → Accounted save old new result
@@ -65,45 +102,29 @@ accounted-early save old new line status result plain early =
     accounted-closes save old new old.trace line status result plain (ap (λ o. o.input.faults) early.outside) (ap (λ o. o.out.faults) early.outside) refl
     (same-counts old.keep new.keep early.keep) (subst (λ o. Accounts old.outside.rack o.rack) (sym early.outside) (accounts-none old.outside.rack)) early.trace
 
+same-devices : (old new : Beside) → new.outside.rack ≡ old.outside.rack → Accounts old.outside.rack new.outside.rack
+same-devices old new same = subst (Accounts old.outside.rack) (sym same) (accounts-none old.outside.rack)
+
 -- a text on the output alone
 pub accounted-puts : (old new : Beside) (text : List ℕ) (status result : ℕ) → IsPlain status → OnlyPuts old new
     → PutsText old.outside.out new.outside.out text status result → Accounted None old new result
 accounted-puts old new text status result plain only (inl (grows, same)) =
-    record {
-      input = quiet 5 status result old.outside.input.faults new.outside.input.faults plain.input same (ap (λ i. i.faults) only.input);
-      out = quiet 6 status result old.outside.out.faults new.outside.out.faults plain.out same grows.calm;
-      trace = quiet 7 status result old.trace.faults new.trace.faults plain.trace same (ap (λ t. t.faults) only.trace);
-      keep = steady None status result old.keep new.keep plain.keep same (same-counts old.keep new.keep only.keep);
-      devices = subst (Accounts old.outside.rack) (sym only.rack) (accounts-none old.outside.rack);
-    }
+    accounted-plain None old new status result plain same (record { input = ap (λ i. i.faults) only.input; out = grows.calm; trace = ap (λ t. t.faults) only.trace })
+    (same-counts old.keep new.keep only.keep) (same-devices old new only.rack)
 accounted-puts old new text status result plain only (inr (stops, same)) =
-    record {
-      input = quiet 5 6 result old.outside.input.faults new.outside.input.faults refl same (ap (λ i. i.faults) only.input);
-      out = loud 6 result old.outside.out.faults new.outside.out.faults refl same stops.breaks.rose;
-      trace = quiet 7 6 result old.trace.faults new.trace.faults refl same (ap (λ t. t.faults) only.trace);
-      keep = steady None 6 result old.keep new.keep refl same (same-counts old.keep new.keep only.keep);
-      devices = subst (Accounts old.outside.rack) (sym only.rack) (accounts-none old.outside.rack);
-    }
+    accounted-broke None Output old new result same (record { input = ap (λ i. i.faults) only.input; out = stops.breaks.rose; trace = ap (λ t. t.faults) only.trace })
+    (same-counts old.keep new.keep only.keep) (same-devices old new only.rack)
 
 -- the put of a line failed
-pub puts-broke : (old new : Output) (line piece : List ℕ) (status : ℕ) → piece ≡ line → Breaks old new [] piece → PutsText old new line status 6
+pub puts-broke : (old new : Sink) (line piece : List ℕ) (status : ℕ) → piece ≡ line → Breaks old new [] piece → PutsText old new line status 6
 puts-broke old new line piece status same breaks =
     inr (record { before = []; line = line; rest = []; order = sym (append-nil line); breaks = subst (λ l. Breaks old new [] l) same breaks }, refl)
 
 -- nothing on it
 pub accounted-quiet : (old new : Beside) (status result : ℕ) → IsPlain status → OnlyPuts old new → new.outside.out ≡ old.outside.out → result ≡ status → Accounted None old new result
 accounted-quiet old new status result plain only out same =
-    record {
-      input = quiet 5 status result old.outside.input.faults new.outside.input.faults plain.input same (ap (λ i. i.faults) only.input);
-      out = quiet 6 status result old.outside.out.faults new.outside.out.faults plain.out same (ap (λ o. o.faults) out);
-      trace = quiet 7 status result old.trace.faults new.trace.faults plain.trace same (ap (λ t. t.faults) only.trace);
-      keep = steady None status result old.keep new.keep plain.keep same (same-counts old.keep new.keep only.keep);
-      devices = subst (Accounts old.outside.rack) (sym only.rack) (accounts-none old.outside.rack);
-    }
-
--- the counts of the three
-abbrev pub counts_at : Beside → Counts
-counts_at w = record { input = w.outside.input.faults; out = w.outside.out.faults; trace = w.trace.faults }
+    accounted-plain None old new status result plain same (record { input = ap (λ i. i.faults) only.input; out = ap (λ o. o.faults) out; trace = ap (λ t. t.faults) only.trace })
+    (same-counts old.keep new.keep only.keep) (same-devices old new only.rack)
 
 exit-other : (n : ℕ) (b : Bool) → (0 == n) ≡ false → (1 == n) ≡ false → ((if b then 0 else 1) == n) ≡ false
 exit-other n true zero one = zero
@@ -111,6 +132,14 @@ exit-other n false zero one = one
 
 exit-plain : (b : Bool) → IsPlain (if b then 0 else 1)
 exit-plain b = record { input = exit-other 5 b refl refl; out = exit-other 6 b refl refl; trace = exit-other 7 b refl refl; keep = exit-other 8 b refl refl }
+
+-- a run that was stopped by the outside, after which nothing was put
+stop-broke : (save : Option (List ℕ)) (broken : Broken) (old mid new : Beside) (result : ℕ) → result ≡ broken_status broken → BlamesOnly (Some broken) (counts_at old) (counts_at mid)
+    → new.outside ≡ mid.outside → new.trace ≡ mid.trace → CountsStay old.keep.faults new.keep.faults → Accounts old.outside.rack mid.outside.rack → Accounted save old new result
+stop-broke save broken old mid new result status rose same traced keep devices =
+    let counted : counts_at new ≡ counts_at mid = ap (λ o. counts_beside o new.trace) same ∙ ap (counts_beside mid.outside) traced in
+    accounted-broke save broken old new result status (subst (BlamesOnly (Some broken) (counts_at old)) (sym counted) rose) keep
+    (subst (λ o. Accounts old.outside.rack o.rack) (sym same) devices)
 
 -- a run that stopped, and what follows it
 pub accounted-stop : (save : Option (List ℕ)) (old mid new : Beside) (set : Isa) (stop : Stop) (result : ℕ) → Blames stop (counts_at old) (counts_at mid) → Accounts old.outside.rack mid.outside.rack
@@ -124,30 +153,9 @@ accounted-stop save old mid new set (Fault fault) result calm devices same keep 
 accounted-stop save old mid new set Limit result calm devices same keep closes =
     accounted-closes save old new mid.trace _ 11 result (record { input = refl; out = refl; trace = refl; keep = refl }) (ap (λ o. o.input.faults) same ∙ calm.input) (ap (λ o. o.out.faults) same ∙ calm.out) calm.trace keep
     (subst (λ o. Accounts old.outside.rack o.rack) (sym same) devices) closes
-accounted-stop save old mid new set ReadFault result rose devices same keep closes =
-    record {
-      input = loud 5 result old.outside.input.faults new.outside.input.faults refl closes.1 (subst (λ o. Rose old.outside.input.faults o.input.faults) (sym same) rose.input);
-      out = quiet 6 5 result old.outside.out.faults new.outside.out.faults refl closes.1 (ap (λ o. o.out.faults) same ∙ rose.out);
-      trace = quiet 7 5 result old.trace.faults new.trace.faults refl closes.1 (ap (λ o. o.faults) closes.0 ∙ rose.trace);
-      keep = steady save 5 result old.keep new.keep refl closes.1 keep;
-      devices = subst (λ o. Accounts old.outside.rack o.rack) (sym same) devices;
-    }
-accounted-stop save old mid new set OutFault result rose devices same keep closes =
-    record {
-      input = quiet 5 6 result old.outside.input.faults new.outside.input.faults refl closes.1 (ap (λ o. o.input.faults) same ∙ rose.input);
-      out = loud 6 result old.outside.out.faults new.outside.out.faults refl closes.1 (subst (λ o. Rose old.outside.out.faults o.out.faults) (sym same) rose.out);
-      trace = quiet 7 6 result old.trace.faults new.trace.faults refl closes.1 (ap (λ o. o.faults) closes.0 ∙ rose.trace);
-      keep = steady save 6 result old.keep new.keep refl closes.1 keep;
-      devices = subst (λ o. Accounts old.outside.rack o.rack) (sym same) devices;
-    }
-accounted-stop save old mid new set TraceFault result rose devices same keep closes =
-    record {
-      input = quiet 5 7 result old.outside.input.faults new.outside.input.faults refl closes.1 (ap (λ o. o.input.faults) same ∙ rose.input);
-      out = quiet 6 7 result old.outside.out.faults new.outside.out.faults refl closes.1 (ap (λ o. o.out.faults) same ∙ rose.out);
-      trace = loud 7 result old.trace.faults new.trace.faults refl closes.1 (subst (λ t. Rose old.trace.faults t.faults) (sym closes.0) rose.trace);
-      keep = steady save 7 result old.keep new.keep refl closes.1 keep;
-      devices = subst (λ o. Accounts old.outside.rack o.rack) (sym same) devices;
-    }
+accounted-stop save old mid new set ReadFault result rose devices same keep closes = stop-broke save Input old mid new result closes.1 rose same closes.0 keep devices
+accounted-stop save old mid new set OutFault result rose devices same keep closes = stop-broke save Output old mid new result closes.1 rose same closes.0 keep devices
+accounted-stop save old mid new set TraceFault result rose devices same keep closes = stop-broke save Trace old mid new result closes.1 rose same closes.0 keep devices
 
 -- a machine that was kept, and one that was not
 pub keeps-calm : (name : Option (List ℕ)) (m : Machine) (old new : Keep) (done : Unit {0}) → Keeps name m old new (Ok done) → CountsStay old.faults new.faults

@@ -1,5 +1,5 @@
 -- How a script's events make up a way to end.
-use Rattle.std.proofs.Common.{◌≡◌, ℕ, ◌==◌, true, false, Bool, List, [], ◌++◌, Option, Some, None, Result, Ok, Err, sym, ap, subst, ◌∙◌, refl}
+use Rattle.std.proofs.Common.{◌≡◌, ℕ, List, [], ◌++◌, Option, Some, None, Result, Err, subst, refl}
 use Rattle.mix_io.specs.Streams.{Output as Sink}
 use Rattle.dev_rack.specs.Accounts.{Accounts}
 use Rattle.switch_frame.specs.declared.program.Program.{Program}
@@ -10,11 +10,11 @@ use Rattle.mixed_machine.specs.Outside.{around_at}
 use Rattle.mixed_machine.specs.State.{State}
 use Rattle.mix_engine.specs.declared.machine.Machine.{Machine}
 use Rattle.mix_debug.specs.Trails.{Trail}
-use Rattle.mix_script.specs.Places.{BlamesBy, Place, place, stop_in}
+use Rattle.mix_script.specs.Places.{place, stop_in}
+use Rattle.toolbox.specs.Blames.{BlamesOnly}
 use Rattle.mix_script.specs.Plays.{Plays}
 use Rattle.mix_script.specs.declared.command.Command.{Command}
-use Rattle.mix_script.specs.declared.walk.Stopped.{Stopped}
-use Rattle.mix_script.specs.declared.walk.Stopped.TheVariants.{Input, Output, Trace}
+use Rattle.toolbox.specs.declared.broken.Broken.{Broken}
 use Rattle.mix_top.specs.World.{Accounted, Beside, EndsIn, Keep, beside}
 use Rattle.job_words.specs.declared.job.Job.{Job}
 use Rattle.mix_load.specs.declared.files.Files.{Files}
@@ -24,49 +24,19 @@ use Rattle.mix_top.specs.Ends.DebugWay.{line_refused}
 use Rattle.mix_top.specs.Lines.{load_line}
 use Rattle.mix_top.specs.World.{Closes, Early}
 use Rattle.mix_top.specs.Debugging.{script_refusal}
-use Rattle.mix_top.specs.Debugging.{MachineWay, ScriptRan, Scripted, ScriptWay, script_status}
+use Rattle.mix_top.specs.Debugging.{MachineWay, ScriptRan, script_status}
 use Rattle.mix_top.specs.Debugging.MachineWay.{no_debugger, scripted}
-use Rattle.mix_top.specs.Debugging.ScriptWay.{debugged}
-use Rattle.mix_top.proofs.Counting.{accounted-early, counts_at, loud, quiet, same-counts, steady}
+use Rattle.mix_top.proofs.Counting.{accounted-broke, accounted-early, accounted-plain, counts_at, same-counts}
 
 -- whose count rose
-accounted-script : (stop : Option Stopped) (old new : Beside) (result : ℕ) → result ≡ script_status stop → BlamesBy stop (counts_at old) (counts_at new)
+accounted-script : (stop : Option Broken) (old new : Beside) (result : ℕ) → result ≡ script_status stop → BlamesOnly stop (counts_at old) (counts_at new)
     → Accounts old.outside.rack new.outside.rack → new.keep ≡ old.keep → Accounted None old new result
 accounted-script None old new result same blames devices keep =
-    record {
-      input = quiet 5 0 result old.outside.input.faults new.outside.input.faults refl same blames.input;
-      out = quiet 6 0 result old.outside.out.faults new.outside.out.faults refl same blames.out;
-      trace = quiet 7 0 result old.trace.faults new.trace.faults refl same blames.trace;
-      keep = steady None 0 result old.keep new.keep refl same (same-counts old.keep new.keep keep);
-      devices = devices;
-    }
-accounted-script (Some Input) old new result same blames devices keep =
-    record {
-      input = loud 5 result old.outside.input.faults new.outside.input.faults refl same blames.input;
-      out = quiet 6 5 result old.outside.out.faults new.outside.out.faults refl same blames.out;
-      trace = quiet 7 5 result old.trace.faults new.trace.faults refl same blames.trace;
-      keep = steady None 5 result old.keep new.keep refl same (same-counts old.keep new.keep keep);
-      devices = devices;
-    }
-accounted-script (Some Output) old new result same blames devices keep =
-    record {
-      input = quiet 5 6 result old.outside.input.faults new.outside.input.faults refl same blames.input;
-      out = loud 6 result old.outside.out.faults new.outside.out.faults refl same blames.out;
-      trace = quiet 7 6 result old.trace.faults new.trace.faults refl same blames.trace;
-      keep = steady None 6 result old.keep new.keep refl same (same-counts old.keep new.keep keep);
-      devices = devices;
-    }
-accounted-script (Some Trace) old new result same blames devices keep =
-    record {
-      input = quiet 5 7 result old.outside.input.faults new.outside.input.faults refl same blames.input;
-      out = quiet 6 7 result old.outside.out.faults new.outside.out.faults refl same blames.out;
-      trace = loud 7 result old.trace.faults new.trace.faults refl same blames.trace;
-      keep = steady None 7 result old.keep new.keep refl same (same-counts old.keep new.keep keep);
-      devices = devices;
-    }
+    accounted-plain None old new 0 result (record { input = refl; out = refl; trace = refl; keep = refl }) same blames (same-counts old.keep new.keep keep) devices
+accounted-script (Some broken) old new result same blames devices keep = accounted-broke None broken old new result same blames (same-counts old.keep new.keep keep) devices
 
 -- a debugger that has done no step played a script
-pub ends-script : (commands : List Command) (m : Machine) (t u : Trail) (o p : Outside) (x y : Sink) (k : Keep) (done : Result (Unit {0}) Stopped) (result : ℕ)
+pub ends-script : (commands : List Command) (m : Machine) (t u : Trail) (o p : Outside) (x y : Sink) (k : Keep) (done : Result (Unit {0}) Broken) (result : ℕ)
     → t ≡ record { machine = m; kept = []; breaks = [] } → result ≡ script_status (stop_in done) → Plays commands (place t o x) (place u p y) done
     → EndsIn None (MachineWay commands (flat m.body m.active)) (beside o x k) (beside p y k) result
 ends-script commands m t u o p x y k done result fresh same plays =
@@ -75,10 +45,12 @@ ends-script commands m t u o p x y k done result fresh same plays =
       accounted = accounted-script (stop_in done) (beside o x k) (beside p y k) result same own.blames own.devices refl;
       way = scripted (record {
         keep = refl;
-        taken = own.taken;
-        told = own.told;
-        each = λ before after rest took.
-            record { stop = stop_in done; last = _; played = own.each before after rest took; around_is = refl; status = same };
+        claim = record {
+          taken = own.claim.taken;
+          told = own.claim.told;
+          each = λ before after rest took.
+              record { stop = stop_in done; last = _; played = own.claim.each before after rest took; around_is = refl; status = same };
+        };
       });
     }
 
@@ -89,11 +61,13 @@ machine-from commands start from old new result same (no_debugger early) = no_de
 machine-from commands start from old new result same (scripted own) =
     scripted (record {
       keep = own.keep;
-      taken = own.taken;
-      told = own.told;
-      each = λ before after rest took.
-          subst (λ s. ScriptRan commands s (around_at new.outside after rest) old new result) (same (around_at old.outside before (answers_since old.outside.rack new.outside.rack ++ rest)))
-          (own.each before after rest took);
+      claim = record {
+        taken = own.claim.taken;
+        told = own.claim.told;
+        each = λ before after rest took.
+            subst (λ s. ScriptRan commands s (around_at new.outside after rest) old new result) (same (around_at old.outside before (answers_since old.outside.rack new.outside.rack ++ rest)))
+            (own.claim.each before after rest took);
+      };
     })
 
 pub ends-started : (commands : List Command) (program : Program) (start from : Around → State) (old new : Beside) (result : ℕ) → ((around : Around) → start around ≡ from around)

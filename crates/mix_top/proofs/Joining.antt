@@ -1,74 +1,34 @@
 -- A run that was cut, kept and continued is the uncut run.
-use Rattle.std.proofs.Common.{◌≡◌, ℕ, zero, suc, ◌+◌, ◌-◌, ◌≤◌, ◌==◌, inl, inr, Bool, true, false, if◌then◌else◌, List, [], ◌∷◌, ◌++◌, map, Option, Some, None, is_some, arith, sym, ap, subst, ◌∙◌, refl, zero-add, append-nil, append_assoc}
+use Rattle.std.proofs.Common.{◌≡◌, ℕ, ◌+◌, ◌-◌, ◌≤◌, ◌==◌, inl, inr, Bool, true, false, if◌then◌else◌, List, [], ◌++◌, map, Option, Some, None, is_some, arith, sym, ap, subst, ◌∙◌, refl, append-nil}
 use Rattle.std.specs.Prelude.{IsSomeAnd, bytes_eq}
 use Rattle.std.proofs.lemmas.Slice.Eq.{bytes_eq-Decides}
 use Rattle.mix_io.specs.Kept.{KeepsMore}
 use Rattle.mix_io.specs.Streams.{Output, Grows}
 use Rattle.switch_frame.specs.Records.{isa_of}
-use Rattle.toolbox.specs.Calls.{Taken}
+use Rattle.toolbox.specs.declared.broken.Broken.{Broken}
+use Rattle.toolbox.specs.declared.broken.Broken.TheVariants.{Input, Output as BrokenOutput, Trace}
 use Rattle.toolbox.specs.Effects.{Around}
 use Rattle.call_trace.specs.Lines.{end_line}
 use Rattle.call_trace.specs.declared.end.End.TheVariants.{Limit}
 use Rattle.mixed_machine.specs.State.{State}
 use Rattle.mixed_machine.specs.Next.{Next}
-use Rattle.mixed_machine.specs.Next.Next.{Goes, Exits, Faults}
-use Rattle.mixed_machine.specs.Step.{step}
 use Rattle.mixed_machine.specs.Machine.{flat}
-use Rattle.mixed_machine.specs.Exec.{How, exec, exec_to, goes_on, is_back, log, log_then, rests, said_of, line_of}
+use Rattle.mixed_machine.specs.Exec.{How, exec, log, said_of, line_of}
 use Rattle.mixed_machine.specs.Exec.How.{Limited, Exited, Faulted}
 use Rattle.mixed_machine.specs.Exec.End.{Ended}
-use Rattle.mixed_machine.specs.Outside.{TookAll, ToldAll, around_at}
+use Rattle.mixed_machine.specs.Outside.{ToldAll, around_at}
+use Rattle.mixed_machine.proofs.Logs.{log-continues}
+use Rattle.mixed_machine.proofs.Over.{told-both, took-append}
 use Rattle.mixed_machine.proofs.Runs.{exec-continues, limits-last}
 use Rattle.mix_engine.specs.declared.machine.Machine.{Machine}
 use Rattle.mix_image.specs.Spelling.{HasSpelling, spell}
 use Rattle.mix_image.proofs.Finishing.{spellings_differ}
 use Rattle.mix_top.specs.World.{Beside, Closes, Keep}
 use Rattle.mix_top.specs.Keeping.{KeptAt}
-use Rattle.mix_top.specs.Running.{RunWay, answers_given, end_of, status_of}
-use Rattle.mix_top.specs.Running.RunWay.{ended, keep_failed, out_failed, read_failed, trace_failed}
+use Rattle.mix_top.specs.Running.{RunWay, answers_given, broken_status, end_of, status_of}
+use Rattle.mix_top.specs.Running.RunWay.{broke, ended, keep_failed}
 use Rattle.mix_top.specs.Continuing.ContinueWay.{continued, image_refused, no_memory}
 use Rattle.mix_top.specs.Laws.{AreOneRun, ContinuedRunsAreOne, IsBetween, IsEnd, TookBoth}
-
--- what the steps of a run put, and then those of the run that goes on from its last state
-rests-here : (b : Bool) (s t : State) → rests b s ≡ Ended Limited t 0 → s ≡ t
-rests-here true s t leads = cc
-rests-here false s t leads = let same : Ended Limited s 0 ≡ Ended Limited t 0 = leads in cc
-
-no-steps : (s t : State) → exec 0 s ≡ Ended Limited t 0 → s ≡ t
-unfolding exec_to
-no-steps s t leads = rests-here (is_back 0 s) s t leads
-
-log-step : (pick : Next → List ℕ) (b : Bool) (x : Next) (s t : State) (n m : ℕ)
-    → ((u : State) → exec n u ≡ Ended Limited t 0 → log pick (n + m) u ≡ log pick n u ++ log pick m t)
-    → goes_on b x s n (exec_to 0 n) ≡ Ended Limited t 0 → log_then pick x (log pick (n + m)) ≡ log_then pick x (log pick n) ++ log pick m t
-log-step pick true x s t n m rest leads = cc
-log-step pick false (Goes u effects) s t n m rest leads =
-    ap (λ xs. pick (Goes u effects) ++ xs) (rest u leads) ∙ sym (append_assoc (pick (Goes u effects)) (log pick n u) (log pick m t))
-log-step pick false (Exits code) s t n m rest leads = cc
-log-step pick false (Faults fault) s t n m rest leads = cc
-
-suc-more : (n m : ℕ) → suc n + m ≡ suc (n + m)
-suc-more n m = omega arith
-
-log-joins : (pick : Next → List ℕ) (n m : ℕ) (s t : State) → exec n s ≡ Ended Limited t 0 → log pick (n + m) s ≡ log pick n s ++ log pick m t
-unfolding exec_to log
-log-joins pick zero m s t leads = ap (λ k. log pick k s) (zero-add m) ∙ ap (log pick m) (no-steps s t leads)
-log-joins pick (suc n) m s t leads = ap (λ k. log pick k s) (suc-more n m) ∙ log-step pick (is_back 0 s) (step s) s t n m (λ u. log-joins pick n m u t) leads
-
--- what was taken by two calls
-took-apart : (xs ys : List Taken) (before after : List ℕ) → TookAll (xs ++ ys) before after → (mid : List ℕ) × TookAll xs before mid × TookAll ys mid after
-took-apart [] ys before after took = (before, refl, took)
-took-apart (x ∷ xs) ys before after took = let rest = took-apart xs ys took.0 after took.2 in (rest.0, (took.0, took.1, rest.1), rest.2)
-
-took-both : (xs ys : List Taken) (before mid after : List ℕ) → TookAll xs before mid → TookAll ys mid after → TookAll (xs ++ ys) before after
-took-both [] ys before mid after first next = subst (λ b. TookAll ys b after) (sym first) next
-took-both (x ∷ xs) ys before mid after first next = (first.0, first.1, took-both xs ys first.0 mid after first.2 next)
-
-told-both : (xs ys : List Taken) (a b c : Option (List ℕ)) → ToldAll xs a b → ToldAll ys b c → ToldAll (xs ++ ys) a c
-told-both xs ys a b c first next after is =
-    let second = next after is in
-    let whole = first second.0 second.1 in
-    (whole.0, whole.1, took-both xs ys whole.0 second.0 after whole.2 second.2)
 
 -- a status of an end is none of a failure
 pub record IsCalm (result : ℕ) : Type 0 where
@@ -107,15 +67,18 @@ closed : (old new : Output) (bytes line : List ℕ) (status result : ℕ) → Is
 closed old new bytes line status result calm (inl done) = done
 closed old new bytes line status result calm (inr failed) = absurd (calm.trace failed.1)
 
+not-broken : (broken : Broken) (result : ℕ) → IsCalm result → result ≡ broken_status broken → ⊥
+not-broken Input result calm failed = calm.input failed
+not-broken BrokenOutput result calm failed = calm.out failed
+not-broken Trace result calm failed = calm.trace failed
+
 came-to-end : (save : Option (List ℕ)) (steps : ℕ) (start : State) (around : Around) (old new : Beside) (result : ℕ) → IsCalm result → RunWay save steps start around old new result
     → CameToEnd save steps start around old new result
 came-to-end save steps start around old new result calm (ended last how left fewer ends at out kept closes) =
     let done = closed old.trace new.trace (log line_of (steps - left) start) (end_line (end_of (isa_of last.active) how)) (status_of how) result calm closes in
     record { last = last; how = how; left = left; fewer = fewer; ends = ends; at = at; out = out; kept = kept; trace = done.0; status = done.1 }
-came-to-end save steps start around old new result calm (keep_failed name bytes last is ends at spells out trace kept failed) = absurd (calm.keep failed)
-came-to-end save steps start around old new result calm (read_failed last done below leads reads at out trace kept failed) = absurd (calm.input failed)
-came-to-end save steps start around old new result calm (out_failed last done below leads says at out trace kept failed) = absurd (calm.out failed)
-came-to-end save steps start around old new result calm (trace_failed before last done below leads goes tells at out trace kept failed) = absurd (calm.trace failed)
+came-to-end save steps start around old new result calm (keep_failed name bytes last left is ran at spells kept failed) = absurd (calm.keep failed)
+came-to-end save steps start around old new result calm (broke stop broken last left is stops at kept failed) = absurd (not-broken broken result calm failed)
 
 -- one that came to its limit
 exit-status : (b : Bool) (status : ℕ) → status ≡ (if b then 0 else 1) → status ≡ 11 → ⊥
@@ -147,7 +110,7 @@ limit-kept name how last old new is kept = subst (λ h. KeptAt (Some name) h las
 joins : (pick : Next → List ℕ) (n m left : ℕ) (s t u : State) → left ≤ m → exec n s ≡ Ended Limited t 0 → t ≡ u → log pick (n + m - left) s ≡ log pick n s ++ log pick (m - left) u
 joins pick n m left s t u fewer leads same =
     let count : n + m - left ≡ n + (m - left) = omega (arith, fewer) in
-    ap (λ k. log pick k s) count ∙ log-joins pick n (m - left) s t leads ∙ ap (λ v. log pick n s ++ log pick (m - left) v) same
+    ap (λ k. log pick k s) count ∙ log-continues pick 0 n (m - left) s t leads ∙ ap (λ v. log pick n s ++ log pick (m - left) v) same
 
 both-grow : (a b c d : Output) (bytes front back line last_line : List ℕ) → bytes ≡ front ++ back → Grows a b (front ++ line) → Grows c d (back ++ last_line) → TookBoth bytes line last_line a b c d
 both-grow a b c d bytes front back line last_line order first second = record { front = front; back = back; order = order; first = first; second = second }
@@ -192,14 +155,14 @@ joined name image save n m machine a b c d result s t between_runs after first b
 pub continued-one : ContinuedRunsAreOne
 continued-one name image save start n m a b c d result ran between (no_memory early) end =
     let calm : IsCalm result = calm-end result end in absurd (calm.memory (closed c.trace d.trace [] _ 9 result calm early.trace).1)
-continued-one name image save start n m a b c d result ran between (image_refused error other is early) end =
+continued-one name image save start n m a b c d result ran between (image_refused error why why_is is early) end =
     let calm : IsCalm result = calm-end result end in absurd (calm.refused (closed c.trace d.trace [] _ 3 result calm early.trace).1)
 continued-one name image save start n m a b c d result ran between (continued machine is spelled again) end =
     record {
       taken = ran.taken ++ again.taken;
       told = told-both ran.taken again.taken a.outside.input.left b.outside.input.left d.outside.input.left ran.told (subst (λ o. ToldAll again.taken o d.outside.input.left) between.input again.told);
       each = λ before after rest took.
-          let parts = took-apart ran.taken again.taken before after took in
+          let parts = took-append ran.taken again.taken before after took in
           let later : List (Option ℕ) = answers_given c d ++ rest in
           joined name image save n m machine a b c d result (start (around_at a.outside before (answers_given a b ++ later))) (flat machine.body machine.active (around_at c.outside parts.0 later))
           (around_at b.outside parts.0 later) (around_at d.outside after rest)

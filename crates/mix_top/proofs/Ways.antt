@@ -1,5 +1,5 @@
 -- How the answers of the parts make up a way to end.
-use Rattle.std.proofs.Common.{◌≡◌, ◌≢◌, ℕ, suc, ◌-◌, ◌<◌, ◌≤◌, inl, inr, List, [], ◌++◌, length, Option, Some, None, Ok, Err, arith, sym, ap, subst, refl, append-nil}
+use Rattle.std.proofs.Common.{◌≡◌, ◌≢◌, ℕ, ◌-◌, ◌≤◌, inl, inr, List, [], ◌++◌, length, Option, Some, None, Ok, Err, arith, sym, ap, subst, ◌∙◌, refl, append-nil}
 use Rattle.mix_bits.specs.declared.isa.Isa.{Isa}
 use Rattle.mix_bits.specs.declared.isa.Isa.TheVariants.{M68, Ppc}
 use Rattle.mix_io.specs.Streams.{Output, Grows, Breaks, StopsWithin}
@@ -11,15 +11,13 @@ use Rattle.switch_frame.specs.Records.{isa_of}
 use Rattle.toolbox.specs.Effects.{Around}
 use Rattle.call_trace.specs.Lines.{end_line}
 use Rattle.mixed_machine.specs.State.{State}
-use Rattle.mixed_machine.specs.Step.{step}
 use Rattle.mixed_machine.specs.Machine.{flat}
 use Rattle.mixed_machine.specs.Counts.{Blames}
-use Rattle.mixed_machine.specs.Exec.{How, exec, log, line_of, said_of}
-use Rattle.mixed_machine.specs.Exec.End.{Ended}
+use Rattle.mixed_machine.specs.Exec.{How, log, line_of, said_of}
 use Rattle.mixed_machine.specs.Exec.How.{Limited, Exited, Faulted}
 use Rattle.mixed_machine.specs.Outside.{At, answers_between, around_at, state_of}
 use Rattle.mixed_machine.specs.Runs.{Ran, Runs, Stops}
-use Rattle.mixed_machine.proofs.Runs.{limits-last}
+use Rattle.toolbox.specs.declared.broken.Broken.TheVariants.{Input, Output as BrokenOutput, Trace}
 use Rattle.mixed_machine.specs.declared.stop.Stop.{Stop}
 use Rattle.mixed_machine.specs.declared.stop.Stop.TheVariants.{Exit, Fault, Limit, ReadFault, OutFault, TraceFault}
 use Rattle.std.specs.Prelude.{IfNone, IfSome, IsSome}
@@ -28,8 +26,8 @@ use Rattle.job_words.specs.Jobs.{IsProperJob, job_in, keys_in_order, limit_of, p
 use Rattle.job_words.specs.Words.{bad_at, command_of, name_at}
 use Rattle.job_words.specs.declared.job.Command.{Command}
 use Rattle.job_words.specs.declared.job.Command.TheVariants.{Run, List as Lists, Sample, Assemble, Continue, Debug}
-use Rattle.mix_sample.specs.declared.sampled.Ending.{Ending}
-use Rattle.mix_sample.specs.declared.sampled.Ending.TheVariants.{Exit as ExitEnding, Fault as FaultEnding, Limit as LimitEnding}
+use Rattle.call_trace.specs.declared.end.End.{End}
+use Rattle.call_trace.specs.declared.end.End.TheVariants.{Exit as ExitEnd, Fault as FaultEnd, Limit as LimitEnd}
 use Rattle.mix_sample.specs.declared.sampled.Sampled.{Sampled}
 use Rattle.std.specs.Option.{option_and_then, option_map}
 use Rattle.std.specs.Result.{result_ok}
@@ -47,9 +45,9 @@ use Rattle.mix_engine.specs.declared.machine.Machine.{Machine}
 use Rattle.mix_image.specs.Restoring.{IsRestored}
 use Rattle.mix_image.specs.Spelling.{HasSpelling, spell}
 use Rattle.mix_image.specs.declared.error.ImageError.{ImageError}
-use Rattle.mix_image.specs.declared.error.ImageError.TheVariants.{NoMemory as NoMachine}
-use Rattle.mix_top.specs.Lines.{load_line, load_refusal, memory_line, words_line}
+use Rattle.mix_top.specs.Lines.{Refusal, load_line, load_refusal, memory_line, refused_line, refused_status, words_line}
 use Rattle.mix_top.specs.World.{Beside, Keep, World, Accounted, Closes, Contents, Early, EndsIn, NoneRose, OnlyPuts, PutsText, beside}
+use Rattle.mix_steps.specs.Does.{beside as sinks_beside}
 use Rattle.mix_top.specs.Files.{AreFiles, IsNamed, bytes_in, ram_size}
 use Rattle.mix_assemble.specs.Assembling.{IsAssembled}
 use Rattle.mix_assemble.specs.Parts.{OfBytes}
@@ -58,14 +56,14 @@ use Rattle.mix_top.specs.Assembling.{AssembleWay, line_refusal}
 use Rattle.mix_top.specs.Assembling.AssembleWay.{assembled, line_refused}
 use Rattle.mix_top.specs.declared.files.Fetched.{Fetched}
 use Rattle.mix_top.specs.Keeping.{KeepsPart, KeptAt, Spells}
-use Rattle.mix_top.specs.Running.{MachineRan, RunWay, answers_given, end_of, status_of}
-use Rattle.mix_top.specs.Running.RunWay.{ended, keep_failed, out_failed, read_failed, trace_failed}
+use Rattle.mix_top.specs.Running.{MachineRan, RunWay, answers_given, end_of, sinks_at, status_of}
+use Rattle.mix_top.specs.Running.RunWay.{broke, ended, keep_failed}
 use Rattle.mix_top.specs.Continuing.{ContinueWay, image_refusal}
 use Rattle.mix_top.specs.Continuing.ContinueWay.{image_refused, no_memory as no_machine_memory}
 use Rattle.mix_top.specs.Ends.{Ends, FilesWay, IsNext, LoadWay, PutsSample, Way, saved_by, saved_name}
 use Rattle.mix_top.specs.Ends.LoadWay.{no_memory, refused}
 use Rattle.mix_top.specs.Ends.Way.{bad_words, fetched, long_file, no_file, no_memory_for_file}
-use Rattle.mix_top.specs.Parts.{AreFor, AreShort, Finishes, IsCause, Keeps, MissesFirst, due_at, unfetched_line, unfetched_status, unloaded_line, unloaded_status, unrestored_line, unrestored_status}
+use Rattle.mix_top.specs.Parts.{AreFor, AreShort, Finishes, IsCause, Keeps, MissesFirst, due_at, unfetched_line, unfetched_status}
 use Rattle.mix_top.specs.declared.files.Missing.{Missing}
 use Rattle.mix_top.proofs.Counting.{IsPlain, accounted-early, accounted-puts, accounted-quiet, accounted-stop, accounted-unkept, counts_at, ends-quiet, keeps-calm}
 
@@ -77,7 +75,7 @@ after-lines a b c lines line status result first (inr (breaks, same)) =
 
 ended-way : (save : Option (List ℕ)) (steps left : ℕ) (start last : State) (around : Around) (how : How) (set : Isa) (old mid new : Beside) (result : ℕ)
     → last.around ≡ around → set ≡ isa_of last.active → new.outside ≡ mid.outside
-    → Ran 0 steps left start last how (record { out = old.outside.out; trace = old.trace }) (record { out = mid.outside.out; trace = mid.trace })
+    → Ran 0 steps left start last how (sinks_at old) (sinks_at mid)
     → KeptAt save how last old.keep new.keep
     → Closes mid.trace new.trace [] (end_line (end_of set how)) (status_of how) result → RunWay save steps start around old new result
 ended-way save steps left start last around how set old mid new result around_is set_is same ran kept closes =
@@ -100,10 +98,17 @@ kept-machine : (save : Option (List ℕ)) (m : Machine) (last : State) (old new 
 kept-machine None m last old new done stands keeps = keeps
 kept-machine (Some name) m last old new done stands keeps = (spell m, spells m last stands keeps.0, keeps.1)
 
+-- a run that stopped, where nothing was put since
+stops-same : (steps left : ℕ) (start last : State) (old mid new : Beside) (stop : Stop) → new.outside ≡ mid.outside → new.trace ≡ mid.trace
+    → Stops 0 steps left start last (sinks_at old) (sinks_at mid) stop → Stops 0 steps left start last (sinks_at old) (sinks_at new) stop
+stops-same steps left start last old mid new stop same traced stops =
+    let sinks : sinks_at new ≡ sinks_at mid = ap (λ o. sinks_beside o.out new.trace) same ∙ ap (sinks_beside mid.outside.out) traced in
+    subst (λ sinks. Stops 0 steps left start last (sinks_at old) sinks stop) (sym sinks) stops
+
 -- a run that stopped, and what follows it
 way-of_stop : (save : Option (List ℕ)) (m : Machine) (done : Unit {0}) (steps left : ℕ) (start last : State) (around : Around) (set : Isa) (old mid new : Beside) (stop : Stop) (result : ℕ)
     → last.around ≡ around → set ≡ isa_of last.active → new.outside ≡ mid.outside
-    → Stops 0 steps left start last (record { out = old.outside.out; trace = old.trace }) (record { out = mid.outside.out; trace = mid.trace }) stop
+    → Stops 0 steps left start last (sinks_at old) (sinks_at mid) stop
     → flat m.body m.active last.around ≡ last → Keeps (due_at save stop) m old.keep new.keep (Ok done)
     → Finishes stop set mid.trace new.trace result → RunWay save steps start around old new result
 way-of_stop save m done steps left start last around set old mid new (Exit code) result around_is set_is same stops stands keeps closes =
@@ -112,25 +117,12 @@ way-of_stop save m done steps left start last around set old mid new (Fault faul
     ended-way save steps left start last around (Faulted fault) set old mid new result around_is set_is same stops (kept-nothing save (Faulted fault) last old.keep new.keep (λ is. cc) keeps) closes
 way-of_stop save m done steps left start last around set old mid new Limit result around_is set_is same stops stands keeps closes =
     ended-way save steps left start last around Limited set old mid new result around_is set_is same stops (kept-machine save m last old.keep new.keep done stands keeps) closes
-way-of_stop save m done steps left start last around set old mid new ReadFault result around_is set_is same broke stands keeps closes =
-    let some : 0 < left = broke.some in
-    let fewer : left ≤ steps = broke.fewer in
-    read_failed last (steps - left) (omega (arith, some, fewer)) broke.leads broke.reads around_is
-    (subst (λ o. Grows old.outside.out o.out (log said_of (steps - left) start)) (sym same) broke.took.said)
-    (subst (λ t. Grows old.trace t (log line_of (steps - left) start)) (sym closes.0) broke.took.traced) keeps closes.1
-way-of_stop save m done steps left start last around set old mid new OutFault result around_is set_is same broke stands keeps closes =
-    let some : 0 < left = broke.some in
-    let fewer : left ≤ steps = broke.fewer in
-    out_failed last (steps - left) (omega (arith, some, fewer)) broke.leads broke.says around_is
-    (subst (λ o. Breaks old.outside.out o.out (log said_of (steps - left) start) (said_of (step last))) (sym same) broke.said)
-    (subst (λ t. Grows old.trace t (log line_of (steps - left) start)) (sym closes.0) broke.traced) keeps closes.1
-way-of_stop save m done steps left start last around set old mid new TraceFault result around_is set_is same broke stands keeps closes =
-    let fewer : left < steps = broke.fewer in
-    let one : steps - left ≡ suc (steps - suc left) = omega (arith, fewer) in
-    trace_failed broke.last last (steps - suc left) (omega (arith, fewer)) broke.leads broke.goes broke.tells around_is
-    (subst (λ o. Grows old.outside.out o.out (log said_of (suc (steps - suc left)) start)) (sym same)
-    (subst (λ j. Grows old.outside.out mid.outside.out (log said_of j start)) one broke.said))
-    (subst (λ t. Breaks old.trace t (log line_of (steps - suc left) start) (line_of (step broke.last))) (sym closes.0) broke.traced) keeps closes.1
+way-of_stop save m done steps left start last around set old mid new ReadFault result around_is set_is same stops stands keeps closes =
+    broke ReadFault Input last left refl (stops-same steps left start last old mid new ReadFault same closes.0 stops) around_is keeps closes.1
+way-of_stop save m done steps left start last around set old mid new OutFault result around_is set_is same stops stands keeps closes =
+    broke OutFault BrokenOutput last left refl (stops-same steps left start last old mid new OutFault same closes.0 stops) around_is keeps closes.1
+way-of_stop save m done steps left start last around set old mid new TraceFault result around_is set_is same stops stands keeps closes =
+    broke TraceFault Trace last left refl (stops-same steps left start last old mid new TraceFault same closes.0 stops) around_is keeps closes.1
 
 -- a machine ran, what is to be kept was kept, and the call was closed
 pub ran-of_run : (save : Option (List ℕ)) (steps : ℕ) (a b : At) (m : Machine) (keep : Keep) (new : Beside) (set : Isa) (stop : Stop) (result : ℕ) (done : Unit {0}) → set ≡ isa_of b.active
@@ -158,13 +150,8 @@ ran-unkept name steps a b m keep new m_is same traced is part runs =
       told = runs.run.told;
       each = λ before after rest took.
           let ran = runs.run.each before after rest took in
-          let none : runs.left ≡ 0 = limits-last 0 steps runs.left (state_of a before (answers_between a b ++ rest)) (state_of b after rest) ran.ends in
-          let all : steps - runs.left ≡ steps = omega (arith, none) in
-          keep_failed name (spell m) (state_of b after rest) refl
-          (subst (λ n. exec steps (state_of a before (answers_between a b ++ rest)) ≡ Ended Limited (state_of b after rest) n) none ran.ends) refl
+          keep_failed name (spell m) (state_of b after rest) runs.left refl ran refl
           (spells m (state_of b after rest) (ap (λ n. flat n.body n.active (around_at b.outside after rest)) m_is) is)
-          (subst (λ n. Grows a.outside.out b.outside.out (log said_of n (state_of a before (answers_between a b ++ rest)))) all ran.took.said)
-          (subst (λ n. Grows a.trace b.trace (log line_of n (state_of a before (answers_between a b ++ rest)))) all ran.took.traced)
           part refl;
     }))
 
@@ -179,41 +166,43 @@ ran-from save start from steps old new result same ran =
           subst (λ s. RunWay save steps s (around_at new.outside after rest) old new result) (same (around_at old.outside before (answers_given old new ++ rest))) (ran.each before after rest took);
     }
 
--- a refusal that is no want of memory
-abbrev IsOther : LoadError → Type 0
-IsOther NoMemory = ⊥
-IsOther error = Unit {0}
+-- a last line that a refusal gives, or else want of memory
+pub closes-line : (why : Option Refusal) (line bytes : List ℕ) (old new : Output) (result : ℕ) → Some line ≡ option_map load_line why → bytes ≡ line
+    → Closes old new [] bytes 3 result → Closes old new [] (refused_line why) (refused_status why) result
+closes-line None line bytes old new result is same closes = cc
+closes-line (Some why) line bytes old new result is same closes =
+    let line_is : line ≡ load_line why = cc in subst (λ l. Closes old new [] l 3 result) (same ∙ line_is) closes
 
-other : (error : LoadError) → IsOther error → error ≢ NoMemory
-other error is same = subst IsOther same is
-
--- the line and the status of such a refusal
-pub closes-refusal : (error : LoadError) (old new : Output) (line : List ℕ) (result : ℕ) → error ≢ NoMemory → line ≡ load_line (load_refusal error)
-    → Closes old new [] line 3 result → Closes old new [] (unloaded_line error) (unloaded_status error) result
-closes-refusal NoMemory old new line result ne same closes = absurd (ne refl)
-closes-refusal error old new line result ne same closes = subst (λ l. Closes old new [] l 3 result) same closes
+pub closes-memory : (why : Option Refusal) (old new : Output) (result : ℕ) → None ≡ option_map load_line why
+    → Closes old new [] memory_line 9 result → Closes old new [] (refused_line why) (refused_status why) result
+closes-memory None old new result is closes = closes
+closes-memory (Some why) old new result is closes = cc
 
 nine-plain : IsPlain 9
 nine-plain = record { input = refl; out = refl; trace = refl; keep = refl }
 
-unloaded-plain : (error : LoadError) → IsPlain (unloaded_status error)
-unloaded-plain NoMemory = nine-plain
-unloaded-plain error = record { input = refl; out = refl; trace = refl; keep = refl }
+refused-plain : (why : Option Refusal) → IsPlain (refused_status why)
+refused-plain None = nine-plain
+refused-plain (Some why) = record { input = refl; out = refl; trace = refl; keep = refl }
 
 -- a program that was not loaded
-way-of_refusal : (job : Job) (files : Files) (Loaded : Program → Beside → Beside → ℕ → Type 0) (old new : Beside) (error : LoadError) (result : ℕ) → new.outside ≡ old.outside → new.keep ≡ old.keep
-    → Gives (Err error) (load_of files job.main (ram_size job)) → Closes old.trace new.trace [] (unloaded_line error) (unloaded_status error) result → LoadWay job files Loaded old new result
-way-of_refusal job files Loaded old new NoMemory result same kept gives closes = no_memory (record { outside = same; keep = kept; trace = closes })
-way-of_refusal job files Loaded old new error result same kept gives closes = refused error (other error tt) (gives (other error tt)) (record { outside = same; keep = kept; trace = closes })
+no-want : (error : LoadError) (why : Refusal) → load_refusal error ≡ Some why → error ≢ NoMemory
+no-want error why some is = let none : load_refusal error ≡ None = ap load_refusal is in cc
+
+way-of_refusal : (job : Job) (files : Files) (Loaded : Program → Beside → Beside → ℕ → Type 0) (old new : Beside) (error : LoadError) (why : Option Refusal) (result : ℕ)
+    → load_refusal error ≡ why → Gives (Err error) (load_of files job.main (ram_size job)) → Early old new (refused_line why) (refused_status why) result → LoadWay job files Loaded old new result
+way-of_refusal job files Loaded old new error None result is gives early = no_memory early
+way-of_refusal job files Loaded old new error (Some why) result is gives early = refused error why is (gives (no-want error why is)) early
 
 pub ends-unloaded : (save : Option (List ℕ)) (job : Job) (files : Files) (Loaded : Program → Beside → Beside → ℕ → Type 0) (old new : Beside) (error : LoadError) (result : ℕ)
     → new.outside ≡ old.outside → new.keep ≡ old.keep
-    → Gives (Err error) (load_of files job.main (ram_size job)) → Closes old.trace new.trace [] (unloaded_line error) (unloaded_status error) result
+    → Gives (Err error) (load_of files job.main (ram_size job)) → Closes old.trace new.trace [] (refused_line (load_refusal error)) (refused_status (load_refusal error)) result
     → EndsIn save (LoadWay job files Loaded) old new result
 ends-unloaded save job files Loaded old new error result same kept gives closes =
+    let early : Early old new (refused_line (load_refusal error)) (refused_status (load_refusal error)) result = record { outside = same; keep = kept; trace = closes } in
     record {
-      accounted = accounted-early save old new (unloaded_line error) (unloaded_status error) result (unloaded-plain error) (record { outside = same; keep = kept; trace = closes });
-      way = way-of_refusal job files Loaded old new error result same kept gives closes;
+      accounted = accounted-early save old new _ _ result (refused-plain (load_refusal error)) early;
+      way = way-of_refusal job files Loaded old new error (load_refusal error) result refl gives early;
     }
 
 accounted-memory : (save : Option (List ℕ)) (old new : Beside) (result : ℕ) → Early old new memory_line 9 result → Accounted save old new result
@@ -225,34 +214,18 @@ ends-memory save Way way old new result same kept closes =
     let early : Early old new memory_line 9 result = record { outside = same; keep = kept; trace = closes } in record { accounted = accounted-memory save old new result early; way = way old new result early }
 
 -- an image that was not restored
-abbrev IsOtherImage : ImageError → Type 0
-IsOtherImage NoMachine = ⊥
-IsOtherImage error = Unit {0}
-
-other-image : (error : ImageError) → IsOtherImage error → error ≢ NoMachine
-other-image error is same = subst IsOtherImage same is
-
-pub closes-image : (error : ImageError) (old new : Output) (line : List ℕ) (result : ℕ) → error ≢ NoMachine → line ≡ load_line (image_refusal error)
-    → Closes old new [] line 3 result → Closes old new [] (unrestored_line error) (unrestored_status error) result
-closes-image NoMachine old new line result ne same closes = absurd (ne refl)
-closes-image error old new line result ne same closes = subst (λ l. Closes old new [] l 3 result) same closes
-
-unrestored-plain : (error : ImageError) → IsPlain (unrestored_status error)
-unrestored-plain NoMachine = nine-plain
-unrestored-plain error = record { input = refl; out = refl; trace = refl; keep = refl }
-
-way-of_image : (save : Option (List ℕ)) (steps : ℕ) (image : List ℕ) (old new : Beside) (error : ImageError) (result : ℕ) → IsRestored image (Err error)
-    → Early old new (unrestored_line error) (unrestored_status error) result → ContinueWay save steps image old new result
-way-of_image save steps image old new NoMachine result is early = no_machine_memory early
-way-of_image save steps image old new error result is early = image_refused error (other-image error tt) is early
+way-of_image : (save : Option (List ℕ)) (steps : ℕ) (image : List ℕ) (old new : Beside) (error : ImageError) (why : Option Refusal) (result : ℕ)
+    → image_refusal error ≡ why → IsRestored image (Err error) → Early old new (refused_line why) (refused_status why) result → ContinueWay save steps image old new result
+way-of_image save steps image old new error None result why_is is early = no_machine_memory early
+way-of_image save steps image old new error (Some why) result why_is is early = image_refused error why why_is is early
 
 pub ends-unrestored : (save : Option (List ℕ)) (steps : ℕ) (image : List ℕ) (old new : Beside) (error : ImageError) (result : ℕ) → IsRestored image (Err error) → new.outside ≡ old.outside → new.keep ≡ old.keep
-    → Closes old.trace new.trace [] (unrestored_line error) (unrestored_status error) result → EndsIn save (ContinueWay save steps image) old new result
+    → Closes old.trace new.trace [] (refused_line (image_refusal error)) (refused_status (image_refusal error)) result → EndsIn save (ContinueWay save steps image) old new result
 ends-unrestored save steps image old new error result is same kept closes =
-    let early : Early old new (unrestored_line error) (unrestored_status error) result = record { outside = same; keep = kept; trace = closes } in
+    let early : Early old new (refused_line (image_refusal error)) (refused_status (image_refusal error)) result = record { outside = same; keep = kept; trace = closes } in
     record {
-      accounted = accounted-early save old new (unrestored_line error) (unrestored_status error) result (unrestored-plain error) early;
-      way = way-of_image save steps image old new error result is early;
+      accounted = accounted-early save old new _ _ result (refused-plain (image_refusal error)) early;
+      way = way-of_image save steps image old new error (image_refusal error) result refl is early;
     }
 
 -- the machine ran, and the keeper failed at its spelling
@@ -343,13 +316,13 @@ ends-of_words words old new place line result bad line_is shelf same kept closes
       way = bad_words place bad (record { faults = λ n. ap (λ s. s.counts.faults n) shelf; excesses = λ n. ap (λ s. s.counts.excesses n) shelf }) told;
     }
 
-pub accounted-sample : (old new : Beside) (calls depth : ℕ) (sampled : Sampled) (ending : Ending) (result : ℕ) → OnlyPuts old new
-    → PutsSample calls depth sampled ending old.outside.out new.outside.out result → Accounted None old new result
-accounted-sample old new calls depth sampled (ExitEnding code) result only puts =
+pub accounted-sample : (old new : Beside) (calls depth : ℕ) (sampled : Sampled) (end : End) (result : ℕ) → OnlyPuts old new
+    → PutsSample calls depth sampled end old.outside.out new.outside.out result → Accounted None old new result
+accounted-sample old new calls depth sampled (ExitEnd code) result only puts =
     accounted-puts old new _ 0 result (record { input = refl; out = refl; trace = refl; keep = refl }) only puts
-accounted-sample old new calls depth sampled (FaultEnding fault) result only puts =
+accounted-sample old new calls depth sampled (FaultEnd set fault) result only puts =
     accounted-puts old new _ 10 result (record { input = refl; out = refl; trace = refl; keep = refl }) only puts
-accounted-sample old new calls depth sampled LimitEnding result only puts =
+accounted-sample old new calls depth sampled LimitEnd result only puts =
     accounted-quiet old new 11 result (record { input = refl; out = refl; trace = refl; keep = refl }) only puts.0 puts.1
 
 -- the files of a job can be loaded

@@ -1,5 +1,5 @@
 -- The ways in which a machine that was kept is continued.
-use Rattle.std.specs.Prelude.{◌≡◌, ◌≢◌, ℕ, pos, List, codes, Option, Err}
+use Rattle.std.specs.Prelude.{◌≡◌, ℕ, pos, List, codes, Option, None, Some, Err}
 use Rattle.mixed_machine.specs.Machine.{flat}
 use Rattle.mix_engine.specs.declared.machine.Machine.{Machine}
 use Rattle.mix_image.specs.Restoring.{IsRestored}
@@ -10,30 +10,31 @@ use Rattle.mix_top.specs.Lines.{Refusal, load_line, memory_line, refusal}
 use Rattle.mix_top.specs.Running.{MachineRan}
 use Rattle.mix_top.specs.World.{Beside, Early}
 
--- why an image is refused, and the number that goes with it, 0 where there is none; want of memory has a line of its own
-abbrev pub image_refusal : ImageError → Refusal
-image_refusal NoMemory = refusal (codes "memory") (pos 0)
-image_refusal (Short length) = refusal (codes "image-short") (pos length)
-image_refusal Magic = refusal (codes "image-magic") (pos 0)
-image_refusal (Ram kib) = refusal (codes "image-ram") (pos kib)
-image_refusal (Main set) = refusal (codes "image-main") (pos set)
-image_refusal (StartSp sp) = refusal (codes "image-startsp") (pos sp)
-image_refusal Heap = refusal (codes "image-heap") (pos 0)
-image_refusal (Block number) = refusal (codes "image-block") (pos number)
-image_refusal (Active set) = refusal (codes "image-active") (pos set)
-image_refusal (Ccr long) = refusal (codes "image-ccr") (pos long)
-image_refusal (Page number) = refusal (codes "image-page") (pos number)
-image_refusal (Extra place) = refusal (codes "image-extra") (pos place)
-image_refusal (Gate address) = refusal (codes "image-gate") (pos address)
-image_refusal (Frame address) = refusal (codes "image-frame") (pos address)
+-- why an image is refused, and the number that goes with it, 0 where there is none; none for want of memory, which has a
+-- line of its own
+abbrev pub image_refusal : ImageError → Option Refusal
+image_refusal NoMemory = None
+image_refusal (Short length) = Some (refusal (codes "image-short") (pos length))
+image_refusal Magic = Some (refusal (codes "image-magic") (pos 0))
+image_refusal (Ram kib) = Some (refusal (codes "image-ram") (pos kib))
+image_refusal (Main set) = Some (refusal (codes "image-main") (pos set))
+image_refusal (StartSp sp) = Some (refusal (codes "image-startsp") (pos sp))
+image_refusal Heap = Some (refusal (codes "image-heap") (pos 0))
+image_refusal (Block number) = Some (refusal (codes "image-block") (pos number))
+image_refusal (Active set) = Some (refusal (codes "image-active") (pos set))
+image_refusal (Ccr long) = Some (refusal (codes "image-ccr") (pos long))
+image_refusal (Page number) = Some (refusal (codes "image-page") (pos number))
+image_refusal (Extra place) = Some (refusal (codes "image-extra") (pos place))
+image_refusal (Gate address) = Some (refusal (codes "image-gate") (pos address))
+image_refusal (Frame address) = Some (refusal (codes "image-frame") (pos address))
 
 -- the ways to end once an image was fetched
 pub data ContinueWay (save : Option (List ℕ)) (steps : ℕ) (image : List ℕ) (old new : Beside) (result : ℕ) : Type 0 where
   -- there was no memory for the machine
   no_memory : Early old new memory_line 9 result → ContinueWay save steps image old new result
   -- the bytes are no image, by the first test that they fail
-  image_refused : (error : ImageError) → error ≢ NoMemory → IsRestored image (Err error)
-      → Early old new (load_line (image_refusal error)) 3 result
+  image_refused : (error : ImageError) (why : Refusal) → image_refusal error ≡ Some why → IsRestored image (Err error)
+      → Early old new (load_line why) 3 result
       → ContinueWay save steps image old new result
   -- the machine of which they are the spelling ran on
   continued : (machine : Machine) → HasSpelling machine → spell machine ≡ image

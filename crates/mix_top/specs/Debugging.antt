@@ -1,19 +1,17 @@
 -- What a script of the debugger does with a program.
-use Rattle.std.specs.Prelude.{◌≡◌, ℕ, pos, List, [], ◌++◌, Option, Some, None, codes}
+use Rattle.std.specs.Prelude.{◌≡◌, ℕ, pos, List, [], Option, Some, None, codes}
 use Rattle.switch_frame.specs.declared.program.Program.{Program}
-use Rattle.toolbox.specs.Calls.{Taken, answers_since}
 use Rattle.toolbox.specs.Effects.{Around}
-use Rattle.mixed_machine.specs.Outside.{TookAll, ToldAll, around_at}
-use Rattle.mixed_machine.specs.Runs.{Sinks}
+use Rattle.mixed_machine.specs.Outside.{Between}
 use Rattle.mixed_machine.specs.State.{State}
 use Rattle.mix_engine.specs.Start.{start_of}
 use Rattle.mix_script.specs.Events.{events_in}
 use Rattle.mix_script.specs.Plays.{Played}
 use Rattle.mix_script.specs.Sessions.{Session}
 use Rattle.mix_script.specs.declared.command.Command.{Command}
-use Rattle.mix_script.specs.declared.walk.Stopped.{Stopped}
-use Rattle.mix_script.specs.declared.walk.Stopped.TheVariants.{Input, Output, Trace}
+use Rattle.toolbox.specs.declared.broken.Broken.{Broken}
 use Rattle.mix_top.specs.Lines.{Refusal, memory_line, refusal}
+use Rattle.mix_top.specs.Running.{broken_status, sinks_at}
 use Rattle.mix_top.specs.World.{Beside, Early}
 
 -- the number of the first line that is no command
@@ -25,32 +23,22 @@ abbrev pub session_from : State → Session
 session_from state = record { state = state; past = []; breaks = [] }
 
 -- the status where something of the outside stopped a script, or nothing did
-abbrev pub script_status : Option Stopped → ℕ
+abbrev pub script_status : Option Broken → ℕ
 script_status None = 0
-script_status (Some Input) = 5
-script_status (Some Output) = 6
-script_status (Some Trace) = 7
-
-abbrev pub sinks_at : Beside → Sinks
-sinks_at w = record { out = w.outside.out; trace = w.trace }
+script_status (Some broken) = broken_status broken
 
 -- commands were done from a state on, as far as nothing stopped them, and leave this around the machine
 pub record ScriptRan (commands : List Command) (start : State) (around : Around) (old new : Beside) (result : ℕ) : Type 0 where
-  pub stop : Option Stopped
+  pub stop : Option Broken
   pub last : Session
   pub played : Played stop (events_in commands (session_from start)) (session_from start) last (sinks_at old) (sinks_at new)
   pub around_is : last.state.around ≡ around
   pub status : result ≡ script_status stop
 
--- they were done, for each outside. For every input that fits what was taken from it, and whatever answers would come
--- after those that the devices gave, they were done as the definition says. Some input fits; where the input tells its
--- bytes, these are the ones.
+-- they were done, for each outside: as the definition says, with the answers that the devices gave
 pub record Scripted (commands : List Command) (start : Around → State) (old new : Beside) (result : ℕ) : Type 0 where
   pub keep : new.keep ≡ old.keep
-  pub taken : List Taken
-  pub told : ToldAll taken old.outside.input.left new.outside.input.left
-  pub each : (before after : List ℕ) (rest : List (Option ℕ)) → TookAll taken before after
-      → ScriptRan commands (start (around_at old.outside before (answers_since old.outside.rack new.outside.rack ++ rest))) (around_at new.outside after rest) old new result
+  pub claim : Between (λ from around. ScriptRan commands from around old new result) start (λ around. around) old.outside new.outside
 
 -- the ways to end of a machine that is debugged by these commands
 pub data MachineWay (commands : List Command) (start : Around → State) (old new : Beside) (result : ℕ) : Type 0 where

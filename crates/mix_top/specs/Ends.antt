@@ -1,7 +1,7 @@
 -- The ways in which a call of the program ends, each with its cause. This is the whole promise of the public call:
 -- whatever the words, the files, the input, the answers of the devices and the failures of the outside are, one of
 -- these holds.
-use Rattle.std.specs.Prelude.{◌≡◌, ◌≢◌, ℕ, List, ◌∷◌, ◌++◌, Option, Ok, Err}
+use Rattle.std.specs.Prelude.{◌≡◌, ℕ, List, ◌∷◌, ◌++◌, Option, Some, Ok, Err}
 use Rattle.std.specs.Option.{option_and_then, option_map}
 use Rattle.std.specs.Result.{result_ok}
 use Rattle.mix_io.specs.Streams.{Output}
@@ -10,11 +10,10 @@ use Rattle.mix_engine.specs.Start.{start_of}
 use Rattle.mix_list.specs.Listing.{listing}
 use Rattle.mix_load.specs.Load.{load_of}
 use Rattle.mix_load.specs.declared.error.LoadError.{LoadError}
-use Rattle.mix_load.specs.declared.error.LoadError.TheVariants.{NoMemory}
 use Rattle.mix_load.specs.declared.files.Files.{Files}
 use Rattle.mix_sample.specs.Samples.{IsSample, sample_ram, sample_steps}
-use Rattle.mix_sample.specs.declared.sampled.Ending.{Ending}
-use Rattle.mix_sample.specs.declared.sampled.Ending.TheVariants.{Exit as ExitEnding, Fault as FaultEnding, Limit as LimitEnding}
+use Rattle.call_trace.specs.declared.end.End.{End}
+use Rattle.call_trace.specs.declared.end.End.TheVariants.{Exit as ExitEnd, Fault as FaultEnd, Limit as LimitEnd}
 use Rattle.mix_sample.specs.declared.sampled.Sampled.{Sampled}
 use Rattle.mix_script.specs.Scripts.{script_of}
 use Rattle.mix_script.specs.declared.command.Command.{Command as Commanded}
@@ -24,7 +23,7 @@ use Rattle.job_words.specs.declared.job.Command.{Command}
 use Rattle.job_words.specs.declared.job.Command.TheVariants.{Run, List as Lists, Sample, Assemble, Continue, Debug}
 use Rattle.job_words.specs.declared.job.Job.{Job}
 use Rattle.job_words.specs.declared.job.Key.{Key}
-use Rattle.mix_top.specs.Lines.{memory_line, words_line, fetch_line, load_line, long_file as long_refusal, load_refusal}
+use Rattle.mix_top.specs.Lines.{Refusal, memory_line, words_line, fetch_line, load_line, long_file as long_refusal, load_refusal}
 use Rattle.mix_top.specs.World.{Beside, Contents, World, Early, Accounted, HasExceeded, HasFailed, NoneRose, Listed, OnlyPuts, PutsText}
 use Rattle.mix_top.specs.Running.{MachineRan}
 use Rattle.mix_top.specs.SampleLine.{sample_line, exit_text, fault_text}
@@ -46,8 +45,8 @@ pub data LoadWay (job : Job) (files : Files) (Loaded : Program → Beside → Be
   -- there was no memory for the program
   no_memory : Early old new memory_line 9 result → LoadWay job files Loaded old new result
   -- the first rule of the loader that is broken
-  refused : (error : LoadError) → error ≢ NoMemory → load_of files job.main (ram_size job) ≡ Err error
-      → Early old new (load_line (load_refusal error)) 3 result
+  refused : (error : LoadError) (why : Refusal) → load_refusal error ≡ Some why → load_of files job.main (ram_size job) ≡ Err error
+      → Early old new (load_line why) 3 result
       → LoadWay job files Loaded old new result
   -- the program was loaded
   loaded : (program : Program) → load_of files job.main (ram_size job) ≡ Ok program → Loaded program old new result
@@ -63,10 +62,10 @@ pub data DebugWay (job : Job) (files : Files) (script : List ℕ) (old new : Bes
       → DebugWay job files script old new result
 
 -- the line of a sample, by how it ended; at the step limit nothing is written
-abbrev pub PutsSample : ℕ → ℕ → Sampled → Ending → Output → Output → ℕ → Type 0
-PutsSample calls depth sampled (ExitEnding code) old new result = PutsText old new (sample_line calls depth sampled (exit_text code)) 0 result
-PutsSample calls depth sampled (FaultEnding fault) old new result = PutsText old new (sample_line calls depth sampled (fault_text fault)) 10 result
-PutsSample calls depth sampled LimitEnding old new result = (new ≡ old) × (result ≡ 11)
+abbrev pub PutsSample : ℕ → ℕ → Sampled → End → Output → Output → ℕ → Type 0
+PutsSample calls depth sampled (ExitEnd code) old new result = PutsText old new (sample_line calls depth sampled (exit_text code)) 0 result
+PutsSample calls depth sampled (FaultEnd set fault) old new result = PutsText old new (sample_line calls depth sampled (fault_text fault)) 10 result
+PutsSample calls depth sampled LimitEnd old new result = (new ≡ old) × (result ≡ 11)
 
 -- the sample image ran, with no input, no device and no answers, and its line was put
 pub record SampleRan (calls depth : ℕ) (old new : Beside) (result : ℕ) : Type 0 where

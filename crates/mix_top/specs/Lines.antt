@@ -1,5 +1,5 @@
 -- The lines of the trace for a call that ends before it runs a program.
-use Rattle.std.specs.Prelude.{ℕ, ℤ, pos, List, ◌++◌, codes}
+use Rattle.std.specs.Prelude.{ℕ, ℤ, pos, List, ◌++◌, codes, Option, None, Some}
 use Rattle.std.specs.Fmt.{signed_decimal}
 use Rattle.job_words.specs.Settings.{key_text}
 use Rattle.job_words.specs.declared.job.Key.{Key}
@@ -38,6 +38,15 @@ refusal name number = record { name = name; number = number }
 
 abbrev pub load_line : Refusal → List ℕ
 load_line r = numbered (codes "load " ++ r.name) r.number
+
+-- the last line and the status where there is a refusal, or else no memory
+abbrev pub refused_line : Option Refusal → List ℕ
+refused_line None = memory_line
+refused_line (Some why) = load_line why
+
+abbrev pub refused_status : Option Refusal → ℕ
+refused_status None = 9
+refused_status (Some why) = 3
 
 -- the numbers of the files
 abbrev pub key_number : Key → ℕ
@@ -85,16 +94,16 @@ reloc_refusal (SectionIndex place) = refusal (codes "reloc-section") (pos place)
 reloc_refusal (RepeatFront place) = refusal (codes "reloc-repeat") (pos place)
 reloc_refusal Work = refusal (codes "reloc-work") (pos 0)
 
--- the name and the number of a refused program; want of memory has a line of its own
-abbrev pub load_refusal : LoadError → Refusal
-load_refusal NoMemory = refusal (codes "memory") (pos 0)
-load_refusal (Empty file) = refusal (codes "empty") (pos (file_number file))
-load_refusal (NoFork error) = fork_refusal error
-load_refusal (NoCode id) = refusal (codes "nocode") id
-load_refusal (Far id) = refusal (codes "far") id
-load_refusal (JumpTable place) = refusal (codes "jumptable") (pos place)
-load_refusal (NoHead error) = head_refusal error
-load_refusal (TooLarge end) = refusal (codes "toolarge") (pos end)
-load_refusal (Reloc error) = reloc_refusal error
-load_refusal (Unresolved number) = refusal (codes "unresolved") (pos number)
-load_refusal NoMain = refusal (codes "nomain") (pos 0)
+-- the name and the number of a refused program; none for want of memory, which has a line of its own
+abbrev pub load_refusal : LoadError → Option Refusal
+load_refusal NoMemory = None
+load_refusal (Empty file) = Some (refusal (codes "empty") (pos (file_number file)))
+load_refusal (NoFork error) = Some (fork_refusal error)
+load_refusal (NoCode id) = Some (refusal (codes "nocode") id)
+load_refusal (Far id) = Some (refusal (codes "far") id)
+load_refusal (JumpTable place) = Some (refusal (codes "jumptable") (pos place))
+load_refusal (NoHead error) = Some (head_refusal error)
+load_refusal (TooLarge end) = Some (refusal (codes "toolarge") (pos end))
+load_refusal (Reloc error) = Some (reloc_refusal error)
+load_refusal (Unresolved number) = Some (refusal (codes "unresolved") (pos number))
+load_refusal NoMain = Some (refusal (codes "nomain") (pos 0))

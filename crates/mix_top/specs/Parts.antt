@@ -6,10 +6,10 @@ use Rattle.mix_io.specs.declared.errors.Failed.{Failed as Failure}
 use Rattle.mix_io.specs.declared.errors.FetchError.{FetchError}
 use Rattle.mix_io.specs.declared.errors.FetchError.TheVariants.{NoMemory as NoRoom, Failed, TooLong}
 use Rattle.dev_rack.specs.Rack.{State}
-use Rattle.toolbox.specs.Calls.{outside}
 use Rattle.mixed_machine.specs.Exec.How.{Limited, Exited, Faulted}
 use Rattle.mixed_machine.specs.declared.stop.Stop.{Stop}
 use Rattle.mixed_machine.specs.declared.stop.Stop.TheVariants.{Exit, Fault, Limit, ReadFault, OutFault, TraceFault}
+use Rattle.mix_steps.specs.Beside.{outside_lent, trace_lent}
 use Rattle.mix_steps.specs.declared.outside.Outside.{Outside}
 use Rattle.call_trace.specs.Lines.{end_line}
 use Rattle.job_words.specs.Jobs.{job_in, limit_of, place_in, wanted_among}
@@ -19,18 +19,12 @@ use Rattle.job_words.specs.declared.job.Key.{Key}
 use Rattle.job_words.specs.declared.job.Key.TheVariants.{Flat, Rsrc, Pef, Image, Text, Script}
 use Rattle.mix_load.specs.Load.{AreLoadable}
 use Rattle.mix_load.specs.declared.files.Files.{Files}
-use Rattle.mix_load.specs.declared.error.LoadError.{LoadError}
-use Rattle.mix_load.specs.declared.error.LoadError.TheVariants.{NoMemory}
 use Rattle.mix_engine.specs.declared.machine.Machine.{Machine}
 use Rattle.mix_image.specs.Spelling.{HasSpelling, spell}
-use Rattle.mix_image.specs.declared.error.ImageError.{ImageError}
-use Rattle.mix_image.specs.declared.error.ImageError.TheVariants.{NoMemory as NoMachine}
-use Rattle.mix_top.specs.Lines.{memory_line, fetch_line, load_line, long_file, load_refusal}
-use Rattle.mix_io.specs.Streams.{output}
+use Rattle.mix_top.specs.Lines.{memory_line, fetch_line, load_line, long_file}
 use Rattle.mix_top.specs.World.{Beside, Contents, Closes, HasExceeded, HasFailed, NoneRose, Keep, ShelfCounts, beside}
 use Rattle.mix_top.specs.Files.{AreFetched, IsLong, IsNotLong, IsOf, bytes_in}
 use Rattle.mix_top.specs.Keeping.{KeepsAll, KeepsPart}
-use Rattle.mix_top.specs.Continuing.{image_refusal}
 use Rattle.mix_top.specs.Running.{end_of, status_of}
 use Rattle.mix_top.specs.declared.files.Fetched.{Fetched}
 use Rattle.mix_top.specs.declared.files.Missing.{Missing}
@@ -94,30 +88,11 @@ unfetched_status NoRoom = 9
 unfetched_status Failed = 4
 unfetched_status (TooLong limit) = 3
 
--- the line and the status for a program that was not loaded
-abbrev pub unloaded_line : LoadError → List ℕ
-unloaded_line NoMemory = memory_line
-unloaded_line error = load_line (load_refusal error)
-
-abbrev pub unloaded_status : LoadError → ℕ
-unloaded_status NoMemory = 9
-unloaded_status error = 3
-
--- and for an image that was not restored
-abbrev pub unrestored_line : ImageError → List ℕ
-unrestored_line NoMachine = memory_line
-unrestored_line error = load_line (image_refusal error)
-
-abbrev pub unrestored_status : ImageError → ℕ
-unrestored_status NoMachine = 9
-unrestored_status error = 3
-
 -- what the objects that are lent tell
 abbrev pub beside_lent : {I O T D : Type 0} → (I → Option (List ℕ)) → (I → ℕ) → (O → Option (List ℕ)) → (O → ℕ) → (T → Option (List ℕ)) → (T → ℕ) → (D → State)
     → Outside I O T D → Keep → Beside
 beside_lent left read_faults held put_faults traced trace_faults state lent keep =
-    beside (outside (left lent.input.now) (read_faults lent.input.now) (state lent.rack.now) (held lent.out.now) (put_faults lent.out.now))
-    (output (traced lent.trace.now) (trace_faults lent.trace.now)) keep
+    beside (outside_lent left read_faults held put_faults state lent) (trace_lent traced trace_faults lent) keep
 
 -- how a run that stopped while a set was active ends the call: with its line and status, or, where the outside
 -- stopped it, with none

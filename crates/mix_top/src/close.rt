@@ -2,10 +2,11 @@
 ghost use Rattle.std.specs.Prelude.{[]};
 ghost use Rattle.switch_frame.specs.Records.{isa_of};
 ghost use Rattle.call_trace.specs.Lines.{end_line};
-ghost use Rattle.mix_top.specs.Lines.{memory_line};
+ghost use Rattle.mix_top.specs.Continuing.{image_refusal};
+ghost use Rattle.mix_top.specs.Lines.{load_refusal, memory_line, refused_line, refused_status};
 ghost use Rattle.mix_io.specs.Streams.{output};
 ghost use Rattle.mix_top.specs.World.{Closes};
-ghost use Rattle.mix_top.specs.Parts.{Finishes, unfetched_line, unfetched_status, unloaded_line, unloaded_status, unrestored_line, unrestored_status};
+ghost use Rattle.mix_top.specs.Parts.{Finishes, unfetched_line, unfetched_status};
 
 use super::files::Missing;
 use super::lines::{fetch_text, image_text, load_text, long_text};
@@ -50,21 +51,21 @@ pub fn close_unfetched<T: Sink>(missing: Missing, trace: &mut T) -> u8
 
 /// The line and the status where a program was not loaded.
 pub fn close_unloaded<T: Sink>(error: LoadError, trace: &mut T) -> u8
-    ensures { Closes (output (T.held trace.old) (T.faults trace.old)) (output (T.held trace.new) (T.faults trace.new)) [] (unloaded_line error) (unloaded_status error) result }
+    ensures { Closes (output (T.held trace.old) (T.faults trace.old)) (output (T.held trace.new) (T.faults trace.new)) [] (refused_line (load_refusal error)) (refused_status (load_refusal error)) result }
 {
-    match error {
-        LoadError::NoMemory => close_without_memory(trace),
-        _ => close(trace, load_text(error).bytes(), NOT_LOADED),
+    match load_text(error) {
+        Some(line) => close(trace, line.bytes(), NOT_LOADED),
+        None => close_without_memory(trace),
     }
 }
 
 /// The line and the status where an image was not restored.
 pub fn close_unrestored<T: Sink>(error: ImageError, trace: &mut T) -> u8
-    ensures { Closes (output (T.held trace.old) (T.faults trace.old)) (output (T.held trace.new) (T.faults trace.new)) [] (unrestored_line error) (unrestored_status error) result }
+    ensures { Closes (output (T.held trace.old) (T.faults trace.old)) (output (T.held trace.new) (T.faults trace.new)) [] (refused_line (image_refusal error)) (refused_status (image_refusal error)) result }
 {
-    match error {
-        ImageError::NoMemory => close_without_memory(trace),
-        _ => close(trace, image_text(error).bytes(), NOT_LOADED),
+    match image_text(error) {
+        Some(line) => close(trace, line.bytes(), NOT_LOADED),
+        None => close_without_memory(trace),
     }
 }
 

@@ -21,10 +21,11 @@ use mix_debug::Debug;
 use mix_engine::Machine;
 use mix_io::{Sink, Source};
 use mix_load::{Files, load};
-use mix_script::{Script, Stopped, run_script};
+use mix_script::{Script, run_script};
 use mix_steps::Outside;
 use std::alloc::Global;
 use switch_frame::Program;
+use toolbox::Broken;
 
 /// Reads a script; where each of its lines is a command, loads the files of a job and does the commands.
 pub fn debug_files<'i, 'o, 't, 'd, I: Source, O: Sink, T: Sink, D: Devices>(
@@ -112,7 +113,7 @@ fn debug_machine<'s, 'i, 'o, 't, 'd, I: Source, O: Sink, T: Sink, D: Devices>(
 }
 
 /// The status where a script was done, or something of the outside stopped it.
-fn script_status(done: Result<(), Stopped>) -> u8
+fn script_status(done: Result<(), Broken>) -> u8
     ensures { result ≡ status_by (stop_in done) }
 {
     match done {
@@ -121,12 +122,12 @@ fn script_status(done: Result<(), Stopped>) -> u8
     }
 }
 
-fn stopped_status(stopped: Stopped) -> u8
+fn stopped_status(stopped: Broken) -> u8
     ensures { result ≡ status_by (Some stopped) }
 {
     match stopped {
-        Stopped::Input => INPUT_FAILED,
-        Stopped::Output => OUTPUT_FAILED,
-        Stopped::Trace => TRACE_FAILED,
+        Broken::Input => INPUT_FAILED,
+        Broken::Output => OUTPUT_FAILED,
+        Broken::Trace => TRACE_FAILED,
     }
 }

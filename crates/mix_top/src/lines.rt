@@ -1,5 +1,6 @@
 // The lines of the trace that a call ends with before it runs a program.
 ghost use Rattle.std.specs.Prelude.{◌≡◌, ◌+◌, ◌≤◌, ◌++◌, length};
+ghost use Rattle.std.specs.Option.{option_map};
 ghost use Rattle.mix_top.specs.Lines.{file_number as file_number_of, fetch_line, fork_refusal, head_refusal, key_number as key_number_of, load_line, load_refusal, long_file, numbered as numbered_line, refusal, reloc_refusal, words_line};
 ghost use Rattle.mix_top.specs.Debugging.{script_refusal};
 ghost use Rattle.mix_top.specs.Assembling.{line_refusal, reason_name as reason_name_of};
@@ -47,22 +48,22 @@ pub fn script_text(number: u32) -> Line
     refused("script", number as i128)
 }
 
-/// The line for a program that was not loaded.
-pub fn load_text(error: LoadError) -> Line
-    ensures { result ≡ load_line (load_refusal error) }
+/// The line for a program that was not loaded, none where there was no memory.
+pub fn load_text(error: LoadError) -> Option<Line>
+    ensures { result ≡ option_map load_line (load_refusal error) }
 {
     match error {
-        LoadError::NoMemory => refused("memory", 0),
-        LoadError::Empty(file) => refused("empty", file_number(file) as i128),
-        LoadError::Rsrc(error) => fork_text(error),
-        LoadError::NoCode(id) => refused("nocode", id as i128),
-        LoadError::Far(id) => refused("far", id as i128),
-        LoadError::JumpTable(place) => refused("jumptable", place as i128),
-        LoadError::Pef(error) => head_text(error),
-        LoadError::TooLarge(end) => refused("toolarge", end as i128),
-        LoadError::Reloc(error) => reloc_text(error),
-        LoadError::Unresolved(import) => refused("unresolved", import as i128),
-        LoadError::NoMain => refused("nomain", 0),
+        LoadError::NoMemory => None,
+        LoadError::Empty(file) => Some(refused("empty", file_number(file) as i128)),
+        LoadError::Rsrc(error) => Some(fork_text(error)),
+        LoadError::NoCode(id) => Some(refused("nocode", id as i128)),
+        LoadError::Far(id) => Some(refused("far", id as i128)),
+        LoadError::JumpTable(place) => Some(refused("jumptable", place as i128)),
+        LoadError::Pef(error) => Some(head_text(error)),
+        LoadError::TooLarge(end) => Some(refused("toolarge", end as i128)),
+        LoadError::Reloc(error) => Some(reloc_text(error)),
+        LoadError::Unresolved(import) => Some(refused("unresolved", import as i128)),
+        LoadError::NoMain => Some(refused("nomain", 0)),
     }
 }
 
@@ -132,25 +133,25 @@ fn reason_name(reason: Reason) -> &'static str
     }
 }
 
-/// The line for an image that is refused.
-pub fn image_text(error: ImageError) -> Line
-    ensures { result ≡ load_line (image_refusal error) }
+/// The line for an image that is refused, none where there was no memory.
+pub fn image_text(error: ImageError) -> Option<Line>
+    ensures { result ≡ option_map load_line (image_refusal error) }
 {
     match error {
-        ImageError::NoMemory => refused("memory", 0),
-        ImageError::Short(length) => refused("image-short", length as i128),
-        ImageError::Magic => refused("image-magic", 0),
-        ImageError::Ram(kib) => refused("image-ram", kib as i128),
-        ImageError::Main(set) => refused("image-main", set as i128),
-        ImageError::StartSp(sp) => refused("image-startsp", sp as i128),
-        ImageError::Heap => refused("image-heap", 0),
-        ImageError::Block(number) => refused("image-block", number as i128),
-        ImageError::Active(set) => refused("image-active", set as i128),
-        ImageError::Ccr(long) => refused("image-ccr", long as i128),
-        ImageError::Page(number) => refused("image-page", number as i128),
-        ImageError::Extra(place) => refused("image-extra", place as i128),
-        ImageError::Gate(address) => refused("image-gate", address as i128),
-        ImageError::Frame(address) => refused("image-frame", address as i128),
+        ImageError::NoMemory => None,
+        ImageError::Short(length) => Some(refused("image-short", length as i128)),
+        ImageError::Magic => Some(refused("image-magic", 0)),
+        ImageError::Ram(kib) => Some(refused("image-ram", kib as i128)),
+        ImageError::Main(set) => Some(refused("image-main", set as i128)),
+        ImageError::StartSp(sp) => Some(refused("image-startsp", sp as i128)),
+        ImageError::Heap => Some(refused("image-heap", 0)),
+        ImageError::Block(number) => Some(refused("image-block", number as i128)),
+        ImageError::Active(set) => Some(refused("image-active", set as i128)),
+        ImageError::Ccr(long) => Some(refused("image-ccr", long as i128)),
+        ImageError::Page(number) => Some(refused("image-page", number as i128)),
+        ImageError::Extra(place) => Some(refused("image-extra", place as i128)),
+        ImageError::Gate(address) => Some(refused("image-gate", address as i128)),
+        ImageError::Frame(address) => Some(refused("image-frame", address as i128)),
     }
 }
 

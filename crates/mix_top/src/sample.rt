@@ -9,11 +9,11 @@ ghost use Rattle.mix_top.specs.Parts.{beside_lent};
 
 use super::close::close_without_memory;
 use super::status::{FAULTED, LIMIT_REACHED, OUTPUT_FAILED, SUCCESS};
-use call_trace::fault_name;
+use call_trace::{End, fault_name};
 use dev_rack::Devices;
 use mix_bits::{Fault, Line};
 use mix_io::{Sink, Source};
-use mix_sample::{Ending, Sampled, run_sample};
+use mix_sample::{Sampled, run_sample};
 use mix_steps::Outside;
 use std::alloc::Global;
 
@@ -41,9 +41,9 @@ fn put_sample<O: Sink>(calls: u32, depth: u32, sampled: Sampled, out: &mut O) ->
     ensures { PutsSample calls depth sampled sampled.end (output (O.held out.old) (O.faults out.old)) (output (O.held out.new) (O.faults out.new)) result }
 {
     match sampled.end {
-        Ending::Exit(code) => put_line(&exit_line(calls, depth, sampled, code), SUCCESS, out),
-        Ending::Fault(fault) => put_line(&fault_line(calls, depth, sampled, fault), FAULTED, out),
-        Ending::Limit => LIMIT_REACHED,
+        End::Exit(code) => put_line(&exit_line(calls, depth, sampled, code), SUCCESS, out),
+        End::Fault(_, fault) => put_line(&fault_line(calls, depth, sampled, fault), FAULTED, out),
+        End::Limit => LIMIT_REACHED,
     }
 }
 

@@ -8,6 +8,7 @@ use Rattle.mixed_machine.specs.Step.{step}
 use Rattle.mixed_machine.specs.Exec.{exec_to, goes_on, rests, is_back, Leads, GoesTo, log, log_then}
 use Rattle.mixed_machine.specs.Exec.How.{Limited, Exited, Faulted}
 use Rattle.mixed_machine.specs.Exec.End.{Back, Ended}
+use Rattle.mixed_machine.specs.Laws.{LogsContinue}
 use Rattle.mixed_machine.proofs.Runs.{exec-continues, suc-more, no-steps, back-now}
 
 -- no step was done yet
@@ -74,7 +75,7 @@ log-step pick false (Exits code) s t d i j rest leads = cc
 log-step pick false (Faults fault) s t d i j rest leads = cc
 
 -- what a run puts is what its first steps put, and then the others
-pub log-continues : (pick : Next → List ℕ) (d i j : ℕ) (s t : State) → Leads d i s t → log pick (i + j) s ≡ log pick i s ++ log pick j t
+pub log-continues : LogsContinue
 unfolding exec_to log
 log-continues pick d zero j s t leads = ap (λ k. log pick k s) (zero-add j) ∙ ap (log pick j) (no-steps d s t leads)
 log-continues pick d (suc i) j s t leads =

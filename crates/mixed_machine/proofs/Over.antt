@@ -7,10 +7,11 @@ use Rattle.dev_rack.specs.Rack.{State as Rack}
 use Rattle.dev_rack.specs.Accounts.{Accounts}
 use Rattle.toolbox.specs.Calls.{Taken, answers_since}
 use Rattle.mixed_machine.specs.State.{State}
+use Rattle.mixed_machine.specs.Laws.{AnswersJoin, NoAnswers, ToldJoins, ToldNothing, TookSplits}
 use Rattle.mixed_machine.specs.Outside.{At, Over, TookAll, ToldAll, answers_between, state_of}
 
 -- what was taken by calls, and by more of them
-took-append : (xs ys : List Taken) (before after : List ℕ) → TookAll (xs ++ ys) before after → (mid : List ℕ) × TookAll xs before mid × TookAll ys mid after
+pub took-append : TookSplits
 took-append [] ys before after took = (before, refl, took)
 took-append (x ∷ xs) ys before after took =
     let rest = took-append xs ys took.0 after took.2 in (rest.0, (took.0, took.1, rest.1), rest.2)
@@ -19,13 +20,13 @@ took-both : (xs ys : List Taken) (before mid after : List ℕ) → TookAll xs be
 took-both [] ys before mid after first then = subst (λ b. TookAll ys b after) (sym first) then
 took-both (x ∷ xs) ys before mid after first then = (first.0, first.1, took-both xs ys first.0 mid after first.2 then)
 
-told-both : (xs ys : List Taken) (a b c : Option (List ℕ)) → ToldAll xs a b → ToldAll ys b c → ToldAll (xs ++ ys) a c
+pub told-both : ToldJoins
 told-both xs ys a b c first then after is =
     let second = then after is in
     let whole = first second.0 second.1 in
     (whole.0, whole.1, took-both xs ys whole.0 second.0 after whole.2 second.2)
 
-told-none : (a : Option (List ℕ)) → ToldAll [] a a
+pub told-none : ToldNothing
 told-none a after is = (after, is, refl)
 
 -- the answers of a journal's new entries
@@ -33,10 +34,10 @@ since-is : (a b : Rack) (entries : List Asked) → b.journal ≡ a.journal ++ en
 since-is a b entries is =
     ap (λ j. map (λ e. e.answer) (drop (length a.journal) j)) is ∙ ap (map (λ e. e.answer)) (drop-append_seam a.journal entries)
 
-since-none : (a : Rack) → answers_since a a ≡ []
+pub since-none : NoAnswers
 since-none a = ap (map (λ e. e.answer)) (drop-length a.journal)
 
-since-more : (a b c : Rack) (rest : List (Option ℕ)) → Accounts a b → Accounts b c → answers_since a b ++ (answers_since b c ++ rest) ≡ answers_since a c ++ rest
+pub since-more : AnswersJoin
 since-more a b c rest first then =
     let joined : c.journal ≡ a.journal ++ (first.entries ++ then.entries) =
     then.noted ∙ (ap (λ j. j ++ then.entries) first.noted ∙ append_assoc a.journal first.entries then.entries) in

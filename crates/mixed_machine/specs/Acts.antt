@@ -1,9 +1,12 @@
 -- What a step of a machine in memory did.
-use Rattle.std.specs.Prelude.{◌≡◌, ℕ, ◌∷◌, List, []}
+use Rattle.std.specs.Prelude.{◌≡◌, ℕ, ◌∷◌, List, [], Option, None, Some}
 use Rattle.mix_bits.specs.declared.fault.Fault.{Fault as AFault}
 use Rattle.mix_io.specs.Streams.{Grows, Breaks}
 use Rattle.switch_frame.specs.Records.{Record, isa_of}
 use Rattle.dev_rack.specs.Accounts.{Accounts}
+use Rattle.toolbox.specs.declared.broken.Broken.{Broken}
+use Rattle.toolbox.specs.declared.broken.Broken.TheVariants.{Input, Output, Trace}
+use Rattle.toolbox.specs.Blames.{BlamesOnly}
 use Rattle.mixed_machine.specs.declared.did.Did.{Did}
 use Rattle.mixed_machine.specs.declared.did.Did.TheVariants.{Next as IsNext, Call, Return, Exit, Fault, ReadFault, OutFault, TraceFault}
 use Rattle.mixed_machine.specs.State.{State}
@@ -12,7 +15,7 @@ use Rattle.mixed_machine.specs.Next.Next.{Exits, Faults}
 use Rattle.mixed_machine.specs.Exec.{GoesTo, Says, Tells, Reads, said_of, line_of}
 use Rattle.mixed_machine.specs.Machine.{IsWhole, callers_of}
 use Rattle.mixed_machine.specs.Outside.{At, Over}
-use Rattle.mixed_machine.specs.Counts.{Counts, Calm, InputRose, OutRose, TraceRose, counts_of}
+use Rattle.mixed_machine.specs.Counts.{counts_of}
 use Rattle.mixed_machine.specs.Runs.{Sinks, sinks_of}
 
 -- the definition's step, done or not, with the fault in its cell
@@ -66,22 +69,22 @@ Kept ReadFault old new = new ≡ old
 Kept OutFault old new = new ≡ old
 Kept TraceFault old new = Unit {0}
 
--- whose count of faults rose
-abbrev pub BlamesBy : Did → Counts → Counts → Type 0
-BlamesBy IsNext old new = Calm old new
-BlamesBy Call old new = Calm old new
-BlamesBy Return old new = Calm old new
-BlamesBy (Exit code) old new = Calm old new
-BlamesBy Fault old new = Calm old new
-BlamesBy ReadFault old new = InputRose old new
-BlamesBy OutFault old new = OutRose old new
-BlamesBy TraceFault old new = TraceRose old new
+-- what failed in it
+abbrev pub broken_by : Did → Option Broken
+broken_by IsNext = None
+broken_by Call = None
+broken_by Return = None
+broken_by (Exit code) = None
+broken_by Fault = None
+broken_by ReadFault = Some Input
+broken_by OutFault = Some Output
+broken_by TraceFault = Some Trace
 
 -- a step of the definition, done or not, by a machine in memory: it is whole afterwards, and stands for the state that
 -- the step gives; the journal accounts for each device
 pub record Acts (x : State → Next) (did : Did) (cell : AFault) (a b : At) : Type 0 where
   pub whole : IsWhole b.body (isa_of b.active)
   pub callers : Kept did (callers_of a.body) (callers_of b.body)
-  pub blames : BlamesBy did (counts_of a) (counts_of b)
+  pub blames : BlamesOnly (broken_by did) (counts_of a) (counts_of b)
   pub devices : Accounts a.outside.rack b.outside.rack
   pub step : Over (λ s t. Done (x s) did cell s t (sinks_of a) (sinks_of b)) a b

@@ -1,14 +1,17 @@
--- Laws of runs.
-use Rattle.std.specs.Prelude.{◌≡◌, ◌≢◌, ℕ, ◌+◌, ◌≤◌}
+-- Laws of runs, and of what calls take from the outside.
+use Rattle.std.specs.Prelude.{◌≡◌, ◌≢◌, ℕ, ◌+◌, ◌≤◌, List, [], ◌++◌, Option}
 use Rattle.mixed_machine.specs.declared.stop.Stop.{Stop}
 use Rattle.mixed_machine.specs.declared.stop.Stop.TheVariants.{Limit}
 use Rattle.mixed_machine.specs.State.{State}
-use Rattle.mixed_machine.specs.Exec.{How, exec_to, Leads}
+use Rattle.mixed_machine.specs.Next.{Next}
+use Rattle.mixed_machine.specs.Exec.{How, exec_to, Leads, log}
 use Rattle.mixed_machine.specs.Exec.How.{Limited}
 use Rattle.mixed_machine.specs.Exec.End.{Back, Ended}
-use Rattle.mixed_machine.specs.Outside.{At}
+use Rattle.mixed_machine.specs.Outside.{At, TookAll, ToldAll}
 use Rattle.mixed_machine.specs.Runs.{Runs}
 use Rattle.dev_rack.specs.Accounts.{Accounts}
+use Rattle.dev_rack.specs.Rack.{State as Rack}
+use Rattle.toolbox.specs.Calls.{Taken, answers_since}
 
 -- no steps lead only to where they began
 abbrev pub NoStepsStay : Type 0
@@ -46,3 +49,26 @@ abbrev pub CutsContinue : Type 0
 CutsContinue =
     (n m : ℕ) (a b c : At) (stop : Stop) → Accounts a.outside.rack b.outside.rack → Accounts b.outside.rack c.outside.rack
     → Runs n a b Limit → Runs m b c stop → Runs (n + m) a c stop
+
+-- what a run puts is what its first steps put, and then the others
+abbrev pub LogsContinue : Type 0
+LogsContinue = (pick : Next → List ℕ) (d n m : ℕ) (s t : State) → Leads d n s t → log pick (n + m) s ≡ log pick n s ++ log pick m t
+
+-- what was taken by calls, and by more of them
+abbrev pub TookSplits : Type 0
+TookSplits =
+    (xs ys : List Taken) (before after : List ℕ) → TookAll (xs ++ ys) before after → (mid : List ℕ) × TookAll xs before mid × TookAll ys mid after
+
+abbrev pub ToldJoins : Type 0
+ToldJoins = (xs ys : List Taken) (a b c : Option (List ℕ)) → ToldAll xs a b → ToldAll ys b c → ToldAll (xs ++ ys) a c
+
+abbrev pub ToldNothing : Type 0
+ToldNothing = (a : Option (List ℕ)) → ToldAll [] a a
+
+-- the answers of a journal's new entries
+abbrev pub NoAnswers : Type 0
+NoAnswers = (a : Rack) → answers_since a a ≡ []
+
+abbrev pub AnswersJoin : Type 0
+AnswersJoin =
+    (a b c : Rack) (rest : List (Option ℕ)) → Accounts a b → Accounts b c → answers_since a b ++ (answers_since b c ++ rest) ≡ answers_since a c ++ rest

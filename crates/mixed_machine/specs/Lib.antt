@@ -5,6 +5,7 @@ pub mod Leave
 pub mod Host
 pub mod Step
 pub mod Exec
+pub mod Endings
 pub mod Machine
 pub mod Runs
 pub mod Outside

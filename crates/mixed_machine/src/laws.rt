@@ -1,7 +1,7 @@
 ghost use Rattle.mixed_machine.specs.CrossingLaws.{CountBegins, CountExits, CountFaults, CountGoesOn, CountLimit};
 ghost use Rattle.mixed_machine.specs.Events.{BeginsAt, CalleeCameBack, CalleeStopped, ComesBackAt, ExitsAt, FaultsAt, GoesOnAt, LimitAt, OutBreaksAt, ReadBreaksAt, TraceBreaksAt};
 ghost use Rattle.mixed_machine.specs.StepLaws.{StepsAreKinds, TrapsNeverCross};
-ghost use Rattle.mixed_machine.specs.Laws.{BacksContinue, BacksStay, CutsContinue, EndsReach, EndsStay, LimitsAreLast, NeverBack, NoStepsStay, RunsContinue};
+ghost use Rattle.mixed_machine.specs.Laws.{AnswersJoin, BacksContinue, BacksStay, CutsContinue, EndsReach, EndsStay, LimitsAreLast, LogsContinue, NeverBack, NoAnswers, NoStepsStay, RunsContinue, ToldJoins, ToldNothing, TookSplits};
 
 /// Laws of single steps. It does nothing: the clauses are its point.
 ///
@@ -19,7 +19,7 @@ pub fn step_laws()
 /// `m`; an end stays where more steps are allowed. A run until fewer than `e` callers are suspended is a
 /// run until fewer than `d` are, for any greater `d`, and goes on where that one came back. A run that was
 /// cut at its step limit and continued is the uncut run, with what it put and took, and with the answers of
-/// the devices in both.
+/// the devices in both; what it puts is what its first steps put, and then the others.
 pub fn run_laws()
     ensures none { NoStepsStay }
     ensures continues { RunsContinue }
@@ -30,6 +30,18 @@ pub fn run_laws()
     ensures reaches { EndsReach }
     ensures never_back { NeverBack }
     ensures cuts { CutsContinue }
+    ensures logs { LogsContinue }
+{}
+
+/// Laws of what calls take from the outside, one after the other. It does nothing: the clauses are its point.
+///
+/// What was taken by calls and by more of them is what was taken by all, and so are the answers of the devices.
+pub fn outside_laws()
+    ensures splits { TookSplits }
+    ensures joins { ToldJoins }
+    ensures nothing { ToldNothing }
+    ensures none { NoAnswers }
+    ensures more { AnswersJoin }
 {}
 
 /// Laws of a run of a machine in memory, one event at a time. It does nothing: the clauses are its point.

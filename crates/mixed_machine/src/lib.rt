@@ -10,5 +10,5 @@ mod stop;
 
 pub use body::Body;
 pub use did::Did;
-pub use laws::{crossing_laws, event_laws, run_laws, step_laws};
+pub use laws::{crossing_laws, event_laws, outside_laws, run_laws, step_laws};
 pub use stop::Stop;

@@ -91,18 +91,6 @@ pub said_nothing : AreLaws → (f : Function) (o : Operands) (x : Results) (m : 
 said_nothing laws f o x m h input rack out piece none is empty =
     said laws f o x m h input rack out out piece none is (subst (λ bytes. Grows out out bytes) (sym empty) (grows-none out))
 
--- one that says a piece, at which the output failed
-pub not_said : (f : Function) (o : Operands) (m : Memory) (h : Space) (input : Input) (rack : State) (out next : Output) (piece : List ℕ) →
-    ((around : Around) → effect f o (resources m h around) ≡ says (resources m h around) piece) → 0 < length piece → Breaks out next [] piece →
-    Performs f o OutFault (place m h (record { input = input; rack = rack; out = out })) (place m h (record { input = input; rack = rack; out = next }))
-not_said f o m h input rack out next piece is some broke = record {
-  piece = piece;
-  some = some;
-  does = λ around. rw (is around) refl;
-  broke = broke;
-  same = refl;
-}
-
 -- the input gave a byte
 told-byte : (byte : ℕ) (left next : Option (List ℕ)) → Consumes left next (byte ∷ []) → Told (Byte byte) left next
 told-byte byte None next h after is = (byte ∷ after, tt, refl)
@@ -149,21 +137,6 @@ took_end laws o x m h rack out left next faults after is ended none calm = recor
   devices = laws.begins rack;
   bounds = record { low = refl; high = refl };
   free = laws.nothing m;
-}
-
--- the input failed
-reads-input : (m : Memory) (h : Space) (input : List ℕ) (around : Around) → ReadsInput (takes (resources m h (record around { input = input })))
-reads-input m h [] around = refl
-reads-input m h (byte ∷ left) around = refl
-
-pub not_took : (o : Operands) (m : Memory) (h : Space) (rack : State) (out : Output) (left next : Option (List ℕ)) (faults after : ℕ) →
-    Keeps left next → Rose faults after →
-    Performs GetByte o ReadFault (place m h (with_input left faults rack out)) (place m h (with_input next after rack out))
-not_took o m h rack out left next faults after kept rose = record {
-  does = λ around. reads-input m h around.input around;
-  kept = kept;
-  rose = rose;
-  same = refl;
 }
 
 -- a list without elements

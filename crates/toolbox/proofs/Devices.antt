@@ -13,24 +13,20 @@ use Rattle.dev_rack.specs.declared.answers.Answer.{Answer}
 use Rattle.dev_rack.specs.declared.answers.Answer.TheVariants.{Word, Failed, Empty, Full}
 use Rattle.dev_rack.specs.declared.answers.Asked.{Asked}
 use Rattle.dev_rack.specs.Slots.{device_at}
-use Rattle.dev_rack.specs.Rack.{State, Answered, Asks, Ejects}
+use Rattle.dev_rack.specs.Rack.{State, Answered, Asks, Ejects, journal_limit}
 use Rattle.toolbox.specs.declared.values.Operands.{Operands}
 use Rattle.toolbox.specs.declared.values.Results.{Results}
 use Rattle.toolbox.specs.declared.function.Function.{Function}
 use Rattle.toolbox.specs.declared.function.Function.TheVariants.{AskDevice, EjectDevice}
 use Rattle.toolbox.specs.declared.outcome.Outcome.TheVariants.{Given, Asked as AskedFor}
-use Rattle.toolbox.specs.Effects.{Around, journal_limit, quiet, results, results_of, answer_in, after_ask, first_answer, noted, holds_device, emptied, no_slot}
+use Rattle.toolbox.specs.Effects.{Around, quiet, results, results_of, answer_in, after_ask, first_answer, noted, holds_device, emptied, no_slot}
 use Rattle.toolbox.specs.Effects.Effect.{Gives}
-use Rattle.toolbox.specs.Calls.{Input, place, with_rack, answers_since, ask_of}
+use Rattle.toolbox.specs.Calls.{Input, place, with_rack, answers_since, around_of, ask_of}
 use Rattle.toolbox.specs.Calls.Taken.{Nothing}
 use Rattle.toolbox.specs.Performs.{AreLaws, Performs, resources}
 use Rattle.toolbox.proofs.Carried.{since-none, told-nothing, grows-none}
 
--- what the table sees of a rack
-abbrev around_at : State → List ℕ → List (Option ℕ) → Around
-around_at rack input answers = record { input = input; slots = map is_some rack.slots; asks = rack.journal; answers = answers }
-
-holds : (rack : State) (slot : ℕ) (input : List ℕ) (answers : List (Option ℕ)) → holds_device (around_at rack input answers) slot ≡ is_some (device_at rack.slots slot)
+holds : (rack : State) (slot : ℕ) (input : List ℕ) (answers : List (Option ℕ)) → holds_device (around_of rack input answers) slot ≡ is_some (device_at rack.slots slot)
 holds rack slot input answers = get_or-map is_some rack.slots slot None
 
 -- a device that was asked gave the next of the answers
@@ -67,8 +63,8 @@ same_around input slots others journal entries answers rest p q r = rw (p, q, r)
 
 -- what the table answers and leaves where the rack answered so
 record Fits (old new : State) (slot word : ℕ) (answer : Answer) (input : List ℕ) (rest : List (Option ℕ)) : Type 0 where
-  gives : answer_in (around_at old input (answers_since old new ++ rest)) slot ≡ answer
-  leaves : after_ask (around_at old input (answers_since old new ++ rest)) slot word answer ≡ around_at new input rest
+  gives : answer_in (around_of old input (answers_since old new ++ rest)) slot ≡ answer
+  leaves : after_ask (around_of old input (answers_since old new ++ rest)) slot word answer ≡ around_of new input rest
 
 -- an ask that reached a device
 asked-fits : (old new : State) (slot word : ℕ) (result : Result ℕ DeviceFailed) (answer : Answer) (input : List ℕ) (rest : List (Option ℕ)) →
@@ -79,19 +75,19 @@ asked-fits old new slot word result answer input rest h first after =
     let since : answers_since old new ++ rest ≡ result_ok result ∷ rest = since-one old new (record { slot = slot; word = word; answer = result_ok result }) rest h.noted in
     record {
       gives =
-          asked-at (holds_device (around_at old input (answers_since old new ++ rest)) slot) (length old.journal == journal_limit)
+          asked-at (holds_device (around_of old input (answers_since old new ++ rest)) slot) (length old.journal == journal_limit)
           (holds old slot input (answers_since old new ++ rest) ∙ ap is_some h.heard.held) (ne_eqb (length old.journal) journal_limit (omega (arith, h.room)))
           (first_answer (answers_since old new ++ rest))
           ∙ ap first_answer since ∙ first;
       leaves =
-          after (around_at old input (answers_since old new ++ rest))
+          after (around_of old input (answers_since old new ++ rest))
           ∙ same_around input (map is_some old.slots) (map is_some new.slots) (old.journal ++ (record { slot = slot; word = word; answer = result_ok result }) ∷ []) new.journal
           (drop 1 (answers_since old new ++ rest)) rest
           (sym (slots-stay old new slot word result h)) (sym h.noted) (ap (drop 1) since);
     }
 
 -- an ask that changed nothing
-refused-leaves : (old new : State) (input : List ℕ) (rest : List (Option ℕ)) → new ≡ old → around_at old input (answers_since old new ++ rest) ≡ around_at new input rest
+refused-leaves : (old new : State) (input : List ℕ) (rest : List (Option ℕ)) → new ≡ old → around_of old input (answers_since old new ++ rest) ≡ around_of new input rest
 refused-leaves old new input rest same = rw (same, since-none old) refl
 
 fits : (old new : State) (slot word : ℕ) (answer : Answer) (input : List ℕ) (rest : List (Option ℕ)) → Asks old slot word answer new → Fits old new slot word answer input rest
@@ -149,12 +145,12 @@ ejected laws o x m h input out old new held none is = record {
   taken = Nothing;
   does = λ before after rest took.
       let journal : new.journal ≡ old.journal = ejected-journal old new o.first held is in
-      let found : holds_device (around_at old after (answers_since old new ++ rest)) o.first ≡ held = holds old o.first after (answers_since old new ++ rest) ∙ ejected-held old new o.first held is in
-      let left : emptied (around_at old after (answers_since old new ++ rest)) o.first ≡ around_at new after rest =
+      let found : holds_device (around_of old after (answers_since old new ++ rest)) o.first ≡ held = holds old o.first after (answers_since old new ++ rest) ∙ ejected-held old new o.first held is in
+      let left : emptied (around_of old after (answers_since old new ++ rest)) o.first ≡ around_of new after rest =
       same_around after (slice_set (map is_some old.slots) o.first false) (map is_some new.slots) old.journal new.journal (answers_since old new ++ rest) rest
       (ejected-slots old new o.first held is) (sym journal)
       (ap (λ entries. map (λ (e : Asked). e.answer) (drop (length old.journal) entries) ++ rest) journal ∙ ap (λ answers. answers ++ rest) (since-none old)) in
-      rw (took, found) (ap (λ around. Gives (resources m h around) (results (if held then 0 else no_slot) 0) quiet) left ∙ ap (λ y. Gives (resources m h (around_at new after rest)) y quiet) (sym none));
+      rw (took, found) (ap (λ around. Gives (resources m h around) (results (if held then 0 else no_slot) 0) quiet) left ∙ ap (λ y. Gives (resources m h (around_of new after rest)) y quiet) (sym none));
   ask = refl;
   told = told-nothing input.left;
   calm = refl;

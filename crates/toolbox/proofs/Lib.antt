@@ -6,3 +6,4 @@ pub mod Settled
 pub mod Puts
 pub mod OneNumber
 pub mod ByName
+pub mod Blaming

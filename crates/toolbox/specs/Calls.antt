@@ -12,6 +12,9 @@ use Rattle.dev_rack.specs.Rack.{State}
 use Rattle.dev_rack.specs.Accounts.{Accounts}
 use Rattle.toolbox.specs.declared.out.HostOut.{HostOut}
 use Rattle.toolbox.specs.declared.out.HostOut.TheVariants.{Done, Asked, Cross, Exit, Stop, ReadFault, OutFault}
+use Rattle.toolbox.specs.declared.broken.Broken.{Broken}
+use Rattle.toolbox.specs.declared.broken.Broken.TheVariants.{Input as BrokenInput, Output as BrokenOutput}
+use Rattle.toolbox.specs.Blames.{BlamesOnly, Counts, counts}
 use Rattle.toolbox.specs.Effects.{Around, Resources, Ask, Effects}
 use Rattle.toolbox.specs.Host.{Hosted, host}
 use Rattle.toolbox.specs.Host.Hosted.{Goes, Crosses, Leaves, Stops}
@@ -64,13 +67,20 @@ pub record KeepsBounds (old new : Space) : Type 0 where
 abbrev pub answers_since : State → State → List (Option ℕ)
 answers_since old new = map (λ e. e.answer) (drop (length old.journal) new.journal)
 
--- the resources of the table, for some bytes that are left and some answers to come
+-- what a rack and an input hold for the machine, for some bytes that are left and some answers to come
+abbrev pub around_of : State → List ℕ → List (Option ℕ) → Around
+around_of rack input answers = record { input = input; slots = map is_some rack.slots; asks = rack.journal; answers = answers }
+
+abbrev pub around_at : Outside → List ℕ → List (Option ℕ) → Around
+around_at o input answers = around_of o.rack input answers
+
+-- the resources of the table then
 abbrev pub resources_at : Place → List ℕ → List (Option ℕ) → Resources
 resources_at p input answers =
     record {
       memory = p.memory;
       heap = p.heap;
-      around = record { input = input; slots = map is_some p.outside.rack.slots; asks = p.outside.rack.journal; answers = answers };
+      around = around_at p.outside input answers;
     }
 
 -- what a call takes from the input: nothing, a byte, or the news that none is left
@@ -168,24 +178,20 @@ Hosts index (Stop fault) regs next old new = Stays (host_at index regs) (Stops f
 Hosts index ReadFault regs next old new = ReadBreaks (host_at index regs) Reads old new × (next ≡ regs)
 Hosts index OutFault regs next old new = PutBreaks (host_at index regs) Says old new × (next ≡ regs)
 
--- whose count of faults rose: the input's at a failed read, the output's at a failed put, and else none
-pub record Calm (old new : Outside) : Type 0 where
-  pub input : new.input.faults ≡ old.input.faults
-  pub out : new.out.faults ≡ old.out.faults
+-- what failed in a call
+abbrev pub broken_in : HostOut → Option Broken
+broken_in Done = None
+broken_in (Asked slot word answer) = None
+broken_in (Cross pointer info) = None
+broken_in (Exit code) = None
+broken_in (Stop fault) = None
+broken_in ReadFault = Some BrokenInput
+broken_in OutFault = Some BrokenOutput
 
-pub record InputRose (old new : Outside) : Type 0 where
-  pub input : Rose old.input.faults new.input.faults
-  pub out : new.out.faults ≡ old.out.faults
+-- the counts of faults of the outside, and of a trace beside it
+abbrev pub counts_beside : Outside → Output → Counts
+counts_beside o trace = counts o.input.faults o.out.faults trace.faults
 
-pub record OutRose (old new : Outside) : Type 0 where
-  pub input : new.input.faults ≡ old.input.faults
-  pub out : Rose old.out.faults new.out.faults
-
+-- whose count of faults rose; a call leaves the trace
 abbrev pub Blames : HostOut → Outside → Outside → Type 0
-Blames Done old new = Calm old new
-Blames (Asked slot word answer) old new = Calm old new
-Blames (Cross pointer info) old new = Calm old new
-Blames (Exit code) old new = Calm old new
-Blames (Stop fault) old new = Calm old new
-Blames ReadFault old new = InputRose old new
-Blames OutFault old new = OutRose old new
+Blames out old new = (trace : Output) → BlamesOnly (broken_in out) (counts_beside old trace) (counts_beside new trace)

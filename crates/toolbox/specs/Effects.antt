@@ -12,6 +12,7 @@ use Rattle.host_heap.specs.Place.{place_for, taken, freed, begins_at}
 use Rattle.dev_rack.specs.declared.answers.Answer.{Answer}
 use Rattle.dev_rack.specs.declared.answers.Answer.TheVariants.{Word, Failed, Empty, Full}
 use Rattle.dev_rack.specs.declared.answers.Asked.{Asked}
+use Rattle.dev_rack.specs.Rack.{journal_limit}
 use Rattle.toolbox.specs.declared.values.Operands.{Operands}
 use Rattle.toolbox.specs.declared.values.Results.{Results}
 use Rattle.toolbox.specs.declared.function.Function.{Function}
@@ -112,10 +113,6 @@ takes_from r (byte ∷ left) =
 
 abbrev pub takes : Resources → Effect
 takes r = takes_from r r.around.input
-
--- how many entries the journal holds
-abbrev pub journal_limit : ℕ
-journal_limit = 4096
 
 -- what comes of an ask: the slot is looked at first, then the journal's room
 abbrev pub first_answer : List (Option ℕ) → Answer

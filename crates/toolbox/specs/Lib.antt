@@ -4,6 +4,7 @@ pub mod Names
 pub mod Effects
 pub mod Registers
 pub mod Host
+pub mod Blames
 pub mod Calls
 pub mod Performs
 pub mod Puts

@@ -1,3 +1,4 @@
+ghost use Rattle.toolbox.specs.Blames.{BlamedAfterCalm, CalmAtFirst};
 ghost use Rattle.toolbox.specs.Functions.{NumbersAreOwn};
 ghost use Rattle.toolbox.specs.Names.{ImportsAreNumbered, ImportsHaveOneNumber};
 ghost use Rattle.toolbox.specs.Performs.{AreLaws};
@@ -18,4 +19,10 @@ pub fn table_laws()
     ensures numbers { NumbersAreOwn }
     ensures imports { ImportsHaveOneNumber }
     ensures numbered { ImportsAreNumbered }
+{}
+
+/// Whose count of faults rose, over several calls. It does nothing: the clauses are its point.
+pub fn blame_laws()
+    ensures first { CalmAtFirst }
+    ensures after { BlamedAfterCalm }
 {}

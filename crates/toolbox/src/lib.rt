@@ -5,6 +5,7 @@
 #![tactic(auto)]
 
 mod blocks;
+mod broken;
 mod call;
 mod function;
 mod imports;
@@ -18,8 +19,9 @@ mod streams;
 mod traps;
 mod values;
 
+pub use broken::Broken;
 pub use call::host_call;
 pub use imports::import_index;
-pub use laws::table_laws;
+pub use laws::{blame_laws, table_laws};
 pub use out::HostOut;
 pub use traps::{trap_index, trap_laws};

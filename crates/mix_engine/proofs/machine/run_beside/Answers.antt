@@ -1,6 +1,6 @@
-use Rattle.std.proofs.Common.{◌≡◌, ◌<◌, suc, List, ◌∷◌, length, ap, arith, refl, ◌∙◌}
+use Rattle.std.proofs.Common.{◌≡◌, ◌<◌, suc, List, ◌∷◌, length, ap, arith, refl}
 use Rattle.switch_frame.specs.Records.{Record}
-use Rattle.mix_engine.proofs.Ways.{came, stopped, whole-back, whole-begins, whole-stopped}
+use Rattle.mix_engine.proofs.Ways.{same-more, whole-back, whole-begins, whole-stopped}
 use Rattle.mix_engine.proofs.machine.run_beside.Goals as goal
 
 pub turns-init : goal.turns-init
@@ -11,19 +11,22 @@ run_turns-requires g c = c.turns.invariant.0.whole
 
 pub turns-preserved : goal.turns-preserved
 turns-preserved g c =
-    let turn = c.in-Back.ensures in (
-      whole-back _ _ _ _ _ _ _ c.turns.invariant.0 (came _ _ _ _ _ turn.run turn.whole turn.fewer turn.blames turn.devices),
-      (turn.same.0 ∙ c.turns.invariant.1.0, turn.same.1 ∙ c.turns.invariant.1.1, turn.same.2 ∙ c.turns.invariant.1.2, turn.same.3 ∙ c.turns.invariant.1.3),
-    )
+    let turn = c.in-Back.ensures in (whole-back _ _ _ _ _ _ _ c.turns.invariant.0 turn.turned, same-more c.turns.invariant.1 turn.same)
 
 fewer-outside : (old new : List Record) (r : Record) → old ≡ r ∷ new → length new < length old
 fewer-outside old new r is = let one : length old ≡ suc (length new) = ap length is in omega (arith, one)
 
 pub turns-smaller : goal.turns-smaller
-turns-smaller g c = fewer-outside _ _ _ c.in-Back.ensures.callers.1
+turns-smaller g c = fewer-outside _ _ _ c.in-Back.ensures.turned.callers.1
 
 pub returns-in-Stop : goal.returns-in-Stop
 returns-in-Stop g c =
     let turn = c.in-Stop.ensures in
-    let end = whole-stopped _ _ _ _ _ _ _ _ c.turns.invariant.0 (stopped _ _ _ _ _ _ turn.run turn.whole turn.fewer turn.blames turn.devices) in
-    record { whole = end.whole; run = record { left = c.run_turns.new.steps; fewer = end.fewer; run = end.stops }; blames = end.blames; devices = end.devices; same = (turn.same.0 ∙ c.turns.invariant.1.0, turn.same.1 ∙ c.turns.invariant.1.1, turn.same.2 ∙ c.turns.invariant.1.2, turn.same.3 ∙ c.turns.invariant.1.3) }
+    let end = whole-stopped _ _ _ _ _ _ _ _ c.turns.invariant.0 turn.turned in
+    record {
+      whole = end.whole;
+      run = record { left = c.run_turns.new.steps; fewer = end.fewer; run = end.stops };
+      blames = end.blames;
+      devices = end.devices;
+      same = same-more c.turns.invariant.1 turn.same;
+    }

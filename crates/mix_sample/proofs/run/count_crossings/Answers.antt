@@ -19,7 +19,7 @@ pub returns-in-Exit : goal.returns-in-Exit
 returns-in-Exit c = ran-exits c.args.steps c.steps.left c.steps.calls c.steps.returns c.in-Exit.code _ _ _ _ (omega arith) refl c.steps.invariant.counting c.in-Exit.ensures.step
 
 pub returns-in-Fault : goal.returns-in-Fault
-returns-in-Fault c = ran-faults c.args.steps c.steps.left c.steps.calls c.steps.returns c.in-Fault.fault _ _ _ (omega arith) c.steps.invariant.counting c.in-Fault.ensures.step
+returns-in-Fault c = ran-faults c.args.steps c.steps.left c.steps.calls c.steps.returns _ c.in-Fault.fault _ _ _ (omega arith) c.steps.invariant.counting c.in-Fault.ensures.step
 
 pub returns : goal.returns
 returns c = ran-all c.args.steps c.steps.left c.steps.calls c.steps.returns _ _ (omega arith) c.steps.invariant.counting

@@ -1,5 +1,4 @@
 -- So many steps are left, and so many crossings were counted.
-use Rattle.mix_bits.specs.declared.isa.Isa.{Isa}
 use Rattle.switch_frame.specs.Records.{isa_of}
 use Rattle.mixed_machine.specs.Crossings.{Counting}
 use Rattle.mixed_machine.specs.Machine.{IsWhole, flat}

@@ -1,7 +1,10 @@
--- The line is that of the refusal.
-use Rattle.std.proofs.Common.{◌∙◌}
-use Rattle.mix_top.proofs.Ways.{closes-refusal}
+-- The line is that of the refusal, or of want of memory.
+use Rattle.mix_top.specs.Lines.{load_refusal}
+use Rattle.mix_top.proofs.Ways.{closes-line, closes-memory}
 use Rattle.mix_top.proofs.close.close_unloaded.Goals as goal
 
-pub returns-in_default : goal.returns-in_default
-returns-in_default g c = closes-refusal c.args.error _ _ _ _ c.in_default.not-NoMemory (c.bytes.ensures ∙ c.load_text.ensures) c.close.ensures
+pub returns-in-Some : goal.returns-in-Some
+returns-in-Some g c = closes-line (load_refusal c.args.error) _ _ _ _ _ c.in-Some.ensures c.bytes.ensures c.close.ensures
+
+pub returns-in-None : goal.returns-in-None
+returns-in-None g c = closes-memory (load_refusal c.args.error) _ _ _ c.in-None.ensures c.close_without_memory.ensures

@@ -1,4 +1,5 @@
 use Rattle.mixed_machine.proofs.Runs.{no-steps, exec-continues, exec-stays, backs-stay, limits-last, backs-continue, ends-reach, never-back}
+use Rattle.mixed_machine.proofs.Logs.{log-continues}
 use Rattle.mixed_machine.proofs.Machines.{cuts-continue}
 use Rattle.mixed_machine.proofs.laws.run_laws.Goals as goal
 
@@ -14,4 +15,5 @@ returns c =
       reaches = ends-reach;
       never_back = never-back;
       cuts = cuts-continue;
+      logs = log-continues;
     }
