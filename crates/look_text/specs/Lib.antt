@@ -2,3 +2,4 @@ pub mod Words
 pub mod Places
 pub mod Info
 pub mod Tree
+pub mod Pieces

@@ -5,6 +5,7 @@
 #![tactic(auto)]
 
 mod info;
+mod line;
 mod pieces;
 mod place;
 #[cfg(test)]
@@ -13,6 +14,7 @@ mod tree;
 mod words;
 
 pub use info::info_text;
+pub use line::{Piece, add_line};
 pub use pieces::{add, add_bytes, add_dec, add_hex};
 pub use tree::{DEEPEST, signature_for, tree_line};
 pub use words::size_name;

@@ -32,11 +32,26 @@ struct Bar {
     row: u32,
 }
 
-/// A picture in the making.
+/// Where a text of no call stands.
+const LEFT: u32 = 20;
+
+/// How far a text stands to the right of its call's bar.
+const INDENT: u32 = 14;
+
+/// How wide a letter is at most.
+const LETTER: u32 = 8;
+
+/// How wide a picture is at least.
+const NARROWEST: u32 = 1400;
+
+/// A picture in the making. Texts stand before bars, so that a long one can be read where it meets one.
 #[derive(Drop)]
 struct Picture {
     alloc: Global,
-    body: Vec<u8>,
+    bars: Vec<u8>,
+    texts: Vec<u8>,
+    /// Where the longest text ends.
+    right: u32,
     open: Vec<Bar>,
     row: u32,
     calls: u32,
@@ -59,7 +74,8 @@ pub fn write_picture<R: BufRead + Drop, W: Write>(
     }
     picture.finish()?;
     write(out, &picture.head()?)?;
-    write(out, &picture.body)?;
+    write(out, &picture.bars)?;
+    write(out, &picture.texts)?;
     write(out, b"</svg>\n")
 }
 
@@ -67,7 +83,9 @@ impl Picture {
     fn new(alloc: Global) -> Picture {
         Picture {
             alloc,
-            body: Vec::new(alloc),
+            bars: Vec::new(alloc),
+            texts: Vec::new(alloc),
+            right: NARROWEST,
             open: Vec::new(alloc),
             row: 0,
             calls: 0,
@@ -87,7 +105,7 @@ impl Picture {
         match event {
             Event::Called(call) => self.begin(call, &text)?,
             Event::Returned(_, _) => self.end(&text)?,
-            _ => self.add_label(20, &text)?,
+            _ => self.add_label(self.inside(), &text)?,
         }
         self.row = self.row.saturating_add(1);
         Ok(())
@@ -97,16 +115,24 @@ impl Picture {
         let depth = (self.open.len() as u64).min(u64::from(DEEPEST)) as u32;
         let x = column(call.kind.callee()) + STEP * depth;
         self.open.push(Bar { x, row: self.row })?;
-        self.add_label(x + 14, text)
+        self.add_label(x + INDENT, text)
+    }
+
+    /// Where a text inside of the innermost open call stands.
+    fn inside(&self) -> u32 {
+        match self.open.last() {
+            Some(bar) => bar.x.saturating_add(INDENT),
+            None => LEFT,
+        }
     }
 
     fn end(&mut self, text: &[u8]) -> Result<(), LookError> {
         match self.open.pop() {
             Some(bar) => {
                 self.add_bar(bar)?;
-                self.add_label(bar.x.saturating_add(14), text)
+                self.add_label(bar.x.saturating_add(INDENT), text)
             }
-            None => self.add_label(20, text),
+            None => self.add_label(LEFT, text),
         }
     }
 
@@ -122,7 +148,7 @@ impl Picture {
             add(&mut note, "the first 1000 of ")?;
             add_dec(&mut note, self.calls)?;
             add(&mut note, " calls\n")?;
-            self.add_label(20, &note)?;
+            self.add_label(LEFT, &note)?;
             self.row = self.row.saturating_add(1);
         }
         Ok(())
@@ -131,42 +157,44 @@ impl Picture {
     /// A bar from its first row to this one.
     fn add_bar(&mut self, bar: Bar) -> Result<(), LookError> {
         let height = self.row.saturating_sub(bar.row).saturating_mul(ROW);
-        add(&mut self.body, "<rect")?;
-        self.add_number(" x=\"", bar.x)?;
-        self.add_number(" y=\"", height_of(bar.row))?;
-        self.add_number(" width=\"8\" height=\"", height.saturating_add(ROW - 2))?;
-        add(&mut self.body, "/>\n")?;
+        add(&mut self.bars, "<rect")?;
+        add_number(&mut self.bars, " x=\"", bar.x)?;
+        add_number(&mut self.bars, " y=\"", height_of(bar.row))?;
+        add_number(
+            &mut self.bars,
+            " width=\"8\" height=\"",
+            height.saturating_add(ROW - 2),
+        )?;
+        add(&mut self.bars, "/>\n")?;
         Ok(())
     }
 
     /// A text in this row, up to its line feed.
     fn add_label(&mut self, x: u32, text: &[u8]) -> Result<(), LookError> {
-        add(&mut self.body, "<text")?;
-        self.add_number(" x=\"", x)?;
-        self.add_number(" y=\"", height_of(self.row).saturating_add(12))?;
-        add(&mut self.body, ">")?;
+        add(&mut self.texts, "<text")?;
+        add_number(&mut self.texts, " x=\"", x)?;
+        add_number(
+            &mut self.texts,
+            " y=\"",
+            height_of(self.row).saturating_add(12),
+        )?;
+        add(&mut self.texts, ">")?;
         for byte in text {
             self.add_letter(*byte)?;
         }
-        add(&mut self.body, "</text>\n")?;
-        Ok(())
-    }
-
-    fn add_number(&mut self, front: &str, value: u32) -> Result<(), LookError> {
-        add(&mut self.body, front)?;
-        add_dec(&mut self.body, value)?;
-        add(&mut self.body, "\"")?;
+        add(&mut self.texts, "</text>\n")?;
+        self.right = self.right.max(end_of(x, text.len()));
         Ok(())
     }
 
     /// A byte of a text, as XML writes it.
     fn add_letter(&mut self, byte: u8) -> Result<(), LookError> {
         match byte {
-            b'&' => add(&mut self.body, "&amp;")?,
-            b'<' => add(&mut self.body, "&lt;")?,
-            b'>' => add(&mut self.body, "&gt;")?,
+            b'&' => add(&mut self.texts, "&amp;")?,
+            b'<' => add(&mut self.texts, "&lt;")?,
+            b'>' => add(&mut self.texts, "&gt;")?,
             0..=31 => {}
-            _ => self.body.push(byte)?,
+            _ => self.texts.push(byte)?,
         }
         Ok(())
     }
@@ -174,18 +202,18 @@ impl Picture {
     /// The front of the file, which has its size.
     fn head(&self) -> Result<Vec<u8>, LookError> {
         let mut text = Vec::new(self.alloc);
-        add(
+        add(&mut text, "<svg xmlns=\"http://www.w3.org/2000/svg\"")?;
+        add_number(&mut text, " width=\"", self.right)?;
+        add_number(
             &mut text,
-            "<svg xmlns=\"http://www.w3.org/2000/svg\" width=\"1400\" height=\"",
+            " height=\"",
+            height_of(self.row).saturating_add(TOP),
         )?;
-        add_dec(&mut text, height_of(self.row).saturating_add(TOP))?;
+        add(&mut text, " font-family=\"monospace\" font-size=\"12\">\n")?;
         add(
             &mut text,
-            "\" font-family=\"monospace\" font-size=\"12\">\n",
-        )?;
-        add(
-            &mut text,
-            "<style>rect { fill: #48c; stroke: #fff }</style>\n",
+            "<style>svg { background: #fff } rect { fill: #48c; stroke: #fff }\n\
+text { paint-order: stroke; stroke: #fff; stroke-width: 3px }</style>\n",
         )?;
         add(
             &mut text,
@@ -207,6 +235,20 @@ fn column(set: Isa) -> u32
         Isa::M68 => 20,
         Isa::Ppc => 720,
     }
+}
+
+/// Where a text ends that begins at `x`.
+fn end_of(x: u32, letters: usize) -> u32 {
+    let letters = u32::try_from(letters).unwrap_or(u32::MAX);
+    letters.saturating_mul(LETTER).saturating_add(x)
+}
+
+/// An attribute's number, behind its name.
+fn add_number(text: &mut Vec<u8>, front: &str, value: u32) -> Result<(), LookError> {
+    add(text, front)?;
+    add_dec(text, value)?;
+    add(text, "\"")?;
+    Ok(())
 }
 
 /// How far down a row begins.

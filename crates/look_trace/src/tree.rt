@@ -7,8 +7,8 @@ use std::alloc::Global;
 use std::io::{BufRead, Write};
 use trace_lines::Event;
 
-/// Writes a trace as an indented tree, and behind it how often each routine was called across, by whom. What came
-/// before a line that is refused is written.
+/// Writes a trace as an indented tree, and behind it how often each routine was called across, by whom, if one was.
+/// What came before a line that is refused is written.
 pub fn write_tree<R: BufRead + Drop, W: Write>(
     alloc: Global,
     trace: R,
@@ -23,8 +23,12 @@ pub fn write_tree<R: BufRead + Drop, W: Write>(
         };
         write_event(alloc, reading.text(), &event, names, &mut calls, out)?;
     }
+    let table = calls.table(alloc, names)?;
+    if table.is_empty() {
+        return Ok(());
+    }
     write(out, b"\ncalls across:\n")?;
-    write(out, &calls.table(alloc, names)?)
+    write(out, &table)
 }
 
 /// Writes the line of an event, and opens or ends its call.
