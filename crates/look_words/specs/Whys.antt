@@ -1,5 +1,5 @@
 -- What is true of the words where mixedrun refuses them for a reason.
-use Rattle.std.specs.Prelude.{ℕ, ◌≡◌, ◌≤◌, true, false, List, [], ◌∷◌, length, slice_index_or, IsOk, Err}
+use Rattle.std.specs.Prelude.{ℕ, ◌≡◌, ◌≤◌, true, false, List, [], length, slice_index_or, IsOk, Err}
 use Rattle.job_words.specs.Words.{bad_at, command_of}
 use Rattle.look_words.specs.Labels.{example}
 use Rattle.look_words.specs.Reasons.{is_refused}

@@ -7,10 +7,12 @@
 mod ask;
 mod label;
 mod look;
+mod program;
 mod sentence;
 mod why;
 
 pub use label::Label;
 pub use look::{Key, Look, Refusal, read_look};
+pub use program::run_words;
 pub use sentence::{refusal_text, why_text};
 pub use why::{Why, explain};

@@ -2,8 +2,9 @@
 ghost use Rattle.std.specs.Prelude.{◌≡◌, ◌+◌, ◌^◌, ◌<◌, length, map};
 ghost use Rattle.std.specs.Option.{ok_or};
 ghost use Rattle.std.specs.String.{string_bytes};
-ghost use Rattle.look_words.specs.Looks.{command_by, draft_of, is_given as is_given_in, key_for, key_text, keys_of, look_of, made, verb_for, with_file as draft_file, with_names as draft_names, with_value as draft_with, with_word, with_number as draft_word};
+ghost use Rattle.look_words.specs.Looks.{command_by, draft_of, is_given as is_given_in, key_for, key_text, keys_of, look_of, made, verb_for, with_file as draft_file, with_image as draft_image, with_names as draft_names, with_value as draft_with, with_word, with_number as draft_word};
 
+use super::program::{read_end, read_map};
 use mix_bits::read_hexadecimal;
 
 /// What the words ask for. A file is named by the place of its word.
@@ -17,6 +18,12 @@ pub enum Look {
     Picture(usize, Option<usize>),
     /// The raw resource fork in a file.
     Fork(usize),
+    /// Where the pieces of the program lie that the other words name.
+    Map,
+    /// The end of a run of the program that the other words name, with so many of its last steps.
+    End(u32),
+    /// The state of a machine that was kept.
+    Image(usize),
     /// Why mixedrun refuses the words behind the first one.
     Words,
 }
@@ -44,6 +51,8 @@ pub enum Key {
     Word,
     File,
     Names,
+    Image,
+    Last,
 }
 
 /// The command that the first word is.
@@ -53,6 +62,9 @@ pub enum Verb {
     ToTrace,
     ToPicture,
     ToFork,
+    ToMap,
+    ToEnd,
+    ToImage,
     ToWords,
 }
 
@@ -71,6 +83,8 @@ const TRACE: [Key; 2] = [Key::File, Key::Names];
 
 const FORK: [Key; 1] = [Key::File];
 
+const IMAGE: [Key; 1] = [Key::Image];
+
 const WORDS: [Key; 0] = [];
 
 /// Reads the words of a command line.
@@ -81,6 +95,8 @@ pub fn read_look(words: &[String]) -> Result<Look, Refusal>
         [] => Err(Refusal::Empty),
         [command, rest @ ..] => match verb_named(command.as_str()) {
             Some(Verb::ToWords) => Ok(Look::Words),
+            Some(Verb::ToMap) => read_map(1, rest),
+            Some(Verb::ToEnd) => read_end(1, rest, None),
             Some(verb) => read_command(verb, rest),
             None => Err(Refusal::Command),
         },
@@ -99,6 +115,12 @@ fn verb_named(word: &str) -> Option<Verb>
         Some(Verb::ToPicture)
     } else if word == "fork" {
         Some(Verb::ToFork)
+    } else if word == "map" {
+        Some(Verb::ToMap)
+    } else if word == "end" {
+        Some(Verb::ToEnd)
+    } else if word == "image" {
+        Some(Verb::ToImage)
     } else if word == "words" {
         Some(Verb::ToWords)
     } else {
@@ -156,6 +178,9 @@ fn keys(verb: Verb) -> &'static [Key]
         Verb::ToTrace => &TRACE,
         Verb::ToPicture => &TRACE,
         Verb::ToFork => &FORK,
+        Verb::ToImage => &IMAGE,
+        Verb::ToMap => &WORDS,
+        Verb::ToEnd => &WORDS,
         Verb::ToWords => &WORDS,
     }
 }
@@ -181,6 +206,8 @@ impl Key {
             Key::Word => "word",
             Key::File => "file",
             Key::Names => "names",
+            Key::Image => "image",
+            Key::Last => "last",
         }
     }
 }
@@ -196,6 +223,8 @@ fn set(draft: Draft, place: usize, key: Key, value: &str) -> Result<Draft, Refus
         Key::Word => set_word(draft, place, value),
         Key::File => set_file(draft, place, value),
         Key::Names => set_names(draft, place, value),
+        Key::Image => set_image(draft, place, value),
+        Key::Last => Err(Refusal::Unknown(place)),
     }
 }
 
@@ -206,6 +235,8 @@ fn is_given(draft: &Draft, key: Key) -> bool
         Key::Word => draft.word.is_some(),
         Key::File => draft.file.is_some(),
         Key::Names => draft.names.is_some(),
+        Key::Image => draft.file.is_some(),
+        Key::Last => false,
     }
 }
 
@@ -241,6 +272,16 @@ fn set_names(mut draft: Draft, place: usize, value: &str) -> Result<Draft, Refus
     Ok(draft)
 }
 
+fn set_image(mut draft: Draft, place: usize, value: &str) -> Result<Draft, Refusal>
+    ensures { result ≡ draft_image draft place value.now }
+{
+    if value.is_empty() {
+        return Err(Refusal::Value(place, Key::Image));
+    }
+    draft.file = Some(place);
+    Ok(draft)
+}
+
 /// The command of a draft.
 fn make(verb: Verb, draft: Draft) -> Result<Look, Refusal>
     ensures { result ≡ made verb draft }
@@ -253,6 +294,9 @@ fn make(verb: Verb, draft: Draft) -> Result<Look, Refusal>
         Verb::ToTrace => Ok(Look::Trace(needed(draft.file, Key::File)?, draft.names)),
         Verb::ToPicture => Ok(Look::Picture(needed(draft.file, Key::File)?, draft.names)),
         Verb::ToFork => Ok(Look::Fork(needed(draft.file, Key::File)?)),
+        Verb::ToImage => Ok(Look::Image(needed(draft.file, Key::Image)?)),
+        Verb::ToMap => Ok(Look::Map),
+        Verb::ToEnd => Ok(Look::End(16)),
         Verb::ToWords => Ok(Look::Words),
     }
 }

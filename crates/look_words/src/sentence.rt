@@ -40,6 +40,8 @@ fn key_wants(key: Key) -> &'static str {
         Key::Word => "eight upper-case hexadecimal digits",
         Key::File => "the name of a file",
         Key::Names => "the name of a file with the output of nm",
+        Key::Image => "the name of a file that mixedrun kept",
+        Key::Last => "a number from 0 to 1000, in decimal without a leading zero",
     }
 }
 

@@ -2,6 +2,9 @@
 //! refusals on standard error.
 #![tactic(auto)]
 
+mod machine;
+mod program;
+mod refused;
 mod status;
 mod tell;
 
@@ -11,6 +14,7 @@ use fork_wrap::find_fork;
 use look_text::info_text;
 use look_trace::{LookError, Names, write_picture, write_tree};
 use look_words::{Look, Refusal, explain, read_look, refusal_text, why_text};
+use machine::{end, image, map};
 use mix_bits::NoMemory;
 use status::{BAD_WORDS, NO_FILE, NO_MEMORY, OUTPUT_FAILED, REFUSED, SUCCESS};
 use std::alloc::Global;
@@ -24,18 +28,28 @@ use tell::{fetch, name_at, print, say, tell, unfound};
 const HELP: &str = "\
 mixedlook explains programs that mix 68K and PowerPC code, and their traces.
 
-usage: mixedlook info word=HHHHHHHH
+usage: mixedlook map FILES [main=68k|ppc] [ram=KIB]
+       mixedlook end FILES [main=68k|ppc] [ram=KIB] [steps=N] [last=K]
+       mixedlook image image=IMAGE
+       mixedlook info word=HHHHHHHH
        mixedlook trace file=TRACE [names=NAMES]
        mixedlook picture file=TRACE [names=NAMES]
        mixedlook fork file=FILE
        mixedlook words WORD..
 
-info says what a procInfo word declares, and where 68K code and PowerPC code
-have each value; trace writes a trace as an indented tree and counts the calls
-across; picture writes it as an SVG file; fork writes the raw resource fork of
-a MacBinary, AppleSingle or AppleDouble file; words says why mixedrun refuses
-these words.
+FILES is flat=FILE, rsrc=FILE, pef=FILE, or rsrc=FILE pef=FILE, as mixedrun's.
 
+map says where the pieces of a program lie once it is loaded, or why it is not;
+end runs a program as mixedrun does, and writes behind its trace how it ended,
+its last steps, the registers, the suspended callers, the stack and the heap;
+image writes the same of a machine that was kept; info says what a procInfo
+word declares, and where 68K code and PowerPC code have each value; trace
+writes a trace as an indented tree and counts the calls across; picture writes
+it as an SVG file; fork writes the raw resource fork of a MacBinary,
+AppleSingle or AppleDouble file; words says why mixedrun refuses these words.
+
+  last=K         how many of the last steps are told, 0 to 1000 (default 16)
+  image=IMAGE    a machine that mixedrun kept
   word=HHHHHHHH  a procInfo word, eight upper-case hexadecimal digits
   file=TRACE     the trace of a run of mixedrun
   names=NAMES    the output of nm, by which routines are named
@@ -44,7 +58,8 @@ these words.
 Status:
   0  done                              2  bad words
   3  a line or a file was refused      4  a file was not read
-  6  the output failed                 9  there was no memory
+  5  the input failed                  6  the output failed
+  7  the trace failed                  9  there was no memory
 ";
 
 /// How long a file with a fork is at most, as a fork of mixedrun.
@@ -88,7 +103,18 @@ fn answer(rt: &HostRuntime, words: &[String]) -> u8 {
         Ok(Look::Picture(file, names)) => told(rt, words, picture(rt, words, file, names)),
         Ok(Look::Fork(file)) => fork(rt, name_at(words, file)),
         Ok(Look::Words) => why(rt, words),
+        Ok(Look::Map) => either(map(rt, words)),
+        Ok(Look::End(last)) => either(end(rt, words, last)),
+        Ok(Look::Image(file)) => either(image(rt, name_at(words, file))),
         Err(refusal) => refuse(rt, words, refusal),
+    }
+}
+
+/// The status, whichever way a command came to it.
+fn either(done: Result<u8, u8>) -> u8 {
+    match done {
+        Ok(status) => status,
+        Err(status) => status,
     }
 }
 

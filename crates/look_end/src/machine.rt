@@ -1,0 +1,79 @@
+// All that is told of a machine.
+ghost use Rattle.switch_frame.specs.Records.{isa_of};
+ghost use Rattle.mixed_machine.specs.Machine.{IsWhole};
+
+use crate::frames::add_frames;
+use crate::memory::{add_heap, add_stack};
+use crate::registers::add_registers;
+use crate::steps::{add_step, add_steps};
+use call_trace::fault_name;
+use look_run::{Ending, Step, step_at};
+use look_text::{Piece, add_line};
+use mix_bits::{Fault, NoMemory};
+use mix_engine::{Machine, Stop};
+use std::alloc::Global;
+
+/// How a run ended, if there was one, its last steps, and the machine as it is: the code at pc, the registers, the
+/// suspended callers from the innermost outward, the bytes around the stack pointer, and the heap.
+pub fn report(
+    alloc: Global,
+    machine: &Machine,
+    ending: Option<Ending>,
+    steps: &[Step],
+) -> Result<Vec<u8>, NoMemory>
+    requires { IsWhole machine.now.body (isa_of machine.now.active) }
+{
+    let mut text = Vec::new(alloc);
+    if let Some(ending) = ending {
+        add_ending(&mut text, ending)?;
+        add_steps(&mut text, steps, ending.done)?;
+    }
+    add_line(&mut text, &[Piece::Text("next: ")])?;
+    add_step(&mut text, &step_at(machine))?;
+    add_registers(&mut text, &machine.active)?;
+    add_frames(alloc, &mut text, &machine.body.ram, machine.body.top, 1)?;
+    add_stack(&mut text, &machine.body.ram, machine.active.sp())?;
+    add_heap(&mut text, &machine.body.heap)?;
+    Ok(text)
+}
+
+/// Appends how a run ended, and after how many steps.
+fn add_ending(text: &mut Vec<u8>, ending: Ending) -> Result<(), NoMemory> {
+    add_line(text, &[Piece::Text("end: ")])?;
+    add_stop(text, ending.stop)?;
+    add_line(
+        text,
+        &[
+            Piece::Text(", steps "),
+            Piece::Number(ending.done),
+            Piece::Text("\n"),
+        ],
+    )
+}
+
+fn add_stop(text: &mut Vec<u8>, stop: Stop) -> Result<(), NoMemory> {
+    match stop {
+        Stop::Exit(code) => add_line(text, &[Piece::Text("exit "), Piece::Number(code)]),
+        Stop::Fault(fault) => add_fault(text, fault),
+        Stop::Limit => add_line(text, &[Piece::Text("the step limit")]),
+        Stop::ReadFault => add_line(text, &[Piece::Text("the input failed")]),
+        Stop::OutFault => add_line(text, &[Piece::Text("the output failed")]),
+        Stop::TraceFault => add_line(text, &[Piece::Text("the trace failed")]),
+    }
+}
+
+fn add_fault(text: &mut Vec<u8>, fault: Fault) -> Result<(), NoMemory> {
+    add_line(
+        text,
+        &[
+            Piece::Text("fault "),
+            Piece::Text(fault_name(fault.kind)),
+            Piece::Text(" at "),
+            Piece::Long(fault.pc),
+            Piece::Text(", told "),
+            Piece::Long(fault.detail),
+            Piece::Text(" "),
+            Piece::Long(fault.also),
+        ],
+    )
+}

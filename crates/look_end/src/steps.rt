@@ -1,0 +1,101 @@
+// Steps as text.
+ghost use Rattle.std.specs.Prelude.{◌≡◌, ◌≢◌, [], IsTrue};
+ghost use Rattle.m68_isa.specs.declared.instructions.Decoded68.TheVariants.{Short as is_short};
+
+use big_memory::{host_code, in_gate_page};
+use look_run::Step;
+use look_text::{Piece, add_line};
+use m68_isa::{Decoded68, decode68};
+use m68_text::text68;
+use mix_bits::{Isa, Line, NoMemory};
+use ppc_text::text_ppc;
+
+/// Appends `NUMBER SET ADDRESS: TEXT` for each of the last steps, the last of which has the number `last`.
+pub fn add_steps(text: &mut Vec<u8>, steps: &[Step], last: u32) -> Result<(), NoMemory> {
+    for (i, step) in steps.iter().enumerate() {
+        let behind = steps.len() - i - 1;
+        let number = last.saturating_sub(behind.min(1_000_000) as u32);
+        add_line(
+            text,
+            &[
+                Piece::Text("step "),
+                Piece::Number(number),
+                Piece::Text(": "),
+            ],
+        )?;
+        add_step(text, step)?;
+    }
+    Ok(())
+}
+
+/// Appends the set, the address and the text of a step.
+pub fn add_step(text: &mut Vec<u8>, step: &Step) -> Result<(), NoMemory> {
+    let set = match step.set {
+        Isa::M68 => "68k ",
+        Isa::Ppc => "ppc ",
+    };
+    add_line(
+        text,
+        &[Piece::Text(set), Piece::Long(step.at), Piece::Text(": ")],
+    )?;
+    if in_gate_page(step.at) {
+        add_gate(text, step.at)
+    } else {
+        add_instruction(text, step)
+    }
+}
+
+/// Appends what the gate page has at an address.
+fn add_gate(text: &mut Vec<u8>, at: u32) -> Result<(), NoMemory> {
+    match host_code(at) {
+        Some(k) => add_line(
+            text,
+            &[
+                Piece::Text("host function "),
+                Piece::Number(k),
+                Piece::Text("\n"),
+            ],
+        ),
+        None => add_line(text, &[Piece::Text("the gate page\n")]),
+    }
+}
+
+fn add_instruction(text: &mut Vec<u8>, step: &Step) -> Result<(), NoMemory> {
+    let mut line = Line::new();
+    match step.set {
+        Isa::M68 => write_m68(&mut line, step.words.as_slice(), step.at),
+        Isa::Ppc => write_ppc(&mut line, step.words.as_slice(), step.at),
+    }
+    add_line(text, &[Piece::Bytes(line.bytes()), Piece::Text("\n")])
+}
+
+/// Writes the text of the words of 68K code.
+fn write_m68(line: &mut Line, words: &[u16], at: u32)
+    requires { line.old ≡ [] }
+{
+    let decoded = decode68(words);
+    if is_whole(&decoded) {
+        text68(&decoded, words, at, line);
+    } else {
+        line.add("it does not lie in RAM");
+    }
+}
+
+fn is_whole(decoded: &Decoded68) -> bool
+    ensures { IsTrue result → decoded.now ≢ is_short }
+{
+    match decoded {
+        Decoded68::Short => false,
+        _ => true,
+    }
+}
+
+/// Writes the text of the word of PowerPC code.
+fn write_ppc(line: &mut Line, words: &[u16], at: u32)
+    requires { line.old ≡ [] }
+{
+    match words {
+        [high, low, ..] => text_ppc(u32::from(*high) * 65536 + u32::from(*low), at, line),
+        _ => line.add("it does not lie in RAM"),
+    }
+}

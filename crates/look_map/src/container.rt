@@ -1,0 +1,125 @@
+// A container: its sections and its imports.
+ghost use Rattle.std.specs.Prelude.{◌≡◌, ℕ, ◌^◌, ◌<◌, ◌≤◌, ◌++◌, IfSome, OnOk, length, slice_index};
+ghost use Rattle.pef_head.specs.Parts.{cut, import_count, import_of, library_of, names};
+ghost use Rattle.look_map.specs.Containers.{container_text, host_line, host_text, import_front, import_line, imports_text, parts_text};
+
+use crate::sections::add_sections;
+use big_memory::host_vector;
+use look_text::{Piece, add_line};
+use mix_bits::NoMemory;
+use pef_head::{Import, Pef};
+use std::alloc::Global;
+use toolbox::import_index;
+
+/// How many bytes of a name are told.
+const NAME_BYTES: usize = 255;
+
+/// Appends the lines of the container in a file's bytes, whose sections begin behind `start`.
+#[tactic(auto, using(crate::proofs::Appends::none))]
+pub fn add_container(
+    alloc: Global,
+    text: &mut Vec<u8>,
+    bytes: &[u8],
+    start: u64,
+) -> Result<(), NoMemory>
+    requires small { length bytes.now ≤ 2 ^ 24 }
+    requires near { start ≤ 2 ^ 43 }
+    ensures { OnOk result (text.new.items ≡ text.old.items ++ container_text bytes.now start) }
+{
+    match Pef::read(bytes) {
+        Ok(pef) => add_parts(alloc, text, &pef, start),
+        Err(_) => Ok(()),
+    }
+}
+
+#[tactic(auto, using(crate::proofs::Appends::two))]
+fn add_parts(alloc: Global, text: &mut Vec<u8>, pef: &Pef, start: u64) -> Result<(), NoMemory>
+    requires { start ≤ 2 ^ 43 }
+    ensures { OnOk result (text.new.items ≡ text.old.items ++ parts_text pef.now start) }
+{
+    add_sections(text, pef, start, pef.sections())?;
+    let owners = pef.owners(alloc)?;
+    add_imports(text, pef, &owners, pef.imports())
+}
+
+/// Appends the lines of the first imports, by the numbers of their libraries.
+#[tactic(auto, using(crate::proofs::Appends::two))]
+fn add_imports(text: &mut Vec<u8>, pef: &Pef, owners: &[u32], count: u32) -> Result<(), NoMemory>
+    requires below { count ≤ import_count pef.now }
+    requires owners { (i : ℕ) → i < import_count pef.now → slice_index owners.now i ≡ library_of pef.now i }
+    requires len { length owners.now ≡ import_count pef.now }
+    ensures { OnOk result (text.new.items ≡ text.old.items ++ imports_text pef.now count) }
+{
+    for i in 0..count {
+        add_import(
+            text,
+            i,
+            pef.import_within(i, owners[i as usize], NAME_BYTES),
+        )?;
+    }
+    Ok(())
+}
+
+/// Appends the line of an import.
+#[tactic(auto, using(crate::proofs::Appends::two), unfolding(crate::specs::Containers::import_line))]
+fn add_import(text: &mut Vec<u8>, i: u32, import: Import) -> Result<(), NoMemory>
+    ensures { OnOk result (text.new.items ≡ text.old.items ++ import_line i (names import.entry)) }
+{
+    add_names(text, i, import)?;
+    add_host(text, import.weak, import_index(import.library, import.name))
+}
+
+fn add_names(text: &mut Vec<u8>, i: u32, import: Import) -> Result<(), NoMemory>
+    ensures { OnOk result (text.new.items ≡ text.old.items ++ import_front i (names import.entry)) }
+{
+    add_line(
+        text,
+        &[
+            Piece::Text("import "),
+            Piece::Number(i),
+            Piece::Text(": "),
+            Piece::Bytes(import.library),
+            Piece::Text(" "),
+            Piece::Bytes(import.name),
+        ],
+    )
+}
+
+/// Appends what the host has for an import.
+fn add_host(text: &mut Vec<u8>, weak: bool, index: Option<u32>) -> Result<(), NoMemory>
+    requires { IfSome index (λ k. k < 15) }
+    ensures { OnOk result (text.new.items ≡ text.old.items ++ host_text index weak) }
+{
+    match index {
+        Some(k) => add_function(text, k, host_vector(k)),
+        None => add_missing(text, weak),
+    }
+}
+
+fn add_function(text: &mut Vec<u8>, k: u32, vector: u32) -> Result<(), NoMemory>
+    ensures { OnOk result (text.new.items ≡ text.old.items ++ host_line k vector) }
+{
+    add_line(
+        text,
+        &[
+            Piece::Text(", host function "),
+            Piece::Number(k),
+            Piece::Text(" at "),
+            Piece::Long(vector),
+            Piece::Text("\n"),
+        ],
+    )
+}
+
+fn add_missing(text: &mut Vec<u8>, weak: bool) -> Result<(), NoMemory>
+    ensures { OnOk result (text.new.items ≡ text.old.items ++ host_text None weak) }
+{
+    if weak {
+        add_line(
+            text,
+            &[Piece::Text(", not in the library, and may be missing\n")],
+        )
+    } else {
+        add_line(text, &[Piece::Text(", not in the library\n")])
+    }
+}

@@ -1,0 +1,186 @@
+// The CODEs of a fork.
+ghost use Rattle.std.specs.Prelude.{◌≡◌, ◌≢◌, ◌+◌, ◌^◌, ◌<◌, ◌≤◌, ◌++◌, IfOk, OnOk, IsTrue, true, length, option_map};
+ghost use Rattle.rsrc_fork.specs.References.{resources_of};
+ghost use Rattle.rsrc_fork.specs.declared.error.RsrcError.TheVariants.{NoMemory as NoForkMemory};
+ghost use Rattle.switch_frame.specs.Program.{program_start};
+ghost use Rattle.mix_load.specs.Segments.{HasTable, entry_count, has_table as has_table_by, header_of, segments_end, segments_start as start_in};
+ghost use Rattle.look_map.specs.Forks.{a5_line, codes_by, codes_end, fork_end, fork_text, segments_text, table_line, table_text, world_text};
+
+use crate::entries::{a5_of, add_entries};
+use crate::segments::{add_segments, code_at};
+use file_fields::long_at;
+use look_text::{Piece, add_line};
+use mix_bits::{NoMemory, round_up};
+use rsrc_fork::{Fork, RsrcError};
+use std::alloc::Global;
+
+/// Where a program begins.
+pub const PROGRAM_START: u64 = 0x1_0000;
+
+/// Appends the lines of the fork in a file's bytes, with the CODEs below a count of ids, and says where they end.
+#[tactic(auto, using(crate::proofs::Refused::refused_text, crate::proofs::Refused::refused_end))]
+pub fn add_fork(alloc: Global, text: &mut Vec<u8>, bytes: &[u8], ids: u16) -> Result<u64, NoMemory>
+    requires small { length bytes.now ≤ 2 ^ 24 }
+    requires few { 0 < ids }
+    ensures text { IfOk result (λ _. text.new.items ≡ text.old.items ++ fork_text ids (resources_of bytes.now)) }
+    ensures end { IfOk result (λ end. end ≡ fork_end ids (resources_of bytes.now)) }
+    ensures near { IfOk result (λ end. end ≤ 2 ^ 42) }
+{
+    match Fork::read(alloc, bytes) {
+        Ok(fork) => add_codes(alloc, text, &fork, ids),
+        Err(e) => end_without(e),
+    }
+}
+
+/// Where a program ends that is nothing but a fork that was refused, unless there was no memory.
+fn end_without(e: RsrcError) -> Result<u64, NoMemory>
+    ensures end { IfOk result (λ end. end ≡ program_start) }
+    ensures why { OnOk result (e ≢ NoForkMemory) }
+{
+    match e {
+        RsrcError::NoMemory => Err(NoMemory),
+        _ => Ok(PROGRAM_START),
+    }
+}
+
+/// Appends the lines of the CODEs.
+fn add_codes(alloc: Global, text: &mut Vec<u8>, fork: &Fork, ids: u16) -> Result<u64, NoMemory>
+    ensures text { IfOk result (λ _. text.new.items ≡ text.old.items ++ fork_text ids (Ok fork.now)) }
+    ensures end { IfOk result (λ end. end ≡ fork_end ids (Ok fork.now)) }
+    ensures near { IfOk result (λ end. end ≤ 2 ^ 42) }
+{
+    match code_at(fork, 0) {
+        Some(code0) => add_all(alloc, text, fork, code0, ids),
+        None => add_bare(alloc, text, fork, ids),
+    }
+}
+
+/// Appends the lines of the CODEs, with a CODE 0 that may lack its longs.
+fn add_all(
+    alloc: Global,
+    text: &mut Vec<u8>,
+    fork: &Fork,
+    code0: &[u8],
+    ids: u16,
+) -> Result<u64, NoMemory>
+    requires { length code0.now ≤ 2 ^ 24 }
+    ensures text { IfOk result (λ _. text.new.items ≡ text.old.items ++ codes_by ids fork.now (Some code0.now)) }
+    ensures end { IfOk result (λ end. end ≡ codes_end ids fork.now (Some code0.now)) }
+    ensures near { IfOk result (λ end. end ≤ 2 ^ 42) }
+{
+    if code0.len() < 16 {
+        add_bare(alloc, text, fork, ids)
+    } else {
+        add_world(alloc, text, fork, code0, ids)
+    }
+}
+
+/// Appends the lines of the segments alone.
+fn add_bare(alloc: Global, text: &mut Vec<u8>, fork: &Fork, ids: u16) -> Result<u64, NoMemory>
+    ensures text { IfOk result (λ _. text.new.items ≡ text.old.items ++ segments_text fork.now program_start ids) }
+    ensures end { IfOk result (λ end. end ≡ segments_end fork.now program_start ids) }
+    ensures near { IfOk result (λ end. end ≤ 2 ^ 42) }
+{
+    Ok(add_segments(text, fork, Vec::new(alloc), PROGRAM_START, ids)?.end)
+}
+
+/// Appends the lines of the world of A5, and of the segments.
+#[tactic(auto, using(crate::proofs::Appends::three))]
+fn add_world(
+    alloc: Global,
+    text: &mut Vec<u8>,
+    fork: &Fork,
+    code0: &[u8],
+    ids: u16,
+) -> Result<u64, NoMemory>
+    requires longs { 16 ≤ length code0.now }
+    requires small { length code0.now ≤ 2 ^ 24 }
+    ensures text { IfOk result (λ _. text.new.items ≡ text.old.items ++ world_text ids fork.now code0.now) }
+    ensures end { IfOk result (λ end. end ≡ segments_end fork.now (start_in (header_of code0.now)) ids) }
+    ensures near { IfOk result (λ end. end ≤ 2 ^ 42) }
+{
+    add_a5(text, a5_of(code0))?;
+    let segments = add_segments(text, fork, Vec::new(alloc), segments_start(code0), ids)?;
+    add_table(text, fork, code0, &segments.places)?;
+    Ok(segments.end)
+}
+
+fn add_a5(text: &mut Vec<u8>, a5: u64) -> Result<(), NoMemory>
+    ensures { OnOk result (text.new.items ≡ text.old.items ++ a5_line a5) }
+{
+    add_line(
+        text,
+        &[Piece::Text("A5: "), Piece::Address(a5), Piece::Text("\n")],
+    )
+}
+
+/// Where the segments begin.
+fn segments_start(code0: &[u8]) -> u64
+    requires { 16 ≤ length code0.now }
+    ensures is { result ≡ start_in (header_of code0.now) }
+    ensures few { result ≤ 2 ^ 34 }
+{
+    a5_of(code0) + round_up(u64::from(long_at(code0, 0)), 16)
+}
+
+/// Appends the lines of the jump table, if there is one.
+#[tactic(auto, using(crate::proofs::Appends::none))]
+fn add_table(text: &mut Vec<u8>, fork: &Fork, code0: &[u8], places: &[u64]) -> Result<(), NoMemory>
+    requires longs { 16 ≤ length code0.now }
+    requires small { length code0.now ≤ 2 ^ 24 }
+    ensures { OnOk result (text.new.items ≡ text.old.items ++ table_text fork.now places.now code0.now (has_table_by code0.now)) }
+{
+    if has_table(code0) {
+        add_whole_table(text, fork, code0, places)
+    } else {
+        Ok(())
+    }
+}
+
+/// Appends the lines of a jump table that there is.
+#[tactic(auto, using(crate::proofs::Appends::two))]
+fn add_whole_table(
+    text: &mut Vec<u8>,
+    fork: &Fork,
+    code0: &[u8],
+    places: &[u64],
+) -> Result<(), NoMemory>
+    requires table { HasTable code0.now }
+    requires room { (header_of code0.now).table_offset + (header_of code0.now).table_len < 2 ^ 32 }
+    requires small { length code0.now ≤ 2 ^ 24 }
+    ensures { OnOk result (text.new.items ≡ text.old.items ++ table_text fork.now places.now code0.now true) }
+{
+    let count = long_at(code0, 8) / 8;
+    add_table_line(text, a5_of(code0) + u64::from(long_at(code0, 12)), count)?;
+    add_entries(text, fork, code0, places, count)
+}
+
+fn add_table_line(text: &mut Vec<u8>, at: u64, count: u32) -> Result<(), NoMemory>
+    ensures { OnOk result (text.new.items ≡ text.old.items ++ table_line at count) }
+{
+    add_line(
+        text,
+        &[
+            Piece::Text("jump table: at "),
+            Piece::Address(at),
+            Piece::Text(", "),
+            Piece::Number(count),
+            Piece::Text(" entries\n"),
+        ],
+    )
+}
+
+/// Whether CODE 0 has a table that lies in the world above A5.
+fn has_table(code0: &[u8]) -> bool
+    requires longs { 16 ≤ length code0.now }
+    requires small { length code0.now ≤ 2 ^ 24 }
+    ensures is { result ≡ has_table_by code0.now }
+    ensures facts { IsTrue result → HasTable code0.now }
+    ensures room { IsTrue result → (header_of code0.now).table_offset + (header_of code0.now).table_len < 2 ^ 32 }
+{
+    let (above, len, offset) = (long_at(code0, 0), long_at(code0, 8), long_at(code0, 12));
+    0 < len
+        && len % 8 == 0
+        && 16 + len as u64 <= code0.len() as u64
+        && offset as u64 + len as u64 <= above as u64
+}

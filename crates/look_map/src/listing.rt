@@ -1,0 +1,104 @@
+// What could be read of the files of a program.
+ghost use Rattle.std.specs.Prelude.{◌≡◌, ◌*◌, ◌^◌, ◌<◌, ◌≤◌, ◌++◌, IfOk, OnOk, length};
+ghost use Rattle.mix_load.specs.Load.{AreLoadable, IsSmall};
+ghost use Rattle.look_map.specs.Maps.{container_file_text, files_text, flat_line, flat_text, fork_file_end, fork_file_text, ram_line};
+
+use crate::container::add_container;
+use crate::fork::{PROGRAM_START, add_fork};
+use look_text::{Piece, add_line};
+use mix_bits::NoMemory;
+use mix_load::{FileBytes, Files};
+use std::alloc::Global;
+
+/// The lines of files, with the CODEs below a count of ids, in `len` bytes of RAM.
+#[tactic(auto, using(crate::proofs::Appends::three))]
+pub fn listing(alloc: Global, files: &Files, len: u32, ids: u16) -> Result<Vec<u8>, NoMemory>
+    requires flat { IsSmall files.now.flat }
+    requires rsrc { IsSmall files.now.rsrc }
+    requires pef { IsSmall files.now.pef }
+    requires few { 0 < ids }
+    ensures { IfOk result (λ text. text.items ≡ files_text ids len files.now) }
+{
+    let mut text = Vec::new(alloc);
+    add_ram(&mut text, len)?;
+    add_flat(&mut text, &files.flat)?;
+    let end = add_fork_file(alloc, &mut text, &files.rsrc, ids)?;
+    add_container_file(alloc, &mut text, &files.pef, end)?;
+    Ok(text)
+}
+
+fn add_ram(text: &mut Vec<u8>, len: u32) -> Result<(), NoMemory>
+    ensures { OnOk result (text.new.items ≡ text.old.items ++ ram_line len) }
+{
+    add_line(
+        text,
+        &[
+            Piece::Text("RAM: "),
+            Piece::Number(len),
+            Piece::Text(" bytes\n"),
+        ],
+    )
+}
+
+/// Appends the line of a flat file, if there is one.
+#[tactic(auto, using(crate::proofs::Appends::none))]
+fn add_flat(text: &mut Vec<u8>, file: &Option<FileBytes>) -> Result<(), NoMemory>
+    requires { IsSmall file.now }
+    ensures { OnOk result (text.new.items ≡ text.old.items ++ flat_text file.now) }
+{
+    match file {
+        Some(file) => add_flat_line(text, file.bytes().len() as u32),
+        None => Ok(()),
+    }
+}
+
+fn add_flat_line(text: &mut Vec<u8>, size: u32) -> Result<(), NoMemory>
+    ensures { OnOk result (text.new.items ≡ text.old.items ++ flat_line size) }
+{
+    add_line(
+        text,
+        &[
+            Piece::Text("flat file: at 00010000, "),
+            Piece::Number(size),
+            Piece::Text(" bytes\n"),
+        ],
+    )
+}
+
+/// Appends the lines of a fork's file, if there is one, and says where its CODEs end.
+#[tactic(auto, using(crate::proofs::Appends::none))]
+fn add_fork_file(
+    alloc: Global,
+    text: &mut Vec<u8>,
+    file: &Option<FileBytes>,
+    ids: u16,
+) -> Result<u64, NoMemory>
+    requires small { IsSmall file.now }
+    requires few { 0 < ids }
+    ensures text { IfOk result (λ _. text.new.items ≡ text.old.items ++ fork_file_text ids file.now) }
+    ensures end { IfOk result (λ end. end ≡ fork_file_end ids file.now) }
+    ensures near { IfOk result (λ end. end ≤ 2 ^ 42) }
+{
+    match file {
+        Some(file) => add_fork(alloc, text, file.bytes(), ids),
+        None => Ok(PROGRAM_START),
+    }
+}
+
+/// Appends the lines of a container's file, if there is one.
+#[tactic(auto, using(crate::proofs::Appends::none))]
+fn add_container_file(
+    alloc: Global,
+    text: &mut Vec<u8>,
+    file: &Option<FileBytes>,
+    start: u64,
+) -> Result<(), NoMemory>
+    requires small { IsSmall file.now }
+    requires near { start ≤ 2 ^ 43 }
+    ensures { OnOk result (text.new.items ≡ text.old.items ++ container_file_text start file.now) }
+{
+    match file {
+        Some(file) => add_container(alloc, text, file.bytes(), start),
+        None => Ok(()),
+    }
+}

@@ -1,0 +1,100 @@
+// The segments of a fork: its CODEs above 0.
+ghost use Rattle.std.specs.Prelude.{◌≡◌, ◌+◌, ◌^◌, ◌<◌, ◌≤◌, ◌++◌, [], IfOk, IfSome, OnOk, length, option_map};
+ghost use Rattle.mix_bits.specs.Multiples.{rounded_up};
+ghost use Rattle.mix_load.specs.Segments.{code_at as code_of, segment_at as segment_of, segment_places, segments_end, with_segment};
+ghost use Rattle.look_map.specs.Forks.{code_line, segment_line, segments_text};
+
+use look_text::{Piece, add_line};
+use mix_bits::{NoMemory, round_up};
+use rsrc_fork::Fork;
+
+/// 'CODE'.
+const CODE: u32 = 0x434F_4445;
+
+/// Where the segments stand, by their ids, and where they end.
+#[derive(Drop)]
+pub struct Segments {
+    pub places: Vec<u64>,
+    pub end: u64,
+}
+
+/// The CODE with this id.
+pub fn code_at<'a>(fork: &Fork<'a>, id: u16) -> Option<&'a [u8]>
+    requires { id < 32768 }
+    ensures is { option_map (λ code. code.now) result ≡ code_of fork.now id }
+    ensures small { IfSome result (λ code. length code.now ≤ 2 ^ 24) }
+{
+    fork.get(CODE, id as i16)
+}
+
+/// The segment with this number, a word that is read as a signed id.
+pub fn segment_at<'a>(fork: &Fork<'a>, id: u16) -> Option<&'a [u8]>
+    ensures is { option_map (λ code. code.now) result ≡ segment_of fork.now id }
+    ensures small { IfSome result (λ code. length code.now ≤ 2 ^ 24) }
+{
+    if id == 0 || 32768 <= id {
+        return None;
+    }
+    code_at(fork, id)
+}
+
+/// Appends the lines of the segments below a count of ids, which begin behind `start`, and says where they stand.
+pub fn add_segments(
+    text: &mut Vec<u8>,
+    fork: &Fork,
+    mut places: Vec<u64>,
+    start: u64,
+    ids: u16,
+) -> Result<Segments, NoMemory>
+    requires start { start ≤ 2 ^ 34 }
+    requires empty { places.items ≡ [] }
+    ensures text { IfOk result (λ _. text.new.items ≡ text.old.items ++ segments_text fork.now start ids) }
+    ensures places { IfOk result (λ s. s.places.items ≡ segment_places fork.now start ids) }
+    ensures end { IfOk result (λ s. s.end ≡ segments_end fork.now start ids) }
+    ensures few { IfOk result (λ s. s.end ≤ 2 ^ 42) }
+{
+    let mut end = start;
+    for id in 0..ids {
+        places.push(round_up(end, 16))?;
+        end = add_segment(text, id, end, segment_at(fork, id))?;
+    }
+    Ok(Segments { places, end })
+}
+
+/// Appends the line of a segment, if there is one, behind an end, and gives the end behind it.
+fn add_segment(
+    text: &mut Vec<u8>,
+    id: u16,
+    end: u64,
+    segment: Option<&[u8]>,
+) -> Result<u64, NoMemory>
+    requires near { end ≤ 2 ^ 50 }
+    requires small { IfSome segment (λ code. length code.now ≤ 2 ^ 24) }
+    ensures text { IfOk result (λ _. text.new.items ≡ text.old.items ++ segment_line id (rounded_up 16 end) (option_map (λ code. code.now) segment.entry)) }
+    ensures end { IfOk result (λ next. next ≡ with_segment end (option_map (λ code. code.now) segment.entry)) }
+    ensures near { IfOk result (λ next. next ≤ end + 2 ^ 25) }
+{
+    let Some(code) = segment else {
+        return Ok(end);
+    };
+    let place = round_up(end, 16);
+    add_place(text, id, place, code.len() as u32)?;
+    Ok(place + code.len() as u64)
+}
+
+fn add_place(text: &mut Vec<u8>, id: u16, place: u64, size: u32) -> Result<(), NoMemory>
+    ensures { OnOk result (text.new.items ≡ text.old.items ++ code_line id place size) }
+{
+    add_line(
+        text,
+        &[
+            Piece::Text("CODE "),
+            Piece::Number(u32::from(id)),
+            Piece::Text(": at "),
+            Piece::Address(place),
+            Piece::Text(", "),
+            Piece::Number(size),
+            Piece::Text(" bytes\n"),
+        ],
+    )
+}

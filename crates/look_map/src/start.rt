@@ -1,0 +1,117 @@
+// A program as it starts.
+ghost use Rattle.std.specs.Prelude.{◌≡◌, ◌++◌, OnOk};
+ghost use Rattle.switch_frame.specs.Program.{IsProgram};
+ghost use Rattle.look_map.specs.Maps.{begun_text, file_text, range_line, room_text, start_text, vector_text};
+
+use look_text::{Piece, add_line};
+use m68_isa::Regs68;
+use mix_bits::NoMemory;
+use ppc_isa::RegsPpc;
+use switch_frame::{Active, Program};
+
+/// Where the gate page tells the main vector of PowerPC code.
+const MAIN_VECTOR: u32 = 0x1024;
+
+/// Appends where a program starts, and what its heap and its stack are.
+#[tactic(auto, using(crate::proofs::Appends::two))]
+pub fn add_start(text: &mut Vec<u8>, program: &Program) -> Result<(), NoMemory>
+    requires { IsProgram program.now }
+    ensures { OnOk result (text.new.items ≡ text.old.items ++ start_text program.now) }
+{
+    let len = program.ram.len();
+    let vector = program.ram.read_long(MAIN_VECTOR);
+    add_begun(text, vector, &program.active)?;
+    add_room(text, program.heap_lo, program.heap_hi, len)
+}
+
+#[tactic(auto, using(crate::proofs::Appends::two), unfolding(crate::specs::Maps::begun_text))]
+fn add_begun(text: &mut Vec<u8>, vector: u32, file: &Active) -> Result<(), NoMemory>
+    ensures { OnOk result (text.new.items ≡ text.old.items ++ begun_text vector file.now) }
+{
+    add_vector(text, vector)?;
+    add_file(text, file)
+}
+
+#[tactic(auto, using(crate::proofs::Appends::two), unfolding(crate::specs::Maps::room_text))]
+fn add_room(text: &mut Vec<u8>, low: u32, high: u32, end: u32) -> Result<(), NoMemory>
+    ensures { OnOk result (text.new.items ≡ text.old.items ++ room_text low high end) }
+{
+    add_range(text, "heap: from ", low, high)?;
+    add_range(text, "stack: from ", high, end)
+}
+
+#[tactic(auto, using(crate::proofs::Appends::none), unfolding(crate::specs::Maps::vector_text))]
+fn add_vector(text: &mut Vec<u8>, vector: u32) -> Result<(), NoMemory>
+    ensures { OnOk result (text.new.items ≡ text.old.items ++ vector_text vector) }
+{
+    if vector == 0 {
+        return Ok(());
+    }
+    add_line(
+        text,
+        &[
+            Piece::Text("main vector: at "),
+            Piece::Long(vector),
+            Piece::Text("\n"),
+        ],
+    )
+}
+
+fn add_file(text: &mut Vec<u8>, file: &Active) -> Result<(), NoMemory>
+    ensures { OnOk result (text.new.items ≡ text.old.items ++ file_text file.now) }
+{
+    match file {
+        Active::M68(regs) => add_m68(text, regs),
+        Active::Ppc(regs) => add_ppc(text, regs),
+    }
+}
+
+fn add_m68(text: &mut Vec<u8>, regs: &Regs68) -> Result<(), NoMemory>
+    ensures { OnOk result (text.new.items ≡ text.old.items ++ file_text (Active.M68 regs.now)) }
+{
+    add_line(
+        text,
+        &[
+            Piece::Text("entry: 68k at "),
+            Piece::Long(regs.pc),
+            Piece::Text(", a5 "),
+            Piece::Long(regs.a[5]),
+            Piece::Text(", a7 "),
+            Piece::Long(regs.a[7]),
+            Piece::Text("\n"),
+        ],
+    )
+}
+
+fn add_ppc(text: &mut Vec<u8>, regs: &RegsPpc) -> Result<(), NoMemory>
+    ensures { OnOk result (text.new.items ≡ text.old.items ++ file_text (Active.Ppc regs.now)) }
+{
+    add_line(
+        text,
+        &[
+            Piece::Text("entry: ppc at "),
+            Piece::Long(regs.pc),
+            Piece::Text(", r1 "),
+            Piece::Long(regs.gpr[1]),
+            Piece::Text(", r2 "),
+            Piece::Long(regs.gpr[2]),
+            Piece::Text("\n"),
+        ],
+    )
+}
+
+/// Appends a name and the range from an address up to another.
+fn add_range(text: &mut Vec<u8>, name: &str, from: u32, to: u32) -> Result<(), NoMemory>
+    ensures { OnOk result (text.new.items ≡ text.old.items ++ range_line name.now from to) }
+{
+    add_line(
+        text,
+        &[
+            Piece::Text(name),
+            Piece::Long(from),
+            Piece::Text(" to "),
+            Piece::Long(to),
+            Piece::Text("\n"),
+        ],
+    )
+}
