@@ -11,7 +11,7 @@ use Rattle.mix_engine.specs.declared.machine.Machine.{Machine}
 use Rattle.mix_bits.specs.declared.isa.Isa.{Isa}
 use Rattle.big_memory.specs.Lists.{part, put}
 use Rattle.big_memory.specs.Memory.{Memory}
-use Rattle.host_heap.specs.Space.{Space}
+use Rattle.host_heap.specs.Space.{Space, block_limit}
 use Rattle.mix_debug.specs.declared.head.FrameChange.{FrameChange}
 use Rattle.mix_debug.specs.declared.head.BlockChange.{BlockChange}
 use Rattle.mix_debug.specs.declared.head.Head.{Head}
@@ -124,7 +124,7 @@ pub record KeptStep (m n : Machine) (h k : History) : Type 0 where
   pub kept : earlier n (entries_in k.past) ≡ fitting history_room (record { machine = m; cost = cost_between m n } ∷ earlier m (entries_in h.past))
 
 pub kept-step : (m n : Machine) (h k : History) → IsHistory m h → IsSound n → Followed m.body n.body → k.copy.items ≡ n.body.ram.bytes → k.blocks.items ≡ n.body.heap.blocks
-    → Rattle.host_heap.specs.Sound.IsSound n.body.heap → 4096 ≤ vec_capacity k.blocks → IsPast k.past
+    → Rattle.host_heap.specs.Sound.IsSound n.body.heap → block_limit ≤ vec_capacity k.blocks → IsPast k.past
     → entries_in k.past ≡ within history_room (entry_of m.active m.body.top h.copy.items h.blocks.items n ∷ entries_in h.past) → KeptStep m n h k
 kept-step m n h k here there moved copied blocks heap room past entries =
     let e : Entry = entry_of m.active m.body.top m.body.ram.bytes m.body.heap.blocks n in
@@ -173,7 +173,7 @@ earlier-first e es m all =
     (All-head sound first (earlier (before e m) es) all, All-tail sound first (earlier (before e m) es) all)
 
 pub undone-step : (m n : Machine) (h k : History) (e : Entry) → IsHistory m h → entries_in h.past ≡ e ∷ entries_in k.past → n ≡ before e m → k.copy.items ≡ n.body.ram.bytes
-    → k.blocks.items ≡ n.body.heap.blocks → Rattle.host_heap.specs.Sound.IsSound n.body.heap → 4096 ≤ vec_capacity k.blocks → IsPast k.past → IsHistory n k
+    → k.blocks.items ≡ n.body.heap.blocks → Rattle.host_heap.specs.Sound.IsSound n.body.heap → block_limit ≤ vec_capacity k.blocks → IsPast k.past → IsHistory n k
 unfolding before
 undone-step m n h k e here entries is copied blocks heap room past =
     let es : List Entry = entries_in k.past in
@@ -195,7 +195,7 @@ undone-step m n h k e here entries is copied blocks heap room past =
 
 -- before the first step
 pub no-step : (m : Machine) (h : History) → IsSound m → h.copy.items ≡ m.body.ram.bytes → h.blocks.items ≡ m.body.heap.blocks → Rattle.host_heap.specs.Sound.IsSound m.body.heap
-    → 4096 ≤ vec_capacity h.blocks → IsPast h.past → entries_in h.past ≡ [] → IsHistory m h
+    → block_limit ≤ vec_capacity h.blocks → IsPast h.past → entries_in h.past ≡ [] → IsHistory m h
 unfolding earlier
 no-step m h whole copied blocks heap room past empty =
     record {

@@ -2,6 +2,7 @@
 use Rattle.std.specs.Prelude.{◌≡◌, ℕ, ◌≤◌, Bool, true, false, List, ◌∷◌, length, All, vec_capacity}
 use Rattle.switch_frame.specs.declared.active.Active.{Active}
 use Rattle.switch_frame.specs.Records.{isa_of}
+use Rattle.host_heap.specs.Space.{block_limit}
 use Rattle.host_heap.specs.declared.block.Block.{Block}
 use Rattle.host_heap.specs.Sound.{IsSound as IsSoundHeap}
 use Rattle.mix_engine.specs.declared.machine.Machine.{Machine}
@@ -32,7 +33,7 @@ pub record IsHistory (m : Machine) (h : History) : Type 0 where
   pub copied : h.copy.items ≡ m.body.ram.bytes
   pub blocks : h.blocks.items ≡ m.body.heap.blocks
   pub heap : IsSoundHeap m.body.heap
-  pub room : 4096 ≤ vec_capacity h.blocks
+  pub room : block_limit ≤ vec_capacity h.blocks
   pub past : IsPast h.past
   pub entries : All (IsEntry (length m.body.ram.bytes)) (entries_in h.past)
   pub wholes : All (λ k. IsSound k.machine) (earlier m (entries_in h.past))

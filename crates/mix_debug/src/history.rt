@@ -1,6 +1,7 @@
 // What is kept beside a machine: a copy of its memory and of its list of blocks, and the steps that can be taken back.
 ghost use Rattle.std.specs.Prelude.{◌≡◌, ◌<◌, ◌≤◌, ◌∷◌, [], IfOk, length, vec_capacity};
 ghost use Rattle.host_heap.specs.Sound.{IsSound as IsSoundHeap};
+ghost use Rattle.host_heap.specs.Space.{block_limit};
 ghost use Rattle.mix_debug.specs.Entries.{Entry, heap_before, within};
 ghost use Rattle.mix_debug.specs.Rows.{ready_in};
 ghost use Rattle.mix_debug.specs.Pasts.{IsPast, entries_in};
@@ -15,15 +16,12 @@ use crate::head::{BlockChange, Effect};
 use crate::past::{Past, ROOM};
 use crate::runs::changes_in;
 use crate::undo::{copy_range, undo_block, undo_frame};
-use host_heap::{Block, Heap};
+use host_heap::{BLOCK_LIMIT, Block, Heap};
 use mix_bits::NoMemory;
 use mix_engine::Machine;
 use mix_reach::Stores;
 use std::alloc::Global;
 use switch_frame::Active;
-
-/// How many blocks a heap holds at most.
-const MOST_BLOCKS: usize = 4096;
 
 /// What is kept beside a machine.
 #[derive(Drop)]
@@ -42,7 +40,7 @@ impl History {
         ensures history { IfOk result (IsHistory machine.now) }
         ensures empty { IfOk result (λ h. entries_in h.past ≡ []) }
     {
-        let mut blocks = Vec::with_capacity(alloc, MOST_BLOCKS)?;
+        let mut blocks = Vec::with_capacity(alloc, BLOCK_LIMIT)?;
         copy_blocks(&mut blocks, &machine.body.heap);
         Ok(History {
             copy: Vec::from_slice(alloc, machine.body.ram.bytes())?,
@@ -79,14 +77,14 @@ impl History {
         requires stored { Beside (stored_in_of (block_between_of self.old.blocks.items machine.now.body.heap.blocks) next top machine.now.body.top machine.now.active)
             self.old.copy.items machine.now.body.ram.bytes }
         requires same_blocks { SameBlocks self.old.blocks.items machine.now.body.heap.blocks }
-        requires room { 4096 ≤ vec_capacity self.old.blocks }
+        requires room { block_limit ≤ vec_capacity self.old.blocks }
         requires past { IsPast self.old.past }
         requires old_small { top ≤ 16777216 }
         requires new_small { machine.now.body.top ≤ 16777216 }
         ensures copied { self.new.copy.items ≡ machine.now.body.ram.bytes }
         ensures blocks { self.new.blocks.items ≡ machine.now.body.heap.blocks }
         ensures heap { IsSoundHeap machine.now.body.heap }
-        ensures room { 4096 ≤ vec_capacity self.new.blocks }
+        ensures room { block_limit ≤ vec_capacity self.new.blocks }
         ensures past { IsPast self.new.past }
         ensures entries { entries_in self.new.past
             ≡ within ROOM (entry_of (ready_in self.old.past.heads) top self.old.copy.items self.old.blocks.items machine.now ∷ entries_in self.old.past) }
@@ -110,14 +108,14 @@ impl History {
         requires stored { Beside (stored_in_of (block_between_of self.old.blocks.items machine.now.body.heap.blocks) next top machine.now.body.top machine.now.active)
             self.old.copy.items machine.now.body.ram.bytes }
         requires same_blocks { SameBlocks self.old.blocks.items machine.now.body.heap.blocks }
-        requires room { 4096 ≤ vec_capacity self.old.blocks }
+        requires room { block_limit ≤ vec_capacity self.old.blocks }
         requires past { IsPast self.old.past }
         requires old_small { top ≤ 16777216 }
         requires new_small { machine.now.body.top ≤ 16777216 }
         ensures copied { self.new.copy.items ≡ machine.now.body.ram.bytes }
         ensures blocks { self.new.blocks.items ≡ machine.now.body.heap.blocks }
         ensures heap { IsSoundHeap machine.now.body.heap }
-        ensures room { 4096 ≤ vec_capacity self.new.blocks }
+        ensures room { block_limit ≤ vec_capacity self.new.blocks }
         ensures past { IsPast self.new.past }
         ensures entries { entries_in self.new.past
             ≡ within ROOM (entry_of (ready_in self.old.past.heads) top self.old.copy.items self.old.blocks.items machine.now ∷ entries_in self.old.past) }
@@ -159,11 +157,11 @@ impl History {
 /// Takes back what a step did to the blocks of a heap, and to the list of them.
 fn undo_blocks(blocks: &mut Vec<Block>, heap: &mut Heap, change: BlockChange)
     requires same { blocks.old.items ≡ heap.old.blocks }
-    requires room { 4096 ≤ vec_capacity blocks.old }
+    requires room { block_limit ≤ vec_capacity blocks.old }
     ensures after { heap.new ≡ heap_before change heap.old }
     ensures blocks { blocks.new.items ≡ heap.new.blocks }
     ensures heap { IsSoundHeap heap.new }
-    ensures room { 4096 ≤ vec_capacity blocks.new }
+    ensures room { block_limit ≤ vec_capacity blocks.new }
 {
     heap.every_heap_is_sound();
     if let BlockChange::Stays = change {
@@ -176,10 +174,10 @@ fn undo_blocks(blocks: &mut Vec<Block>, heap: &mut Heap, change: BlockChange)
 /// Makes a list of blocks that of a heap after one step: where there are as many, they are the same.
 fn follow_blocks(blocks: &mut Vec<Block>, heap: &Heap)
     requires same { SameBlocks blocks.old.items heap.now.blocks }
-    requires room { 4096 ≤ vec_capacity blocks.old }
+    requires room { block_limit ≤ vec_capacity blocks.old }
     ensures blocks { blocks.new.items ≡ heap.now.blocks }
     ensures heap { IsSoundHeap heap.now }
-    ensures room { 4096 ≤ vec_capacity blocks.new }
+    ensures room { block_limit ≤ vec_capacity blocks.new }
 {
     heap.every_heap_is_sound();
     if blocks.len() != heap.blocks().len() {
@@ -189,10 +187,10 @@ fn follow_blocks(blocks: &mut Vec<Block>, heap: &Heap)
 
 /// Makes a list of blocks that of a heap.
 fn copy_blocks(blocks: &mut Vec<Block>, heap: &Heap)
-    requires { 4096 ≤ vec_capacity blocks.old }
+    requires { block_limit ≤ vec_capacity blocks.old }
     ensures blocks { blocks.new.items ≡ heap.now.blocks }
     ensures heap { IsSoundHeap heap.now }
-    ensures room { 4096 ≤ vec_capacity blocks.new }
+    ensures room { block_limit ≤ vec_capacity blocks.new }
 {
     heap.every_heap_is_sound();
     blocks.clear();
