@@ -8,7 +8,7 @@ use Rattle.switch_frame.specs.declared.active.Active.TheVariants.{M68, Ppc}
 use Rattle.look_text.specs.Pieces.{joined}
 
 abbrev pub register_text : List ℕ → ℕ → ℕ → List ℕ
-register_text bank k v = joined (bank ∷ decimal k ∷ codes "=" ∷ hexadecimal 8 v ∷ codes " " ∷ [])
+register_text bank k v = joined (codes " " ∷ bank ∷ decimal k ∷ codes "=" ∷ hexadecimal 8 v ∷ [])
 
 -- registers of a bank from a number on, and the end of their line
 abbrev pub bank_text : List ℕ → ℕ → List ℕ → List ℕ
@@ -21,11 +21,11 @@ flag false = codes "0"
 
 abbrev pub codes_line : Ccr → List ℕ
 codes_line c =
-    joined (codes "x=" ∷ flag c.x ∷ codes " n=" ∷ flag c.n ∷ codes " z=" ∷ flag c.z ∷ codes " v=" ∷ flag c.v ∷ codes " c=" ∷ flag c.c ∷ codes "\n" ∷ [])
+    joined (codes " x=" ∷ flag c.x ∷ codes " n=" ∷ flag c.n ∷ codes " z=" ∷ flag c.z ∷ codes " v=" ∷ flag c.v ∷ codes " c=" ∷ flag c.c ∷ codes "\n" ∷ [])
 
 abbrev pub special_line : RegsPpc → List ℕ
 special_line r =
-    joined (codes "cr=" ∷ hexadecimal 8 r.cr ∷ codes " lr=" ∷ hexadecimal 8 r.lr ∷ codes " ctr=" ∷ hexadecimal 8 r.ctr ∷ codes " xer=" ∷ hexadecimal 8 r.xer ∷ codes "\n" ∷ [])
+    joined (codes " cr=" ∷ hexadecimal 8 r.cr ∷ codes " lr=" ∷ hexadecimal 8 r.lr ∷ codes " ctr=" ∷ hexadecimal 8 r.ctr ∷ codes " xer=" ∷ hexadecimal 8 r.xer ∷ codes "\n" ∷ [])
 
 abbrev pub registers_text : Active → List ℕ
 registers_text (M68 r) = bank_text (codes "d") 0 r.d ++ bank_text (codes "a") 0 r.a ++ codes_line r.ccr

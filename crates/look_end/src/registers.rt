@@ -59,11 +59,11 @@ fn add_register(text: &mut Vec<u8>, bank: &str, number: u32, value: u32) -> Resu
     add_line(
         text,
         &[
+            Piece::Text(" "),
             Piece::Text(bank),
             Piece::Number(number),
             Piece::Text("="),
             Piece::Long(value),
-            Piece::Text(" "),
         ],
     )
 }
@@ -74,7 +74,7 @@ fn add_codes(text: &mut Vec<u8>, ccr: Ccr) -> Result<(), NoMemory>
     add_line(
         text,
         &[
-            Piece::Text("x="),
+            Piece::Text(" x="),
             Piece::Text(flag(ccr.x)),
             Piece::Text(" n="),
             Piece::Text(flag(ccr.n)),
@@ -101,7 +101,7 @@ fn add_special(text: &mut Vec<u8>, regs: &RegsPpc) -> Result<(), NoMemory>
     add_line(
         text,
         &[
-            Piece::Text("cr="),
+            Piece::Text(" cr="),
             Piece::Long(regs.cr),
             Piece::Text(" lr="),
             Piece::Long(regs.lr),
