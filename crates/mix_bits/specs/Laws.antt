@@ -1,6 +1,7 @@
--- Laws of digits and of tests of ranges.
-use Rattle.std.specs.Prelude.{◌≡◌, ◌⊎◌, ℕ, suc, ◌+◌, ◌^◌, ◌<◌, ◌≤◌, Bool, true}
+-- Laws of digits, of tests of ranges and of names.
+use Rattle.std.specs.Prelude.{◌≡◌, ◌⊎◌, ℕ, suc, ◌+◌, ◌^◌, ◌<◌, ◌≤◌, List, ◌++◌, drop, Bool, true}
 use Rattle.mix_bits.specs.Digits.{digit_of, digit_replaced}
+use Rattle.mix_bits.specs.Names.{ends_name, name_of, no_space, rest_of}
 use Rattle.mix_bits.specs.Ranges.{every}
 
 -- a digit that was replaced reads back
@@ -21,3 +22,7 @@ HoldsOfEach = (k : ℕ) (p : ℕ → Bool) (n : ℕ) → every k 0 p ≡ true �
 abbrev pub HoldsByQuarters : Type 0
 HoldsByQuarters =
     (k : ℕ) (p : ℕ → Bool) → every k 0 p ≡ true → every k 1 p ≡ true → every k 2 p ≡ true → every k 3 p ≡ true → every (suc (suc k)) 0 p ≡ true
+
+-- a name without a space, and what follows on it, are read back from their line
+abbrev pub NamesReadBack : Type 0
+NamesReadBack = (name rest : List ℕ) → no_space name ≡ true → ends_name rest ≡ true → (name_of (name ++ rest) ≡ name) × (rest_of (name ++ rest) ≡ drop 1 rest)

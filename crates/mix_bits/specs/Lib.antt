@@ -6,6 +6,7 @@ pub mod Multiples
 pub mod Faults
 pub mod Numbers
 pub mod Digits
+pub mod Names
 pub mod Laws
 pub mod Text
 pub mod Ranges

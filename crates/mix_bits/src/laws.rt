@@ -1,4 +1,4 @@
-ghost use Rattle.mix_bits.specs.Laws.{HoldsByQuarters, HoldsOfEach, ReadsReplaced, OthersStay};
+ghost use Rattle.mix_bits.specs.Laws.{HoldsByQuarters, HoldsOfEach, NamesReadBack, ReadsReplaced, OthersStay};
 ghost use Rattle.mix_bits.specs.Numbers.{ReadsDecimals, ReadsHexadecimals};
 
 /// What follows from the definition of a replaced digit. It does nothing: the clauses are its point.
@@ -17,4 +17,9 @@ pub fn range_laws()
 pub fn number_laws()
     ensures decimals { ReadsDecimals }
     ensures hexadecimals { ReadsHexadecimals }
+{}
+
+/// What a line's name and the rest of it give back. It does nothing, either.
+pub fn name_laws()
+    ensures back { NamesReadBack }
 {}
