@@ -4,3 +4,4 @@ pub mod Every
 pub mod Decimals
 pub mod ReadDecimals
 pub mod ReadHexadecimals
+pub mod Glyphs
