@@ -5,3 +5,4 @@ pub mod Decimals
 pub mod ReadDecimals
 pub mod ReadHexadecimals
 pub mod NamesBack
+pub mod Glyphs

@@ -1,7 +1,7 @@
 -- Bounds and laws of powers of two, for digits of numbers.
-use Rattle.std.proofs.Common.{◌≡◌, ℕ, ◌+◌, ◌-◌, ◌*◌, ◌/◌, ◌^◌, ◌<◌, ◌≤◌, sym, ap, ◌∙◌, subst, zero, suc, arith, refl}
+use Rattle.std.proofs.Common.{◌≡◌, ℕ, ◌+◌, ◌-◌, ◌*◌, ◌/◌, ◌^◌, ◌<◌, ◌≤◌, sym, ap, ◌∙◌, subst, arith}
 use Rattle.std.proofs.lemmas.Nat.{mul-add-lt, pow-add, pow_pos}
-use Rattle.std.proofs.Math.Nat.{div-lt_iff_lt-mul, mod-lt, pow-suc}
+use Rattle.std.proofs.Math.Nat.{div-lt_iff_lt-mul, mod-lt}
 use Rattle.mix_bits.specs.Digits.{digit_replaced}
 
 -- a power of two times a power of two that together have 32 bits
@@ -20,10 +20,3 @@ replaced_below v at width rest d total fits small =
 -- a word with a digit replaced is a word
 pub replaced_fits : (v at width d : ℕ) → at + width ≤ 32 → v < 2 ^ 32 → d < 2 ^ width → digit_replaced v at width d < 2 ^ 32
 replaced_fits v at width d within fits small = replaced_below v at width (32 - (at + width)) d (omega (arith, within)) fits small
-
--- a power of sixteen is a power of two
-pub sixteen_pow : (k : ℕ) → 2 ^ (4 * k) ≡ 16 ^ k
-sixteen_pow zero = refl
-sixteen_pow (suc k) =
-    let more : 4 * suc k ≡ 4 * k + 4 = omega arith in
-    ap (λ n. 2 ^ n) more ∙ pow-add 2 (4 * k) 4 ∙ ap (λ n. n * 16) (sixteen_pow k) ∙ sym (pow-suc 16 k)

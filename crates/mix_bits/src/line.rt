@@ -1,8 +1,7 @@
-ghost use Rattle.std.specs.Prelude.{◌≡◌, ◌⊎◌, ◌/◌, ◌%◌, ◌^◌, ◌<◌, ℕ, List, [], decimal, true};
+ghost use Rattle.std.specs.Prelude.{◌≡◌, ◌⊎◌, ◌+◌, ◌*◌, ◌/◌, ◌%◌, ◌<◌, ℕ, List, [], decimal, true};
 ghost use Rattle.std.specs.Fmt.{digit_glyph};
 ghost use Rattle.mix_bits.specs.Text.{AppendsWithin, hexadecimal, most_bytes};
 
-use super::digits::digit;
 use arrayvec::ArrayVec;
 use itoa::Buffer;
 use std::marker::Model;
@@ -10,8 +9,16 @@ use std::marker::Model;
 /// How many bytes a line holds at most.
 pub const LINE_BYTES: usize = 160;
 
-/// The hexadecimal digits in upper case.
-const GLYPHS: [u8; 16] = *b"0123456789ABCDEF";
+/// The two hexadecimal digits of each byte, in upper case.
+const PAIRS: [u8; 512] = *b"\
+    000102030405060708090A0B0C0D0E0F101112131415161718191A1B1C1D1E1F\
+    202122232425262728292A2B2C2D2E2F303132333435363738393A3B3C3D3E3F\
+    404142434445464748494A4B4C4D4E4F505152535455565758595A5B5C5D5E5F\
+    606162636465666768696A6B6C6D6E6F707172737475767778797A7B7C7D7E7F\
+    808182838485868788898A8B8C8D8E8F909192939495969798999A9B9C9D9E9F\
+    A0A1A2A3A4A5A6A7A8A9AAABACADAEAFB0B1B2B3B4B5B6B7B8B9BABBBCBDBEBF\
+    C0C1C2C3C4C5C6C7C8C9CACBCCCDCECFD0D1D2D3D4D5D6D7D8D9DADBDCDDDEDF\
+    E0E1E2E3E4E5E6E7E8E9EAEBECEDEEEFF0F1F2F3F4F5F6F7F8F9FAFBFCFDFEFF";
 
 /// A line of text in the making, on the stack.
 #[derive(Drop)]
@@ -27,6 +34,7 @@ impl Model for Line {
 
 impl Line {
     /// An empty line.
+    #[inline(always)]
     pub fn new() -> Line
         ensures { result ≡ [] }
     {
@@ -45,7 +53,7 @@ impl Line {
     pub fn text(&mut self, t: &str) -> bool
         ensures { AppendsWithin most_bytes self.old self.new t.now result }
     {
-        self.kept.try_extend_from_slice(t.as_bytes()).is_ok()
+        self.put(t.as_bytes())
     }
 
     /// Appends the lowest 2, 4 or 8 hexadecimal digits of `v`, in upper case.
@@ -54,12 +62,11 @@ impl Line {
         ensures { AppendsWithin most_bytes self.old self.new (hexadecimal digits v) result }
     {
         let text = glyphs(v);
-        let all = match digits {
-            2 => self.kept.try_extend_from_slice(&text[6..]),
-            4 => self.kept.try_extend_from_slice(&text[4..]),
-            _ => self.kept.try_extend_from_slice(&text),
-        };
-        all.is_ok()
+        match digits {
+            2 => self.put(&text[6..]),
+            4 => self.put(&text[4..]),
+            _ => self.put(&text),
+        }
     }
 
     /// Appends `v` in decimal.
@@ -67,42 +74,38 @@ impl Line {
         ensures { AppendsWithin most_bytes self.old self.new (decimal v) result }
     {
         let mut buffer = Buffer::new();
-        self.kept
-            .try_extend_from_slice(buffer.format(v).as_bytes())
-            .is_ok()
+        self.put(buffer.format(v).as_bytes())
+    }
+
+    /// Appends a piece, or answers false where the line would get too long.
+    #[inline(always)]
+    fn put(&mut self, piece: &[u8]) -> bool
+        ensures { AppendsWithin most_bytes self.old self.new piece.now result }
+    {
+        self.kept.try_extend_from_slice(piece).is_ok()
     }
 }
 
 /// The eight hexadecimal digits of `v`.
+#[inline(always)]
+#[tactic(auto, using(crate::proofs::Glyphs::by_pairs))]
 fn glyphs(v: u32) -> [u8; 8]
     ensures { result ≡ hexadecimal 8 v }
 {
-    [
-        glyph(v, 7),
-        glyph(v, 6),
-        glyph(v, 5),
-        glyph(v, 4),
-        glyph(v, 3),
-        glyph(v, 2),
-        glyph(v, 1),
-        glyph(v, 0),
-    ]
+    let [a, b] = pair(v / 0x100_0000);
+    let [c, d] = pair(v / 0x1_0000 % 0x100);
+    let [e, f] = pair(v / 0x100 % 0x100);
+    let [g, h] = pair(v % 0x100);
+    [a, b, c, d, e, f, g, h]
 }
 
-/// Hexadecimal digit `k` of `v`, counted from the lowest one.
-#[tactic(auto, using(crate::proofs::Powers::sixteen_pow))]
-fn glyph(v: u32, k: u32) -> u8
-    requires { k < 8 }
-    ensures { result ≡ digit_glyph true (v / 16 ^ k % 16) }
-{
-    glyph_of(digit(v, 4 * k, 4))
-}
-
-/// A hexadecimal digit in upper case.
+/// The two hexadecimal digits of a byte.
 #[inline(always)]
-fn glyph_of(nibble: u32) -> u8
-    requires { nibble < 16 }
-    ensures { result ≡ digit_glyph true nibble }
+#[tactic(auto, using(crate::proofs::Glyphs::pair_at))]
+fn pair(byte: u32) -> [u8; 2]
+    requires { byte < 256 }
+    ensures { result ≡ hexadecimal 2 byte }
 {
-    GLYPHS[nibble as usize]
+    let first = 2 * byte as usize;
+    [PAIRS[first], PAIRS[first + 1]]
 }
