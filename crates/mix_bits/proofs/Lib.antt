@@ -5,3 +5,5 @@ pub mod Decimals
 pub mod ReadDecimals
 pub mod ReadHexadecimals
 pub mod NamesBack
+pub mod Conditions
+pub mod Sizes
