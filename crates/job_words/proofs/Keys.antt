@@ -3,10 +3,11 @@ use Rattle.std.proofs.Common.{◌≡◌, ℕ, ◌<◌, List, [], ◌∷◌, leng
 use Rattle.std.specs.Str.{bytes_eq}
 use Rattle.std.specs.Option.{option_and_then, option_map}
 use Rattle.std.proofs.lemmas.Slice.Eq.{bytes_eq-Decides}
+use Rattle.mix_bits.specs.declared.file.File.TheVariants.{Flat, Rsrc, Pef}
 use Rattle.job_words.specs.Settings.{has_equals, key_in, keys, name_in, setting, setting_in, setting_of, text_of, value_in, value_of}
 use Rattle.job_words.specs.Drafts.{index_of}
 use Rattle.job_words.specs.declared.job.Key.{Key}
-use Rattle.job_words.specs.declared.job.Key.TheVariants.{Flat, Rsrc, Pef, Image, Text, Script}
+use Rattle.job_words.specs.declared.job.Key.TheVariants.{Program, Image, Text, Script}
 use Rattle.job_words.specs.declared.setting.Name.{Name}
 use Rattle.job_words.specs.declared.setting.Name.TheVariants.{File, Main, Ram, Steps, At, Count, Calls, Depth, CodeSet, Save}
 use Rattle.job_words.specs.declared.setting.Setting.{Setting}
@@ -16,7 +17,7 @@ use Rattle.job_words.specs.declared.setting.Verb.{Verb}
 
 -- all keys, by their numbers
 abbrev all : List Name
-all = File Flat ∷ File Rsrc ∷ File Pef ∷ Main ∷ Ram ∷ Steps ∷ At ∷ Count ∷ Calls ∷ Depth ∷ File Text ∷ CodeSet ∷ File Image ∷ File Script ∷ Save ∷ []
+all = File (Program Flat) ∷ File (Program Rsrc) ∷ File (Program Pef) ∷ Main ∷ Ram ∷ Steps ∷ At ∷ Count ∷ Calls ∷ Depth ∷ File Text ∷ CodeSet ∷ File Image ∷ File Script ∷ Save ∷ []
 
 -- each is the one of its text, and the one of its number
 record IsOwn (name : Name) : Type 0 where
@@ -25,9 +26,9 @@ record IsOwn (name : Name) : Type 0 where
   small : index_of name < 15
 
 own : (name : Name) → IsOwn name
-own (File Flat) = record { text = refl; number = refl; small = omega arith }
-own (File Rsrc) = record { text = refl; number = refl; small = omega arith }
-own (File Pef) = record { text = refl; number = refl; small = omega arith }
+own (File (Program Flat)) = record { text = refl; number = refl; small = omega arith }
+own (File (Program Rsrc)) = record { text = refl; number = refl; small = omega arith }
+own (File (Program Pef)) = record { text = refl; number = refl; small = omega arith }
 own Main = record { text = refl; number = refl; small = omega arith }
 own Ram = record { text = refl; number = refl; small = omega arith }
 own Steps = record { text = refl; number = refl; small = omega arith }
