@@ -3,6 +3,7 @@ use Rattle.std.proofs.Common.{◌≡◌, ◌↔◌, ℕ, ◌+◌, ◌%◌, ◌^�
 use Rattle.std.proofs.lemmas.Slice.Eq.{bytes_eq-Decides}
 use Rattle.std.specs.List.{list_any}
 use Rattle.std.specs.Str.{bytes_eq}
+use Rattle.mix_bits.specs.Names.{name_of, rest_of}
 use Rattle.ppc_isa.specs.declared.instruction.InstrPpc.{InstrPpc}
 use Rattle.ppc_isa.specs.Rows.{decoded}
 use Rattle.ppc_isa.specs.Valid.{Stands}
@@ -21,7 +22,7 @@ use Rattle.asm_ppc.specs.declared.numbers.Numbers.{Numbers}
 use Rattle.asm_ppc.specs.Reading.{none, read}
 use Rattle.asm_ppc.specs.Spelling.{is_long, placed, spelled}
 use Rattle.asm_ppc.specs.Table.{Entry, looked_up, lookup, table}
-use Rattle.asm_ppc.specs.Assembly.{Gives, GivesSome, assembled, checked, name_of, rest_of, text_as, with_entry}
+use Rattle.asm_ppc.specs.Assembly.{Gives, GivesSome, assembled, checked, text_as, with_entry}
 use Rattle.asm_ppc.specs.Laws.{GivenAreNamed, GivesOne}
 use Rattle.asm_ppc.proofs.Texts.{all_taken, name-back, numbers-back}
 use Rattle.asm_ppc.proofs.Rows.{Found, fit, found}

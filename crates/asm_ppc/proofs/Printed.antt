@@ -4,13 +4,13 @@ use Rattle.std.proofs.lemmas.Bool.Decides.{nat_tests}
 use Rattle.std.proofs.lemmas.Slice.Eq.{bytes_eq-Decides}
 use Rattle.std.specs.List.{list_any}
 use Rattle.std.specs.Str.{bytes_eq}
+use Rattle.mix_bits.specs.Names.{name_of}
 use Rattle.ppc_isa.specs.declared.instruction.InstrPpc.{InstrPpc}
 use Rattle.ppc_isa.specs.Rows.{decoded, operation}
 use Rattle.ppc_isa.specs.Words.{word_of}
 use Rattle.ppc_text.specs.Listed.{names, shapes}
 use Rattle.ppc_text.specs.Names.{name}
 use Rattle.ppc_text.specs.Text.{word_text}
-use Rattle.asm_ppc.specs.Assembly.{name_of}
 use Rattle.asm_ppc.specs.Laws.{IsPrinted, NamesArePrinted, TextsDiffer}
 use Rattle.asm_ppc.proofs.Complete.{gives_one}
 

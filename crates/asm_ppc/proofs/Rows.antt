@@ -1,5 +1,6 @@
 -- The table and the instructions: each instruction's name has an entry, by which its operands spell its word.
 use Rattle.std.proofs.Common.{◌≡◌, ℕ, ◌+◌, ◌%◌, ◌^◌, ◌<◌, inl, inr, true, false, Some, arith, refl, rules}
+use Rattle.mix_bits.specs.Names.{no_space}
 use Rattle.ppc_isa.specs.declared.instruction.CarryUse.TheVariants.{Plain, Carrying, Extended}
 use Rattle.ppc_isa.specs.declared.instruction.ExtendedOperand.TheVariants.{Zero as ZeroOperand, MinusOne}
 use Rattle.ppc_isa.specs.declared.instruction.ImmediateOp.TheVariants.{Or as ImmediateOr, OrShifted, Xor as ImmediateXor, XorShifted, And as ImmediateAnd, AndShifted}
@@ -22,7 +23,7 @@ use Rattle.asm_ppc.specs.declared.layout.Layout.{Layout}
 use Rattle.asm_ppc.specs.Reading.{none}
 use Rattle.asm_ppc.specs.Spelling.{is_long, placed}
 use Rattle.asm_ppc.specs.Table.{looked_up, table}
-use Rattle.asm_ppc.proofs.Texts.{AllSmall, all_taken, no_space}
+use Rattle.asm_ppc.proofs.Texts.{AllSmall, all_taken}
 
 -- an instruction at an address by the entry of its name
 pub record Found (i : InstrPpc) (at : ℕ) : Type 0 where

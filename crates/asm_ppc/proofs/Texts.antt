@@ -1,11 +1,12 @@
 -- The numbers of operands are read back from their texts, and a name from its line.
 use Rattle.std.proofs.Common.{◌≡◌, ℕ, zero, suc, ◌+◌, ◌-◌, ◌*◌, ◌/◌, ◌%◌, ◌^◌, ◌<◌, ◌≤◌, ◌==◌, List, [], ◌∷◌, ◌++◌, length, take, drop, codes, decimal, Bool, true, false, nat_lt, if◌then◌else◌, arith, refl, sym, ap, ◌∙◌}
 use Rattle.std.proofs.Math.Nat.{pow-suc, div-div-eq-div-mul}
-use Rattle.std.proofs.Math.Seq.{take-append_seam}
 use Rattle.std.proofs.lemmas.Bool.Decides.{nat_tests}
 use Rattle.std.proofs.lemmas.Fmt.{decimal_by_steps}
 use Rattle.std.specs.Fmt.{digit_glyph}
+use Rattle.mix_bits.specs.Names.{ends_name, name_of, no_space, rest_of}
 use Rattle.mix_bits.specs.Text.{hexadecimal}
+use Rattle.mix_bits.proofs.NamesBack.{name_back}
 use Rattle.ppc_text.specs.declared.operand.Operand.{Operand}
 use Rattle.ppc_text.specs.declared.operand.Operand.TheVariants.{Register, Number, Signed, Displaced, Target}
 use Rattle.ppc_text.specs.Operands.{joined, operand_text, operands_text, register_text, signed_text}
@@ -13,7 +14,6 @@ use Rattle.ppc_text.proofs.Decimals.{text_positive, text_negative}
 use Rattle.asm_ppc.specs.declared.numbers.Numbers.{Numbers}
 use Rattle.asm_ppc.specs.declared.numbers.Reading.{Reading}
 use Rattle.asm_ppc.specs.Reading.{finished, none, pushed, read, run, start, step}
-use Rattle.asm_ppc.specs.Assembly.{name_length, name_of, rest_of}
 
 -- a text after another is read from where that one leads
 run-append : (xs ys : List ℕ) (s : Reading) → run s (xs ++ ys) ≡ run (run s xs) ys
@@ -133,40 +133,16 @@ joined-read o (p ∷ os) f small rest =
 
 -- A name and what follows.
 
-abbrev pub no_space : List ℕ → Bool
-no_space [] = true
-no_space (b ∷ bs) = if b == 32 then false else no_space bs
-
--- what can follow on a name: nothing, or a space and more
-abbrev pub tail : List Operand → List ℕ
-tail [] = []
-tail (o ∷ os) = joined (o ∷ os)
-
-no-space-first : (b : Bool) (more : Bool) → (if b then false else more) ≡ true → (b ≡ false) × (more ≡ true)
-no-space-first true more h = cc
-no-space-first false more h = (refl, h)
-
-name-length : (n : List ℕ) (os : List Operand) → no_space n ≡ true → name_length (n ++ operands_text os) ≡ length n
-name-length [] [] h = refl
-name-length [] (o ∷ os) h = refl
-name-length (x ∷ xs) os h =
-    let parts : ((x == 32) ≡ false) × (no_space xs ≡ true) = no-space-first (x == 32) (no_space xs) h in
-    ap (λ b. if b then 0 else suc (name_length (xs ++ operands_text os))) parts.0 ∙ ap suc (name-length xs os parts.1)
+ends : (os : List Operand) → ends_name (operands_text os) ≡ true
+ends [] = refl
+ends (o ∷ os) = refl
 
 pub name-back : (n : List ℕ) (os : List Operand) → no_space n ≡ true → name_of (n ++ operands_text os) ≡ n
-name-back n os h = ap (λ k. take k (n ++ operands_text os)) (name-length n os h) ∙ take-append_seam n (operands_text os)
+name-back n os h = (name_back n (operands_text os) h (ends os)).0
 
-drop-past : (n : List ℕ) (os : List Operand) → drop (suc (length n)) (n ++ operands_text os) ≡ tail os
-drop-past [] [] = refl
-drop-past [] (o ∷ os) = refl
-drop-past (x ∷ xs) os = drop-past xs os
-
-rest-back : (n : List ℕ) (os : List Operand) → no_space n ≡ true → rest_of (n ++ operands_text os) ≡ tail os
-rest-back n os h = ap (λ k. drop (suc k) (n ++ operands_text os)) (name-length n os h) ∙ drop-past n os
-
-tail-read : (os : List Operand) → AllSmall os → read (tail os) ≡ all_taken os none
+tail-read : (os : List Operand) → AllSmall os → read (drop 1 (operands_text os)) ≡ all_taken os none
 tail-read [] small = refl
 tail-read (o ∷ os) small = joined-read o os none small.0 small.1
 
 pub numbers-back : (n : List ℕ) (os : List Operand) → no_space n ≡ true → AllSmall os → read (rest_of (n ++ operands_text os)) ≡ all_taken os none
-numbers-back n os h small = ap read (rest-back n os h) ∙ tail-read os small
+numbers-back n os h small = ap read (name_back n (operands_text os) h (ends os)).1 ∙ tail-read os small

@@ -1,6 +1,7 @@
 -- What a line gives.
-use Rattle.std.specs.Prelude.{ℕ, suc, ◌≡◌, ◌⊎◌, ◌^◌, ◌<◌, ◌==◌, List, [], ◌∷◌, take, drop, Option, Some, None, Result, Ok, Err, if◌then◌else◌}
+use Rattle.std.specs.Prelude.{ℕ, ◌≡◌, ◌⊎◌, ◌^◌, ◌<◌, List, Option, Some, None, Result, Ok, Err, if◌then◌else◌}
 use Rattle.std.specs.Str.{bytes_eq}
+use Rattle.mix_bits.specs.Names.{name_of, rest_of}
 use Rattle.ppc_text.specs.Text.{long_text, word_text}
 use Rattle.asm_ppc.specs.declared.assembler.AsmError.{AsmError}
 use Rattle.asm_ppc.specs.declared.assembler.AsmError.TheVariants.{Name, Operands}
@@ -9,18 +10,6 @@ use Rattle.asm_ppc.specs.declared.layout.Spelling.{Spelling}
 use Rattle.asm_ppc.specs.Reading.{read}
 use Rattle.asm_ppc.specs.Spelling.{is_long, spelled}
 use Rattle.asm_ppc.specs.Table.{looked_up}
-
--- the bytes before the first space, or all
-abbrev pub name_length : List ℕ → ℕ
-name_length [] = 0
-name_length (b ∷ bs) = if b == 32 then 0 else suc (name_length bs)
-
-abbrev pub name_of : List ℕ → List ℕ
-name_of line = take (name_length line) line
-
--- the bytes after it
-abbrev pub rest_of : List ℕ → List ℕ
-rest_of line = drop (suc (name_length line)) line
 
 -- the word whose text at an address is the line; a word has its own text after `.long` too
 abbrev pub Gives : List ℕ → ℕ → ℕ → Type 0

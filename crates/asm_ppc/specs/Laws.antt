@@ -1,8 +1,9 @@
 -- Laws of lines, texts and names.
 use Rattle.std.specs.Prelude.{ℕ, ◌≡◌, ◌^◌, ◌<◌, List, true}
+use Rattle.mix_bits.specs.Names.{name_of}
 use Rattle.ppc_text.specs.Listed.{is_name}
 use Rattle.ppc_text.specs.Text.{word_text}
-use Rattle.asm_ppc.specs.Assembly.{Gives, name_of}
+use Rattle.asm_ppc.specs.Assembly.{Gives}
 
 -- a line gives one word at most
 abbrev pub GivesOne : Type 0

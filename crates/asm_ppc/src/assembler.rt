@@ -1,13 +1,14 @@
-ghost use Rattle.std.specs.Prelude.{◌≡◌, ◌≤◌, ◌↔◌, ℕ, length, true, false};
+ghost use Rattle.std.specs.Prelude.{◌≡◌, ◌↔◌, ℕ, true, false};
 ghost use Rattle.std.specs.Str.{bytes_eq};
+ghost use Rattle.mix_bits.specs.Names.{name_of};
 ghost use Rattle.ppc_text.specs.Listed.{is_name};
-ghost use Rattle.asm_ppc.specs.Assembly.{Gives, GivesSome, assembled, checked as checked_of, name_length as name_length_of, name_of, rest_of, text_as};
+ghost use Rattle.asm_ppc.specs.Assembly.{Gives, GivesSome, assembled, checked as checked_of, text_as};
 ghost use Rattle.asm_ppc.specs.declared.assembler.AsmError.TheVariants.{Name as NameError, Operands as OperandsError};
 
 use super::layout::{Layout, spell};
 use super::numbers::read;
 use super::table::find;
-use mix_bits::Line;
+use mix_bits::{Line, split_name};
 use ppc_text::{text_long, text_ppc};
 
 /// Why a line gives no word.
@@ -34,7 +35,7 @@ pub fn known_ppc(line: &[u8], at: u32) -> u32
     requires { GivesSome line.now at }
     ensures { Gives line.now at result }
 {
-    let (name, rest) = split(line);
+    let (name, rest) = split_name(line);
     match find(name) {
         None => 0,
         Some(spelling) => spell(spelling, read(rest), at),
@@ -54,7 +55,7 @@ pub fn reassembled(word: u32, at: u32) -> Result<u32, AsmError>
 fn assemble_line(line: &[u8], at: u32) -> Result<u32, AsmError>
     ensures { result ≡ assembled line.now at }
 {
-    let (name, rest) = split(line);
+    let (name, rest) = split_name(line);
     match find(name) {
         None => Err(AsmError::Name),
         Some(spelling) => checked(spelling.layout, spell(spelling, read(rest), at), at, line),
@@ -82,30 +83,4 @@ fn prints(layout: Layout, word: u32, at: u32, line: &[u8]) -> bool
         _ => text_ppc(word, at, &mut text),
     }
     text.bytes() == line
-}
-
-/// A line's name, and what follows on the space behind it.
-fn split(line: &[u8]) -> (&[u8], &[u8])
-    ensures name { result.0.now ≡ name_of line.now }
-    ensures rest { result.1.now ≡ rest_of line.now }
-{
-    let end = name_length(line);
-    if end < line.len() {
-        (&line[..end], &line[end + 1..])
-    } else {
-        (line, &[])
-    }
-}
-
-/// How many bytes stand before the first space.
-fn name_length(line: &[u8]) -> usize
-    ensures value { result ≡ name_length_of line.now }
-    ensures within { result ≤ length line.now }
-{
-    for (i, b) in line.iter().enumerate() {
-        if *b == b' ' {
-            return i;
-        }
-    }
-    line.len()
 }

@@ -63,8 +63,3 @@ get_or-put_replicate at n k y d xs within = grind (arith, places, nat_tests)
 -- one element is a piece
 pub put-one : {X : Type 0} (at : ℕ) (y : X) (xs : List X) → at < length xs → put at (y ∷ []) xs ≡ set xs at y
 put-one {X = X} at y xs within = same_lists _ _ (grind (arith, places, length-set {A = X})) (λ k d w. grind (arith, places, get_or-set_same, cases_eq k at))
-
--- a run of one element, one longer
-pub set-put_replicate : {X : Type 0} (at n k m : ℕ) (y : X) (xs : List X) → k ≡ at + n → m ≡ n + 1 → k < length xs → set (put at (replicate n y) xs) k y ≡ put at (replicate m y) xs
-set-put_replicate {X = X} at n k m y xs place more within =
-    same_lists _ _ (grind (arith, places, length-set {A = X})) (λ i d w. grind (arith, places, get_or-set_same, cases_eq i k))

@@ -16,7 +16,7 @@ use Rattle.big_memory.proofs.Lists.{length-put}
 use Rattle.big_memory.proofs.Guarded.{Passes, loads_back, passes, passes_within}
 use Rattle.big_memory.proofs.Free.{nothing_free, free_joins, free_ram, stores_free}
 
-size-bytes : (s : Size) (v : ℕ) → length (big_bytes (bytes_of s) v) ≡ bytes_of s
+pub size-bytes : (s : Size) (v : ℕ) → length (big_bytes (bytes_of s) v) ≡ bytes_of s
 size-bytes Zero v = refl
 size-bytes One v = refl
 size-bytes Two v = refl
@@ -41,7 +41,7 @@ done-is (Some e) m n is = absurd (cc)
 there : (m : Memory) (a n : ℕ) → 0 < n → refusal m a n ≡ None → in_memory m a n ≡ true
 there m a n some none = let within : a + n ≤ length m.bytes = (passes m a n some none).within in grind (arith, nat_tests, within)
 
-size-there : (m : Memory) (a : ℕ) (s : Size) → refusal m a (bytes_of s) ≡ None → in_memory m a (bytes_of s) ≡ true
+pub size-there : (m : Memory) (a : ℕ) (s : Size) → refusal m a (bytes_of s) ≡ None → in_memory m a (bytes_of s) ≡ true
 size-there m a Zero none = refl
 size-there m a One none = there m a 1 (omega arith) none
 size-there m a Two none = there m a 2 (omega arith) none

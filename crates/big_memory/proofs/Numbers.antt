@@ -14,7 +14,7 @@ use Rattle.big_memory.specs.NumberLaws.{BytesJoin, LengthOfBytes, LengthOfLongs,
 use Rattle.big_memory.proofs.Lists.{drop-put, put-append}
 
 -- numbers in lists that are the same so far
-same_from : (n i : ℕ) (xs ys : List ℕ) → ((j : ℕ) → j < i + n → get_or xs j 0 ≡ get_or ys j 0) → big_from i n xs ≡ big_from i n ys
+pub same_from : (n i : ℕ) (xs ys : List ℕ) → ((j : ℕ) → j < i + n → get_or xs j 0 ≡ get_or ys j 0) → big_from i n xs ≡ big_from i n ys
 same_from zero i xs ys same = refl
 same_from (suc n) i xs ys same =
     let head : get_or xs i 0 ≡ get_or ys i 0 = same i (omega arith) in
@@ -108,6 +108,32 @@ put-longs_behind at to xs ys bytes place within =
 pub writes_join : WritesJoin
 writes_join at to xs ys m place within = ap (λ bytes. record m { bytes = bytes }) (put-longs_behind at to xs ys m.bytes place within)
 
+-- longs one after the other
+pub cons-long : (n a b : ℕ) (bytes : List ℕ) → b ≡ a + 4 → longs_at (suc n) a bytes ≡ long_at a bytes ∷ longs_at n b bytes
+unfolding longs_at
+cons-long n a b bytes next = ap (λ c. long_at a bytes ∷ longs_at n c bytes) (sym next)
+
+pub no-longs : (a : ℕ) (bytes : List ℕ) → longs_at 0 a bytes ≡ []
+unfolding longs_at
+no-longs a bytes = refl
+
+pub longs-split : (m n a b : ℕ) (bytes : List ℕ) → b ≡ a + 4 * m → longs_at (m + n) a bytes ≡ longs_at m a bytes ++ longs_at n b bytes
+unfolding longs_at
+longs-split zero n a b bytes place =
+    let count : zero + n ≡ n = omega arith in
+    let same : a ≡ b = omega arith in
+    ap (λ k. longs_at k a bytes) count ∙ ap (λ c. longs_at n c bytes) same
+longs-split (suc m) n a b bytes place =
+    let count : suc m + n ≡ suc (m + n) = omega arith in
+    ap (λ k. longs_at k a bytes) count ∙ ap (λ xs. long_at a bytes ∷ xs) (longs-split m n (a + 4) b bytes (omega arith))
+
+pub four-longs : (a b c d : ℕ) (bytes : List ℕ) → b ≡ a + 4 → c ≡ a + 8 → d ≡ a + 12 → longs_at 4 a bytes ≡ long_at a bytes ∷ long_at b bytes ∷ long_at c bytes ∷ long_at d bytes ∷ []
+four-longs a b c d bytes b_is c_is d_is =
+    cons-long 3 a b bytes b_is
+    ∙ ap (λ xs. long_at a bytes ∷ xs) (cons-long 2 b c bytes (omega arith)
+    ∙ ap (λ xs. long_at b bytes ∷ xs) (cons-long 1 c d bytes (omega arith)
+    ∙ ap (λ xs. long_at c bytes ∷ xs) (cons-long 0 d (d + 4) bytes refl ∙ ap (λ xs. long_at d bytes ∷ xs) (no-longs (d + 4) bytes))))
+
 -- longs that were read out of a part
 pub longs-read : (a n : ℕ) (bytes span xs : List ℕ) → n ≡ 4 * length xs → span ≡ part a n bytes → IsRead big_number 4 span xs → xs ≡ longs_at (length xs) a bytes
 unfolding long_at
@@ -121,7 +147,7 @@ longs-read a n bytes span xs size piece read =
 dropped : (a : ℕ) (bytes : List ℕ) → AreBytes bytes → AreBytes (drop a bytes)
 dropped a bytes fit k = let here : get_or (drop a bytes) k 0 ≡ get_or bytes (a + k) 0 = grind (arith, places) in rw here (fit (a + k))
 
-long_fits : (a : ℕ) (bytes : List ℕ) → AreBytes bytes → long_at a bytes < 2 ^ 32
+pub long_fits : (a : ℕ) (bytes : List ℕ) → AreBytes bytes → long_at a bytes < 2 ^ 32
 unfolding long_at
 long_fits a bytes fit = big_from-lt 0 4 (drop a bytes) (dropped a bytes fit)
 

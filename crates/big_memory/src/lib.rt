@@ -10,6 +10,7 @@ mod ram;
 mod refusals;
 mod steps;
 
+pub use bytes::{are_bytes, read_longs};
 pub use laws::{memory_laws, number_laws, put_laws};
 pub use map::{
     GATE_PAGE, GATE_PAGE_END, HOST_FUNCTIONS, exit_gate, host_address, host_code, host_vector,

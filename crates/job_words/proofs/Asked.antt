@@ -7,6 +7,7 @@ use Rattle.std.proofs.lemmas.List.{append-nil, append_assoc, get_or-replicate, l
 use Rattle.std.proofs.lemmas.Bool.{cases_lt}
 use Rattle.mix_bits.specs.Results.{◌>>=◌}
 use Rattle.mix_bits.specs.declared.isa.Isa.{Isa}
+use Rattle.mix_bits.specs.declared.file.File.TheVariants.{Flat, Rsrc, Pef}
 use Rattle.job_words.specs.Settings.{verb_of, key_in, setting_of, setting, named, file, numbered}
 use Rattle.job_words.specs.Drafts.{given, given_at, index_of, job_by, job_of, main_in, main_file, has_program, made, named_at, nothing, number, number_of, place, set, set_of, steps_in, usual_set}
 use Rattle.job_words.specs.Words.{bad_at, with_word, draft_of, command_by, command_of}
@@ -18,7 +19,7 @@ use Rattle.job_words.specs.declared.job.BadWord.{BadWord}
 use Rattle.job_words.specs.declared.job.Command.{Command}
 use Rattle.job_words.specs.declared.job.Command.TheVariants.{Run, List as Listing, Sample, Assemble, Continue, Debug}
 use Rattle.job_words.specs.declared.job.Job.{Job}
-use Rattle.job_words.specs.declared.job.Key.TheVariants.{Flat, Rsrc, Pef, Image, Text, Script}
+use Rattle.job_words.specs.declared.job.Key.TheVariants.{Program, Image, Text, Script}
 use Rattle.job_words.specs.declared.draft.Draft.{Draft}
 use Rattle.job_words.specs.declared.setting.Setting.{Setting}
 use Rattle.job_words.specs.declared.draft.Given.{Given}
@@ -168,23 +169,23 @@ asked-steps verb words d steps held is = asked-value verb words (numbered Steps)
 
 asks-job : (verb : Verb) (words : List (List ℕ)) (d : Draft) → Holds verb words d → has_program (job_by d) ≡ true → AsksJob verb words (job_by d)
 asks-job verb words d held has = record {
-  flat = where-named verb words d (File Flat) held;
-  rsrc = where-named verb words d (File Rsrc) held;
-  pef = where-named verb words d (File Pef) held;
+  flat = where-named verb words d (File (Program Flat)) held;
+  rsrc = where-named verb words d (File (Program Rsrc)) held;
+  pef = where-named verb words d (File (Program Pef)) held;
   main = asks-value verb words (λ s. setting Main (Set s)) (set d Main) (usual_main (job_by d)) (the-set verb words d Main held);
   kib = asks-value verb words (numbered Ram) (number d Ram) 1024 (the-number verb words d Ram held);
   steps = asks-steps verb words d held;
   save = where-named verb words d Save held;
-  program = own-program (place d (File Flat)) (main_file (main_in d) (place d (File Rsrc)) (place d (File Pef))) has;
+  program = own-program (place d (File (Program Flat))) (main_file (main_in d) (place d (File (Program Rsrc))) (place d (File (Program Pef)))) has;
 }
 
 asked-job : (verb : Verb) (words : List (List ℕ)) (d : Draft) (job : Job) → Holds verb words d → AsksJob verb words job → (job ≡ job_by d) × (has_program (job_by d) ≡ true)
 asked-job verb words d job held asks =
-    let flat : job.flat ≡ place d (File Flat) = named-where verb words d (File Flat) job.flat held asks.flat in
-    let rsrc : job.rsrc ≡ place d (File Rsrc) = named-where verb words d (File Rsrc) job.rsrc held asks.rsrc in
-    let pef : job.pef ≡ place d (File Pef) = named-where verb words d (File Pef) job.pef held asks.pef in
+    let flat : job.flat ≡ place d (File (Program Flat)) = named-where verb words d (File (Program Flat)) job.flat held asks.flat in
+    let rsrc : job.rsrc ≡ place d (File (Program Rsrc)) = named-where verb words d (File (Program Rsrc)) job.rsrc held asks.rsrc in
+    let pef : job.pef ≡ place d (File (Program Pef)) = named-where verb words d (File (Program Pef)) job.pef held asks.pef in
     let save : job.save ≡ place d Save = named-where verb words d Save job.save held asks.save in
-    let usual : usual_main job ≡ usual_main (job_by d) = ap (λ f. usual_set f job.rsrc) flat ∙ ap (usual_set (place d (File Flat))) rsrc in
+    let usual : usual_main job ≡ usual_main (job_by d) = ap (λ f. usual_set f job.rsrc) flat ∙ ap (usual_set (place d (File (Program Flat)))) rsrc in
     let main : job.main ≡ main_in d = asked-value verb words (λ s. setting Main (Set s)) (set d Main) (usual_main job) job.main (the-set verb words d Main held) asks.main ∙ ap (unwrap_or (set d Main)) usual in
     let kib : job.kib ≡ unwrap_or (number d Ram) 1024 = asked-value verb words (numbered Ram) (number d Ram) 1024 job.kib (the-number verb words d Ram held) asks.kib in
     let steps : job.steps ≡ steps_in d = asked-steps verb words d job.steps held asks.steps in
@@ -324,9 +325,9 @@ read-taken verb words k some read =
           let less : j < min k (length words) = inside j within in
           read.once i j behind below (omega arith) (ap key_in (sym (at i (omega arith))) ∙ same ∙ ap key_in (at j (omega arith)));
       alone = λ flat.
-          let apart = read.alone (flat.0, sets-taken verb words k flat.0 (file Flat) flat.1) in (
-            λ other. apart.0 (other.0, sets-taken verb words k other.0 (file Rsrc) other.1),
-            λ other. apart.1 (other.0, sets-taken verb words k other.0 (file Pef) other.1),
+          let apart = read.alone (flat.0, sets-taken verb words k flat.0 (file (Program Flat)) flat.1) in (
+            λ other. apart.0 (other.0, sets-taken verb words k other.0 (file (Program Rsrc)) other.1),
+            λ other. apart.1 (other.0, sets-taken verb words k other.0 (file (Program Pef)) other.1),
           );
     }
 

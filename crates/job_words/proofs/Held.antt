@@ -1,10 +1,11 @@
 -- A draft holds what the words before a place set: with each word that is read, what that one sets too.
-use Rattle.std.proofs.Common.{◌≡◌, ◌≢◌, ℕ, ◌<◌, ◌⊎◌, inl, inr, List, [], ◌∷◌, ◌++◌, length, Bool, true, false, ◌&&◌, if◌then◌else◌, Option, Some, None, is_none, is_some, Result, arith, sym, ap, subst, ◌∙◌, refl}
+use Rattle.std.proofs.Common.{◌≡◌, ◌≢◌, ℕ, ◌<◌, ◌⊎◌, inl, inr, List, [], ◌∷◌, ◌++◌, length, Bool, true, false, if◌then◌else◌, Option, Some, None, is_none, is_some, Result, arith, sym, ap, subst, ◌∙◌, refl}
 use Rattle.std.specs.Prelude.{◌↔◌}
 use Rattle.std.specs.Option.{option_and_then, ok_or, IsSome}
 use Rattle.std.specs.Result.{MatchResult}
 use Rattle.std.proofs.lemmas.List.{length-append, length-set, length_push, get_or_append_left, get_or_push, get_or-set_same, get_or-set_other}
-use Rattle.std.proofs.lemmas.Bool.{cases_lt, cases_eq}
+use Rattle.std.proofs.lemmas.Bool.{and_cases, and_parts, cases_lt, cases_eq}
+use Rattle.mix_bits.specs.declared.file.File.TheVariants.{Flat, Rsrc, Pef}
 use Rattle.job_words.specs.Settings.{verb_of, key_in, setting_of, setting, file, text_of}
 use Rattle.job_words.specs.Drafts.{given, given_at, has_room, index_of, is_alone, is_open, put, with_setting}
 use Rattle.job_words.specs.Words.{bad_at, with_word}
@@ -12,7 +13,7 @@ use Rattle.job_words.specs.Asks.{word_at, Sets, IsSet, AreRead}
 use Rattle.job_words.proofs.Keys.{file-named, index-apart, index-small, setting-reads, text-apart}
 use Rattle.job_words.specs.declared.job.BadWord.{BadWord}
 use Rattle.job_words.specs.declared.job.Key.{Key}
-use Rattle.job_words.specs.declared.job.Key.TheVariants.{Flat, Rsrc, Pef}
+use Rattle.job_words.specs.declared.job.Key.TheVariants.{Program}
 use Rattle.job_words.specs.declared.draft.Draft.{Draft}
 use Rattle.job_words.specs.declared.draft.Given.{Given}
 use Rattle.job_words.specs.declared.setting.Name.{Name}
@@ -54,15 +55,6 @@ sets-cases verb done word p s set =
           let last : p ≡ length done = omega (arith, length_push done word, set.inside) in
           inr (last, subst (λ w. setting_of verb w ≡ Some s) (get_or_push done word [] p (sym last)) set.reads)
     ]
-
-both : (a b : Bool) → (a && b) ≡ true → (a ≡ true) × (b ≡ true)
-both true true same = (refl, refl)
-both true false same = cc
-both false b same = cc
-
-one-false : (a b : Bool) → (a && b) ≡ false → (a ≡ false) ⊎ (b ≡ false)
-one-false true b fails = inr fails
-one-false false b fails = inl refl
 
 some-of : {A : Type 0} (o : Option A) → IsSome o → (x : A) × (o ≡ Some x)
 some-of {A} None some = cc
@@ -129,31 +121,31 @@ each-next verb done word s d held is room name place value =
 
 -- a file that does not stand beside a flat one
 record Excludes (d : Draft) (key : Key) : Type 0 where
-  other : File key ≡ File Flat → ⊥
-  flat : is_alone d (File Flat) ≡ true → is_open d (File key) ≡ true
-  own : is_alone d (File key) ≡ true → is_open d (File Flat) ≡ true
+  other : File key ≡ File (Program Flat) → ⊥
+  flat : is_alone d (File (Program Flat)) ≡ true → is_open d (File key) ≡ true
+  own : is_alone d (File key) ≡ true → is_open d (File (Program Flat)) ≡ true
 
-rsrc-excludes : (d : Draft) → Excludes d Rsrc
-rsrc-excludes d = record { other = λ same. cc; flat = λ room. (both (is_open d (File Rsrc)) (is_open d (File Pef)) room).0; own = λ room. room }
+rsrc-excludes : (d : Draft) → Excludes d (Program Rsrc)
+rsrc-excludes d = record { other = λ same. cc; flat = λ room. (and_parts (is_open d (File (Program Rsrc))) (is_open d (File (Program Pef))) room).0; own = λ room. room }
 
-pef-excludes : (d : Draft) → Excludes d Pef
-pef-excludes d = record { other = λ same. cc; flat = λ room. (both (is_open d (File Rsrc)) (is_open d (File Pef)) room).1; own = λ room. room }
+pef-excludes : (d : Draft) → Excludes d (Program Pef)
+pef-excludes d = record { other = λ same. cc; flat = λ room. (and_parts (is_open d (File (Program Rsrc))) (is_open d (File (Program Pef))) room).1; own = λ room. room }
 
 apart-next : (verb : Verb) (done : List (List ℕ)) (word : List ℕ) (s : Setting) (d : Draft) (key : Key) → Excludes d key → Holds verb done d → setting_of verb word ≡ Some s → is_alone d s.name ≡ true
-    → (IsSet verb done (file Flat) → ¬ IsSet verb done (file key)) → IsSet verb (done ++ word ∷ []) (file Flat) → ¬ IsSet verb (done ++ word ∷ []) (file key)
+    → (IsSet verb done (file (Program Flat)) → ¬ IsSet verb done (file key)) → IsSet verb (done ++ word ∷ []) (file (Program Flat)) → ¬ IsSet verb (done ++ word ∷ []) (file key)
 apart-next verb done word s d key excludes held is room before flat other =
-    elim (sets-cases verb done word flat.0 (file Flat) flat.1) [
+    elim (sets-cases verb done word flat.0 (file (Program Flat)) flat.1) [
       | inl first ↦ elim (sets-cases verb done word other.0 (file key) other.1) [
         | inl also ↦ before (flat.0, first) (other.0, also)
         | inr last ↦
-            let free : is_open d (File Flat) ≡ true = excludes.own (subst (λ t. is_alone d t.name ≡ true) (same-setting verb word s (file key) is last.1) room) in
-            some-none (given d (File Flat)) (given_at flat.0 Named) ((held.each (File Flat) flat.0 Named).1 first) free
+            let free : is_open d (File (Program Flat)) ≡ true = excludes.own (subst (λ t. is_alone d t.name ≡ true) (same-setting verb word s (file key) is last.1) room) in
+            some-none (given d (File (Program Flat))) (given_at flat.0 Named) ((held.each (File (Program Flat)) flat.0 Named).1 first) free
       ]
       | inr last ↦ elim (sets-cases verb done word other.0 (file key) other.1) [
         | inl first ↦
-            let free : is_open d (File key) ≡ true = excludes.flat (subst (λ t. is_alone d t.name ≡ true) (same-setting verb word s (file Flat) is last.1) room) in
+            let free : is_open d (File key) ≡ true = excludes.flat (subst (λ t. is_alone d t.name ≡ true) (same-setting verb word s (file (Program Flat)) is last.1) room) in
             some-none (given d (File key)) (given_at other.0 Named) ((held.each (File key) other.0 Named).1 first) free
-        | inr also ↦ excludes.other (ap (λ t. t.name) (same-setting verb word (file key) (file Flat) also.1 last.1))
+        | inr also ↦ excludes.other (ap (λ t. t.name) (same-setting verb word (file key) (file (Program Flat)) also.1 last.1))
       ]
     ]
 
@@ -165,7 +157,7 @@ room-key verb done d i t s held room set same =
 -- so one word more is read
 read-next : (verb : Verb) (done : List (List ℕ)) (word : List ℕ) (s : Setting) (d : Draft) → Holds verb done d → setting_of verb word ≡ Some s → has_room d s.name ≡ true → AreRead verb (done ++ word ∷ [])
 read-next verb done word s d held is room =
-    let free : (is_open d s.name ≡ true) × (is_alone d s.name ≡ true) = both (is_open d s.name) (is_alone d s.name) room in
+    let free : (is_open d s.name ≡ true) × (is_alone d s.name ≡ true) = and_parts (is_open d s.name) (is_alone d s.name) room in
     let before : (p : ℕ) → p < length done → word_at (done ++ word ∷ []) p ≡ word_at done p = λ p within. get_or_append_left done (word ∷ []) [] p within in
     let last : (p : ℕ) → p ≡ length done → word_at (done ++ word ∷ []) p ≡ word = λ p same. get_or_push done word [] p (sym same) in
     record {
@@ -183,8 +175,8 @@ read-next verb done word s d held is room =
             (sym (setting-reads verb (word_at done i) some.0 some.1).named ∙ ap key_in (sym (before i within)) ∙ same ∙ ap key_in (last j (omega (arith, length_push done word))) ∙ (setting-reads verb word s is).named)
       ];
       alone = λ flat. (
-        apart-next verb done word s d Rsrc (rsrc-excludes d) held is free.1 (λ set. (held.read.alone set).0) flat,
-        apart-next verb done word s d Pef (pef-excludes d) held is free.1 (λ set. (held.read.alone set).1) flat,
+        apart-next verb done word s d (Program Rsrc) (rsrc-excludes d) held is free.1 (λ set. (held.read.alone set).0) flat,
+        apart-next verb done word s d (Program Pef) (pef-excludes d) held is free.1 (λ set. (held.read.alone set).1) flat,
       );
     }
 
@@ -194,7 +186,7 @@ held-next verb done word s d held is room = record {
   begun = omega (arith, length_push done word);
   read = read-next verb done word s d held is room;
   long = length-set d.slots (index_of s.name) (Some (given_at (length done) s.value)) ∙ held.long;
-  each = each-next verb done word s d held is (both (is_open d s.name) (is_alone d s.name) room).0;
+  each = each-next verb done word s d held is (and_parts (is_open d s.name) (is_alone d s.name) room).0;
 }
 
 -- a word with the key of one before it cannot be read behind it
@@ -216,18 +208,18 @@ beside verb done word d own key v held is some =
     )
 
 not-alone : (name : Name) (verb : Verb) (done : List (List ℕ)) (word : List ℕ) (d : Draft) (v : Value) → Holds verb done d → setting_of verb word ≡ Some (setting name v) → is_alone d name ≡ false → AreRead verb (done ++ word ∷ []) → ⊥
-not-alone (File Flat) verb done word d v held is room read =
-    elim (one-false (is_open d (File Rsrc)) (is_open d (File Pef)) room) [
-      | inl some ↦ let both = beside verb done word d Flat Rsrc v held is some in (read.alone both.0).0 both.1
-      | inr some ↦ let both = beside verb done word d Flat Pef v held is some in (read.alone both.0).1 both.1
+not-alone (File (Program Flat)) verb done word d v held is room read =
+    elim (and_cases (is_open d (File (Program Rsrc))) (is_open d (File (Program Pef))) room) [
+      | inl some ↦ let both = beside verb done word d (Program Flat) (Program Rsrc) v held is some in (read.alone both.0).0 both.1
+      | inr some ↦ let both = beside verb done word d (Program Flat) (Program Pef) v held is some in (read.alone both.0).1 both.1
     ]
-not-alone (File Rsrc) verb done word d v held is room read = let both = beside verb done word d Rsrc Flat v held is room in (read.alone both.1).0 both.0
-not-alone (File Pef) verb done word d v held is room read = let both = beside verb done word d Pef Flat v held is room in (read.alone both.1).1 both.0
+not-alone (File (Program Rsrc)) verb done word d v held is room read = let both = beside verb done word d (Program Rsrc) (Program Flat) v held is room in (read.alone both.1).0 both.0
+not-alone (File (Program Pef)) verb done word d v held is room read = let both = beside verb done word d (Program Pef) (Program Flat) v held is room in (read.alone both.1).1 both.0
 not-alone name verb done word d v held is room read = cc
 
 no-room : (verb : Verb) (done : List (List ℕ)) (word : List ℕ) (s : Setting) (d : Draft) → Holds verb done d → setting_of verb word ≡ Some s → has_room d s.name ≡ false → AreRead verb (done ++ word ∷ []) → ⊥
 no-room verb done word s d held is room read =
-    elim (one-false (is_open d s.name) (is_alone d s.name) room) [
+    elim (and_cases (is_open d s.name) (is_alone d s.name) room) [
       | inl some ↦
           let g : (g : Given) × (given d s.name ≡ Some (given_at g.place g.value)) = not-none (given d s.name) some in
           again verb done word s (setting s.name g.0.value) g.0.place ((held.each s.name g.0.place g.0.value).0 g.1) is refl read

@@ -1,12 +1,13 @@
 -- A word sets the key whose text it begins with, and no two keys have one text or one number.
-use Rattle.std.proofs.Common.{◌≡◌, ℕ, ◌<◌, ◌⊎◌, inl, inr, List, [], ◌∷◌, length, ◌==◌, Bool, true, false, if◌then◌else◌, IsTrue, Option, Some, None, get_or, arith, sym, ap, subst, ◌∙◌, refl}
+use Rattle.std.proofs.Common.{◌≡◌, ℕ, ◌<◌, List, [], ◌∷◌, length, ◌==◌, Bool, true, false, if◌then◌else◌, IsTrue, Option, Some, None, get_or, arith, sym, ap, ◌∙◌, refl}
 use Rattle.std.specs.Str.{bytes_eq}
 use Rattle.std.specs.Option.{option_and_then, option_map}
 use Rattle.std.proofs.lemmas.Slice.Eq.{bytes_eq-Decides}
+use Rattle.mix_bits.specs.declared.file.File.TheVariants.{Flat, Rsrc, Pef}
 use Rattle.job_words.specs.Settings.{has_equals, key_in, keys, name_in, setting, setting_in, setting_of, text_of, value_in, value_of}
 use Rattle.job_words.specs.Drafts.{index_of}
 use Rattle.job_words.specs.declared.job.Key.{Key}
-use Rattle.job_words.specs.declared.job.Key.TheVariants.{Flat, Rsrc, Pef, Image, Text, Script}
+use Rattle.job_words.specs.declared.job.Key.TheVariants.{Program, Image, Text, Script}
 use Rattle.job_words.specs.declared.setting.Name.{Name}
 use Rattle.job_words.specs.declared.setting.Name.TheVariants.{File, Main, Ram, Steps, At, Count, Calls, Depth, CodeSet, Save}
 use Rattle.job_words.specs.declared.setting.Setting.{Setting}
@@ -16,7 +17,7 @@ use Rattle.job_words.specs.declared.setting.Verb.{Verb}
 
 -- all keys, by their numbers
 abbrev all : List Name
-all = File Flat ∷ File Rsrc ∷ File Pef ∷ Main ∷ Ram ∷ Steps ∷ At ∷ Count ∷ Calls ∷ Depth ∷ File Text ∷ CodeSet ∷ File Image ∷ File Script ∷ Save ∷ []
+all = File (Program Flat) ∷ File (Program Rsrc) ∷ File (Program Pef) ∷ Main ∷ Ram ∷ Steps ∷ At ∷ Count ∷ Calls ∷ Depth ∷ File Text ∷ CodeSet ∷ File Image ∷ File Script ∷ Save ∷ []
 
 -- each is the one of its text, and the one of its number
 record IsOwn (name : Name) : Type 0 where
@@ -25,9 +26,9 @@ record IsOwn (name : Name) : Type 0 where
   small : index_of name < 15
 
 own : (name : Name) → IsOwn name
-own (File Flat) = record { text = refl; number = refl; small = omega arith }
-own (File Rsrc) = record { text = refl; number = refl; small = omega arith }
-own (File Pef) = record { text = refl; number = refl; small = omega arith }
+own (File (Program Flat)) = record { text = refl; number = refl; small = omega arith }
+own (File (Program Rsrc)) = record { text = refl; number = refl; small = omega arith }
+own (File (Program Pef)) = record { text = refl; number = refl; small = omega arith }
 own Main = record { text = refl; number = refl; small = omega arith }
 own Ram = record { text = refl; number = refl; small = omega arith }
 own Steps = record { text = refl; number = refl; small = omega arith }
@@ -85,39 +86,6 @@ reads-by false verb word s with is = cc
 pub setting-reads : (verb : Verb) (word : List ℕ) (s : Setting) → setting_of verb word ≡ Some s → Reads word s
 unfolding setting_of
 setting-reads verb word s is = reads-by (has_equals word) verb word s refl is
-
--- a word sets only what the command knows
-abbrev pub IsAmong : Name → List Name → Type 0
-IsAmong name [] = ⊥
-IsAmong name (n ∷ names) = (name ≡ n) ⊎ IsAmong name names
-
-among-by : (b : Bool) (n name : Name) (rest : Option Name) (names : List Name) → (rest ≡ Some name → IsAmong name names)
-    → (if b then Some n else rest) ≡ Some name → IsAmong name (n ∷ names)
-among-by true n name rest names later is = let same : name ≡ n = cc in inl same
-among-by false n name rest names later is = inr (later is)
-
-name-among : (names : List Name) (key : List ℕ) (name : Name) → name_in names key ≡ Some name → IsAmong name names
-name-among [] key name is = cc
-name-among (n ∷ names) key name is = among-by (bytes_eq key (text_of n)) n name (name_in names key) names (λ later. name-among names key name later) is
-
-name-kept : (o : Option Value) (name : Name) (s : Setting) → option_map (setting name) o ≡ Some s → name ≡ s.name
-name-kept None name s is = cc
-name-kept (Some v) name s is = let same : setting name v ≡ s = cc in ap (λ t. t.name) same
-
-known-by : (o : Option Name) (verb : Verb) (word : List ℕ) (s : Setting) → name_in (keys verb) (key_in word) ≡ o
-    → option_and_then (setting_in (value_in word)) o ≡ Some s → IsAmong s.name (keys verb)
-known-by None verb word s named is = cc
-known-by (Some name) verb word s named is =
-    subst (λ n. IsAmong n (keys verb)) (name-kept (value_of name (value_in word)) name s is) (name-among (keys verb) (key_in word) name named)
-
-known-if : (b : Bool) (verb : Verb) (word : List ℕ) (s : Setting)
-    → (if b then option_and_then (setting_in (value_in word)) (name_in (keys verb) (key_in word)) else None) ≡ Some s → IsAmong s.name (keys verb)
-known-if true verb word s is = known-by (name_in (keys verb) (key_in word)) verb word s refl is
-known-if false verb word s is = cc
-
-pub sets-known : (verb : Verb) (word : List ℕ) (s : Setting) → setting_of verb word ≡ Some s → IsAmong s.name (keys verb)
-unfolding setting_of
-sets-known verb word s is = known-if (has_equals word) verb word s is
 
 -- a file is named, and nothing more
 named-by : (b : Bool) (v : Value) → (if b then None else Some Named) ≡ Some v → v ≡ Named

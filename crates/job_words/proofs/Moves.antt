@@ -9,6 +9,7 @@ use Rattle.std.proofs.lemmas.Bool.{cases_lt, cases_eq}
 use Rattle.std.proofs.lemmas.Bool.Decides.{nat_tests}
 use Rattle.mix_bits.specs.declared.isa.Isa.{Isa}
 use Rattle.mix_bits.specs.declared.isa.Isa.TheVariants.{M68, Ppc}
+use Rattle.mix_bits.specs.declared.file.File.TheVariants.{Flat, Rsrc, Pef}
 use Rattle.job_words.specs.Settings.{verb_of, key_in, setting_of, setting, named, file, numbered}
 use Rattle.job_words.specs.Drafts.{main_file}
 use Rattle.job_words.specs.Asks.{word_at, Sets, IsSet, AreRead, IsSetOr, IsWhere, usual_main, AsksJob, Asks}
@@ -17,7 +18,7 @@ use Rattle.job_words.proofs.Asked.{no-verb, command-asked}
 use Rattle.job_words.specs.declared.job.Command.{Command}
 use Rattle.job_words.specs.declared.job.Command.TheVariants.{Run, List as Listing, Sample, Assemble, Continue, Debug}
 use Rattle.job_words.specs.declared.job.Job.{Job}
-use Rattle.job_words.specs.declared.job.Key.TheVariants.{Flat, Rsrc, Pef, Image, Text, Script}
+use Rattle.job_words.specs.declared.job.Key.TheVariants.{Program, Image, Text, Script}
 use Rattle.job_words.specs.declared.setting.Setting.{Setting}
 use Rattle.job_words.specs.declared.setting.Name.TheVariants.{Main, Ram, Steps, At, Count, Calls, Depth, CodeSet, Save}
 use Rattle.job_words.specs.declared.setting.Value.TheVariants.{Set}
@@ -190,9 +191,9 @@ read-moved to back verb words others r read =
           let equal : i ≡ j = sym (r.moves.again i) ∙ ap to places ∙ r.moves.again j in
           omega arith;
       alone = λ flat.
-          let apart = read.alone (set-back to back verb words others (file Flat) r flat) in (
-            λ other. apart.0 (set-back to back verb words others (file Rsrc) r other),
-            λ other. apart.1 (set-back to back verb words others (file Pef) r other),
+          let apart = read.alone (set-back to back verb words others (file (Program Flat)) r flat) in (
+            λ other. apart.0 (set-back to back verb words others (file (Program Rsrc)) r other),
+            λ other. apart.1 (set-back to back verb words others (file (Program Pef)) r other),
           );
     }
 
@@ -227,9 +228,9 @@ where-moved to back verb words others s o r is q = (
 
 job-moved : (to back : ℕ → ℕ) (verb : Verb) (words others : List (List ℕ)) (job : Job) → Reordered to back words others → AsksJob verb words job → AsksJob verb others (moved_job to job)
 job-moved to back verb words others job r asks = record {
-  flat = where-moved to back verb words others (file Flat) job.flat r asks.flat;
-  rsrc = where-moved to back verb words others (file Rsrc) job.rsrc r asks.rsrc;
-  pef = where-moved to back verb words others (file Pef) job.pef r asks.pef;
+  flat = where-moved to back verb words others (file (Program Flat)) job.flat r asks.flat;
+  rsrc = where-moved to back verb words others (file (Program Rsrc)) job.rsrc r asks.rsrc;
+  pef = where-moved to back verb words others (file (Program Pef)) job.pef r asks.pef;
   main = subst (λ default. IsSetOr verb others (λ s. setting Main (Set s)) default job.main) (usual-moved to job) (or-moved to back verb words others (λ s. setting Main (Set s)) (usual_main job) job.main r asks.main);
   kib = or-moved to back verb words others (numbered Ram) 1024 job.kib r asks.kib;
   steps = or-moved to back verb words others (numbered Steps) 1000000 job.steps r asks.steps;

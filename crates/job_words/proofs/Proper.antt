@@ -10,12 +10,13 @@ use Rattle.job_words.specs.Asks.{word_at, AreRead, Sets, IsSet, IsSetOr, IsWhere
 use Rattle.job_words.proofs.Keys.{Reads, setting-reads}
 use Rattle.job_words.proofs.Asked.{command-asked}
 use Rattle.mix_bits.specs.declared.isa.Isa.{Isa}
+use Rattle.mix_bits.specs.declared.file.File.TheVariants.{Flat, Rsrc, Pef}
 use Rattle.job_words.specs.declared.job.BadWord.{BadWord}
 use Rattle.job_words.specs.declared.job.Command.{Command}
 use Rattle.job_words.specs.declared.job.Command.TheVariants.{Run, List as Listing, Sample, Assemble, Continue, Debug}
 use Rattle.job_words.specs.declared.job.Job.{Job}
 use Rattle.job_words.specs.declared.job.Key.{Key}
-use Rattle.job_words.specs.declared.job.Key.TheVariants.{Flat, Rsrc, Pef, Image, Text, Script}
+use Rattle.job_words.specs.declared.job.Key.TheVariants.{Program, Image, Text, Script}
 use Rattle.job_words.specs.declared.setting.Name.{Name}
 use Rattle.job_words.specs.declared.setting.Name.TheVariants.{File, Ram, Count, Calls, Depth, Save}
 use Rattle.job_words.specs.declared.setting.Value.TheVariants.{Number}
@@ -32,9 +33,9 @@ where-named verb words name None is = tt
 where-named verb words name (Some p) is = word-named verb words name p ((is p).0 refl)
 
 job-named : (verb : Verb) (words : List (List ℕ)) (job : Job) → AsksJob verb words job → (key : Key) → IfSome (place_of job key) (HasKey words (File key))
-job-named verb words job asks Flat = where-named verb words (File Flat) job.flat asks.flat
-job-named verb words job asks Rsrc = where-named verb words (File Rsrc) job.rsrc asks.rsrc
-job-named verb words job asks Pef = where-named verb words (File Pef) job.pef asks.pef
+job-named verb words job asks (Program Flat) = where-named verb words (File (Program Flat)) job.flat asks.flat
+job-named verb words job asks (Program Rsrc) = where-named verb words (File (Program Rsrc)) job.rsrc asks.rsrc
+job-named verb words job asks (Program Pef) = where-named verb words (File (Program Pef)) job.pef asks.pef
 job-named verb words job asks key = tt
 
 -- a number that is set is in its key's range
@@ -55,7 +56,7 @@ alone-by : (verb : Verb) (words : List (List ℕ)) (job : Job) (o : Option ℕ) 
 alone-by verb words job None is read asks = tt
 alone-by verb words job (Some p) is read asks =
     let apart = read.alone (p, (asks.flat p).0 is) in
-    (nowhere verb words (File Rsrc) job.rsrc asks.rsrc apart.0, nowhere verb words (File Pef) job.pef asks.pef apart.1)
+    (nowhere verb words (File (Program Rsrc)) job.rsrc asks.rsrc apart.0, nowhere verb words (File (Program Pef)) job.pef asks.pef apart.1)
 
 set-range : (verb : Verb) (words : List (List ℕ)) (name : Name) (least most n : ℕ) → ((text : List ℕ) → value_of name text ≡ number_in (number_within least most text)) → IsSet verb words (numbered name n)
     → (least ≤ n) × (n ≤ most)

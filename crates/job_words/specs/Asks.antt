@@ -1,12 +1,13 @@
 -- When words are a command, and which one: by what they set, wherever they stand.
 use Rattle.std.specs.Prelude.{ℕ, ◌≡◌, ◌≢◌, ◌+◌, ◌<◌, ◌≤◌, ◌⊎◌, ◌↔◌, List as ListOf, [], length, take, slice_index_or, Option, Some, IfNone, IsSome}
 use Rattle.mix_bits.specs.declared.isa.Isa.{Isa}
+use Rattle.mix_bits.specs.declared.file.File.TheVariants.{Flat, Rsrc, Pef}
 use Rattle.job_words.specs.Settings.{verb_of, setting_of, key_in, setting, named, file, numbered}
 use Rattle.job_words.specs.Drafts.{main_file, usual_set}
 use Rattle.job_words.specs.declared.job.Command.{Command}
 use Rattle.job_words.specs.declared.job.Command.TheVariants.{Run, List, Sample, Assemble, Continue, Debug}
 use Rattle.job_words.specs.declared.job.Job.{Job}
-use Rattle.job_words.specs.declared.job.Key.TheVariants.{Flat, Rsrc, Pef, Image, Text, Script}
+use Rattle.job_words.specs.declared.job.Key.TheVariants.{Program, Image, Text, Script}
 use Rattle.job_words.specs.declared.setting.Setting.{Setting}
 use Rattle.job_words.specs.declared.setting.Name.TheVariants.{Main, Ram, Steps, At, Count, Calls, Depth, CodeSet, Save}
 use Rattle.job_words.specs.declared.setting.Value.TheVariants.{Set}
@@ -32,7 +33,7 @@ pub record AreRead (verb : Verb) (words : ListOf (ListOf ℕ)) : Type 0 where
   pub named : verb_of (word_at words 0) ≡ Some verb
   pub each : (place : ℕ) → 0 < place → place < length words → IsSome (setting_of verb (word_at words place))
   pub once : (i j : ℕ) → 0 < i → i < j → j < length words → key_in (word_at words i) ≢ key_in (word_at words j)
-  pub alone : IsSet verb words (file Flat) → (¬ IsSet verb words (file Rsrc)) × (¬ IsSet verb words (file Pef))
+  pub alone : IsSet verb words (file (Program Flat)) → (¬ IsSet verb words (file (Program Rsrc))) × (¬ IsSet verb words (file (Program Pef)))
 
 -- a word sets the value, or none does and it is the default
 abbrev pub IsSetOr : {A : Type 0} → Verb → ListOf (ListOf ℕ) → (A → Setting) → A → A → Type 0
@@ -48,9 +49,9 @@ usual_main job = usual_set job.flat job.rsrc
 
 -- the words ask for a job: its files stand where their words do, and the main program's is among them
 pub record AsksJob (verb : Verb) (words : ListOf (ListOf ℕ)) (job : Job) : Type 0 where
-  pub flat : IsWhere verb words (file Flat) job.flat
-  pub rsrc : IsWhere verb words (file Rsrc) job.rsrc
-  pub pef : IsWhere verb words (file Pef) job.pef
+  pub flat : IsWhere verb words (file (Program Flat)) job.flat
+  pub rsrc : IsWhere verb words (file (Program Rsrc)) job.rsrc
+  pub pef : IsWhere verb words (file (Program Pef)) job.pef
   pub main : IsSetOr verb words (λ set. setting Main (Set set)) (usual_main job) job.main
   pub kib : IsSetOr verb words (numbered Ram) 1024 job.kib
   pub steps : IsSetOr verb words (numbered Steps) 1000000 job.steps

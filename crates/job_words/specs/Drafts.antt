@@ -3,10 +3,11 @@ use Rattle.std.specs.Prelude.{ℕ, ◌&&◌, ◌||◌, Bool, true, if◌then◌e
 use Rattle.std.specs.Option.{option_map, option_and_then}
 use Rattle.mix_bits.specs.declared.isa.Isa.{Isa}
 use Rattle.mix_bits.specs.declared.isa.Isa.TheVariants.{M68, Ppc}
+use Rattle.mix_bits.specs.declared.file.File.TheVariants.{Flat, Rsrc, Pef}
 use Rattle.job_words.specs.declared.draft.Draft.{Draft}
 use Rattle.job_words.specs.declared.draft.Given.{Given}
 use Rattle.job_words.specs.declared.job.Job.{Job}
-use Rattle.job_words.specs.declared.job.Key.TheVariants.{Flat, Rsrc, Pef, Image, Text, Script}
+use Rattle.job_words.specs.declared.job.Key.TheVariants.{Program, Image, Text, Script}
 use Rattle.job_words.specs.declared.job.Command.{Command}
 use Rattle.job_words.specs.declared.job.Command.TheVariants.{Run, List, Sample, Assemble, Continue, Debug}
 use Rattle.job_words.specs.declared.setting.Name.{Name}
@@ -23,9 +24,9 @@ nothing = record { slots = replicate 15 None }
 
 -- the number of a key
 abbrev pub index_of : Name → ℕ
-index_of (File Flat) = 0
-index_of (File Rsrc) = 1
-index_of (File Pef) = 2
+index_of (File (Program Flat)) = 0
+index_of (File (Program Rsrc)) = 1
+index_of (File (Program Pef)) = 2
 index_of Main = 3
 index_of Ram = 4
 index_of Steps = 5
@@ -51,9 +52,9 @@ is_open draft name = is_none (given draft name)
 
 -- no key is given that this one excludes: beside a flat file stands no other of a program
 abbrev pub is_alone : Draft → Name → Bool
-is_alone draft (File Flat) = is_open draft (File Rsrc) && is_open draft (File Pef)
-is_alone draft (File Rsrc) = is_open draft (File Flat)
-is_alone draft (File Pef) = is_open draft (File Flat)
+is_alone draft (File (Program Flat)) = is_open draft (File (Program Rsrc)) && is_open draft (File (Program Pef))
+is_alone draft (File (Program Rsrc)) = is_open draft (File (Program Flat))
+is_alone draft (File (Program Pef)) = is_open draft (File (Program Flat))
 is_alone draft name = true
 
 abbrev pub has_room : Draft → Name → Bool
@@ -98,7 +99,7 @@ abbrev pub usual_set : Option ℕ → Option ℕ → Isa
 usual_set flat rsrc = if is_some flat || is_some rsrc then M68 else Ppc
 
 abbrev pub main_in : Draft → Isa
-main_in draft = unwrap_or (set draft Main) (usual_set (place draft (File Flat)) (place draft (File Rsrc)))
+main_in draft = unwrap_or (set draft Main) (usual_set (place draft (File (Program Flat))) (place draft (File (Program Rsrc))))
 
 -- the file that has the main program of a set where no file is flat
 abbrev pub main_file : {A : Type 0} → Isa → A → A → A
@@ -115,9 +116,9 @@ steps_in draft = unwrap_or (number draft Steps) 1000000
 -- the job of a draft, with the usual numbers where none is given
 abbrev pub job_by : Draft → Job
 job_by draft = record {
-  flat = place draft (File Flat);
-  rsrc = place draft (File Rsrc);
-  pef = place draft (File Pef);
+  flat = place draft (File (Program Flat));
+  rsrc = place draft (File (Program Rsrc));
+  pef = place draft (File (Program Pef));
   main = main_in draft;
   kib = unwrap_or (number draft Ram) 1024;
   steps = steps_in draft;

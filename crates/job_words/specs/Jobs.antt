@@ -1,10 +1,11 @@
 -- What each command wants, and what holds of each that is read.
 use Rattle.std.specs.Prelude.{ℕ, ◌≡◌, ◌<◌, ◌≤◌, List as ListOf, [], ◌∷◌, ◌++◌, length, slice_index_or, IsTrue, Option, Some, None, IfSome, IfNone, IsSome}
+use Rattle.mix_bits.specs.declared.file.File.TheVariants.{Flat, Rsrc, Pef}
 use Rattle.job_words.specs.Settings.{key_in, has_equals, text_of}
 use Rattle.job_words.specs.Drafts.{main_file}
 use Rattle.job_words.specs.declared.job.Job.{Job}
 use Rattle.job_words.specs.declared.job.Key.{Key}
-use Rattle.job_words.specs.declared.job.Key.TheVariants.{Flat, Rsrc, Pef, Image, Text, Script}
+use Rattle.job_words.specs.declared.job.Key.TheVariants.{Program, Image, Text, Script}
 use Rattle.job_words.specs.declared.job.Command.{Command}
 use Rattle.job_words.specs.declared.job.Command.TheVariants.{Run, List, Sample, Assemble, Continue, Debug}
 use Rattle.job_words.specs.declared.setting.Name.{Name}
@@ -12,9 +13,9 @@ use Rattle.job_words.specs.declared.setting.Name.TheVariants.{File, Save}
 
 -- the place of the word that names a file of a program
 abbrev pub place_of : Job → Key → Option ℕ
-place_of job Flat = job.flat
-place_of job Rsrc = job.rsrc
-place_of job Pef = job.pef
+place_of job (Program Flat) = job.flat
+place_of job (Program Rsrc) = job.rsrc
+place_of job (Program Pef) = job.pef
 place_of job key = None
 
 -- the program that a command loads
@@ -46,15 +47,11 @@ save_in command = None
 
 -- all keys, in the order in which files are fetched, and how long the file of each is at most
 abbrev pub keys_in_order : ListOf Key
-keys_in_order = Flat ∷ (Rsrc ∷ (Pef ∷ (Image ∷ (Text ∷ (Script ∷ [])))))
+keys_in_order = Program Flat ∷ (Program Rsrc ∷ (Program Pef ∷ (Image ∷ (Text ∷ (Script ∷ [])))))
 
 abbrev pub limit_of : Key → ℕ
-limit_of Flat = 16777216
-limit_of Rsrc = 16777216
-limit_of Pef = 16777216
 limit_of Image = 17825792
-limit_of Text = 16777216
-limit_of Script = 16777216
+limit_of key = 16777216
 
 -- the files that a command wants, in the order in which they are fetched, each with the place of its word
 abbrev pub wanted_at : Option ℕ → Key → ListOf (Key × ℕ)

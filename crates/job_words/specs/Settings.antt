@@ -5,8 +5,9 @@ use Rattle.std.specs.Option.{option_and_then, option_map}
 use Rattle.std.specs.Str.{bytes_eq}
 use Rattle.mix_bits.specs.declared.isa.Isa.TheVariants.{M68, Ppc}
 use Rattle.mix_bits.specs.Numbers.{decimal_number, hexadecimal_number}
+use Rattle.mix_bits.specs.declared.file.File.TheVariants.{Flat, Rsrc, Pef}
 use Rattle.job_words.specs.declared.job.Key.{Key}
-use Rattle.job_words.specs.declared.job.Key.TheVariants.{Flat, Rsrc, Pef, Image, Text, Script}
+use Rattle.job_words.specs.declared.job.Key.TheVariants.{Program, Image, Text, Script}
 use Rattle.job_words.specs.declared.setting.Name.{Name}
 use Rattle.job_words.specs.declared.setting.Name.TheVariants.{File, Main, Ram, Steps, At, Count, Calls, Depth, CodeSet, Save}
 use Rattle.job_words.specs.declared.setting.Setting.{Setting}
@@ -27,18 +28,18 @@ verb_of word =
 
 -- the keys that each command knows
 abbrev pub keys : Verb → List Name
-keys ToRun = File Flat ∷ (File Rsrc ∷ (File Pef ∷ (Main ∷ (Ram ∷ (Steps ∷ (Save ∷ []))))))
-keys ToList = File Flat ∷ (File Rsrc ∷ (File Pef ∷ (Main ∷ (Ram ∷ (At ∷ (Count ∷ []))))))
+keys ToRun = File (Program Flat) ∷ (File (Program Rsrc) ∷ (File (Program Pef) ∷ (Main ∷ (Ram ∷ (Steps ∷ (Save ∷ []))))))
+keys ToList = File (Program Flat) ∷ (File (Program Rsrc) ∷ (File (Program Pef) ∷ (Main ∷ (Ram ∷ (At ∷ (Count ∷ []))))))
 keys ToSample = Calls ∷ (Depth ∷ [])
 keys ToAssemble = CodeSet ∷ (File Text ∷ (At ∷ []))
 keys ToContinue = File Image ∷ (Steps ∷ (Save ∷ []))
-keys ToDebug = File Flat ∷ (File Rsrc ∷ (File Pef ∷ (Main ∷ (Ram ∷ (File Script ∷ [])))))
+keys ToDebug = File (Program Flat) ∷ (File (Program Rsrc) ∷ (File (Program Pef) ∷ (Main ∷ (Ram ∷ (File Script ∷ [])))))
 
 -- the text of each key
 abbrev pub key_text : Key → List ℕ
-key_text Flat = codes "flat"
-key_text Rsrc = codes "rsrc"
-key_text Pef = codes "pef"
+key_text (Program Flat) = codes "flat"
+key_text (Program Rsrc) = codes "rsrc"
+key_text (Program Pef) = codes "pef"
 key_text Image = codes "image"
 key_text Text = codes "text"
 key_text Script = codes "script"

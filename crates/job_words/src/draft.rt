@@ -1,10 +1,9 @@
 ghost use Rattle.std.specs.Prelude.{◌≡◌, ◌+◌, ◌<◌, IfSome, is_none};
-ghost use Rattle.job_words.specs.Drafts.{given as given_of, has_room as has_room_of, index_of, job_of, made, main_in, has_program, nothing, number as number_of, place as place_of, set as set_of, settings_in, steps_in, with_setting};
-ghost use Rattle.job_words.specs.declared.setting.Name.TheVariants.{File};
+ghost use Rattle.job_words.specs.Drafts.{given as given_of, has_room as has_room_of, is_alone, index_of, job_of, made, main_in, has_program, nothing, number as number_of, place as place_of, set as set_of, settings_in, steps_in, with_setting};
 
 use super::job::{Command, Job, Key};
 use super::setting::{Name, Setting, Value, Verb};
-use mix_bits::Isa;
+use mix_bits::{File, Isa};
 
 /// What a word gave for its key.
 #[derive(Clone, Copy)]
@@ -66,7 +65,7 @@ impl Draft {
 
     /// The place of the word that names a file to fetch.
     fn file(&self, key: Key) -> Option<u32>
-        ensures { result ≡ place_of self.now (File key) }
+        ensures { result ≡ place_of self.now (Name.File key) }
     {
         self.place(Name::File(key))
     }
@@ -98,9 +97,9 @@ fn index(name: Name) -> usize
     ensures inside { result < 15 }
 {
     match name {
-        Name::File(Key::Flat) => 0,
-        Name::File(Key::Rsrc) => 1,
-        Name::File(Key::Pef) => 2,
+        Name::File(Key::Program(File::Flat)) => 0,
+        Name::File(Key::Program(File::Rsrc)) => 1,
+        Name::File(Key::Program(File::Pef)) => 2,
         Name::Main => 3,
         Name::Ram => 4,
         Name::Steps => 5,
@@ -116,19 +115,33 @@ fn index(name: Name) -> usize
     }
 }
 
-/// Whether neither a key is given nor one that it excludes: beside a flat file stands no other of a program.
+/// Whether neither a key is given nor one that it excludes.
 fn has_room(draft: &Draft, name: Name) -> bool
     ensures { result ≡ has_room_of draft.now name }
 {
     is_open(draft, name)
         && match name {
-            Name::File(Key::Flat) => {
-                is_open(draft, Name::File(Key::Rsrc)) && is_open(draft, Name::File(Key::Pef))
-            }
-            Name::File(Key::Rsrc) => is_open(draft, Name::File(Key::Flat)),
-            Name::File(Key::Pef) => is_open(draft, Name::File(Key::Flat)),
+            Name::File(Key::Program(file)) => stands_alone(draft, file),
             _ => true,
         }
+}
+
+/// Whether no file is given that one of a program excludes: beside a flat file stands no other.
+fn stands_alone(draft: &Draft, file: File) -> bool
+    ensures { result ≡ is_alone draft.now (Name.File (Key.Program file)) }
+{
+    match file {
+        File::Flat => is_missing(draft, File::Rsrc) && is_missing(draft, File::Pef),
+        File::Rsrc => is_missing(draft, File::Flat),
+        File::Pef => is_missing(draft, File::Flat),
+    }
+}
+
+/// Whether a file of a program is not given.
+fn is_missing(draft: &Draft, file: File) -> bool
+    ensures { result ≡ is_none (given_of draft.now (Name.File (Key.Program file))) }
+{
+    is_open(draft, Name::File(Key::Program(file)))
 }
 
 /// Whether a key is not given.
@@ -144,7 +157,9 @@ fn main_set(draft: &Draft) -> Isa
 {
     match draft.set(Name::Main) {
         Some(set) => set,
-        None if draft.file(Key::Flat).is_some() || draft.file(Key::Rsrc).is_some() => Isa::M68,
+        None
+            if draft.file(Key::Program(File::Flat)).is_some()
+                || draft.file(Key::Program(File::Rsrc)).is_some() => Isa::M68,
         None => Isa::Ppc,
     }
 }
@@ -172,9 +187,9 @@ fn job(draft: &Draft) -> Option<Job>
     ensures { result ≡ job_of draft.now }
 {
     let job = Job {
-        flat: draft.file(Key::Flat),
-        rsrc: draft.file(Key::Rsrc),
-        pef: draft.file(Key::Pef),
+        flat: draft.file(Key::Program(File::Flat)),
+        rsrc: draft.file(Key::Program(File::Rsrc)),
+        pef: draft.file(Key::Program(File::Pef)),
         main: main_set(draft),
         kib: draft.number(Name::Ram).unwrap_or(1024),
         steps: steps(draft),

@@ -3,7 +3,7 @@ ghost use Rattle.std.specs.Prelude.{◌≡◌, ◌≤◌, length};
 ghost use Rattle.job_words.specs.Jobs.{limit_of, place_in, place_of, save_in};
 ghost use Rattle.job_words.specs.Settings.{key_text as key_text_of};
 
-use mix_bits::Isa;
+use mix_bits::{File, Isa};
 
 /// What the words ask for.
 #[derive(Clone, Copy, Debug, PartialEq, Eq)]
@@ -82,9 +82,9 @@ impl Job {
         ensures { result ≡ place_of self.now key }
     {
         match key {
-            Key::Flat => self.flat,
-            Key::Rsrc => self.rsrc,
-            Key::Pef => self.pef,
+            Key::Program(File::Flat) => self.flat,
+            Key::Program(File::Rsrc) => self.rsrc,
+            Key::Program(File::Pef) => self.pef,
             _ => None,
         }
     }
@@ -93,12 +93,8 @@ impl Job {
 /// A file that a command can want.
 #[derive(Clone, Copy, Debug, PartialEq, Eq)]
 pub enum Key {
-    /// A flat image.
-    Flat,
-    /// A resource fork of 68K code.
-    Rsrc,
-    /// A container of PowerPC code.
-    Pef,
+    /// One of a program.
+    Program(File),
     /// A machine that was kept.
     Image,
     /// A text of lines to assemble.
@@ -110,9 +106,9 @@ pub enum Key {
 impl Key {
     /// All keys, in the order in which the files of a command are fetched.
     pub const ALL: [Key; 6] = [
-        Key::Flat,
-        Key::Rsrc,
-        Key::Pef,
+        Key::Program(File::Flat),
+        Key::Program(File::Rsrc),
+        Key::Program(File::Pef),
         Key::Image,
         Key::Text,
         Key::Script,
@@ -124,9 +120,9 @@ impl Key {
         ensures short { length result.now ≤ 6 }
     {
         match self {
-            Key::Flat => "flat",
-            Key::Rsrc => "rsrc",
-            Key::Pef => "pef",
+            Key::Program(File::Flat) => "flat",
+            Key::Program(File::Rsrc) => "rsrc",
+            Key::Program(File::Pef) => "pef",
             Key::Image => "image",
             Key::Text => "text",
             Key::Script => "script",
@@ -138,12 +134,8 @@ impl Key {
         ensures { result ≡ limit_of self }
     {
         match self {
-            Key::Flat => 16_777_216,
-            Key::Rsrc => 16_777_216,
-            Key::Pef => 16_777_216,
             Key::Image => 17_825_792,
-            Key::Text => 16_777_216,
-            Key::Script => 16_777_216,
+            _ => 16_777_216,
         }
     }
 }

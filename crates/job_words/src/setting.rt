@@ -2,7 +2,7 @@ ghost use Rattle.std.specs.Prelude.{◌≡◌};
 ghost use Rattle.job_words.specs.Settings.{verb_of, keys as keys_of, text_of, name_in, named_by, value_of, set_of, number_in, number_within, setting_of};
 
 use super::job::Key;
-use mix_bits::{Isa, read_decimal, read_hexadecimal};
+use mix_bits::{File, Isa, read_decimal, read_hexadecimal};
 
 /// The command that the first word is.
 #[derive(Clone, Copy)]
@@ -48,9 +48,9 @@ pub struct Setting {
 
 /// The keys that `run` knows.
 const RUN: [Name; 7] = [
-    Name::File(Key::Flat),
-    Name::File(Key::Rsrc),
-    Name::File(Key::Pef),
+    Name::File(Key::Program(File::Flat)),
+    Name::File(Key::Program(File::Rsrc)),
+    Name::File(Key::Program(File::Pef)),
     Name::Main,
     Name::Ram,
     Name::Steps,
@@ -59,9 +59,9 @@ const RUN: [Name; 7] = [
 
 /// Those of `list`.
 const LIST: [Name; 7] = [
-    Name::File(Key::Flat),
-    Name::File(Key::Rsrc),
-    Name::File(Key::Pef),
+    Name::File(Key::Program(File::Flat)),
+    Name::File(Key::Program(File::Rsrc)),
+    Name::File(Key::Program(File::Pef)),
     Name::Main,
     Name::Ram,
     Name::At,
@@ -79,9 +79,9 @@ const CONTINUE: [Name; 3] = [Name::File(Key::Image), Name::Steps, Name::Save];
 
 /// Those of `debug`.
 const DEBUG: [Name; 6] = [
-    Name::File(Key::Flat),
-    Name::File(Key::Rsrc),
-    Name::File(Key::Pef),
+    Name::File(Key::Program(File::Flat)),
+    Name::File(Key::Program(File::Rsrc)),
+    Name::File(Key::Program(File::Pef)),
     Name::Main,
     Name::Ram,
     Name::File(Key::Script),

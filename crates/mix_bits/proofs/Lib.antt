@@ -6,3 +6,5 @@ pub mod ReadDecimals
 pub mod ReadHexadecimals
 pub mod NamesBack
 pub mod Glyphs
+pub mod Conditions
+pub mod Sizes

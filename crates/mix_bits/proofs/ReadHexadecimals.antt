@@ -1,5 +1,5 @@
 -- Hexadecimal digits are read as the number that they write.
-use Rattle.std.proofs.Common.{◌≡◌, ◌⊎◌, inl, inr, ℕ, zero, suc, ◌+◌, ◌*◌, ◌/◌, ◌%◌, ◌^◌, ◌<◌, ◌≤◌, ◌&&◌, ◌==◌, List, [], ◌∷◌, length, take, get_or, Bool, true, false, Some, None, if◌then◌else◌, arith, refl, sym, ap, subst, ◌∙◌}
+use Rattle.std.proofs.Common.{◌≡◌, ◌⊎◌, inl, inr, ℕ, zero, suc, ◌+◌, ◌*◌, ◌/◌, ◌%◌, ◌^◌, ◌<◌, ◌≤◌, ◌==◌, List, [], ◌∷◌, length, take, get_or, Bool, true, false, Some, None, if◌then◌else◌, arith, refl, sym, ap, subst, ◌∙◌}
 use Rattle.std.specs.Char.{digit_value}
 use Rattle.std.specs.Fmt.{digit_glyph}
 use Rattle.std.specs.List.{list_all}
@@ -8,20 +8,10 @@ use Rattle.std.proofs.Math.Nat.{div-div-eq-div-mul, div-eq_of_lt, div-one, mod-l
 use Rattle.std.proofs.lemmas.Nat.{div-add-mod', div-mul-add}
 use Rattle.std.proofs.lemmas.Int.Digits.{digits_value-lt, digits_value_more}
 use Rattle.std.proofs.lemmas.Str.Parse.{digits_value-take-le}
-use Rattle.std.proofs.lemmas.Bool.{eqb-true, eq-eqb}
+use Rattle.std.proofs.lemmas.Bool.{and_from, and_parts, eqb-true, eq-eqb}
 use Rattle.std.proofs.lemmas.Grind.{common_steps}
 use Rattle.mix_bits.specs.Numbers.{ReadsHexadecimals, are_hex_digits, hexadecimal_number, is_hex_digit}
 use Rattle.mix_bits.specs.Text.{hexadecimal}
-
-both : (a b : Bool) → (a && b) ≡ true → (a ≡ true) × (b ≡ true)
-both true true same = (refl, refl)
-both true false same = cc
-both false b same = cc
-
-joined : (a b : Bool) → a ≡ true → b ≡ true → (a && b) ≡ true
-joined true true first second = refl
-joined true false first second = cc
-joined false b first second = cc
 
 digit-small : (c : ℕ) → is_hex_digit c ≡ true → digit_value c < 16
 digit-small c is = grind (arith, common_steps)
@@ -37,7 +27,7 @@ glyph-digit : (d : ℕ) → d < 16 → is_hex_digit (digit_glyph true d) ≡ tru
 glyph-digit d small = grind (arith, common_steps)
 
 parts : (c : ℕ) (cs : List ℕ) → list_all is_hex_digit (c ∷ cs) ≡ true → (is_hex_digit c ≡ true) × (list_all is_hex_digit cs ≡ true)
-parts c cs all = both (is_hex_digit c) (list_all is_hex_digit cs) all
+parts c cs all = and_parts (is_hex_digit c) (list_all is_hex_digit cs) all
 
 all-digits : (text : List ℕ) → list_all is_hex_digit text ≡ true → AllDigits 16 text
 all-digits [] all = tt
@@ -80,7 +70,7 @@ glyphs : (k v : ℕ) → (length (hexadecimal k v) ≡ k) × (list_all is_hex_di
 glyphs zero v = (refl, refl)
 glyphs (suc k) v =
     let rest = glyphs k v in
-    (ap suc rest.0, joined _ _ (glyph-digit (v / 16 ^ k % 16) (mod-lt (v / 16 ^ k) (omega arith))) rest.1)
+    (ap suc rest.0, and_from _ _ (glyph-digit (v / 16 ^ k % 16) (mod-lt (v / 16 ^ k) (omega arith))) rest.1)
 
 -- the number so far and one more digit, of eight at most, has 32 bits
 pub more_fits : (text : List ℕ) (i : ℕ) → length text ≤ 8 → list_all is_hex_digit text ≡ true → i < length text → digits_value 16 (take i text) * 16 + digit_value (get_or text i 0) < 2 ^ 32
@@ -107,11 +97,11 @@ digits-read count text n small same =
 digits-are : (count : ℕ) (text : List ℕ) (n : ℕ) → hexadecimal count n ≡ text → are_hex_digits count text ≡ true
 digits-are count text n same =
     let all = glyphs count n in
-    subst (λ t. are_hex_digits count t ≡ true) same (joined _ _ (eq-eqb (length (hexadecimal count n)) count all.0) all.1)
+    subst (λ t. are_hex_digits count t ≡ true) same (and_from _ _ (eq-eqb (length (hexadecimal count n)) count all.0) all.1)
 
 digits-written : (count : ℕ) (text : List ℕ) (n : ℕ) → are_hex_digits count text ≡ true → digits_value 16 text ≡ n → (n < 16 ^ count) × (hexadecimal count n ≡ text)
 digits-written count text n are value =
-    let is = both (length text == count) (list_all is_hex_digit text) are in
+    let is = and_parts (length text == count) (list_all is_hex_digit text) are in
     let long : length text ≡ count = eqb-true (length text) count is.0 in (
       subst (λ m. m < 16 ^ count) value (subst (λ k. digits_value 16 text < 16 ^ k) long (digits_value-lt 16 text (all-digits text is.1))),
       ap (hexadecimal count) (sym value) ∙ ap (λ k. hexadecimal k (digits_value 16 text)) (sym long) ∙ written 0 text is.1,

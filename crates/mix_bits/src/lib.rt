@@ -1,11 +1,12 @@
 //! Words that every crate of the host shares: instruction sets, sizes of values, faults, addresses,
-//! digits of numbers and lines of text.
+//! digits of numbers, lines of text and the files of a program.
 #![tactic(auto)]
 
 mod addresses;
 mod appends;
 mod digits;
 mod fault;
+mod file;
 mod isa;
 mod laws;
 mod line;
@@ -21,6 +22,7 @@ mod tests;
 pub use addresses::{aligned, backward, onward};
 pub use digits::{digit, power, with_digit};
 pub use fault::{Fault, FaultKind};
+pub use file::File;
 pub use isa::{Isa, is_isa};
 pub use laws::{digit_laws, name_laws, number_laws, range_laws};
 pub use line::Line;

@@ -124,8 +124,7 @@ impl<'a> Pef<'a> {
         ensures even { length result.now % 2 ≡ 0 }
         ensures small { length result.now ≤ 2 ^ 24 }
     {
-        let header = header_for(self.bytes, self.loader, k);
-        relocs_at(self.bytes, self.loader, k, header)
+        self.relocs_by(k, header_for(self.bytes, self.loader, k))
     }
 
     /// The relocation header of each instantiated section, as its number among the headers, if it has one.

@@ -7,9 +7,9 @@ use Rattle.asm_ppc.proofs.Complete.{known_entry, known_word}
 use Rattle.asm_ppc.proofs.assembler.known_ppc.Goals as goal
 
 pub returns-in-None : goal.returns-in-None
-returns-in-None c = known_entry c.args.line.now c.args.at c.ranges.at.fits c.requires (sym (ap looked_up c.split.ensures.name) ∙ sym c.in-None.ensures)
+returns-in-None c = known_entry c.args.line.now c.args.at c.ranges.at.fits c.requires (sym (ap looked_up c.split_name.ensures.name) ∙ sym c.in-None.ensures)
 
 pub returns-in-Some : goal.returns-in-Some
 returns-in-Some c =
-    known_word c.args.line.now c.args.at c.in-Some.spelling _ c.ranges.at.fits c.requires (sym (ap looked_up c.split.ensures.name) ∙ sym c.in-Some.ensures)
-    (c.spell.ensures ∙ ap (λ n. spelled c.in-Some.spelling n c.args.at) (c.read.ensures ∙ ap read c.split.ensures.rest))
+    known_word c.args.line.now c.args.at c.in-Some.spelling _ c.ranges.at.fits c.requires (sym (ap looked_up c.split_name.ensures.name) ∙ sym c.in-Some.ensures)
+    (c.spell.ensures ∙ ap (λ n. spelled c.in-Some.spelling n c.args.at) (c.read.ensures ∙ ap read c.split_name.ensures.rest))
