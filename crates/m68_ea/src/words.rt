@@ -4,12 +4,12 @@ ghost use Rattle.mix_bits.specs.Sizes.{sign_extended};
 ghost use Rattle.mix_bits.specs.declared.size.Size.TheVariants.{One, Two};
 ghost use Rattle.mix_bits.specs.declared.size.Size.{Size};
 ghost use Rattle.mix_bits.specs.Addresses.{onward as onward_of};
-ghost use Rattle.m68_isa.specs.Operands.{extended_word as extended_word_of, immediate_at as immediate_at_of, immediate_words as immediate_words_of, index_of as index_of_word, is_index as is_index_word, long_at as long_at_of, operand_at, special_at};
+ghost use Rattle.m68_isa.specs.Operands.{extended_word as extended_word_of, immediate_at as immediate_at_of, index_of as index_of_word, is_index as is_index_word, long_at as long_at_of, operand_at, special_at};
 ghost use Rattle.m68_ea.specs.Words.{words_at};
 
 use big_memory::{Did, Ram, memory_laws};
 use byteorder::{BigEndian, ByteOrder};
-use m68_isa::{Index, Regs68};
+use m68_isa::{Index, Regs68, immediate_words};
 use mix_bits::{Size, onward};
 
 /// The word with this number of the instruction at `pc`, whose first word is 0. Behind the first one that
@@ -90,20 +90,6 @@ pub fn immediate_at(ram: &Ram, pc: u32, at: u32, size: Size) -> u32
         Size::One => word_at(ram, pc, at) % 0x100,
         Size::Two => word_at(ram, pc, at),
         Size::Four => long_at(ram, pc, at),
-    }
-}
-
-/// How many words an immediate value has.
-#[inline(always)]
-pub fn immediate_words(size: Size) -> u32
-    ensures value { result ≡ immediate_words_of size }
-    ensures most { result < 3 }
-{
-    match size {
-        Size::Zero => 0,
-        Size::One => 1,
-        Size::Two => 1,
-        Size::Four => 2,
     }
 }
 
