@@ -1,10 +1,5 @@
 -- What was written of an instruction.
-use Rattle.std.proofs.Common.{◌≡◌, ℕ, zero, suc, ◌+◌, ◌-◌, ◌<◌, List, [], ◌∷◌, ◌++◌, Option, Some, None, Ok, Err, sym, ap, ◌∙◌, refl, arith, append_assoc, append-nil}
-use Rattle.mix_bits.specs.declared.size.Size.TheVariants.{Two}
-use Rattle.mix_bits.specs.Addresses.{onward}
-use Rattle.big_memory.specs.declared.refusals.Access.{Access}
-use Rattle.big_memory.specs.Memory.{Memory, loaded}
-use Rattle.m68_ea.specs.Words.{word_and, words_at, words_from}
+use Rattle.std.proofs.Common.{◌≡◌, ℕ, List, Option, Some, None, sym, ap, ◌∙◌, refl}
 use Rattle.mix_list.specs.Listing.{Listed}
 use Rattle.mix_list.specs.Parts.{Writes}
 
