@@ -11,8 +11,8 @@ ghost use Rattle.m68_arithmetic.specs.Parts.{into_address as into_address_of};
 
 use super::ways::{Way, away};
 use big_memory::{Did, Ram};
-use m68_ea::{go_on, immediate_at, immediate_words, source, usual_source};
-use m68_isa::{Op68, Regs68, bit8_of, lower_of, mode_of, upper_of};
+use m68_ea::{go_on, immediate_at, source, usual_source};
+use m68_isa::{Op68, Regs68, bit8_of, immediate_words, lower_of, mode_of, upper_of};
 use mix_bits::{Fault, Size, sext, trunc};
 
 /// adda: an address register goes onward by an operand.

@@ -1,4 +1,5 @@
 // Sums, differences and negations by the operations that many instructions share.
+ghost use Rattle.m68_isa.specs.Fits.{Fits};
 ghost use Rattle.big_memory.specs.Steps.{Does};
 ghost use Rattle.m68_effects.specs.Ops.{by_op};
 
@@ -37,6 +38,7 @@ pub fn do_sub_to_register(regs: &mut Regs68, ram: &Ram, fault: &mut Fault, word:
 /// add of a data register to memory.
 #[inline(never)]
 pub fn do_add_to_memory(regs: &mut Regs68, ram: &mut Ram, fault: &mut Fault, word: u32) -> Did
+    requires { Fits Op68.AddToMemory word }
     ensures { Does (by_op Op68.AddToMemory regs.old ram.old word) result fault.new regs.old regs.new ram.old ram.new }
 {
     change_by_register(regs, ram, fault, word, Operation::Add)
@@ -45,6 +47,7 @@ pub fn do_add_to_memory(regs: &mut Regs68, ram: &mut Ram, fault: &mut Fault, wor
 /// sub of a data register from memory.
 #[inline(never)]
 pub fn do_sub_to_memory(regs: &mut Regs68, ram: &mut Ram, fault: &mut Fault, word: u32) -> Did
+    requires { Fits Op68.SubToMemory word }
     ensures { Does (by_op Op68.SubToMemory regs.old ram.old word) result fault.new regs.old regs.new ram.old ram.new }
 {
     change_by_register(regs, ram, fault, word, Operation::Sub)
@@ -53,6 +56,7 @@ pub fn do_sub_to_memory(regs: &mut Regs68, ram: &mut Ram, fault: &mut Fault, wor
 /// addi: immediate data to an operand.
 #[inline(never)]
 pub fn do_addi(regs: &mut Regs68, ram: &mut Ram, fault: &mut Fault, word: u32) -> Did
+    requires { Fits Op68.Addi word }
     ensures { Does (by_op Op68.Addi regs.old ram.old word) result fault.new regs.old regs.new ram.old ram.new }
 {
     change_by_immediate(regs, ram, fault, word, Operation::Add)
@@ -61,6 +65,7 @@ pub fn do_addi(regs: &mut Regs68, ram: &mut Ram, fault: &mut Fault, word: u32) -
 /// subi: immediate data from an operand.
 #[inline(never)]
 pub fn do_subi(regs: &mut Regs68, ram: &mut Ram, fault: &mut Fault, word: u32) -> Did
+    requires { Fits Op68.Subi word }
     ensures { Does (by_op Op68.Subi regs.old ram.old word) result fault.new regs.old regs.new ram.old ram.new }
 {
     change_by_immediate(regs, ram, fault, word, Operation::Sub)
@@ -69,6 +74,7 @@ pub fn do_subi(regs: &mut Regs68, ram: &mut Ram, fault: &mut Fault, word: u32) -
 /// neg: 0 less an operand.
 #[inline(never)]
 pub fn do_neg(regs: &mut Regs68, ram: &mut Ram, fault: &mut Fault, word: u32) -> Did
+    requires { Fits Op68.Neg word }
     ensures { Does (by_op Op68.Neg regs.old ram.old word) result fault.new regs.old regs.new ram.old ram.new }
 {
     if mode_of(word) == 0 {
@@ -81,6 +87,7 @@ pub fn do_neg(regs: &mut Regs68, ram: &mut Ram, fault: &mut Fault, word: u32) ->
 /// neg of memory.
 #[inline(never)]
 fn neg_in_memory(regs: &mut Regs68, ram: &mut Ram, fault: &mut Fault, word: u32) -> Did
+    requires { Fits Op68.Neg word }
     ensures { Does (by_op Op68.Neg regs.old ram.old word) result fault.new regs.old regs.new ram.old ram.new }
 {
     change_sized(regs, ram, fault, word, Operation::Neg, 0)
@@ -89,6 +96,7 @@ fn neg_in_memory(regs: &mut Regs68, ram: &mut Ram, fault: &mut Fault, word: u32)
 /// negx: 0 less an operand and X.
 #[inline(never)]
 pub fn do_negx(regs: &mut Regs68, ram: &mut Ram, fault: &mut Fault, word: u32) -> Did
+    requires { Fits Op68.Negx word }
     ensures { Does (by_op Op68.Negx regs.old ram.old word) result fault.new regs.old regs.new ram.old ram.new }
 {
     change_sized(regs, ram, fault, word, Operation::Negx, 0)
@@ -97,6 +105,7 @@ pub fn do_negx(regs: &mut Regs68, ram: &mut Ram, fault: &mut Fault, word: u32) -
 /// nbcd: 0 less a byte of two decimal digits and X.
 #[inline(never)]
 pub fn do_nbcd(regs: &mut Regs68, ram: &mut Ram, fault: &mut Fault, word: u32) -> Did
+    requires { Fits Op68.Nbcd word }
     ensures { Does (by_op Op68.Nbcd regs.old ram.old word) result fault.new regs.old regs.new ram.old ram.new }
 {
     change(regs, ram, fault, word, 1, Size::One, Operation::Nbcd, 0)

@@ -14,8 +14,10 @@ ghost use Rattle.m68_effects.specs.Parts.{after};
 
 use big_memory::{Did, Ram};
 use m68_alu::cmp;
-use m68_ea::{go_on, immediate_at, immediate_words, source, usual_source};
-use m68_isa::{Ccr, Op68, Regs68, bit8_of, is_long, lower_of, mode_of, size_bits_of, upper_of};
+use m68_ea::{go_on, immediate_at, source, usual_source};
+use m68_isa::{
+    Ccr, Op68, Regs68, bit8_of, immediate_words, is_long, lower_of, mode_of, size_bits_of, upper_of,
+};
 use mix_bits::{Fault, Size, sext, trunc};
 
 /// The flags of a destination less a source, X as it was.

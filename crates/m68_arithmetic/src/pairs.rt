@@ -138,6 +138,7 @@ fn pair_in_memory(
 
 /// An operation with a number on the place below the second address register.
 #[inline(always)]
+#[tactic(auto, unfolding(m68_isa::specs::Classes::IsAlterable))]
 fn change_below(
     regs: &mut Regs68,
     ram: &mut Ram,

@@ -2,6 +2,7 @@
 ghost use Rattle.std.specs.Prelude.{◌≡◌};
 ghost use Rattle.mix_bits.specs.Addresses.{onward as onward_of};
 ghost use Rattle.m68_isa.specs.First.{first_of, one_to_eight};
+ghost use Rattle.m68_isa.specs.Fits.{Fits, IsChangeable};
 ghost use Rattle.big_memory.specs.Steps.{Does};
 ghost use Rattle.m68_effects.specs.Operations.{changed_by};
 ghost use Rattle.m68_effects.specs.Ops.{by_op};
@@ -18,6 +19,7 @@ use mix_bits::Fault;
 /// addq: a number from 1 to 8 to an operand.
 #[inline(never)]
 pub fn do_addq(regs: &mut Regs68, ram: &mut Ram, fault: &mut Fault, word: u32) -> Did
+    requires { Fits Op68.Addq word }
     ensures { Does (by_op Op68.Addq regs.old ram.old word) result fault.new regs.old regs.new ram.old ram.new }
 {
     match mode_of(word) {
@@ -30,6 +32,7 @@ pub fn do_addq(regs: &mut Regs68, ram: &mut Ram, fault: &mut Fault, word: u32) -
 /// subq: a number from 1 to 8 from an operand.
 #[inline(never)]
 pub fn do_subq(regs: &mut Regs68, ram: &mut Ram, fault: &mut Fault, word: u32) -> Did
+    requires { Fits Op68.Subq word }
     ensures { Does (by_op Op68.Subq regs.old ram.old word) result fault.new regs.old regs.new ram.old ram.new }
 {
     match mode_of(word) {
@@ -53,6 +56,7 @@ fn move_address(regs: &mut Regs68, ram: &Ram, fault: &mut Fault, word: u32, way:
 /// A number from 1 to 8 to memory.
 #[inline(never)]
 fn add_number(regs: &mut Regs68, ram: &mut Ram, fault: &mut Fault, word: u32) -> Did
+    requires { IsChangeable word }
     ensures { Does (changed_by Operation.Add 1 (one_to_eight (first_of word).upper) word regs.old ram.old) result fault.new regs.old regs.new ram.old ram.new }
 {
     change_operand(regs, ram, fault, word, Operation::Add, quick_of(word))
@@ -61,6 +65,7 @@ fn add_number(regs: &mut Regs68, ram: &mut Ram, fault: &mut Fault, word: u32) ->
 /// A number from 1 to 8 from memory.
 #[inline(never)]
 fn subtract_number(regs: &mut Regs68, ram: &mut Ram, fault: &mut Fault, word: u32) -> Did
+    requires { IsChangeable word }
     ensures { Does (changed_by Operation.Sub 1 (one_to_eight (first_of word).upper) word regs.old ram.old) result fault.new regs.old regs.new ram.old ram.new }
 {
     change_operand(regs, ram, fault, word, Operation::Sub, quick_of(word))

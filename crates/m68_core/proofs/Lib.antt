@@ -1,4 +1,3 @@
-pub mod Reading
 pub mod Whole
 pub mod ByOp
 pub mod Leaving

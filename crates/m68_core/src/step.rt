@@ -7,9 +7,9 @@ ghost use Rattle.m68_core.specs.Steps.{Steps};
 
 use super::dispatch::run_op;
 use super::laws::step_law;
-use super::words::{has_five, is_short, read_words};
+use super::words::{has_five, is_short};
 use big_memory::{Did, Ram, stop};
-use m68_ea::word_at;
+use m68_ea::{read_words, word_at};
 use m68_isa::{Regs68, op_of};
 use mix_bits::{Fault, FaultKind, onward};
 

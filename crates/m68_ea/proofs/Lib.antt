@@ -1,3 +1,4 @@
 pub mod Fetch
 pub mod Back
 pub mod Tried
+pub mod Reading

@@ -1,23 +1,21 @@
-ghost use Rattle.std.specs.Prelude.{◌≡◌, ◌+◌, ◌<◌, ◌≤◌, ◌⊎◌, OnSome, slice_index, true};
+ghost use Rattle.std.specs.Prelude.{◌≡◌, ◌+◌, ◌<◌, ◌≤◌, ◌⊎◌, IfSome, OnSome, slice_index, true};
 ghost use Rattle.mix_bits.specs.Faults.{fault_at};
-ghost use Rattle.m68_isa.specs.Classes.{in_class};
+ghost use Rattle.m68_isa.specs.Classes.{IsAlterable, in_class};
 ghost use Rattle.m68_isa.specs.Operands.{operand_at, special_at};
 ghost use Rattle.m68_isa.specs.Classes.Class.{Control};
 ghost use Rattle.mix_bits.specs.declared.size.Size.TheVariants.{One, Two, Four};
 ghost use Rattle.m68_ea.specs.Finds.{Finds, FindsAddress, FindsAt, FindsControl, FindsIndexed, FindsPlace, HasFound, HasTarget, Puts, Reads, Takes};
 ghost use Rattle.mix_bits.specs.declared.fault.FaultKind.TheVariants.{Illegal};
-ghost use Rattle.m68_ea.specs.Places.{placed, with_address};
+ghost use Rattle.m68_ea.specs.Places.{IsWritable, placed, with_address};
 ghost use Rattle.m68_ea.specs.Words.{words_at};
 ghost use Rattle.m68_ea.specs.declared.places.Place68.TheVariants.{Mem};
 ghost use Rattle.m68_isa.specs.declared.ea.Ea.TheVariants.{Post, Pre};
 
 use super::accesses::{load, store};
 use super::places::{Place68, backward, indexed, step};
-use super::words::{
-    extended_word, immediate_at, immediate_words, index_of, is_index, long_at, word_at,
-};
+use super::words::{extended_word, immediate_at, index_of, is_index, long_at, word_at};
 use big_memory::Ram;
-use m68_isa::Regs68;
+use m68_isa::{Regs68, immediate_words};
 use mix_bits::{Fault, FaultKind, Size, onward, sext, trunc, with_low};
 
 /// An operand that was found, and how to take its increment or decrement back.
@@ -47,6 +45,7 @@ pub fn find(
     ensures is { Finds regs.old word size (operand_at (words_at ram.now regs.old.pc) next.old size mode lower) result next.new fault.new regs.new }
     ensures near { next.new ≤ next.old + 2 }
     ensures registers { HasFound result }
+    ensures writable { IsAlterable mode lower → IfSome result (λ t. IsWritable t.place) }
     ensures back { OnSome result (with_address regs.new lower (slice_index regs.old.a lower) ≡ regs.old) }
 {
     let before = regs.a[lower];
@@ -88,6 +87,7 @@ fn decrement(regs: &mut Regs68, register: usize, size: Size) -> u32
 
 /// The place of an operand of mode 2, 5, 6 or 7, which changes no register.
 #[inline(always)]
+#[tactic(auto, unfolding(m68_isa::specs::Classes::IsAlterable))]
 fn place_alone(
     regs: &Regs68,
     ram: &Ram,
@@ -102,6 +102,7 @@ fn place_alone(
     requires first { next.old < 4 }
     requires two { (mode ≡ 2) ⊎ (4 < mode) }
     ensures is { FindsPlace regs.now word size (operand_at (words_at ram.now regs.now.pc) next.old size mode lower) result next.new fault.new }
+    ensures writable { IsAlterable mode lower → IfSome result IsWritable }
     ensures near { next.new ≤ next.old + 2 }
 {
     if mode > 6 && lower > 3 {
@@ -150,7 +151,8 @@ pub fn put(
     size: Size,
     value: u32,
 ) -> bool
-    requires { HasTarget target }
+    requires target { HasTarget target }
+    requires writable { IsWritable target.place }
     ensures { Puts regs.old ram.old size target value result fault.new regs.new ram.new }
 {
     match target.place {
@@ -169,7 +171,7 @@ pub fn put(
             }
             done
         }
-        Place68::Imm(_) => true,
+        Place68::Imm(_) => unreachable!(),
     }
 }
 

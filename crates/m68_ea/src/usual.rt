@@ -12,9 +12,9 @@ ghost use Rattle.m68_ea.specs.Words.{words_at};
 ghost use Rattle.m68_ea.specs.declared.places.Place68.TheVariants.{Mem};
 
 use super::places::{backward, step};
-use super::words::{extended_word, immediate_at, immediate_words};
+use super::words::{extended_word, immediate_at};
 use big_memory::Ram;
-use m68_isa::Regs68;
+use m68_isa::{Regs68, immediate_words};
 use mix_bits::{Size, onward, trunc};
 
 /// An operand in memory of a usual mode.

@@ -1,15 +1,15 @@
-ghost use Rattle.std.specs.Prelude.{◌≡◌, ℕ, ◌+◌, ◌-◌, ◌*◌, ◌<◌, ◌≤◌, ◌^◌, List, length, drop, slice_index};
+ghost use Rattle.std.specs.Prelude.{◌≡◌, ℕ, ◌+◌, ◌-◌, ◌*◌, ◌<◌, ◌≤◌, ◌^◌, List, length, drop, take, slice_index};
 ghost use Rattle.byteorder.specs.Endian.{big_number};
 ghost use Rattle.mix_bits.specs.Sizes.{sign_extended};
 ghost use Rattle.mix_bits.specs.declared.size.Size.TheVariants.{One, Two};
 ghost use Rattle.mix_bits.specs.declared.size.Size.{Size};
 ghost use Rattle.mix_bits.specs.Addresses.{onward as onward_of};
-ghost use Rattle.m68_isa.specs.Operands.{extended_word as extended_word_of, immediate_at as immediate_at_of, immediate_words as immediate_words_of, index_of as index_of_word, is_index as is_index_word, long_at as long_at_of, operand_at, special_at};
-ghost use Rattle.m68_ea.specs.Words.{words_at};
+ghost use Rattle.m68_isa.specs.Operands.{extended_word as extended_word_of, immediate_at as immediate_at_of, index_of as index_of_word, is_index as is_index_word, long_at as long_at_of, operand_at, special_at};
+ghost use Rattle.m68_ea.specs.Words.{words_at, words_from};
 
 use big_memory::{Did, Ram, memory_laws};
 use byteorder::{BigEndian, ByteOrder};
-use m68_isa::{Index, Regs68};
+use m68_isa::{Index, Regs68, immediate_words};
 use mix_bits::{Size, onward};
 
 /// The word with this number of the instruction at `pc`, whose first word is 0. Behind the first one that
@@ -24,6 +24,25 @@ pub fn word_at(ram: &Ram, pc: u32, at: u32) -> u32
     ram.meets_invariant();
     match ram.span(pc, 2 * at + 2) {
         Ok(words) => last_word(words),
+        Err(_) => 0,
+    }
+}
+
+/// Reads words from `a` on, as far as they lie in memory and there is place for them, and tells how many.
+#[tactic(auto, unfolding(crate::specs::Words::words_from))]
+pub fn read_words(ram: &Ram, a: u32, words: &mut [u16]) -> usize
+    ensures count { result ≤ length words.old }
+    ensures length { length words.new ≡ length words.old }
+    ensures words { take result words.new ≡ words_from (length words.old) ram.now a }
+{
+    if words.is_empty() {
+        return 0;
+    }
+    match ram.load_word(a) {
+        Ok(word) => {
+            words[0] = word as u16;
+            1 + read_words(ram, onward(a, 2), &mut words[1..])
+        }
         Err(_) => 0,
     }
 }
@@ -90,20 +109,6 @@ pub fn immediate_at(ram: &Ram, pc: u32, at: u32, size: Size) -> u32
         Size::One => word_at(ram, pc, at) % 0x100,
         Size::Two => word_at(ram, pc, at),
         Size::Four => long_at(ram, pc, at),
-    }
-}
-
-/// How many words an immediate value has.
-#[inline(always)]
-pub fn immediate_words(size: Size) -> u32
-    ensures value { result ≡ immediate_words_of size }
-    ensures most { result < 3 }
-{
-    match size {
-        Size::Zero => 0,
-        Size::One => 1,
-        Size::Two => 1,
-        Size::Four => 2,
     }
 }
 

@@ -1,5 +1,5 @@
 -- Pushing and popping.
-use Rattle.std.proofs.Common.{◌≡◌, ℕ, ◌+◌, ◌^◌, ◌<◌, ◌≤◌, ◌∙◌, true, false, List, length, get_or, Option, Some, None, Result, Ok, Err, refl, sym, ap, subst, arith, rules, lit<, get_or-set_same}
+use Rattle.std.proofs.Common.{◌≡◌, ℕ, ◌+◌, ◌^◌, ◌<◌, ◌≤◌, ◌∙◌, true, false, List, length, get_or, None, Result, Ok, Err, refl, sym, ap, subst, arith, rules, lit<, get_or-set_same}
 use Rattle.std.specs.Prelude.{◌==◌, if◌then◌else◌, slice_index}
 use Rattle.std.proofs.Math.ListN.{set}
 use Rattle.std.proofs.lemmas.List.{set-set, set-get_or}
@@ -17,8 +17,8 @@ use Rattle.m68_isa.specs.declared.ea.Ea.TheVariants.{Dn, Post}
 use Rattle.m68_isa.specs.declared.instructions.Instr68.TheVariants.{Move, Movea}
 use Rattle.m68_alu.specs.Sizes.{result_flags}
 use Rattle.big_memory.specs.declared.refusals.Access.{Access}
-use Rattle.big_memory.specs.Memory.{Memory, in_memory, loaded, refusal, stored}
-use Rattle.big_memory.specs.Stores.{stored_unless, stored_value}
+use Rattle.big_memory.specs.Memory.{Memory, in_memory, loaded, refusal}
+use Rattle.big_memory.specs.Stores.{stored_value}
 use Rattle.big_memory.proofs.Guarded.{passes}
 use Rattle.big_memory.proofs.Longs.{stored_loads}
 use Rattle.m68_ea.specs.Accesses.{or_fault}

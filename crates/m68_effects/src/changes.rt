@@ -2,6 +2,7 @@
 ghost use Rattle.std.specs.Prelude.{◌≡◌, ◌≢◌, ◌+◌, ◌<◌, ◌≤◌, slice_index};
 ghost use Rattle.mix_bits.specs.declared.size.Size.TheVariants.{Zero, One, Two, Four};
 ghost use Rattle.m68_isa.specs.First.{first_of, size_of};
+ghost use Rattle.m68_isa.specs.Fits.{IsChangeable};
 ghost use Rattle.m68_isa.specs.Operands.{immediate_at as immediate_at_of, immediate_words as immediate_words_of, operand_at};
 ghost use Rattle.big_memory.specs.Steps.{Does};
 ghost use Rattle.m68_ea.specs.Finds.{IsAt};
@@ -11,10 +12,8 @@ ghost use Rattle.m68_effects.specs.Operations.{changed_at, changed_by};
 
 use super::operation::{Operation, apply};
 use big_memory::{Did, Ram};
-use m68_ea::{
-    data_address, find, find_usual, go_on, immediate_at, immediate_words, put, put_usual, value,
-};
-use m68_isa::{Regs68, is_long, lower_of, mode_of, size_bits_of, upper_of};
+use m68_ea::{data_address, find, find_usual, go_on, immediate_at, put, put_usual, value};
+use m68_isa::{Regs68, immediate_words, is_long, lower_of, mode_of, size_bits_of, upper_of};
 use mix_bits::{Fault, Size, trunc, with_low};
 
 /// Changes an operand of this size by an operation with a number. Its extension words begin with word `first`.
@@ -31,6 +30,7 @@ pub fn change(
 ) -> Did
     requires some { size ≢ Zero }
     requires first { first < 4 }
+    requires changeable { IsChangeable word }
     ensures { Does (changed_at size op first by word regs.old ram.old) result fault.new regs.old regs.new ram.old ram.new }
 {
     let (mode, lower) = (mode_of(word), lower_of(word));
@@ -59,6 +59,7 @@ pub fn change_sized(
     op: Operation,
     by: u32,
 ) -> Did
+    requires { IsChangeable word }
     ensures { Does (changed_by op 1 by word regs.old ram.old) result fault.new regs.old regs.new ram.old ram.new }
 {
     match size_bits_of(word) {
@@ -78,6 +79,7 @@ fn change_other(
     op: Operation,
     by: u32,
 ) -> Did
+    requires { IsChangeable word }
     ensures { Does (changed_by op 1 by word regs.old ram.old) result fault.new regs.old regs.new ram.old ram.new }
 {
     change_sized(regs, ram, fault, word, op, by)
@@ -93,6 +95,7 @@ pub fn change_operand(
     op: Operation,
     by: u32,
 ) -> Did
+    requires { IsChangeable word }
     ensures { Does (changed_by op 1 by word regs.old ram.old) result fault.new regs.old regs.new ram.old ram.new }
 {
     if mode_of(word) > 5 {
@@ -114,6 +117,7 @@ fn change_elsewhere(
     op: Operation,
     by: u32,
 ) -> Did
+    requires { IsChangeable word }
     ensures { Does (changed_by op 1 by word regs.old ram.old) result fault.new regs.old regs.new ram.old ram.new }
 {
     match op {
@@ -126,6 +130,7 @@ fn change_elsewhere(
 /// A number to an operand of mode 6 or 7.
 #[inline(never)]
 fn add_elsewhere(regs: &mut Regs68, ram: &mut Ram, fault: &mut Fault, word: u32, by: u32) -> Did
+    requires { IsChangeable word }
     ensures { Does (changed_by Operation.Add 1 by word regs.old ram.old) result fault.new regs.old regs.new ram.old ram.new }
 {
     change_far(regs, ram, fault, word, Operation::Add, by)
@@ -134,6 +139,7 @@ fn add_elsewhere(regs: &mut Regs68, ram: &mut Ram, fault: &mut Fault, word: u32,
 /// A number from an operand of mode 6 or 7.
 #[inline(never)]
 fn sub_elsewhere(regs: &mut Regs68, ram: &mut Ram, fault: &mut Fault, word: u32, by: u32) -> Did
+    requires { IsChangeable word }
     ensures { Does (changed_by Operation.Sub 1 by word regs.old ram.old) result fault.new regs.old regs.new ram.old ram.new }
 {
     change_far(regs, ram, fault, word, Operation::Sub, by)
@@ -149,6 +155,7 @@ fn change_far(
     op: Operation,
     by: u32,
 ) -> Did
+    requires { IsChangeable word }
     ensures { Does (changed_by op 1 by word regs.old ram.old) result fault.new regs.old regs.new ram.old ram.new }
 {
     let (mode, lower) = (mode_of(word), lower_of(word));
@@ -231,6 +238,7 @@ pub fn change_by_register(
     word: u32,
     op: Operation,
 ) -> Did
+    requires { IsChangeable word }
     ensures { Does (changed_by op 1 (slice_index regs.old.d (first_of word).upper) word regs.old ram.old) result fault.new regs.old regs.new ram.old ram.new }
 {
     let by = regs.d[upper_of(word)];
@@ -334,6 +342,7 @@ pub fn change_by_immediate(
     word: u32,
     op: Operation,
 ) -> Did
+    requires { IsChangeable word }
     ensures { let size = size_of (first_of word).size in
         Does (changed_at size op (1 + immediate_words_of size) (immediate_at_of (words_at ram.old regs.old.pc) 1 size) word regs.old ram.old) result fault.new regs.old regs.new ram.old ram.new }
 {
@@ -394,6 +403,7 @@ fn change_low_by_data(
 /// Immediate data to memory.
 #[inline(never)]
 fn add_data(regs: &mut Regs68, ram: &mut Ram, fault: &mut Fault, word: u32) -> Did
+    requires { IsChangeable word }
     ensures { let size = size_of (first_of word).size in
         Does (changed_at size Operation.Add (1 + immediate_words_of size) (immediate_at_of (words_at ram.old regs.old.pc) 1 size) word regs.old ram.old) result fault.new regs.old regs.new ram.old ram.new }
 {
@@ -403,6 +413,7 @@ fn add_data(regs: &mut Regs68, ram: &mut Ram, fault: &mut Fault, word: u32) -> D
 /// Immediate data from memory.
 #[inline(never)]
 fn sub_data(regs: &mut Regs68, ram: &mut Ram, fault: &mut Fault, word: u32) -> Did
+    requires { IsChangeable word }
     ensures { let size = size_of (first_of word).size in
         Does (changed_at size Operation.Sub (1 + immediate_words_of size) (immediate_at_of (words_at ram.old regs.old.pc) 1 size) word regs.old ram.old) result fault.new regs.old regs.new ram.old ram.new }
 {
@@ -412,6 +423,7 @@ fn sub_data(regs: &mut Regs68, ram: &mut Ram, fault: &mut Fault, word: u32) -> D
 /// Immediate data into memory, by AND.
 #[inline(never)]
 fn and_data(regs: &mut Regs68, ram: &mut Ram, fault: &mut Fault, word: u32) -> Did
+    requires { IsChangeable word }
     ensures { let size = size_of (first_of word).size in
         Does (changed_at size Operation.And (1 + immediate_words_of size) (immediate_at_of (words_at ram.old regs.old.pc) 1 size) word regs.old ram.old) result fault.new regs.old regs.new ram.old ram.new }
 {
@@ -421,6 +433,7 @@ fn and_data(regs: &mut Regs68, ram: &mut Ram, fault: &mut Fault, word: u32) -> D
 /// Immediate data into memory, by OR.
 #[inline(never)]
 fn or_data(regs: &mut Regs68, ram: &mut Ram, fault: &mut Fault, word: u32) -> Did
+    requires { IsChangeable word }
     ensures { let size = size_of (first_of word).size in
         Does (changed_at size Operation.Or (1 + immediate_words_of size) (immediate_at_of (words_at ram.old regs.old.pc) 1 size) word regs.old ram.old) result fault.new regs.old regs.new ram.old ram.new }
 {
@@ -436,6 +449,7 @@ fn change_memory_by_data(
     word: u32,
     op: Operation,
 ) -> Did
+    requires { IsChangeable word }
     ensures { let size = size_of (first_of word).size in
         Does (changed_at size op (1 + immediate_words_of size) (immediate_at_of (words_at ram.old regs.old.pc) 1 size) word regs.old ram.old) result fault.new regs.old regs.new ram.old ram.new }
 {
@@ -484,6 +498,7 @@ fn change_other_by_data(
     word: u32,
     op: Operation,
 ) -> Did
+    requires { IsChangeable word }
     ensures { let size = size_of (first_of word).size in
         Does (changed_at size op (1 + immediate_words_of size) (immediate_at_of (words_at ram.old regs.old.pc) 1 size) word regs.old ram.old) result fault.new regs.old regs.new ram.old ram.new }
 {
@@ -504,7 +519,8 @@ fn change_by_data(
     size: Size,
     op: Operation,
 ) -> Did
-    requires { size ≢ Zero }
+    requires some { size ≢ Zero }
+    requires changeable { IsChangeable word }
     ensures { Does (changed_at size op (1 + immediate_words_of size) (immediate_at_of (words_at ram.old regs.old.pc) 1 size) word regs.old ram.old) result fault.new regs.old regs.new ram.old ram.new }
 {
     let by = immediate_at(ram, regs.pc, 1, size);

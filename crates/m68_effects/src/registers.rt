@@ -11,8 +11,8 @@ ghost use Rattle.m68_effects.specs.Operations.{taken_at, taken_by};
 
 use super::operation::{Operation, apply};
 use big_memory::{Did, Ram};
-use m68_ea::{data_address, go_on, immediate_at, immediate_words, load, source, usual_source};
-use m68_isa::{Regs68, is_long, lower_of, mode_of, size_bits_of, upper_of};
+use m68_ea::{data_address, go_on, immediate_at, load, source, usual_source};
+use m68_isa::{Regs68, immediate_words, is_long, lower_of, mode_of, size_bits_of, upper_of};
 use mix_bits::{Fault, Size, trunc, with_low};
 
 /// Changes the data register of bits 11 to 9 by an operation with another data register, of the size in bits 7

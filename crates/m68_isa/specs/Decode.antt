@@ -8,7 +8,7 @@ use Rattle.m68_isa.specs.declared.found.Found.TheVariants.{Made, Privileged, Ill
 use Rattle.m68_isa.specs.declared.op.Op68.{Op68}
 use Rattle.m68_isa.specs.declared.op.Op68.TheVariants.{LineA, LineF}
 use Rattle.m68_isa.specs.First.{First, first_of}
-use Rattle.m68_isa.specs.Rows.{Row, Section, section, chosen, rows_in}
+use Rattle.m68_isa.specs.Rows.{Section, section, chosen, rows_in}
 use Rattle.m68_isa.specs.Immediates.{rows_0_even, rows_0_odd}
 use Rattle.m68_isa.specs.Moves.{rows_1, rows_2, rows_3}
 use Rattle.m68_isa.specs.Miscellaneous.{rows_4_one, rows_4_8, rows_4_test, rows_4_control, rows_4_jump, rows_4_odd}

@@ -63,7 +63,7 @@ abbrev pub is_either : Bool → Bool → Ea → Bool
 is_either true source e = is_in MemoryAlterable e
 is_either false source e = source
 
--- each operand is in the class of its row
+-- each operand is in the class of its row; those of SUBA, CMPA and ADDA are of all modes
 abbrev pub has_modes : Instr68 → Bool
 has_modes (Immediate op size value to) = is_in DataAlterable to
 has_modes (BitByRegister op register to) = is_in (class_of op) to
@@ -94,15 +94,15 @@ has_modes (Scc condition to) = is_in DataAlterable to
 has_modes (Or size to_memory register operand) = is_either to_memory (is_in Data operand) operand
 has_modes (Div signed by register) = is_in Data by
 has_modes (Sub size to_memory register operand) = is_either to_memory (is_sized Any size operand) operand
-has_modes (Suba size from to) = is_in Any from
 has_modes (Cmp size with register) = is_sized Any size with
-has_modes (Cmpa size with register) = is_in Any with
 has_modes (Eor size register to) = is_in DataAlterable to
 has_modes (And size to_memory register operand) = is_either to_memory (is_in Data operand) operand
 has_modes (Mul signed by register) = is_in Data by
 has_modes (Add size to_memory register operand) = is_either to_memory (is_sized Any size operand) operand
-has_modes (Adda size from to) = is_in Any from
 has_modes (ShiftMemory op left to) = is_in MemoryAlterable to
+has_modes (Suba size from to) = true
+has_modes (Cmpa size with register) = true
+has_modes (Adda size from to) = true
 has_modes (ImmediateToCcr op value) = true
 has_modes (Movep size to_memory register base disp) = true
 has_modes (Swap register) = true

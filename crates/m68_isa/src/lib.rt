@@ -40,6 +40,7 @@ pub use instructions::{
 };
 pub use laws::{op_laws, reading_law, table_laws};
 pub use op::Op68;
+pub use operand::immediate_words;
 pub use read::op_of;
 pub use register_longs::long_laws;
 pub use register_word::{high_of, is_register_word, is_signed, is_wide, low_of};

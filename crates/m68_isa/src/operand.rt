@@ -86,6 +86,7 @@ fn is_index(word: u32) -> bool
 }
 
 /// How many words an immediate has.
+#[inline(always)]
 pub fn immediate_words(size: Size) -> u32
     ensures value { result ≡ immediate_words size }
     ensures most { result ≤ 2 }

@@ -1,6 +1,7 @@
-ghost use Rattle.std.specs.Prelude.{◌≡◌, ◌/◌, ◌%◌, ◌^◌, ◌==◌, ◌&&◌, ◌||◌, not, nat_lt};
+ghost use Rattle.std.specs.Prelude.{◌≡◌, ◌/◌, ◌%◌, ◌^◌, ◌==◌, ◌&&◌, ◌||◌, IsTrue, not, nat_lt};
 ghost use Rattle.m68_isa.specs.First.{first_of, size_of};
 ghost use Rattle.m68_isa.specs.Classes.{in_class, is_source};
+ghost use Rattle.m68_isa.specs.Fits.{IsBitChangeable, IsChangeable, IsDestination};
 ghost use Rattle.m68_isa.specs.Immediates.{bit_class, is_immediate};
 ghost use Rattle.m68_isa.specs.Moves.{move_mode};
 ghost use Rattle.m68_isa.specs.Classes.Class.{Any, Data, Alterable, DataAlterable, MemoryAlterable, Control, ControlAlterable};
@@ -55,25 +56,28 @@ pub fn is_data(word: u32) -> bool
 }
 
 #[inline(always)]
-#[tactic(auto, using(crate::proofs::ClassBits::alterable_places))]
+#[tactic(auto, using(crate::proofs::ClassBits::alterable_places), unfolding(crate::specs::Classes::IsAlterable))]
 pub fn is_alterable(word: u32) -> bool
-    ensures { result ≡ in_class Alterable (first_of word).mode (first_of word).lower }
+    ensures value { result ≡ in_class Alterable (first_of word).mode (first_of word).lower }
+    ensures alterable { IsTrue result → IsChangeable word }
 {
     is_one_of(0x03FF_FFFF_FFFF_FFFF, word)
 }
 
 #[inline(always)]
-#[tactic(auto, using(crate::proofs::ClassBits::data_alterable_places))]
+#[tactic(auto, using(crate::proofs::ClassBits::data_alterable_places), unfolding(crate::specs::Classes::IsAlterable))]
 pub fn is_data_alterable(word: u32) -> bool
-    ensures { result ≡ in_class DataAlterable (first_of word).mode (first_of word).lower }
+    ensures value { result ≡ in_class DataAlterable (first_of word).mode (first_of word).lower }
+    ensures alterable { IsTrue result → IsChangeable word }
 {
     is_one_of(0x03FF_FFFF_FFFF_00FF, word)
 }
 
 #[inline(always)]
-#[tactic(auto, using(crate::proofs::ClassBits::memory_alterable_places))]
+#[tactic(auto, using(crate::proofs::ClassBits::memory_alterable_places), unfolding(crate::specs::Classes::IsAlterable))]
 pub fn is_memory_alterable(word: u32) -> bool
-    ensures { result ≡ in_class MemoryAlterable (first_of word).mode (first_of word).lower }
+    ensures value { result ≡ in_class MemoryAlterable (first_of word).mode (first_of word).lower }
+    ensures alterable { IsTrue result → IsChangeable word }
 {
     is_one_of(0x03FF_FFFF_FFFF_0000, word)
 }
@@ -125,7 +129,8 @@ pub fn is_any_sized(word: u32) -> bool
 /// The same of what can be changed.
 #[inline(always)]
 pub fn is_alterable_sized(word: u32) -> bool
-    ensures { result ≡ is_source Alterable (size_of (first_of word).size) (first_of word).mode (first_of word).lower }
+    ensures value { result ≡ is_source Alterable (size_of (first_of word).size) (first_of word).mode (first_of word).lower }
+    ensures alterable { IsTrue result → IsChangeable word }
 {
     if size_bits_of(word) == 0 {
         is_alterable(word) && mode_of(word) != 1
@@ -137,15 +142,18 @@ pub fn is_alterable_sized(word: u32) -> bool
 /// Whether bits 7 and 6 are a size, and the place is data alterable.
 #[inline(always)]
 pub fn is_data_alterable_sized(word: u32) -> bool
-    ensures { result ≡ (nat_lt (first_of word).size 3 && in_class DataAlterable (first_of word).mode (first_of word).lower) }
+    ensures value { result ≡ (nat_lt (first_of word).size 3 && in_class DataAlterable (first_of word).mode (first_of word).lower) }
+    ensures alterable { IsTrue result → IsChangeable word }
 {
     is_sized(word) && is_data_alterable(word)
 }
 
 /// Whether the destination of a move is data alterable.
 #[inline(always)]
+#[tactic(auto, unfolding(crate::specs::Classes::IsAlterable))]
 pub fn is_destination(word: u32) -> bool
-    ensures { result ≡ in_class DataAlterable (move_mode (first_of word)) (first_of word).upper }
+    ensures value { result ≡ in_class DataAlterable (move_mode (first_of word)) (first_of word).upper }
+    ensures alterable { IsTrue result → IsDestination word }
 {
     let mode = move_mode_of(word);
     mode != 1 && (mode < 7 || upper_of(word) < 2)
@@ -154,7 +162,8 @@ pub fn is_destination(word: u32) -> bool
 /// Whether a bit instruction can work on the place: btst changes nothing.
 #[inline(always)]
 pub fn is_bit_place(word: u32) -> bool
-    ensures { result ≡ in_class (bit_class (first_of word).size) (first_of word).mode (first_of word).lower }
+    ensures value { result ≡ in_class (bit_class (first_of word).size) (first_of word).mode (first_of word).lower }
+    ensures alterable { IsTrue result → IsBitChangeable word }
 {
     if size_bits_of(word) == 0 {
         is_data(word)

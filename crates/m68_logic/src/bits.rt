@@ -2,6 +2,7 @@
 ghost use Rattle.std.specs.Prelude.{◌≡◌, ◌<◌};
 ghost use Rattle.mix_bits.specs.declared.size.Size.TheVariants.{One};
 ghost use Rattle.m68_isa.specs.First.{first_of};
+ghost use Rattle.m68_isa.specs.Fits.{Fits, IsBitChangeable, IsChangeable};
 ghost use Rattle.m68_isa.specs.Immediates.{bit_op};
 ghost use Rattle.m68_isa.specs.Operands.{operand_at};
 ghost use Rattle.big_memory.specs.Steps.{Does};
@@ -19,6 +20,7 @@ use mix_bits::{Fault, Size, digit, with_digit};
 /// btst, bchg, bclr and bset of the bit with the number in the second word.
 #[inline(never)]
 pub fn do_bit_by_number(regs: &mut Regs68, ram: &mut Ram, fault: &mut Fault, word: u32) -> Did
+    requires { Fits Op68.BitByNumber word }
     ensures { Does (by_op Op68.BitByNumber regs.old ram.old word) result fault.new regs.old regs.new ram.old ram.new }
 {
     let number = word_at(ram, regs.pc, 1) % 256;
@@ -28,6 +30,7 @@ pub fn do_bit_by_number(regs: &mut Regs68, ram: &mut Ram, fault: &mut Fault, wor
 /// The same of the bit with the number in a data register.
 #[inline(never)]
 pub fn do_bit_by_register(regs: &mut Regs68, ram: &mut Ram, fault: &mut Fault, word: u32) -> Did
+    requires { Fits Op68.BitByRegister word }
     ensures { Does (by_op Op68.BitByRegister regs.old ram.old word) result fault.new regs.old regs.new ram.old ram.new }
 {
     let number = regs.d[upper_of(word)];
@@ -45,7 +48,8 @@ fn on_bit(
     first: u32,
     number: u32,
 ) -> Did
-    requires { first < 4 }
+    requires first { first < 4 }
+    requires changeable { IsBitChangeable word }
     ensures { let to = operand_at (words_at ram.old regs.old.pc) first One (first_of word).mode (first_of word).lower in
         Does (runs_with regs.old word to (λ next. by_number regs.old ram.old next (bit_op (first_of word).size) number to.ea)) result fault.new regs.old regs.new ram.old ram.new }
 {
@@ -69,6 +73,7 @@ fn on_sized(
 ) -> Did
     requires first { first < 4 }
     requires at { at < 32 }
+    requires changeable { IsBitChangeable word }
     ensures { let to = operand_at (words_at ram.old regs.old.pc) first size (first_of word).mode (first_of word).lower in
         Does (runs_with regs.old word to (λ next. bit_done regs.old ram.old next (bit_op (first_of word).size) size at to.ea)) result fault.new regs.old regs.new ram.old ram.new }
 {
@@ -119,6 +124,7 @@ fn change(
 ) -> Did
     requires first { first < 4 }
     requires at { at < 32 }
+    requires changeable { IsChangeable word }
     ensures { let to = operand_at (words_at ram.old regs.old.pc) first size (first_of word).mode (first_of word).lower in
         Does (runs_with regs.old word to (λ next. changed regs.old ram.old next size to.ea (λ d. result_of op regs.old.ccr d at))) result fault.new regs.old regs.new ram.old ram.new }
 {

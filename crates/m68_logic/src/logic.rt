@@ -1,4 +1,5 @@
 // AND, OR, EOR and NOT.
+ghost use Rattle.m68_isa.specs.Fits.{Fits};
 ghost use Rattle.big_memory.specs.Steps.{Does};
 ghost use Rattle.m68_effects.specs.Ops.{by_op};
 
@@ -13,6 +14,7 @@ use mix_bits::Fault;
 /// ori: immediate data into an operand, by OR.
 #[inline(never)]
 pub fn do_ori(regs: &mut Regs68, ram: &mut Ram, fault: &mut Fault, word: u32) -> Did
+    requires { Fits Op68.Ori word }
     ensures { Does (by_op Op68.Ori regs.old ram.old word) result fault.new regs.old regs.new ram.old ram.new }
 {
     change_by_immediate(regs, ram, fault, word, Operation::Or)
@@ -21,6 +23,7 @@ pub fn do_ori(regs: &mut Regs68, ram: &mut Ram, fault: &mut Fault, word: u32) ->
 /// andi: immediate data into an operand, by AND.
 #[inline(never)]
 pub fn do_andi(regs: &mut Regs68, ram: &mut Ram, fault: &mut Fault, word: u32) -> Did
+    requires { Fits Op68.Andi word }
     ensures { Does (by_op Op68.Andi regs.old ram.old word) result fault.new regs.old regs.new ram.old ram.new }
 {
     change_by_immediate(regs, ram, fault, word, Operation::And)
@@ -29,6 +32,7 @@ pub fn do_andi(regs: &mut Regs68, ram: &mut Ram, fault: &mut Fault, word: u32) -
 /// eori: immediate data into an operand, by EOR.
 #[inline(never)]
 pub fn do_eori(regs: &mut Regs68, ram: &mut Ram, fault: &mut Fault, word: u32) -> Did
+    requires { Fits Op68.Eori word }
     ensures { Does (by_op Op68.Eori regs.old ram.old word) result fault.new regs.old regs.new ram.old ram.new }
 {
     change_by_immediate(regs, ram, fault, word, Operation::Eor)
@@ -61,6 +65,7 @@ pub fn do_and_to_register(regs: &mut Regs68, ram: &Ram, fault: &mut Fault, word:
 /// or: a data register into memory.
 #[inline(never)]
 pub fn do_or_to_memory(regs: &mut Regs68, ram: &mut Ram, fault: &mut Fault, word: u32) -> Did
+    requires { Fits Op68.OrToMemory word }
     ensures { Does (by_op Op68.OrToMemory regs.old ram.old word) result fault.new regs.old regs.new ram.old ram.new }
 {
     change_by_register(regs, ram, fault, word, Operation::Or)
@@ -69,6 +74,7 @@ pub fn do_or_to_memory(regs: &mut Regs68, ram: &mut Ram, fault: &mut Fault, word
 /// and: a data register into memory.
 #[inline(never)]
 pub fn do_and_to_memory(regs: &mut Regs68, ram: &mut Ram, fault: &mut Fault, word: u32) -> Did
+    requires { Fits Op68.AndToMemory word }
     ensures { Does (by_op Op68.AndToMemory regs.old ram.old word) result fault.new regs.old regs.new ram.old ram.new }
 {
     change_by_register(regs, ram, fault, word, Operation::And)
@@ -77,6 +83,7 @@ pub fn do_and_to_memory(regs: &mut Regs68, ram: &mut Ram, fault: &mut Fault, wor
 /// eor: a data register into an operand.
 #[inline(never)]
 pub fn do_eor(regs: &mut Regs68, ram: &mut Ram, fault: &mut Fault, word: u32) -> Did
+    requires { Fits Op68.Eor word }
     ensures { Does (by_op Op68.Eor regs.old ram.old word) result fault.new regs.old regs.new ram.old ram.new }
 {
     if mode_of(word) == 0 {
@@ -90,6 +97,7 @@ pub fn do_eor(regs: &mut Regs68, ram: &mut Ram, fault: &mut Fault, word: u32) ->
 /// eor of a data register into memory.
 #[inline(never)]
 fn eor_to_memory(regs: &mut Regs68, ram: &mut Ram, fault: &mut Fault, word: u32) -> Did
+    requires { Fits Op68.Eor word }
     ensures { Does (by_op Op68.Eor regs.old ram.old word) result fault.new regs.old regs.new ram.old ram.new }
 {
     change_by_register(regs, ram, fault, word, Operation::Eor)
@@ -98,6 +106,7 @@ fn eor_to_memory(regs: &mut Regs68, ram: &mut Ram, fault: &mut Fault, word: u32)
 /// not: the ones complement of an operand.
 #[inline(never)]
 pub fn do_not(regs: &mut Regs68, ram: &mut Ram, fault: &mut Fault, word: u32) -> Did
+    requires { Fits Op68.Not word }
     ensures { Does (by_op Op68.Not regs.old ram.old word) result fault.new regs.old regs.new ram.old ram.new }
 {
     if mode_of(word) == 0 {
@@ -110,6 +119,7 @@ pub fn do_not(regs: &mut Regs68, ram: &mut Ram, fault: &mut Fault, word: u32) ->
 /// not of memory.
 #[inline(never)]
 fn not_to_memory(regs: &mut Regs68, ram: &mut Ram, fault: &mut Fault, word: u32) -> Did
+    requires { Fits Op68.Not word }
     ensures { Does (by_op Op68.Not regs.old ram.old word) result fault.new regs.old regs.new ram.old ram.new }
 {
     change_sized(regs, ram, fault, word, Operation::Not, 0)

@@ -3,6 +3,7 @@ ghost use Rattle.std.specs.Prelude.{◌≡◌, ◌≢◌, ◌<◌, ◌==◌, ◌
 ghost use Rattle.mix_bits.specs.Addresses.{onward as onward_of};
 ghost use Rattle.mix_bits.specs.declared.size.Size.TheVariants.{Zero};
 ghost use Rattle.m68_isa.specs.First.{first_of, size_of};
+ghost use Rattle.m68_isa.specs.Fits.{Fits};
 ghost use Rattle.m68_isa.specs.Shifts.{shift_count};
 ghost use Rattle.big_memory.specs.Steps.{Does};
 ghost use Rattle.m68_effects.specs.Ops.{by_op};
@@ -114,6 +115,7 @@ fn count_of(regs: &Regs68, word: u32) -> u32
 /// The same of a word in memory, by one.
 #[inline(never)]
 pub fn do_shift_memory(regs: &mut Regs68, ram: &mut Ram, fault: &mut Fault, word: u32) -> Did
+    requires { Fits Op68.ShiftMemory word }
     ensures { Does (by_op Op68.ShiftMemory regs.old ram.old word) result fault.new regs.old regs.new ram.old ram.new }
 {
     let (mode, lower) = (mode_of(word), lower_of(word));

@@ -46,11 +46,7 @@ can_store pc m a s cell keeps rams joins stores ram none =
       joins m n (stored n a s v) free (stores n a (bytes_of s) (big_bytes (bytes_of s) v) (size-bytes s v) (rams m n ram free) same),
     )
 
--- none, and one more
-pub no_stores : (pc : ℕ) (m : Memory) (a step : ℕ) (s : Size) (cell : Fault) → CanStoreAll pc m a step s [] true cell
-unfolding stored_along
-no_stores pc m a step s cell = λ n free. refl
-
+-- one more
 pub first_refused : (pc : ℕ) (m : Memory) (a step : ℕ) (s : Size) (v : ℕ) (vs : List ℕ) (cell : Fault) → CanStore pc m a s false cell → CanStoreAll pc m a step s (v ∷ vs) false cell
 unfolding stored_along
 first_refused pc m a step s v vs cell refused = λ n free. rw (refused n v free) refl

@@ -2,7 +2,9 @@ ghost use Rattle.std.specs.Prelude.{◌≡◌, ◌<◌, ◌≤◌, true, Ok};
 ghost use Rattle.mix_bits.specs.declared.size.Size.{Size as ASize};
 ghost use Rattle.mix_bits.specs.declared.size.Size.TheVariants.{One, Two, Four};
 ghost use Rattle.m68_isa.specs.declared.instructions.Instr68.TheVariants.{Movea};
+ghost use Rattle.m68_isa.specs.Classes.{IsAlterable};
 ghost use Rattle.m68_isa.specs.First.{first_of};
+ghost use Rattle.m68_isa.specs.Fits.{Fits, IsDestination};
 ghost use Rattle.m68_isa.specs.Moves.{move_mode};
 ghost use Rattle.m68_isa.specs.Operands.{operand_at};
 ghost use Rattle.m68_isa.specs.Rows.{taken};
@@ -61,6 +63,7 @@ impl Width for Long {
 /// move.b: any operand but an address register into one that can be written.
 #[inline(never)]
 pub fn do_move_byte(regs: &mut Regs68, ram: &mut Ram, fault: &mut Fault, word: u32) -> Did
+    requires { Fits Op68.MoveByte word }
     ensures { Does (by_op Op68.MoveByte regs.old ram.old word) result fault.new regs.old regs.new ram.old ram.new }
 {
     do_move::<Byte>(regs, ram, fault, word)
@@ -69,6 +72,7 @@ pub fn do_move_byte(regs: &mut Regs68, ram: &mut Ram, fault: &mut Fault, word: u
 /// move.w
 #[inline(never)]
 pub fn do_move_word(regs: &mut Regs68, ram: &mut Ram, fault: &mut Fault, word: u32) -> Did
+    requires { Fits Op68.MoveWord word }
     ensures { Does (by_op Op68.MoveWord regs.old ram.old word) result fault.new regs.old regs.new ram.old ram.new }
 {
     do_move::<Word>(regs, ram, fault, word)
@@ -77,6 +81,7 @@ pub fn do_move_word(regs: &mut Regs68, ram: &mut Ram, fault: &mut Fault, word: u
 /// move.l
 #[inline(never)]
 pub fn do_move_long(regs: &mut Regs68, ram: &mut Ram, fault: &mut Fault, word: u32) -> Did
+    requires { Fits Op68.MoveLong word }
     ensures { Does (by_op Op68.MoveLong regs.old ram.old word) result fault.new regs.old regs.new ram.old ram.new }
 {
     do_move::<Long>(regs, ram, fault, word)
@@ -85,6 +90,7 @@ pub fn do_move_long(regs: &mut Regs68, ram: &mut Ram, fault: &mut Fault, word: u
 /// A move of a known size. Usual operands are tried first, each kind in a place of its own.
 #[inline(always)]
 fn do_move<W: Width>(regs: &mut Regs68, ram: &mut Ram, fault: &mut Fault, word: u32) -> Did
+    requires { IsDestination word }
     ensures { Does (moves W.SIZE regs.old ram.old word) result fault.new regs.old regs.new ram.old ram.new }
 {
     if move_mode_of(word) == 0 {
@@ -105,7 +111,8 @@ fn do_move<W: Width>(regs: &mut Regs68, ram: &mut Ram, fault: &mut Fault, word: 
 /// A move of a register into memory.
 #[inline(never)]
 fn move_register<W: Width>(regs: &mut Regs68, ram: &mut Ram, fault: &mut Fault, word: u32) -> Did
-    requires { (first_of word).mode < 2 }
+    requires mode { (first_of word).mode < 2 }
+    requires destination { IsDestination word }
     ensures { Does (moves W.SIZE regs.old ram.old word) result fault.new regs.old regs.new ram.old ram.new }
 {
     if move_mode_of(word) > 5 {
@@ -120,7 +127,8 @@ fn move_register<W: Width>(regs: &mut Regs68, ram: &mut Ram, fault: &mut Fault, 
 /// A move of an operand of mode 6 or 7 into a data register. Other modes, which don't come here, would be done as well.
 #[inline(never)]
 fn move_in_other<W: Width>(regs: &mut Regs68, ram: &mut Ram, fault: &mut Fault, word: u32) -> Did
-    requires { move_mode (first_of word) ≡ 0 }
+    requires mode { move_mode (first_of word) ≡ 0 }
+    requires destination { IsDestination word }
     ensures { Does (moves W.SIZE regs.old ram.old word) result fault.new regs.old regs.new ram.old ram.new }
 {
     let from = (mode_of(word), lower_of(word));
@@ -135,6 +143,7 @@ fn move_in_other<W: Width>(regs: &mut Regs68, ram: &mut Ram, fault: &mut Fault, 
 /// don't come here, would be done as well.
 #[inline(never)]
 fn move_out_other<W: Width>(regs: &mut Regs68, ram: &mut Ram, fault: &mut Fault, word: u32) -> Did
+    requires { IsDestination word }
     ensures { Does (moves W.SIZE regs.old ram.old word) result fault.new regs.old regs.new ram.old ram.new }
 {
     let (from, to) = (lower_of(word), (move_mode_of(word), upper_of(word)));
@@ -205,6 +214,7 @@ fn move_out_at(
 /// A move of what is in no register.
 #[inline(never)]
 fn move_in_memory<W: Width>(regs: &mut Regs68, ram: &mut Ram, fault: &mut Fault, word: u32) -> Did
+    requires { IsDestination word }
     ensures { Does (moves W.SIZE regs.old ram.old word) result fault.new regs.old regs.new ram.old ram.new }
 {
     if move_usual(regs, ram, word, W::SIZE) {
@@ -217,6 +227,7 @@ fn move_in_memory<W: Width>(regs: &mut Regs68, ram: &mut Ram, fault: &mut Fault,
 /// A move of any operands.
 #[inline(never)]
 fn move_any<W: Width>(regs: &mut Regs68, ram: &mut Ram, fault: &mut Fault, word: u32) -> Did
+    requires { IsDestination word }
     ensures { Does (moves W.SIZE regs.old ram.old word) result fault.new regs.old regs.new ram.old ram.new }
 {
     let from = (mode_of(word), lower_of(word));
@@ -344,6 +355,7 @@ fn move_from_register(
 ) -> Did
     requires from { from < 8 }
     requires to { to.1 < 8 }
+    requires alterable { IsAlterable to.0 to.1 }
     ensures { Does (moved size (0, from) to regs.old ram.old word) result fault.new regs.old regs.new ram.old ram.new }
 {
     let value = trunc(regs.d[from], size);
@@ -369,6 +381,7 @@ fn move_between(
 ) -> Did
     requires from { from.1 < 8 }
     requires to { to.1 < 8 }
+    requires alterable { IsAlterable to.0 to.1 }
     ensures { Does (moved size from to regs.old ram.old word) result fault.new regs.old regs.new ram.old ram.new }
 {
     if !is_second_good(ram, regs.pc, size, from, to) {

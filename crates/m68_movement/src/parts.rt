@@ -1,4 +1,5 @@
 ghost use Rattle.std.specs.Prelude.{◌+◌, ◌<◌, ◌≤◌};
+ghost use Rattle.m68_isa.specs.Classes.{IsAlterable};
 ghost use Rattle.m68_isa.specs.Operands.{operand_at};
 ghost use Rattle.m68_ea.specs.Words.{words_at};
 ghost use Rattle.m68_movement.specs.Parts.{Writes};
@@ -24,6 +25,7 @@ pub fn write(
 ) -> bool
     requires number { lower < 8 }
     requires first { next.old < 4 }
+    requires alterable { IsAlterable mode lower }
     ensures is { Writes regs.old ram.old word size (operand_at (words_at ram.old regs.old.pc) next.old size mode lower) value result next.new fault.new regs.new ram.new }
     ensures near { next.new ≤ next.old + 2 }
 {

@@ -2,7 +2,9 @@
 ghost use Rattle.std.specs.Prelude.{◌≡◌, ◌<◌, ◌≤◌};
 ghost use Rattle.mix_bits.specs.declared.size.Size.TheVariants.{One, Two, Four};
 ghost use Rattle.m68_isa.specs.declared.instructions.Instr68.TheVariants.{Clr, Tst};
+ghost use Rattle.m68_isa.specs.Classes.{IsAlterable};
 ghost use Rattle.m68_isa.specs.First.{first_of};
+ghost use Rattle.m68_isa.specs.Fits.{Fits};
 ghost use Rattle.m68_isa.specs.Operands.{operand_at};
 ghost use Rattle.m68_isa.specs.Rows.{taken};
 ghost use Rattle.big_memory.specs.Steps.{Does};
@@ -21,6 +23,7 @@ use mix_bits::{Fault, Size, with_low};
 /// clr: zeros into an operand.
 #[inline(never)]
 pub fn do_clr(regs: &mut Regs68, ram: &mut Ram, fault: &mut Fault, word: u32) -> Did
+    requires { Fits Op68.Clr word }
     ensures { Does (by_op Op68.Clr regs.old ram.old word) result fault.new regs.old regs.new ram.old ram.new }
 {
     match mode_of(word) {
@@ -50,6 +53,7 @@ fn clr_register(regs: &mut Regs68, ram: &Ram, fault: &mut Fault, word: u32) -> D
 /// clr of an operand of mode 6 or 7. An address is found before the size is matched, since it doesn't depend on it.
 #[inline(never)]
 fn clr_elsewhere(regs: &mut Regs68, ram: &mut Ram, fault: &mut Fault, word: u32) -> Did
+    requires { Fits Op68.Clr word }
     ensures { Does (by_op Op68.Clr regs.old ram.old word) result fault.new regs.old regs.new ram.old ram.new }
 {
     let (mode, lower) = (mode_of(word), lower_of(word));
@@ -105,6 +109,7 @@ fn clear_at(regs: &mut Regs68, ram: &mut Ram, word: u32, size: Size, at: u32, ne
 /// clr of any other operand.
 #[inline(never)]
 fn clr_operand(regs: &mut Regs68, ram: &mut Ram, fault: &mut Fault, word: u32) -> Did
+    requires { Fits Op68.Clr word }
     ensures { Does (by_op Op68.Clr regs.old ram.old word) result fault.new regs.old regs.new ram.old ram.new }
 {
     let (mode, lower) = (mode_of(word), lower_of(word));
@@ -145,7 +150,8 @@ fn clear(
     mode: u32,
     lower: usize,
 ) -> Did
-    requires { lower < 8 }
+    requires number { lower < 8 }
+    requires alterable { IsAlterable mode lower }
     ensures { let to = operand_at (words_at ram.old regs.old.pc) 1 size mode lower in
         Does (runs_made regs.old ram.old word (taken (Clr size to.ea) to)) result fault.new regs.old regs.new ram.old ram.new }
 {
@@ -284,6 +290,7 @@ fn test(
 /// tas: the flags of a byte, whose top bit is then set.
 #[inline(never)]
 pub fn do_tas(regs: &mut Regs68, ram: &mut Ram, fault: &mut Fault, word: u32) -> Did
+    requires { Fits Op68.Tas word }
     ensures { Does (by_op Op68.Tas regs.old ram.old word) result fault.new regs.old regs.new ram.old ram.new }
 {
     let (mode, lower) = (mode_of(word), lower_of(word));
@@ -304,6 +311,7 @@ pub fn do_tas(regs: &mut Regs68, ram: &mut Ram, fault: &mut Fault, word: u32) ->
 /// scc: a byte of ones where the condition holds, else of zeros.
 #[inline(never)]
 pub fn do_scc(regs: &mut Regs68, ram: &mut Ram, fault: &mut Fault, word: u32) -> Did
+    requires { Fits Op68.Scc word }
     ensures { Does (by_op Op68.Scc regs.old ram.old word) result fault.new regs.old regs.new ram.old ram.new }
 {
     let (mode, lower) = (mode_of(word), lower_of(word));

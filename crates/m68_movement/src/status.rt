@@ -1,5 +1,6 @@
 // Instructions on the condition codes as a number.
 ghost use Rattle.std.specs.Prelude.{◌≡◌};
+ghost use Rattle.m68_isa.specs.Fits.{Fits};
 ghost use Rattle.big_memory.specs.Steps.{Does};
 ghost use Rattle.m68_alu.specs.Logical.{bits_of};
 ghost use Rattle.m68_effects.specs.Ops.{by_op};
@@ -13,6 +14,7 @@ use mix_bits::{Fault, Size};
 /// move from SR: its low byte, and zeros for the supervisor's.
 #[inline(never)]
 pub fn do_move_from_sr(regs: &mut Regs68, ram: &mut Ram, fault: &mut Fault, word: u32) -> Did
+    requires { Fits Op68.MoveFromSr word }
     ensures { Does (by_op Op68.MoveFromSr regs.old ram.old word) result fault.new regs.old regs.new ram.old ram.new }
 {
     let (mode, lower) = (mode_of(word), lower_of(word));

@@ -7,11 +7,11 @@ ghost use Rattle.m68_ea.specs.Words.{words_at};
 ghost use Rattle.mix_list.specs.Listing.{bytes_68k, instruction, listed_68k, listed_ppc};
 ghost use Rattle.mix_list.specs.Parts.{Writes};
 
-use arrayvec::ArrayVec;
 use big_memory::Ram;
+use m68_ea::read_words;
 use m68_isa::{Decoded68, decode68};
 use m68_text::text68;
-use mix_bits::{Isa, Line, onward};
+use mix_bits::{Isa, Line};
 use ppc_text::text_ppc;
 
 /// How many words a 68K instruction has at most.
@@ -26,9 +26,20 @@ pub fn write_instruction(ram: &Ram, set: Isa, at: u32, text: &mut Line) -> Optio
     ensures short { length text.new ≤ 84 }
 {
     match set {
-        Isa::M68 => write_words(&read_words(ram, at), at, text),
+        Isa::M68 => write_68k(ram, at, text),
         Isa::Ppc => write_word(ram, at, text),
     }
+}
+
+/// The same of 68K code, whose words are read up to the first one that does not lie in memory.
+fn write_68k(ram: &Ram, at: u32, text: &mut Line) -> Option<u32>
+    requires { text.old ≡ [] }
+    ensures is { Writes (listed_68k (words_at ram.now at) at) result text.new }
+    ensures short { length text.new ≤ 84 }
+{
+    let mut words = [0; MOST_WORDS];
+    let count = read_words(ram, at, &mut words);
+    write_words(&words[..count], at, text)
 }
 
 /// The same of the words of 68K code.
@@ -73,22 +84,4 @@ fn write_word(ram: &Ram, at: u32, text: &mut Line) -> Option<u32>
         }
         Err(_) => None,
     }
-}
-
-/// The words of a 68K instruction at an address, up to the first one that does not lie in memory.
-fn read_words(ram: &Ram, at: u32) -> ArrayVec<u16, MOST_WORDS>
-    ensures { result.items ≡ words_at ram.now at }
-{
-    let mut words = ArrayVec::new();
-    let mut next = at;
-    for _k in 0..MOST_WORDS {
-        match ram.load_word(next) {
-            Ok(word) => {
-                words.push(word as u16);
-                next = onward(next, 2);
-            }
-            Err(_) => return words,
-        }
-    }
-    words
 }

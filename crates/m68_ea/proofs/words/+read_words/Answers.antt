@@ -1,7 +1,7 @@
 use Rattle.std.proofs.Common.{◌+◌, ◌-◌, ◌<◌, take, length, ap, sym, ◌∙◌}
 use Rattle.m68_ea.specs.Words.{words_from}
-use Rattle.m68_core.proofs.Reading.{some_of, tail_length, put_rest, words_more}
-use Rattle.m68_core.proofs.words.+read_words.Goals as goal
+use Rattle.m68_ea.proofs.Reading.{some_of, tail_length, put_rest, words_more}
+use Rattle.m68_ea.proofs.words.+read_words.Goals as goal
 
 pub returns-in-Ok-clause-words : goal.returns-in-Ok-clause-words
 returns-in-Ok-clause-words t c =

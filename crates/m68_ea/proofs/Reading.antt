@@ -1,11 +1,10 @@
 -- Words from memory on.
-use Rattle.std.proofs.Common.{◌≡◌, ℕ, ◌+◌, ◌-◌, ◌<◌, ◌≤◌, ◌==◌, ◌∙◌, Bool, false, zero, suc, List, [], ◌∷◌, length, take, drop, set, Ok, Err, refl, ap, arith}
+use Rattle.std.proofs.Common.{◌≡◌, ℕ, ◌+◌, ◌-◌, ◌<◌, ◌≤◌, ◌==◌, ◌∙◌, Bool, false, zero, suc, List, [], ◌∷◌, length, take, drop, set, Ok, ap, arith}
 use Rattle.std.proofs.lemmas.Bool.Decides.{nat_tests}
 use Rattle.std.proofs.lemmas.Grind.{common_steps}
 use borrow.Rule.Slice.PartMut.{put_mid}
 use Rattle.mix_bits.specs.declared.size.Size.TheVariants.{Two}
 use Rattle.mix_bits.specs.Addresses.{onward}
-use Rattle.big_memory.specs.declared.refusals.Access.{Access}
 use Rattle.big_memory.specs.Memory.{Memory, loaded}
 use Rattle.m68_ea.specs.Words.{word_and, words_from}
 
@@ -31,16 +30,6 @@ words_more m a word (suc count) n rest some first others =
     let same : suc count - 1 ≡ count = omega arith in
     ap (λ k. take k (word ∷ rest)) (one-more n)
     ∙ (ap (λ ws. word ∷ ws) (others ∙ ap (λ k. words_from k m (onward a 2)) same) ∙ ap (λ r. word_and r (words_from count m (onward a 2))) first)
-
-pub words_end : (m : Memory) (a count : ℕ) (e : Access) (words : List ℕ) → 0 < count → Err e ≡ loaded m a Two → take 0 words ≡ words_from count m a
-unfolding words_from
-words_end m a zero e words some first = absurd (omega (arith, some))
-words_end m a (suc count) e words some first = ap (λ r. word_and r (words_from count m (onward a 2))) first
-
-pub words_none : (m : Memory) (a count : ℕ) (words : List ℕ) → count ≡ 0 → take 0 words ≡ words_from count m a
-unfolding words_from
-words_none m a zero words none = refl
-words_none m a (suc count) words none = cc
 
 pub some_of : (list : List ℕ) (b : Bool) → b ≡ (length list == 0) → b ≡ false → 0 < length list
 some_of list b is none = grind (arith, nat_tests)
