@@ -213,11 +213,11 @@ fn change_at(
     let Ok(old) = ram.load(at, size) else {
         return false;
     };
-    let out = apply(op, size, old, by, regs.ccr);
-    if !ram.store_if_open(at, size, out.value) {
+    let value = apply(op, size, old, by, regs.ccr).value;
+    if !ram.store_if_open(at, size, value) {
         return false;
     }
-    regs.ccr = out.ccr;
+    regs.ccr = apply(op, size, old, by, regs.ccr).ccr;
     go_on(regs, next);
     true
 }
@@ -271,11 +271,11 @@ fn change_in_memory(
     let Some((to, old)) = find_usual(regs, ram, first, size, mode_of(word), lower) else {
         return false;
     };
-    let out = apply(op, size, old, by, regs.ccr);
-    if !put_usual(regs, ram, to, lower, size, out.value) {
+    let value = apply(op, size, old, by, regs.ccr).value;
+    if !put_usual(regs, ram, to, lower, size, value) {
         return false;
     }
-    regs.ccr = out.ccr;
+    regs.ccr = apply(op, size, old, by, regs.ccr).ccr;
     go_on(regs, to.next);
     true
 }
