@@ -13,7 +13,7 @@ ghost use Rattle.m68_effects.specs.Ops.{by_op, runs_made};
 
 use super::parts::write;
 use big_memory::{Did, Ram};
-use m68_alu::result_flags;
+use m68_alu::set_result_flags;
 use m68_ea::{data_address, find, go_on, load, put, source, usual_source, value};
 use m68_isa::{Op68, Regs68, condition_of, holds, is_long, lower_of, mode_of, size_bits_of};
 use mix_bits::{Fault, Size, with_low};
@@ -97,7 +97,7 @@ fn clear_at(regs: &mut Regs68, ram: &mut Ram, word: u32, size: Size, at: u32, ne
     if !ram.store_if_open(at, size, 0) {
         return false;
     }
-    regs.ccr = result_flags(size, 0, regs.ccr);
+    set_result_flags(&mut regs.ccr, size, 0);
     go_on(regs, next);
     true
 }
@@ -130,7 +130,7 @@ fn clear_in_register(
         Does (runs_made regs.old ram.now word (taken (Clr size of.ea) of)) result fault.new regs.old regs.new ram.now ram.now }
 {
     regs.d[lower] = with_low(regs.d[lower], 0, size);
-    regs.ccr = result_flags(size, 0, regs.ccr);
+    set_result_flags(&mut regs.ccr, size, 0);
     go_on(regs, 1)
 }
 
@@ -153,7 +153,7 @@ fn clear(
     if !write(regs, ram, fault, word, &mut next, size, mode, lower, 0) {
         return Did::Stop;
     }
-    regs.ccr = result_flags(size, 0, regs.ccr);
+    set_result_flags(&mut regs.ccr, size, 0);
     go_on(regs, next)
 }
 
@@ -211,7 +211,7 @@ fn test_at(
     let Some(value) = load(ram, fault, regs.pc, at, size) else {
         return Did::Stop;
     };
-    regs.ccr = result_flags(size, value, regs.ccr);
+    set_result_flags(&mut regs.ccr, size, value);
     go_on(regs, next)
 }
 
@@ -253,7 +253,7 @@ fn test_usual(regs: &mut Regs68, ram: &Ram, word: u32, size: Size) -> bool
     let Some(value) = usual_source(regs, ram, &mut next, size, mode_of(word), lower_of(word)) else {
         return false;
     };
-    regs.ccr = result_flags(size, value, regs.ccr);
+    set_result_flags(&mut regs.ccr, size, value);
     go_on(regs, next);
     true
 }
@@ -277,7 +277,7 @@ fn test(
     let Some(value) = source(regs, ram, fault, word, &mut next, size, mode, lower) else {
         return Did::Stop;
     };
-    regs.ccr = result_flags(size, value, regs.ccr);
+    set_result_flags(&mut regs.ccr, size, value);
     go_on(regs, next)
 }
 
@@ -297,7 +297,7 @@ pub fn do_tas(regs: &mut Regs68, ram: &mut Ram, fault: &mut Fault, word: u32) ->
     if !put(regs, ram, fault, target, Size::One, old | 0x80) {
         return Did::Stop;
     }
-    regs.ccr = result_flags(Size::One, old, regs.ccr);
+    set_result_flags(&mut regs.ccr, Size::One, old);
     go_on(regs, next)
 }
 
