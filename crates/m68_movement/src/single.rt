@@ -1,8 +1,9 @@
 // Instructions of one operand.
-ghost use Rattle.std.specs.Prelude.{◌≡◌, ◌<◌, ◌≤◌};
+ghost use Rattle.std.specs.Prelude.{◌≡◌, ◌<◌, ◌≤◌, if◌then◌else◌};
 ghost use Rattle.mix_bits.specs.declared.size.Size.TheVariants.{One, Two, Four};
 ghost use Rattle.m68_isa.specs.declared.instructions.Instr68.TheVariants.{Clr, Tst};
-ghost use Rattle.m68_isa.specs.First.{first_of};
+ghost use Rattle.m68_isa.specs.Conditions.{holds as holds_of};
+ghost use Rattle.m68_isa.specs.First.{condition_of as condition_in, first_of};
 ghost use Rattle.m68_isa.specs.Operands.{operand_at};
 ghost use Rattle.m68_isa.specs.Rows.{taken};
 ghost use Rattle.big_memory.specs.Steps.{Does};
@@ -306,12 +307,43 @@ pub fn do_tas(regs: &mut Regs68, ram: &mut Ram, fault: &mut Fault, word: u32) ->
 pub fn do_scc(regs: &mut Regs68, ram: &mut Ram, fault: &mut Fault, word: u32) -> Did
     ensures { Does (by_op Op68.Scc regs.old ram.old word) result fault.new regs.old regs.new ram.old ram.new }
 {
-    let (mode, lower) = (mode_of(word), lower_of(word));
-    let ones = if holds(condition_of(word), &regs.ccr) {
+    if mode_of(word) == 0 {
+        scc_register(regs, ram, fault, word)
+    } else {
+        scc_operand(regs, ram, fault, word)
+    }
+}
+
+/// scc of a data register.
+#[inline(always)]
+fn scc_register(regs: &mut Regs68, ram: &Ram, fault: &mut Fault, word: u32) -> Did
+    requires { (first_of word).mode ≡ 0 }
+    ensures { Does (by_op Op68.Scc regs.old ram.now word) result fault.new regs.old regs.new ram.now ram.now }
+{
+    let lower = lower_of(word);
+    regs.d[lower] = with_low(regs.d[lower], ones(regs, word), Size::One);
+    go_on(regs, 1)
+}
+
+/// The byte of scc.
+#[inline(always)]
+fn ones(regs: &Regs68, word: u32) -> u32
+    ensures { result ≡ (if holds_of (condition_in (first_of word)) regs.now.ccr then 255 else 0) }
+{
+    if holds(condition_of(word), &regs.ccr) {
         0xFF
     } else {
         0
-    };
+    }
+}
+
+/// scc of any operand.
+#[inline(never)]
+fn scc_operand(regs: &mut Regs68, ram: &mut Ram, fault: &mut Fault, word: u32) -> Did
+    ensures { Does (by_op Op68.Scc regs.old ram.old word) result fault.new regs.old regs.new ram.old ram.new }
+{
+    let (mode, lower) = (mode_of(word), lower_of(word));
+    let value = ones(regs, word);
     let mut next = 1;
     if write(
         regs,
@@ -322,7 +354,7 @@ pub fn do_scc(regs: &mut Regs68, ram: &mut Ram, fault: &mut Fault, word: u32) ->
         Size::One,
         mode,
         lower,
-        ones,
+        value,
     ) {
         go_on(regs, next)
     } else {
