@@ -9,7 +9,7 @@ ghost use Rattle.m68_ea.specs.Usual.{Tries};
 ghost use Rattle.m68_ea.specs.Words.{words_at};
 ghost use Rattle.m68_effects.specs.Operations.{taken_at, taken_by};
 
-use super::operation::{Operation, apply, set_flags};
+use super::operation::{Operation, apply};
 use big_memory::{Did, Ram};
 use m68_ea::{data_address, go_on, immediate_at, load, source, usual_source};
 use m68_isa::{Regs68, immediate_words, is_long, lower_of, mode_of, size_bits_of, upper_of};
@@ -52,10 +52,15 @@ fn take_low(
     ensures { Does (taken_at size op word regs.old ram.now) result fault.new regs.old regs.new ram.now ram.now }
 {
     let (lower, upper) = (lower_of(word), upper_of(word));
-    let (old, by) = (regs.d[upper], trunc(regs.d[lower], size));
-    let value = apply(op, size, old, by, regs.ccr).value;
-    regs.d[upper] = with_low(old, value, size);
-    set_flags(&mut regs.ccr, op, size, old, by);
+    let out = apply(
+        op,
+        size,
+        regs.d[upper],
+        trunc(regs.d[lower], size),
+        regs.ccr,
+    );
+    regs.d[upper] = with_low(regs.d[upper], out.value, size);
+    regs.ccr = out.ccr;
     go_on(regs, 1)
 }
 
@@ -161,10 +166,9 @@ fn take_at(
     let Some(value) = load(ram, fault, regs.pc, at, size) else {
         return Did::Stop;
     };
-    let old = regs.d[upper];
-    let out = apply(op, size, old, value, regs.ccr).value;
-    regs.d[upper] = with_low(old, out, size);
-    set_flags(&mut regs.ccr, op, size, old, value);
+    let out = apply(op, size, regs.d[upper], value, regs.ccr);
+    regs.d[upper] = with_low(regs.d[upper], out.value, size);
+    regs.ccr = out.ccr;
     go_on(regs, next)
 }
 
@@ -199,10 +203,9 @@ fn take_data_sized(
 {
     let upper = upper_of(word);
     let value = trunc(immediate_at(ram, regs.pc, 1, size), size);
-    let old = regs.d[upper];
-    let out = apply(op, size, old, value, regs.ccr).value;
-    regs.d[upper] = with_low(old, out, size);
-    set_flags(&mut regs.ccr, op, size, old, value);
+    let out = apply(op, size, regs.d[upper], value, regs.ccr);
+    regs.d[upper] = with_low(regs.d[upper], out.value, size);
+    regs.ccr = out.ccr;
     go_on(regs, 1 + immediate_words(size))
 }
 
@@ -231,10 +234,9 @@ fn take_in_memory(regs: &mut Regs68, ram: &Ram, word: u32, size: Size, op: Opera
     let Some(value) = usual_source(regs, ram, &mut next, size, mode_of(word), lower_of(word)) else {
         return false;
     };
-    let old = regs.d[upper];
-    let out = apply(op, size, old, value, regs.ccr).value;
-    regs.d[upper] = with_low(old, out, size);
-    set_flags(&mut regs.ccr, op, size, old, value);
+    let out = apply(op, size, regs.d[upper], value, regs.ccr);
+    regs.d[upper] = with_low(regs.d[upper], out.value, size);
+    regs.ccr = out.ccr;
     go_on(regs, next);
     true
 }
@@ -269,9 +271,8 @@ fn take_sized(
     let Some(value) = source(regs, ram, fault, word, &mut next, size, mode, lower) else {
         return Did::Stop;
     };
-    let old = regs.d[upper];
-    let out = apply(op, size, old, value, regs.ccr).value;
-    regs.d[upper] = with_low(old, out, size);
-    set_flags(&mut regs.ccr, op, size, old, value);
+    let out = apply(op, size, regs.d[upper], value, regs.ccr);
+    regs.d[upper] = with_low(regs.d[upper], out.value, size);
+    regs.ccr = out.ccr;
     go_on(regs, next)
 }
