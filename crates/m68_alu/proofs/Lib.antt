@@ -4,4 +4,6 @@ pub mod Signs
 pub mod Overflows
 pub mod Turns
 pub mod Rotations
-mod Leaving
+pub mod Leaving
+pub mod Lows
+pub mod Takings

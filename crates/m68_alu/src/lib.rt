@@ -23,5 +23,5 @@ pub use quotients::{
     LongQuotient, Quotient, div, div_long, signed_long_quotient, unsigned_long_quotient,
 };
 pub use shifts::shift;
-pub use sizes::result_flags;
+pub use sizes::{result_flags, set_result_flags};
 pub use sums::{Out, add, addx, cmp, sub, subx};

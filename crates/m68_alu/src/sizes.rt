@@ -81,6 +81,17 @@ pub fn leaves(s: Size, number: i64) -> bool
     number < -half || number >= half
 }
 
+/// Sets the condition codes of a value that is moved, and leaves X where it stands.
+#[inline(always)]
+pub fn set_result_flags(ccr: &mut Ccr, s: Size, value: u32)
+    ensures { ccr.new ≡ result_flags_lem s value ccr.old }
+{
+    ccr.n = is_negative(s, value);
+    ccr.z = value == 0;
+    ccr.v = false;
+    ccr.c = false;
+}
+
 /// The condition codes of a value that is moved: N and Z by the value, V and C cleared, X as it was.
 #[inline]
 pub fn result_flags(s: Size, value: u32, old: Ccr) -> Ccr

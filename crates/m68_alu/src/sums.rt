@@ -1,6 +1,6 @@
 // Sums and differences.
-ghost use Rattle.std.specs.Prelude.{◌≡◌, ◌≢◌, ◌<◌, nat_le, ◌≤ℤ◌, pos, neg_ℤ, FitsSigned};
-ghost use Rattle.std.specs.Int.{w64};
+ghost use Rattle.std.specs.Prelude.{◌≡◌, ◌≢◌, ◌<◌, ◌%◌, ◌^◌, nat_le, int_lt, ◌||◌, ◌≤ℤ◌, pos, neg_ℤ, false, FitsSigned};
+ghost use Rattle.std.specs.Int.{w64, cast_unsigned};
 ghost use Rattle.mix_bits.specs.Sizes.{modulus as modulus_lem, signed_of};
 ghost use Rattle.mix_bits.specs.declared.size.Size.TheVariants.{Zero};
 ghost use Rattle.m68_alu.specs.Sizes.{leaves as leaves_lem};
@@ -92,6 +92,7 @@ fn keep_zero(out: Out, old: Ccr) -> Out
 
 /// The sum of two values of a size and a carry.
 fn sum(s: Size, d: u32, r: u32, carry: bool) -> Out
+    requires some { s ≢ Zero }
     requires d { d < modulus_lem s }
     requires r { r < modulus_lem s }
     ensures value { result ≡ sum_of s d r carry }
@@ -124,6 +125,7 @@ fn carries(s: Size, d: u32, r: u32, carry: bool, value: u32) -> bool
 
 /// The difference of two values of a size and a borrow.
 fn difference(s: Size, d: u32, r: u32, borrow: bool) -> Out
+    requires some { s ≢ Zero }
     requires d { d < modulus_lem s }
     requires r { r < modulus_lem s }
     ensures value { result ≡ difference_of s d r borrow }
@@ -175,16 +177,54 @@ fn difference_value(s: Size, d: u32, r: u32, borrow: bool) -> u32
 
 /// Whether the sum of two signed values and a carry is no value of the size.
 fn sum_overflows(s: Size, d: u32, r: u32, carry: bool) -> bool
+    requires { s ≢ Zero }
     ensures { result ≡ leaves_lem s (signed_total (signed_of d s) (signed_of r s) carry) }
 {
-    leaves(s, total(signed(s, d), signed(s, r), carry))
+    if carry {
+        leaves(s, total(signed(s, d), signed(s, r), carry))
+    } else {
+        plain_overflows(s, d, r)
+    }
 }
 
-/// The same of a difference.
+/// The same of two values alone: their sum is not what its low bytes are.
+#[tactic(auto, using(crate::proofs::Lows::low_leaves))]
+fn plain_overflows(s: Size, d: u32, r: u32) -> bool
+    requires { s ≢ Zero }
+    ensures { result ≡ leaves_lem s (signed_total (signed_of d s) (signed_of r s) false) }
+{
+    let number = total(signed(s, d), signed(s, r), false);
+    differ(number, signed(s, low_of(number)))
+}
+
+/// Whether two numbers are not the same.
+#[inline(always)]
+fn differ(a: i64, b: i64) -> bool
+    requires a { FitsSigned w64 a }
+    requires b { FitsSigned w64 b }
+    ensures { result ≡ (int_lt a b || int_lt b a) }
+{
+    a < b || b < a
+}
+
+/// The low long of a number.
+#[inline(always)]
+fn low_of(number: i64) -> u32
+    requires { FitsSigned w64 number }
+    ensures { result ≡ cast_unsigned w64 number % 2 ^ 32 }
+{
+    (number.cast_unsigned() % 0x1_0000_0000) as u32
+}
+
+/// The same of a difference: what is left and the source are the destination, as a sum.
+#[tactic(auto, using(crate::proofs::Takings::taken_back))]
 fn difference_overflows(s: Size, d: u32, r: u32, borrow: bool) -> bool
+    requires some { s ≢ Zero }
+    requires d { d < modulus_lem s }
+    requires r { r < modulus_lem s }
     ensures { result ≡ leaves_lem s (signed_difference (signed_of d s) (signed_of r s) borrow) }
 {
-    leaves(s, remaining(signed(s, d), signed(s, r), borrow))
+    sum_overflows(s, difference_value(s, d, r, borrow), r, borrow)
 }
 
 fn total(d: i64, r: i64, carry: bool) -> i64
@@ -193,18 +233,9 @@ fn total(d: i64, r: i64, carry: bool) -> i64
     requires r_low { neg_ℤ (pos 2147483648) ≤ℤ r }
     requires r_high { r ≤ℤ pos 2147483647 }
     ensures value { result ≡ signed_total d r carry }
+    ensures low { neg_ℤ (pos 4294967296) ≤ℤ result }
+    ensures high { result ≤ℤ pos 4294967296 }
     ensures fits { FitsSigned w64 result }
 {
     d + (r + i64::from(carry))
-}
-
-fn remaining(d: i64, r: i64, borrow: bool) -> i64
-    requires d_low { neg_ℤ (pos 2147483648) ≤ℤ d }
-    requires d_high { d ≤ℤ pos 2147483647 }
-    requires r_low { neg_ℤ (pos 2147483648) ≤ℤ r }
-    requires r_high { r ≤ℤ pos 2147483647 }
-    ensures value { result ≡ signed_difference d r borrow }
-    ensures fits { FitsSigned w64 result }
-{
-    d - (r + i64::from(borrow))
 }

@@ -20,13 +20,17 @@ use m68_isa::{
 };
 use mix_bits::{Fault, Size, sext, trunc};
 
-/// The flags of a destination less a source, X as it was.
+/// Sets the flags of a destination less a source; X is left where it stands.
 #[inline(always)]
-fn compare(size: Size, destination: u32, source: u32, old: Ccr) -> Ccr
+fn compare(ccr: &mut Ccr, size: Size, destination: u32, source: u32)
     requires { size ≢ Zero }
-    ensures { result ≡ comparison size old destination source }
+    ensures { ccr.new ≡ comparison size ccr.old destination source }
 {
-    cmp(size, destination, source, old).ccr
+    let out = cmp(size, destination, source, *ccr).ccr;
+    ccr.n = out.n;
+    ccr.z = out.z;
+    ccr.v = out.v;
+    ccr.c = out.c;
 }
 
 /// cmp: a data register less an operand.
@@ -79,7 +83,12 @@ fn with_other(regs: &mut Regs68, ram: &Ram, fault: &mut Fault, word: u32, size: 
         Does (runs_with regs.old word from (λ next. cmp regs.old ram.now next size from.ea f.upper)) result fault.new regs.old regs.new ram.now ram.now }
 {
     let (lower, upper) = (lower_of(word), upper_of(word));
-    regs.ccr = compare(size, regs.d[upper], trunc(regs.d[lower], size), regs.ccr);
+    compare(
+        &mut regs.ccr,
+        size,
+        regs.d[upper],
+        trunc(regs.d[lower], size),
+    );
     go_on(regs, 1)
 }
 
@@ -110,7 +119,7 @@ fn compare_sized(regs: &mut Regs68, ram: &Ram, word: u32, size: Size) -> bool
     let Some(value) = usual_source(regs, ram, &mut next, size, mode_of(word), lower_of(word)) else {
         return false;
     };
-    regs.ccr = compare(size, regs.d[upper], value, regs.ccr);
+    compare(&mut regs.ccr, size, regs.d[upper], value);
     go_on(regs, next);
     true
 }
@@ -140,7 +149,7 @@ fn with_register(regs: &mut Regs68, ram: &Ram, fault: &mut Fault, word: u32, siz
     let Some(value) = source(regs, ram, fault, word, &mut next, size, mode, lower) else {
         return Did::Stop;
     };
-    regs.ccr = compare(size, regs.d[upper], value, regs.ccr);
+    compare(&mut regs.ccr, size, regs.d[upper], value);
     go_on(regs, next)
 }
 
@@ -182,7 +191,7 @@ fn address_sized(regs: &mut Regs68, ram: &Ram, word: u32, size: Size) -> bool
     let Some(value) = usual_source(regs, ram, &mut next, size, mode_of(word), lower_of(word)) else {
         return false;
     };
-    regs.ccr = compare(Size::Four, regs.a[upper], sext(value, size), regs.ccr);
+    compare(&mut regs.ccr, Size::Four, regs.a[upper], sext(value, size));
     go_on(regs, next);
     true
 }
@@ -223,11 +232,11 @@ fn with_number(regs: &mut Regs68, ram: &Ram, fault: &mut Fault, word: u32, size:
         Does (runs_with regs.old word from (λ next. cmpa regs.old ram.now next size from.ea f.upper)) result fault.new regs.old regs.new ram.now ram.now }
 {
     let number = trunc(immediate_at(ram, regs.pc, 1, size), size);
-    regs.ccr = compare(
+    compare(
+        &mut regs.ccr,
         Size::Four,
         regs.a[upper_of(word)],
         sext(number, size),
-        regs.ccr,
     );
     go_on(regs, 1 + immediate_words(size))
 }
@@ -256,7 +265,7 @@ fn with_address(regs: &mut Regs68, ram: &Ram, fault: &mut Fault, word: u32, size
     let Some(value) = source(regs, ram, fault, word, &mut next, size, mode, lower) else {
         return Did::Stop;
     };
-    regs.ccr = compare(Size::Four, regs.a[upper], sext(value, size), regs.ccr);
+    compare(&mut regs.ccr, Size::Four, regs.a[upper], sext(value, size));
     go_on(regs, next)
 }
 
@@ -300,7 +309,7 @@ fn with_data_sized(regs: &mut Regs68, ram: &Ram, word: u32, size: Size) -> bool
     let Some(value) = usual_source(regs, ram, &mut next, size, mode_of(word), lower_of(word)) else {
         return false;
     };
-    regs.ccr = compare(size, value, data, regs.ccr);
+    compare(&mut regs.ccr, size, value, data);
     go_on(regs, next);
     true
 }
@@ -332,7 +341,7 @@ fn with_immediate(regs: &mut Regs68, ram: &Ram, fault: &mut Fault, word: u32, si
     let Some(value) = source(regs, ram, fault, word, &mut next, size, mode, lower) else {
         return Did::Stop;
     };
-    regs.ccr = compare(size, value, data, regs.ccr);
+    compare(&mut regs.ccr, size, value, data);
     go_on(regs, next)
 }
 
@@ -365,6 +374,6 @@ fn in_memory(regs: &mut Regs68, ram: &Ram, fault: &mut Fault, word: u32, size: S
         regs.a[from] = before;
         return Did::Stop;
     };
-    regs.ccr = compare(size, value, subtrahend, regs.ccr);
+    compare(&mut regs.ccr, size, value, subtrahend);
     go_on(regs, 1)
 }

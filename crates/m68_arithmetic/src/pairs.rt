@@ -110,7 +110,7 @@ fn pair_of_registers(
 }
 
 /// An operation on two places in memory, each below its address register; the source is read first.
-#[inline(always)]
+#[inline(never)]
 fn pair_in_memory(
     regs: &mut Regs68,
     ram: &mut Ram,

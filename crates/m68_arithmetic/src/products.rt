@@ -15,11 +15,23 @@ use big_memory::{Did, Ram, stop};
 use m68_alu::{Quotient, div, mul};
 use m68_ea::{go_on, source};
 use m68_isa::{Ccr, Op68, Regs68, lower_of, mode_of, upper_of};
-use mix_bits::{Fault, FaultKind, Size, sext};
+use mix_bits::{Fault, FaultKind, Size, sext, trunc};
 
 /// mulu: a long of two words without signs.
 #[inline(never)]
 pub fn do_mulu(regs: &mut Regs68, ram: &Ram, fault: &mut Fault, word: u32) -> Did
+    ensures { Does (by_op Op68.Mulu regs.old ram.now word) result fault.new regs.old regs.new ram.now ram.now }
+{
+    if mode_of(word) == 0 {
+        multiply_register(regs, ram, fault, word, false)
+    } else {
+        mulu_by_any(regs, ram, fault, word)
+    }
+}
+
+/// mulu by an operand of any mode.
+#[inline(never)]
+fn mulu_by_any(regs: &mut Regs68, ram: &Ram, fault: &mut Fault, word: u32) -> Did
     ensures { Does (by_op Op68.Mulu regs.old ram.now word) result fault.new regs.old regs.new ram.now ram.now }
 {
     multiply(regs, ram, fault, word, false)
@@ -30,7 +42,41 @@ pub fn do_mulu(regs: &mut Regs68, ram: &Ram, fault: &mut Fault, word: u32) -> Di
 pub fn do_muls(regs: &mut Regs68, ram: &Ram, fault: &mut Fault, word: u32) -> Did
     ensures { Does (by_op Op68.Muls regs.old ram.now word) result fault.new regs.old regs.new ram.now ram.now }
 {
+    if mode_of(word) == 0 {
+        multiply_register(regs, ram, fault, word, true)
+    } else {
+        muls_by_any(regs, ram, fault, word)
+    }
+}
+
+/// muls by an operand of any mode.
+#[inline(never)]
+fn muls_by_any(regs: &mut Regs68, ram: &Ram, fault: &mut Fault, word: u32) -> Did
+    ensures { Does (by_op Op68.Muls regs.old ram.now word) result fault.new regs.old regs.new ram.now ram.now }
+{
     multiply(regs, ram, fault, word, true)
+}
+
+/// The product of the low words of two data registers, into the first.
+#[inline(always)]
+fn multiply_register(
+    regs: &mut Regs68,
+    ram: &Ram,
+    fault: &mut Fault,
+    word: u32,
+    is_signed: bool,
+) -> Did
+    requires { (first_of word).mode ≡ 0 }
+    ensures { let f = first_of word in
+        let by = operand_at (words_at ram.now regs.old.pc) 1 Two f.mode f.lower in
+        Does (runs_with regs.old word by (λ next. mul regs.old ram.now next is_signed by.ea f.upper)) result fault.new regs.old regs.new ram.now ram.now }
+{
+    let (lower, upper) = (lower_of(word), upper_of(word));
+    let by = trunc(regs.d[lower], Size::Two);
+    let out = mul(is_signed, regs.d[upper], by, regs.ccr);
+    regs.d[upper] = out.value;
+    regs.ccr = out.ccr;
+    go_on(regs, 1)
 }
 
 /// The product of a data register's low word and an operand, into the register.
@@ -56,6 +102,18 @@ fn multiply(regs: &mut Regs68, ram: &Ram, fault: &mut Fault, word: u32, is_signe
 pub fn do_divu(regs: &mut Regs68, ram: &Ram, fault: &mut Fault, word: u32) -> Did
     ensures { Does (by_op Op68.Divu regs.old ram.now word) result fault.new regs.old regs.new ram.now ram.now }
 {
+    if mode_of(word) == 0 {
+        divide_by_register(regs, ram, fault, word, false)
+    } else {
+        divu_by_any(regs, ram, fault, word)
+    }
+}
+
+/// divu by an operand of any mode.
+#[inline(never)]
+fn divu_by_any(regs: &mut Regs68, ram: &Ram, fault: &mut Fault, word: u32) -> Did
+    ensures { Does (by_op Op68.Divu regs.old ram.now word) result fault.new regs.old regs.new ram.now ram.now }
+{
     divide(regs, ram, fault, word, false)
 }
 
@@ -64,7 +122,46 @@ pub fn do_divu(regs: &mut Regs68, ram: &Ram, fault: &mut Fault, word: u32) -> Di
 pub fn do_divs(regs: &mut Regs68, ram: &Ram, fault: &mut Fault, word: u32) -> Did
     ensures { Does (by_op Op68.Divs regs.old ram.now word) result fault.new regs.old regs.new ram.now ram.now }
 {
+    if mode_of(word) == 0 {
+        divide_by_register(regs, ram, fault, word, true)
+    } else {
+        divs_by_any(regs, ram, fault, word)
+    }
+}
+
+/// divs by an operand of any mode.
+#[inline(never)]
+fn divs_by_any(regs: &mut Regs68, ram: &Ram, fault: &mut Fault, word: u32) -> Did
+    ensures { Does (by_op Op68.Divs regs.old ram.now word) result fault.new regs.old regs.new ram.now ram.now }
+{
     divide(regs, ram, fault, word, true)
+}
+
+/// The quotient and the remainder of a data register by another one's low word, into the register.
+#[inline(always)]
+fn divide_by_register(
+    regs: &mut Regs68,
+    ram: &Ram,
+    fault: &mut Fault,
+    word: u32,
+    is_signed: bool,
+) -> Did
+    requires { (first_of word).mode ≡ 0 }
+    ensures { let f = first_of word in
+        let by = operand_at (words_at ram.now regs.old.pc) 1 Two f.mode f.lower in
+        Does (runs_with regs.old word by (λ next. div regs.old ram.now next is_signed by.ea f.upper)) result fault.new regs.old regs.new ram.now ram.now }
+{
+    let (lower, upper) = (lower_of(word), upper_of(word));
+    let by = trunc(regs.d[lower], Size::Two);
+    match div(is_signed, regs.d[upper], by, regs.ccr) {
+        Quotient::ByZero => return stop::<Regs68>(fault, FaultKind::Vector, regs.pc, 5),
+        Quotient::Overflow(flags) => regs.ccr = flags,
+        Quotient::Done(out) => {
+            regs.d[upper] = out.value;
+            regs.ccr = out.ccr;
+        }
+    }
+    go_on(regs, 1)
 }
 
 /// The quotient and the remainder of a data register by an operand, into the register.

@@ -10,7 +10,7 @@ ghost use Rattle.m68_ea.specs.Usual.{Tries};
 ghost use Rattle.m68_ea.specs.Words.{words_at};
 ghost use Rattle.m68_effects.specs.Operations.{changed_at, changed_by};
 
-use super::operation::{Operation, apply};
+use super::operation::{Operation, apply, set_flags};
 use big_memory::{Did, Ram};
 use m68_ea::{data_address, find, find_usual, go_on, immediate_at, put, put_usual, value};
 use m68_isa::{Regs68, immediate_words, is_long, lower_of, mode_of, size_bits_of, upper_of};
@@ -220,11 +220,11 @@ fn change_at(
     let Ok(old) = ram.load(at, size) else {
         return false;
     };
-    let out = apply(op, size, old, by, regs.ccr);
-    if !ram.store_if_open(at, size, out.value) {
+    let value = apply(op, size, old, by, regs.ccr).value;
+    if !ram.store_if_open(at, size, value) {
         return false;
     }
-    regs.ccr = out.ccr;
+    set_flags(&mut regs.ccr, op, size, old, by);
     go_on(regs, next);
     true
 }
@@ -279,11 +279,11 @@ fn change_in_memory(
     let Some((to, old)) = find_usual(regs, ram, first, size, mode_of(word), lower) else {
         return false;
     };
-    let out = apply(op, size, old, by, regs.ccr);
-    if !put_usual(regs, ram, to, lower, size, out.value) {
+    let value = apply(op, size, old, by, regs.ccr).value;
+    if !put_usual(regs, ram, to, lower, size, value) {
         return false;
     }
-    regs.ccr = out.ccr;
+    set_flags(&mut regs.ccr, op, size, old, by);
     go_on(regs, to.next);
     true
 }
@@ -326,9 +326,10 @@ fn change_low(
     ensures { Does (changed_at size op 1 by word regs.old ram.now) result fault.new regs.old regs.new ram.now ram.now }
 {
     let lower = lower_of(word);
-    let out = apply(op, size, trunc(regs.d[lower], size), by, regs.ccr);
-    regs.d[lower] = with_low(regs.d[lower], out.value, size);
-    regs.ccr = out.ccr;
+    let old = trunc(regs.d[lower], size);
+    let value = apply(op, size, old, by, regs.ccr).value;
+    regs.d[lower] = with_low(regs.d[lower], value, size);
+    set_flags(&mut regs.ccr, op, size, old, by);
     go_on(regs, 1)
 }
 
@@ -394,9 +395,10 @@ fn change_low_by_data(
 {
     let lower = lower_of(word);
     let by = immediate_at(ram, regs.pc, 1, size);
-    let out = apply(op, size, trunc(regs.d[lower], size), by, regs.ccr);
-    regs.d[lower] = with_low(regs.d[lower], out.value, size);
-    regs.ccr = out.ccr;
+    let old = trunc(regs.d[lower], size);
+    let value = apply(op, size, old, by, regs.ccr).value;
+    regs.d[lower] = with_low(regs.d[lower], value, size);
+    set_flags(&mut regs.ccr, op, size, old, by);
     go_on(regs, 1 + immediate_words(size))
 }
 

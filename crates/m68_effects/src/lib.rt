@@ -12,5 +12,5 @@ pub use changes::{
     change, change_by_immediate, change_by_register, change_operand, change_register, change_sized,
 };
 pub use laws::effect_laws;
-pub use operation::{Operation, apply};
+pub use operation::{Operation, apply, set_flags};
 pub use registers::{take_operand, take_register};

@@ -3,7 +3,7 @@ ghost use Rattle.mix_bits.specs.declared.size.Size.TheVariants.{Zero};
 ghost use Rattle.m68_effects.specs.Logic.{complement as complement_of};
 ghost use Rattle.m68_effects.specs.Operations.{result_of};
 
-use m68_alu::{Out, abcd, add, addx, logic, result_flags, sbcd, sub, subx};
+use m68_alu::{Out, abcd, add, addx, logic, result_flags, sbcd, set_result_flags, sub, subx};
 use m68_isa::{Ccr, LogicOp};
 use mix_bits::{Size, trunc};
 
@@ -45,6 +45,22 @@ pub fn apply(op: Operation, size: Size, destination: u32, source: u32, old: Ccr)
         Operation::Or => logic(LogicOp::Or, size, destination, source, old),
         Operation::Eor => logic(LogicOp::Eor, size, destination, source, old),
         Operation::Not => complement(size, destination, old),
+    }
+}
+
+/// Sets the flags that an operation gives. X is left where it stands by the operations that don't change it.
+#[inline(always)]
+pub fn set_flags(ccr: &mut Ccr, op: Operation, size: Size, destination: u32, source: u32)
+    requires { size ≢ Zero }
+    ensures { ccr.new ≡ (result_of op size ccr.old destination source).ccr }
+{
+    let out = apply(op, size, destination, source, *ccr);
+    match op {
+        Operation::And => set_result_flags(ccr, size, out.value),
+        Operation::Or => set_result_flags(ccr, size, out.value),
+        Operation::Eor => set_result_flags(ccr, size, out.value),
+        Operation::Not => set_result_flags(ccr, size, out.value),
+        _ => *ccr = out.ccr,
     }
 }
 

@@ -1,11 +1,12 @@
 // Single bits: BTST, BCHG, BCLR and BSET.
 ghost use Rattle.std.specs.Prelude.{◌≡◌, ◌<◌};
-ghost use Rattle.mix_bits.specs.declared.size.Size.TheVariants.{One};
+ghost use Rattle.mix_bits.specs.declared.size.Size.TheVariants.{One, Four};
 ghost use Rattle.m68_isa.specs.First.{first_of};
 ghost use Rattle.m68_isa.specs.Fits.{Fits, IsBitChangeable, IsChangeable};
 ghost use Rattle.m68_isa.specs.Immediates.{bit_op};
 ghost use Rattle.m68_isa.specs.Operands.{operand_at};
 ghost use Rattle.big_memory.specs.Steps.{Does};
+ghost use Rattle.m68_ea.specs.Usual.{Tries};
 ghost use Rattle.m68_ea.specs.Words.{words_at};
 ghost use Rattle.m68_effects.specs.Bits.{bit_by_number as by_number, bit_changed, bit_done, bit_flags, bit_result as result_of, bit_tested};
 ghost use Rattle.m68_effects.specs.Operations.{runs_with};
@@ -13,7 +14,7 @@ ghost use Rattle.m68_effects.specs.Ops.{by_op};
 ghost use Rattle.m68_effects.specs.Parts.{changed};
 
 use big_memory::{Did, Ram};
-use m68_ea::{find, go_on, put, source, value, word_at};
+use m68_ea::{find, find_usual, go_on, put, put_usual, source, usual_source, value, word_at};
 use m68_isa::{BitOp, Ccr, Op68, Regs68, bit_op_of, lower_of, mode_of, upper_of};
 use mix_bits::{Fault, Size, digit, with_digit};
 
@@ -39,7 +40,7 @@ pub fn do_bit_by_register(regs: &mut Regs68, ram: &mut Ram, fault: &mut Fault, w
 
 /// The operation on the bit with a number, of a long in a data register or of a byte in another operand,
 /// whose words begin with word `first`. The number is taken modulo the bits that there are.
-#[inline(never)]
+#[inline(always)]
 fn on_bit(
     regs: &mut Regs68,
     ram: &mut Ram,
@@ -54,34 +55,184 @@ fn on_bit(
         Does (runs_with regs.old word to (λ next. by_number regs.old ram.old next (bit_op (first_of word).size) number to.ea)) result fault.new regs.old regs.new ram.old ram.new }
 {
     if mode_of(word) == 0 {
-        on_sized(regs, ram, fault, word, first, Size::Four, number % 32)
+        on_register(regs, ram, fault, word, first, number % 32)
     } else {
-        on_sized(regs, ram, fault, word, first, Size::One, number % 8)
+        on_byte(regs, ram, fault, word, first, number % 8)
     }
 }
 
-/// The operation on bit `at` of an operand of this size.
+/// The operation on bit `at` of a data register.
 #[inline(always)]
-fn on_sized(
+fn on_register(
+    regs: &mut Regs68,
+    ram: &Ram,
+    fault: &mut Fault,
+    word: u32,
+    first: u32,
+    at: u32,
+) -> Did
+    requires first { first < 4 }
+    requires at { at < 32 }
+    requires register { (first_of word).mode ≡ 0 }
+    ensures { let to = operand_at (words_at ram.now regs.old.pc) first Four (first_of word).mode (first_of word).lower in
+        Does (runs_with regs.old word to (λ next. bit_done regs.old ram.now next (bit_op (first_of word).size) Four at to.ea)) result fault.new regs.old regs.new ram.now ram.now }
+{
+    match bit_op_of(word) {
+        BitOp::Btst => test_register(regs, ram, fault, word, first, at),
+        BitOp::Bchg => change_register(regs, ram, fault, word, BitOp::Bchg, first, at),
+        BitOp::Bclr => change_register(regs, ram, fault, word, BitOp::Bclr, first, at),
+        BitOp::Bset => change_register(regs, ram, fault, word, BitOp::Bset, first, at),
+    }
+}
+
+/// The flag of bit `at` of a data register.
+#[inline(always)]
+fn test_register(
+    regs: &mut Regs68,
+    ram: &Ram,
+    fault: &mut Fault,
+    word: u32,
+    first: u32,
+    at: u32,
+) -> Did
+    requires first { first < 4 }
+    requires at { at < 32 }
+    requires register { (first_of word).mode ≡ 0 }
+    ensures { let of = operand_at (words_at ram.now regs.old.pc) first Four (first_of word).mode (first_of word).lower in
+        Does (runs_with regs.old word of (λ next. bit_tested regs.old ram.now next Four at of.ea)) result fault.new regs.old regs.new ram.now ram.now }
+{
+    set_flag(&mut regs.ccr, regs.d[lower_of(word)], at);
+    go_on(regs, first)
+}
+
+/// The flag of bit `at` of a data register, where the operation's bit is put.
+#[inline(always)]
+fn change_register(
+    regs: &mut Regs68,
+    ram: &Ram,
+    fault: &mut Fault,
+    word: u32,
+    op: BitOp,
+    first: u32,
+    at: u32,
+) -> Did
+    requires first { first < 4 }
+    requires at { at < 32 }
+    requires register { (first_of word).mode ≡ 0 }
+    ensures { let to = operand_at (words_at ram.now regs.old.pc) first Four (first_of word).mode (first_of word).lower in
+        Does (runs_with regs.old word to (λ next. changed regs.old ram.now next Four to.ea (λ d. result_of op regs.old.ccr d at))) result fault.new regs.old regs.new ram.now ram.now }
+{
+    let lower = lower_of(word);
+    let old = regs.d[lower];
+    regs.d[lower] = with_bit(op, old, at);
+    set_flag(&mut regs.ccr, old, at);
+    go_on(regs, first)
+}
+
+/// The operation on bit `at` of a byte that is no data register's: memory of a usual mode is tried first.
+#[inline(never)]
+fn on_byte(
     regs: &mut Regs68,
     ram: &mut Ram,
     fault: &mut Fault,
     word: u32,
     first: u32,
-    size: Size,
     at: u32,
 ) -> Did
     requires first { first < 4 }
-    requires at { at < 32 }
+    requires at { at < 8 }
     requires changeable { IsBitChangeable word }
-    ensures { let to = operand_at (words_at ram.old regs.old.pc) first size (first_of word).mode (first_of word).lower in
-        Does (runs_with regs.old word to (λ next. bit_done regs.old ram.old next (bit_op (first_of word).size) size at to.ea)) result fault.new regs.old regs.new ram.old ram.new }
+    ensures { let to = operand_at (words_at ram.old regs.old.pc) first One (first_of word).mode (first_of word).lower in
+        Does (runs_with regs.old word to (λ next. bit_done regs.old ram.old next (bit_op (first_of word).size) One at to.ea)) result fault.new regs.old regs.new ram.old ram.new }
+{
+    if on_usual(regs, ram, word, first, at) {
+        Did::Next
+    } else {
+        on_other(regs, ram, fault, word, first, at)
+    }
+}
+
+/// Tries the operation on bit `at` of a byte in memory of a usual mode, and tells whether it is done.
+#[inline(always)]
+fn on_usual(regs: &mut Regs68, ram: &mut Ram, word: u32, first: u32, at: u32) -> bool
+    requires first { first < 4 }
+    requires at { at < 8 }
+    ensures { let to = operand_at (words_at ram.old regs.old.pc) first One (first_of word).mode (first_of word).lower in
+        Tries (runs_with regs.old word to (λ next. bit_done regs.old ram.old next (bit_op (first_of word).size) One at to.ea)) result regs.old regs.new ram.old ram.new }
 {
     match bit_op_of(word) {
-        BitOp::Btst => test(regs, ram, fault, word, first, size, at),
-        BitOp::Bchg => change(regs, ram, fault, word, BitOp::Bchg, first, size, at),
-        BitOp::Bclr => change(regs, ram, fault, word, BitOp::Bclr, first, size, at),
-        BitOp::Bset => change(regs, ram, fault, word, BitOp::Bset, first, size, at),
+        BitOp::Btst => test_usual(regs, ram, word, first, at),
+        BitOp::Bchg => change_usual(regs, ram, word, BitOp::Bchg, first, at),
+        BitOp::Bclr => change_usual(regs, ram, word, BitOp::Bclr, first, at),
+        BitOp::Bset => change_usual(regs, ram, word, BitOp::Bset, first, at),
+    }
+}
+
+/// The flag of bit `at` of such a byte.
+#[inline(always)]
+fn test_usual(regs: &mut Regs68, ram: &Ram, word: u32, first: u32, at: u32) -> bool
+    requires first { first < 4 }
+    requires at { at < 8 }
+    ensures { let of = operand_at (words_at ram.now regs.old.pc) first One (first_of word).mode (first_of word).lower in
+        Tries (runs_with regs.old word of (λ next. bit_tested regs.old ram.now next One at of.ea)) result regs.old regs.new ram.now ram.now }
+{
+    let mut next = first;
+    let Some(old) = usual_source(
+        regs,
+        ram,
+        &mut next,
+        Size::One,
+        mode_of(word),
+        lower_of(word),
+    ) else {
+        return false;
+    };
+    set_flag(&mut regs.ccr, old, at);
+    go_on(regs, next);
+    true
+}
+
+/// The flag of bit `at` of such a byte, where the operation's bit is put.
+#[inline(always)]
+fn change_usual(regs: &mut Regs68, ram: &mut Ram, word: u32, op: BitOp, first: u32, at: u32) -> bool
+    requires first { first < 4 }
+    requires at { at < 8 }
+    ensures { let to = operand_at (words_at ram.old regs.old.pc) first One (first_of word).mode (first_of word).lower in
+        Tries (runs_with regs.old word to (λ next. changed regs.old ram.old next One to.ea (λ d. result_of op regs.old.ccr d at))) result regs.old regs.new ram.old ram.new }
+{
+    let lower = lower_of(word);
+    let Some((to, old)) = find_usual(regs, ram, first, Size::One, mode_of(word), lower) else {
+        return false;
+    };
+    if !put_usual(regs, ram, to, lower, Size::One, with_bit(op, old, at)) {
+        return false;
+    }
+    set_flag(&mut regs.ccr, old, at);
+    go_on(regs, to.next);
+    true
+}
+
+/// The operation on bit `at` of any such byte.
+#[inline(never)]
+fn on_other(
+    regs: &mut Regs68,
+    ram: &mut Ram,
+    fault: &mut Fault,
+    word: u32,
+    first: u32,
+    at: u32,
+) -> Did
+    requires first { first < 4 }
+    requires at { at < 8 }
+    requires changeable { IsBitChangeable word }
+    ensures { let to = operand_at (words_at ram.old regs.old.pc) first One (first_of word).mode (first_of word).lower in
+        Does (runs_with regs.old word to (λ next. bit_done regs.old ram.old next (bit_op (first_of word).size) One at to.ea)) result fault.new regs.old regs.new ram.old ram.new }
+{
+    match bit_op_of(word) {
+        BitOp::Btst => test(regs, ram, fault, word, first, Size::One, at),
+        BitOp::Bchg => change(regs, ram, fault, word, BitOp::Bchg, first, Size::One, at),
+        BitOp::Bclr => change(regs, ram, fault, word, BitOp::Bclr, first, Size::One, at),
+        BitOp::Bset => change(regs, ram, fault, word, BitOp::Bset, first, Size::One, at),
     }
 }
 
@@ -106,7 +257,7 @@ fn test(
     let Some(old) = source(regs, ram, fault, word, &mut next, size, mode, lower) else {
         return Did::Stop;
     };
-    regs.ccr = flag_of(regs.ccr, old, at);
+    set_flag(&mut regs.ccr, old, at);
     go_on(regs, next)
 }
 
@@ -139,20 +290,17 @@ fn change(
     if !put(regs, ram, fault, to, size, with_bit(op, old, at)) {
         return Did::Stop;
     }
-    regs.ccr = flag_of(regs.ccr, old, at);
+    set_flag(&mut regs.ccr, old, at);
     go_on(regs, next)
 }
 
-/// Z where the bit is 0; no other flag changes.
+/// Sets Z where the bit is 0; no other flag changes.
 #[inline(always)]
-fn flag_of(old: Ccr, v: u32, at: u32) -> Ccr
+fn set_flag(ccr: &mut Ccr, v: u32, at: u32)
     requires { at < 32 }
-    ensures { result ≡ bit_flags old v at }
+    ensures { ccr.new ≡ bit_flags ccr.old v at }
 {
-    Ccr {
-        z: digit(v, at, 1) == 0,
-        ..old
-    }
+    ccr.z = digit(v, at, 1) == 0;
 }
 
 /// A value with the operation's bit: the same, the other one, 0 or 1.

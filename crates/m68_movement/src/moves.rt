@@ -18,7 +18,7 @@ ghost use Rattle.m68_movement.specs.Moves.{moved, moves};
 
 use super::parts::write;
 use big_memory::{Did, Ram, stop};
-use m68_alu::result_flags;
+use m68_alu::set_result_flags;
 use m68_ea::{
     data_address, go_on, is_second_good, source, usual_or_immediate, usual_source, usual_write,
 };
@@ -206,7 +206,7 @@ fn move_out_at(
     if !ram.store_if_open(at, size, value) {
         return false;
     }
-    regs.ccr = result_flags(size, value, regs.ccr);
+    set_result_flags(&mut regs.ccr, size, value);
     go_on(regs, next);
     true
 }
@@ -253,7 +253,7 @@ fn move_in(regs: &mut Regs68, ram: &Ram, word: u32, size: Size) -> bool
         return false;
     };
     regs.d[to] = with_low(regs.d[to], value, size);
-    regs.ccr = result_flags(size, value, regs.ccr);
+    set_result_flags(&mut regs.ccr, size, value);
     go_on(regs, next);
     true
 }
@@ -277,7 +277,7 @@ fn move_out(regs: &mut Regs68, ram: &mut Ram, word: u32, size: Size) -> bool
     ) {
         return false;
     }
-    regs.ccr = result_flags(size, value, regs.ccr);
+    set_result_flags(&mut regs.ccr, size, value);
     go_on(regs, next);
     true
 }
@@ -313,7 +313,7 @@ fn move_usual(regs: &mut Regs68, ram: &mut Ram, word: u32, size: Size) -> bool
         regs.a[from] = before;
         return false;
     }
-    regs.ccr = result_flags(size, value, regs.ccr);
+    set_result_flags(&mut regs.ccr, size, value);
     go_on(regs, next);
     true
 }
@@ -338,7 +338,7 @@ fn move_to_register(
         return Did::Stop;
     };
     regs.d[to] = with_low(regs.d[to], value, size);
-    regs.ccr = result_flags(size, value, regs.ccr);
+    set_result_flags(&mut regs.ccr, size, value);
     go_on(regs, next)
 }
 
@@ -363,7 +363,7 @@ fn move_from_register(
     if !write(regs, ram, fault, word, &mut next, size, to.0, to.1, value) {
         return Did::Stop;
     }
-    regs.ccr = result_flags(size, value, regs.ccr);
+    set_result_flags(&mut regs.ccr, size, value);
     go_on(regs, next)
 }
 
@@ -396,7 +396,7 @@ fn move_between(
         regs.a[from.1] = before;
         return Did::Stop;
     }
-    regs.ccr = result_flags(size, value, regs.ccr);
+    set_result_flags(&mut regs.ccr, size, value);
     go_on(regs, next)
 }
 

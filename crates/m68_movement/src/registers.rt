@@ -8,7 +8,7 @@ ghost use Rattle.m68_effects.specs.Movement.{halves_swapped};
 ghost use Rattle.m68_effects.specs.Ops.{by_op, runs_made};
 
 use big_memory::{Did, Ram};
-use m68_alu::result_flags;
+use m68_alu::set_result_flags;
 use m68_ea::go_on;
 use m68_isa::{Exchange, Op68, Regs68, byte_of, exchange_of, lower_of, size_bits_of, upper_of};
 use mix_bits::{Fault, Size, sext, trunc, with_low};
@@ -20,7 +20,7 @@ pub fn do_moveq(regs: &mut Regs68, ram: &Ram, fault: &mut Fault, word: u32) -> D
 {
     let value = byte_of(word);
     regs.d[upper_of(word)] = value;
-    regs.ccr = result_flags(Size::Four, value, regs.ccr);
+    set_result_flags(&mut regs.ccr, Size::Four, value);
     go_on(regs, 1)
 }
 
@@ -31,7 +31,7 @@ pub fn do_swap(regs: &mut Regs68, ram: &Ram, fault: &mut Fault, word: u32) -> Di
 {
     let value = swapped(regs.d[lower_of(word)]);
     regs.d[lower_of(word)] = value;
-    regs.ccr = result_flags(Size::Four, value, regs.ccr);
+    set_result_flags(&mut regs.ccr, Size::Four, value);
     go_on(regs, 1)
 }
 
@@ -97,6 +97,6 @@ fn extend(regs: &mut Regs68, ram: &Ram, fault: &mut Fault, word: u32, from: Size
     let register = lower_of(word);
     let value = trunc(sext(regs.d[register], from), to);
     regs.d[register] = with_low(regs.d[register], value, to);
-    regs.ccr = result_flags(to, value, regs.ccr);
+    set_result_flags(&mut regs.ccr, to, value);
     go_on(regs, 1)
 }

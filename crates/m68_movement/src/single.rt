@@ -1,9 +1,10 @@
 // Instructions of one operand.
-ghost use Rattle.std.specs.Prelude.{◌≡◌, ◌<◌, ◌≤◌};
+ghost use Rattle.std.specs.Prelude.{◌≡◌, ◌<◌, ◌≤◌, if◌then◌else◌};
 ghost use Rattle.mix_bits.specs.declared.size.Size.TheVariants.{One, Two, Four};
 ghost use Rattle.m68_isa.specs.declared.instructions.Instr68.TheVariants.{Clr, Tst};
 ghost use Rattle.m68_isa.specs.Classes.{IsAlterable};
-ghost use Rattle.m68_isa.specs.First.{first_of};
+ghost use Rattle.m68_isa.specs.Conditions.{holds as holds_of};
+ghost use Rattle.m68_isa.specs.First.{condition_of as condition_in, first_of};
 ghost use Rattle.m68_isa.specs.Fits.{Fits};
 ghost use Rattle.m68_isa.specs.Operands.{operand_at};
 ghost use Rattle.m68_isa.specs.Rows.{taken};
@@ -15,7 +16,7 @@ ghost use Rattle.m68_effects.specs.Ops.{by_op, runs_made};
 
 use super::parts::write;
 use big_memory::{Did, Ram};
-use m68_alu::result_flags;
+use m68_alu::set_result_flags;
 use m68_ea::{data_address, find, go_on, load, put, source, usual_source, value};
 use m68_isa::{Op68, Regs68, condition_of, holds, is_long, lower_of, mode_of, size_bits_of};
 use mix_bits::{Fault, Size, with_low};
@@ -101,7 +102,7 @@ fn clear_at(regs: &mut Regs68, ram: &mut Ram, word: u32, size: Size, at: u32, ne
     if !ram.store_if_open(at, size, 0) {
         return false;
     }
-    regs.ccr = result_flags(size, 0, regs.ccr);
+    set_result_flags(&mut regs.ccr, size, 0);
     go_on(regs, next);
     true
 }
@@ -135,7 +136,7 @@ fn clear_in_register(
         Does (runs_made regs.old ram.now word (taken (Clr size of.ea) of)) result fault.new regs.old regs.new ram.now ram.now }
 {
     regs.d[lower] = with_low(regs.d[lower], 0, size);
-    regs.ccr = result_flags(size, 0, regs.ccr);
+    set_result_flags(&mut regs.ccr, size, 0);
     go_on(regs, 1)
 }
 
@@ -159,7 +160,7 @@ fn clear(
     if !write(regs, ram, fault, word, &mut next, size, mode, lower, 0) {
         return Did::Stop;
     }
-    regs.ccr = result_flags(size, 0, regs.ccr);
+    set_result_flags(&mut regs.ccr, size, 0);
     go_on(regs, next)
 }
 
@@ -217,7 +218,7 @@ fn test_at(
     let Some(value) = load(ram, fault, regs.pc, at, size) else {
         return Did::Stop;
     };
-    regs.ccr = result_flags(size, value, regs.ccr);
+    set_result_flags(&mut regs.ccr, size, value);
     go_on(regs, next)
 }
 
@@ -259,7 +260,7 @@ fn test_usual(regs: &mut Regs68, ram: &Ram, word: u32, size: Size) -> bool
     let Some(value) = usual_source(regs, ram, &mut next, size, mode_of(word), lower_of(word)) else {
         return false;
     };
-    regs.ccr = result_flags(size, value, regs.ccr);
+    set_result_flags(&mut regs.ccr, size, value);
     go_on(regs, next);
     true
 }
@@ -283,7 +284,7 @@ fn test(
     let Some(value) = source(regs, ram, fault, word, &mut next, size, mode, lower) else {
         return Did::Stop;
     };
-    regs.ccr = result_flags(size, value, regs.ccr);
+    set_result_flags(&mut regs.ccr, size, value);
     go_on(regs, next)
 }
 
@@ -304,7 +305,7 @@ pub fn do_tas(regs: &mut Regs68, ram: &mut Ram, fault: &mut Fault, word: u32) ->
     if !put(regs, ram, fault, target, Size::One, old | 0x80) {
         return Did::Stop;
     }
-    regs.ccr = result_flags(Size::One, old, regs.ccr);
+    set_result_flags(&mut regs.ccr, Size::One, old);
     go_on(regs, next)
 }
 
@@ -314,12 +315,44 @@ pub fn do_scc(regs: &mut Regs68, ram: &mut Ram, fault: &mut Fault, word: u32) ->
     requires { Fits Op68.Scc word }
     ensures { Does (by_op Op68.Scc regs.old ram.old word) result fault.new regs.old regs.new ram.old ram.new }
 {
-    let (mode, lower) = (mode_of(word), lower_of(word));
-    let ones = if holds(condition_of(word), &regs.ccr) {
+    if mode_of(word) == 0 {
+        scc_register(regs, ram, fault, word)
+    } else {
+        scc_operand(regs, ram, fault, word)
+    }
+}
+
+/// scc of a data register.
+#[inline(always)]
+fn scc_register(regs: &mut Regs68, ram: &Ram, fault: &mut Fault, word: u32) -> Did
+    requires { (first_of word).mode ≡ 0 }
+    ensures { Does (by_op Op68.Scc regs.old ram.now word) result fault.new regs.old regs.new ram.now ram.now }
+{
+    let lower = lower_of(word);
+    regs.d[lower] = with_low(regs.d[lower], ones(regs, word), Size::One);
+    go_on(regs, 1)
+}
+
+/// The byte of scc.
+#[inline(always)]
+fn ones(regs: &Regs68, word: u32) -> u32
+    ensures { result ≡ (if holds_of (condition_in (first_of word)) regs.now.ccr then 255 else 0) }
+{
+    if holds(condition_of(word), &regs.ccr) {
         0xFF
     } else {
         0
-    };
+    }
+}
+
+/// scc of any operand.
+#[inline(never)]
+fn scc_operand(regs: &mut Regs68, ram: &mut Ram, fault: &mut Fault, word: u32) -> Did
+    requires { Fits Op68.Scc word }
+    ensures { Does (by_op Op68.Scc regs.old ram.old word) result fault.new regs.old regs.new ram.old ram.new }
+{
+    let (mode, lower) = (mode_of(word), lower_of(word));
+    let value = ones(regs, word);
     let mut next = 1;
     if write(
         regs,
@@ -330,7 +363,7 @@ pub fn do_scc(regs: &mut Regs68, ram: &mut Ram, fault: &mut Fault, word: u32) ->
         Size::One,
         mode,
         lower,
-        ones,
+        value,
     ) {
         go_on(regs, next)
     } else {

@@ -7,4 +7,4 @@ use Rattle.m68_logic.proofs.bits.on_bit.Goals as goal
 pub returns-else-mode_of-eq0 : goal.returns-else-mode_of-eq0
 returns-else-mode_of-eq0 c =
     let f = first_of c.args.word in
-    rw (bit_of_byte (words_at c.args.ram.now c.args.regs.now.pc) c.args.first f.mode f.lower (omega arith)) c.on_sized-else-mode_of-eq0.ensures
+    rw (bit_of_byte (words_at c.args.ram.now c.args.regs.now.pc) c.args.first f.mode f.lower (omega arith)) c.on_byte.ensures
