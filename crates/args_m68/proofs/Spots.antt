@@ -10,6 +10,7 @@ use Rattle.mix_bits.specs.Results.{◌>>=◌}
 use Rattle.mix_bits.specs.Sizes.{bytes_of}
 use Rattle.mix_bits.specs.declared.size.Size.{Size}
 use Rattle.mix_bits.specs.declared.size.Size.TheVariants.{Four}
+use Rattle.mix_bits.proofs.Sizes.{bytes-few}
 use Rattle.big_memory.specs.declared.refusals.Access.{Access}
 use Rattle.proc_info.specs.declared.conv.Conv.{Conv}
 use Rattle.proc_info.specs.declared.conv.Conv.TheVariants.{Pascal, C, Register, D0Pascal, D0C, D1Pascal, StackPascal}
@@ -23,7 +24,7 @@ use Rattle.args_m68.specs.declared.places.Route.TheVariants.{PascalStack, CStack
 use Rattle.args_m68.specs.Places.{next_base, place_numbered, place_of, width, widths}
 use Rattle.args_m68.specs.Values.{value_at}
 use Rattle.args_m68.specs.Apart.{AreReadThere, HasByte, IsApart, PlacesAreApart, Spot, call_spots, param_spots}
-use Rattle.args_m68.proofs.Stacks.{bytes-few, bytes-width}
+use Rattle.args_m68.proofs.Stacks.{bytes-width}
 use Rattle.args_m68.proofs.Files.{AllHeld, none-first, none-later, rest-held}
 
 -- parameters are read at their places

@@ -6,6 +6,7 @@ use Rattle.mix_bits.specs.Results.{◌>>=◌}
 use Rattle.mix_bits.specs.Sizes.{bytes_of, truncated}
 use Rattle.mix_bits.specs.declared.size.Size.{Size}
 use Rattle.mix_bits.specs.declared.size.Size.TheVariants.{Zero, One, Two, Four}
+use Rattle.mix_bits.proofs.Sizes.{bytes-few}
 use Rattle.big_memory.specs.Memory.{Memory, loaded}
 use Rattle.big_memory.proofs.Numbers.{loads_number}
 use Rattle.m68_isa.specs.declared.registers.Regs68.{Regs68}
@@ -55,12 +56,6 @@ bytes-width Zero = omega arith
 bytes-width One = omega arith
 bytes-width Two = omega arith
 bytes-width Four = omega arith
-
-pub bytes-few : (s : Size) → bytes_of s ≤ 4
-bytes-few Zero = omega arith
-bytes-few One = omega arith
-bytes-few Two = omega arith
-bytes-few Four = omega arith
 
 -- a number in the bytes at an address
 pub loads : (m : Memory) (a : ℕ) (s : Size) (bytes : List ℕ) → a + bytes_of s ≤ length m.bytes → drop a m.bytes ≡ bytes → loaded m a s ≡ Ok (big_number (bytes_of s) bytes)

@@ -69,9 +69,6 @@ record Alike (ws vs : List ℕ) (word : ℕ) (s : Size) (r q : Read) : Type 0 wh
   read : r ≡ q
   printed : place s ws word r.ea ≡ place s vs word r.ea
 
-indexed_alike : (make : ℕ → Read) (ws vs : List ℕ) (k n : ℕ) → k < n → Agree ws vs n → make (slice_index ws k) ≡ make (slice_index vs k)
-indexed_alike make ws vs k n below a = ap make (a.same k below)
-
 special_alike : (ws vs : List ℕ) (word k : ℕ) (s : Size) (lower : ℕ) → is_any s ≡ true → word ≤ k → (n : ℕ) → (special_at ws k s lower).next ≤ n → Agree ws vs n → Alike ws vs word s (special_at ws k s lower) (special_at vs k s lower)
 special_alike ws vs word k s zero some front n upto a = record { read = ap (λ w. plain (AbsWord (sign_extended w Two)) (k + 1)) (a.same k (omega (arith, upto))); printed = refl }
 special_alike ws vs word k s (suc zero) some front n upto a = record { read = ap (λ v. plain (AbsLong v) (k + 2)) (long_same ws vs k (a.same k (omega (arith, upto))) (a.same (k + 1) (omega (arith, upto)))); printed = refl }

@@ -20,7 +20,8 @@ use Rattle.m68_forms.proofs.Names.{is_listed}
 use Rattle.m68_spelling.specs.declared.code.Code68.{Code68}
 use Rattle.m68_spelling.specs.declared.line.Parsed.{Parsed}
 use Rattle.m68_spelling.specs.Laws.{AreWords, spelled_by}
-use Rattle.m68_spelling.specs.Lines.{name_of, read_all, rest_of}
+use Rattle.mix_bits.specs.Names.{name_of, rest_of}
+use Rattle.m68_spelling.specs.Lines.{read_all}
 use Rattle.m68_spelling.specs.Spelling.{Ending, content, contents, ending, following, is_word, leading, spelled}
 use Rattle.m68_spelling.specs.Spelling.Ending.{Alone, Distance, Extended, Paired}
 use Rattle.m68_spelling.proofs.Complete.{texts_spell, words_spell}

@@ -1,6 +1,6 @@
 -- No two instructions share a text, and each name is printed.
-use Rattle.std.proofs.Common.{◌≡◌, ℕ, ◌||◌, ◌⊎◌, inl, inr, List, [], ◌∷◌, length, Bool, true, false, nat_lt, if◌then◌else◌, refl, sym, ◌∙◌}
-use Rattle.std.proofs.lemmas.Bool.{ltb-true}
+use Rattle.std.proofs.Common.{◌≡◌, ℕ, inl, inr, List, [], ◌∷◌, length, Bool, true, false, nat_lt, if◌then◌else◌, refl, sym, ◌∙◌}
+use Rattle.std.proofs.lemmas.Bool.{ltb-true, or_cases}
 use Rattle.std.proofs.lemmas.Slice.Eq.{bytes_eq-Decides}
 use Rattle.std.specs.List.{list_any}
 use Rattle.std.specs.Str.{bytes_eq}
@@ -8,7 +8,8 @@ use Rattle.m68_isa.specs.Decode.{decoded}
 use Rattle.m68_text.specs.Listed.{stems, wide_stems, plain_names, tested, conditions, names}
 use Rattle.m68_text.specs.Text.{text_of}
 use Rattle.m68_spelling.specs.Laws.{AreWords}
-use Rattle.m68_spelling.specs.Lines.{name_of}
+use Rattle.mix_bits.specs.Names.{name_of}
+use Rattle.mix_bits.proofs.Conditions.{both}
 use Rattle.asm_m68.specs.Assembly.{is_exact}
 use Rattle.asm_m68.specs.Laws.{IsPrinted, NamesArePrinted, TextsDiffer}
 use Rattle.asm_m68.proofs.Complete.{gives_one}
@@ -71,14 +72,6 @@ names_print : all_print names printers ≡ true
 unfolding names stems wide_stems plain_names tested conditions printers
 names_print = refl
 
-both : (b c : Bool) → (if b then c else false) ≡ true → (b ≡ true) × (c ≡ true)
-both true c h = (refl, h)
-both false c h = cc
-
-either : (b c : Bool) → (b || c) ≡ true → (b ≡ true) ⊎ (c ≡ true)
-either true c h = inl refl
-either false c h = inr h
-
 small_words : (ws : List ℕ) → are_small ws ≡ true → AreWords ws
 small_words [] h = tt
 small_words (w ∷ ws) h =
@@ -98,7 +91,7 @@ among (m ∷ ns) [] n h e = cc
 among (m ∷ ns) (ws ∷ all) n h e =
     let parts : (prints_name ws m ≡ true) × (all_print ns all ≡ true) = both (prints_name ws m) (all_print ns all) h in
     let rest : list_any (λ k. bytes_eq k n) ns ≡ true → IsPrinted n = among ns all n parts.1 in
-    elim (either (bytes_eq m n) (list_any (λ k. bytes_eq k n) ns) e) [ inl here ↦ printed ws m n parts.0 here | inr there ↦ rest there ]
+    elim (or_cases (bytes_eq m n) (list_any (λ k. bytes_eq k n) ns) e) [ inl here ↦ printed ws m n parts.0 here | inr there ↦ rest there ]
 
 pub names_printed : NamesArePrinted
 names_printed n e = among names printers n names_print e

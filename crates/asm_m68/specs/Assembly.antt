@@ -13,7 +13,8 @@ use Rattle.m68_forms.specs.Table.{form_of}
 use Rattle.m68_spelling.specs.declared.code.Code68.{Code68}
 use Rattle.m68_spelling.specs.Code.{kept}
 use Rattle.m68_spelling.specs.Laws.{AreWords}
-use Rattle.m68_spelling.specs.Lines.{name_of, read_all, rest_of}
+use Rattle.mix_bits.specs.Names.{name_of, rest_of}
+use Rattle.m68_spelling.specs.Lines.{read_all}
 use Rattle.m68_spelling.specs.Spelling.{spelled}
 use Rattle.asm_m68.specs.declared.assembler.AsmError.{AsmError}
 use Rattle.asm_m68.specs.declared.assembler.AsmError.TheVariants.{Name, Operands}

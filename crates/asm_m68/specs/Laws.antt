@@ -6,7 +6,7 @@ use Rattle.m68_isa.specs.Decode.{decoded}
 use Rattle.m68_text.specs.Listed.{is_name}
 use Rattle.m68_text.specs.Text.{text_of}
 use Rattle.m68_spelling.specs.Laws.{AreWords}
-use Rattle.m68_spelling.specs.Lines.{name_of}
+use Rattle.mix_bits.specs.Names.{name_of}
 use Rattle.asm_m68.specs.Assembly.{Gives, count_of, is_exact}
 
 -- words of one instruction, or one word that is none

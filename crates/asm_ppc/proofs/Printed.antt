@@ -1,10 +1,12 @@
 -- No two words share a text, and each name is printed.
-use Rattle.std.proofs.Common.{◌≡◌, ℕ, ◌^◌, ◌<◌, ◌||◌, ◌⊎◌, inl, inr, List, [], ◌∷◌, codes, map, Bool, true, false, nat_lt, if◌then◌else◌, arith, refl, sym, ◌∙◌}
+use Rattle.std.proofs.Common.{◌≡◌, ℕ, ◌^◌, ◌<◌, inl, inr, List, [], ◌∷◌, codes, map, Bool, true, false, nat_lt, if◌then◌else◌, arith, refl, sym, ◌∙◌}
+use Rattle.std.proofs.lemmas.Bool.{or_cases}
 use Rattle.std.proofs.lemmas.Bool.Decides.{nat_tests}
 use Rattle.std.proofs.lemmas.Slice.Eq.{bytes_eq-Decides}
 use Rattle.std.specs.List.{list_any}
 use Rattle.std.specs.Str.{bytes_eq}
 use Rattle.mix_bits.specs.Names.{name_of}
+use Rattle.mix_bits.proofs.Conditions.{both}
 use Rattle.ppc_isa.specs.declared.instruction.InstrPpc.{InstrPpc}
 use Rattle.ppc_isa.specs.Rows.{decoded, operation}
 use Rattle.ppc_isa.specs.Words.{word_of}
@@ -33,14 +35,6 @@ long_prints : prints_name 0 (codes ".long") ≡ true
 unfolding decoded operation
 long_prints = refl
 
-both : (b c : Bool) → (if b then c else false) ≡ true → (b ≡ true) × (c ≡ true)
-both true c h = (refl, h)
-both false c h = cc
-
-either : (b c : Bool) → (b || c) ≡ true → (b ≡ true) ⊎ (c ≡ true)
-either true c h = inl refl
-either false c h = inr h
-
 below : (w : ℕ) → nat_lt w (2 ^ 32) ≡ true → w < 2 ^ 32
 below w h = grind (arith, nat_tests)
 
@@ -54,9 +48,9 @@ among n [] h e = cc
 among n (i ∷ is) h e =
     let parts : (prints_name (word_of i) (name i) ≡ true) × (all_print is ≡ true) = both (prints_name (word_of i) (name i)) (all_print is) h in
     let rest : list_any (λ m. bytes_eq m n) (map name is) ≡ true → IsPrinted n = among n is parts.1 in
-    elim (either (bytes_eq (name i) n) (list_any (λ m. bytes_eq m n) (map name is)) e) [ inl here ↦ printed (word_of i) (name i) n parts.0 here | inr there ↦ rest there ]
+    elim (or_cases (bytes_eq (name i) n) (list_any (λ m. bytes_eq m n) (map name is)) e) [ inl here ↦ printed (word_of i) (name i) n parts.0 here | inr there ↦ rest there ]
 
 pub names_printed : NamesArePrinted
 unfolding names
 names_printed n e =
-    elim (either (bytes_eq (codes ".long") n) (list_any (λ m. bytes_eq m n) (map name shapes)) e) [ inl here ↦ printed 0 (codes ".long") n long_prints here | inr there ↦ among n shapes shapes_print there ]
+    elim (or_cases (bytes_eq (codes ".long") n) (list_any (λ m. bytes_eq m n) (map name shapes)) e) [ inl here ↦ printed 0 (codes ".long") n long_prints here | inr there ↦ among n shapes shapes_print there ]

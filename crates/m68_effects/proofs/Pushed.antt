@@ -1,14 +1,13 @@
 -- Pushing and popping.
-use Rattle.std.proofs.Common.{◌≡◌, ℕ, ◌+◌, ◌^◌, ◌<◌, ◌≤◌, ◌∙◌, true, false, List, length, get_or, None, Result, Ok, Err, refl, sym, ap, subst, arith, rules, lit<, get_or-set_same}
+use Rattle.std.proofs.Common.{◌≡◌, ℕ, ◌^◌, ◌<◌, ◌∙◌, true, false, List, length, get_or, Result, Ok, Err, refl, sym, ap, subst, arith, rules, lit<, get_or-set_same}
 use Rattle.std.specs.Prelude.{◌==◌, if◌then◌else◌, slice_index}
 use Rattle.std.proofs.Math.ListN.{set}
 use Rattle.std.proofs.lemmas.List.{set-set, set-get_or}
-use Rattle.std.proofs.lemmas.Bool.Decides.{nat_tests}
 use Rattle.mix_bits.specs.declared.size.Size.{Size}
 use Rattle.mix_bits.specs.declared.size.Size.TheVariants.{Zero, One, Two, Four}
 use Rattle.mix_bits.specs.declared.fault.Fault.{Fault}
 use Rattle.mix_bits.specs.Addresses.{onward}
-use Rattle.mix_bits.specs.Sizes.{bytes_of, low_replaced, sign_extended, truncated}
+use Rattle.mix_bits.specs.Sizes.{low_replaced, sign_extended, truncated}
 use Rattle.mix_bits.specs.Results.{◌>>=◌}
 use Rattle.m68_isa.specs.declared.registers.Regs68.{Regs68}
 use Rattle.m68_isa.specs.declared.registers.Ccr.{Ccr}
@@ -17,9 +16,8 @@ use Rattle.m68_isa.specs.declared.ea.Ea.TheVariants.{Dn, Post}
 use Rattle.m68_isa.specs.declared.instructions.Instr68.TheVariants.{Move, Movea}
 use Rattle.m68_alu.specs.Sizes.{result_flags}
 use Rattle.big_memory.specs.declared.refusals.Access.{Access}
-use Rattle.big_memory.specs.Memory.{Memory, in_memory, loaded, refusal}
+use Rattle.big_memory.specs.Memory.{Memory, loaded}
 use Rattle.big_memory.specs.Stores.{stored_value}
-use Rattle.big_memory.proofs.Guarded.{passes}
 use Rattle.big_memory.proofs.Longs.{stored_loads}
 use Rattle.m68_ea.specs.Accesses.{or_fault}
 use Rattle.m68_ea.specs.Operands.{put_into, sourced}
@@ -27,15 +25,6 @@ use Rattle.m68_ea.specs.Places.{address_of, backward, step_of, with_address}
 use Rattle.m68_effects.specs.Laws.{IsFile, PopsAddress, PopsData, PopsEffective}
 use Rattle.m68_effects.specs.Parts.{Effect, goes_on, with_ccr}
 use Rattle.m68_effects.specs.Rows.{effect}
-
-there : (m : Memory) (a n : ℕ) → 0 < n → refusal m a n ≡ None → in_memory m a n ≡ true
-there m a n some none = let within : a + n ≤ length m.bytes = (passes m a n some none).within in grind (arith, nat_tests, within)
-
-pub size-there : (m : Memory) (a : ℕ) (s : Size) → refusal m a (bytes_of s) ≡ None → in_memory m a (bytes_of s) ≡ true
-size-there m a Zero none = refl
-size-there m a One none = there m a 1 (omega arith) none
-size-there m a Two none = there m a 2 (omega arith) none
-size-there m a Four none = there m a 4 (omega arith) none
 
 -- registers and memory behind a store
 abbrev pub changed_to : (Regs68 → Regs68) → Regs68 × Memory → Effect

@@ -2,9 +2,9 @@
 use Rattle.std.proofs.Common.{◌≡◌, ℕ, suc, ◌+◌, ◌*◌, ◌^◌, ◌<◌, ◌≤◌, ◌∙◌, Bool, List, [], ◌∷◌, length, Option, Some, None, Result, Ok, Err, inr, refl, sym, ap, subst, arith, add-zero}
 use Rattle.std.specs.Prelude.{◌==◌, ◌||◌, nat_le, if◌then◌else◌}
 use Rattle.mix_bits.specs.declared.size.Size.{Size}
-use Rattle.mix_bits.specs.declared.size.Size.TheVariants.{Zero, One, Two, Four}
 use Rattle.mix_bits.specs.Sizes.{bytes_of, truncated}
 use Rattle.mix_bits.specs.Results.{◌>>=◌}
+use Rattle.mix_bits.proofs.Sizes.{bytes-few}
 use Rattle.byteorder.specs.Endian.{big_bytes}
 use Rattle.big_memory.specs.declared.refusals.Access.{Access}
 use Rattle.big_memory.specs.declared.refusals.Access.TheVariants.{Outside}
@@ -15,16 +15,10 @@ use Rattle.big_memory.specs.Stores.{stored_unless, stored_value}
 use Rattle.big_memory.proofs.Guarded.{loads_back, passes}
 use Rattle.big_memory.proofs.Lists.{length-put, part-put_apart}
 use Rattle.big_memory.proofs.Numbers.{number_in_part}
+use Rattle.big_memory.proofs.Longs.{size-bytes, size-there}
 use Rattle.m68_ea.specs.Accesses.{or_fault}
 use Rattle.m68_ea.specs.Places.{backward}
 use Rattle.m68_effects.specs.Multiple.{stored_down}
-use Rattle.m68_effects.proofs.Pushed.{size-there}
-
-size-bytes : (s : Size) (v : ℕ) → length (big_bytes (bytes_of s) v) ≡ bytes_of s
-size-bytes Zero v = refl
-size-bytes One v = refl
-size-bytes Two v = refl
-size-bytes Four v = refl
 
 -- a store leaves what stands above it
 number-beside : (a x n : ℕ) (ys bytes : List ℕ) → length ys ≡ n → a + n ≤ length bytes → a + n ≤ x → number_at x n (put a ys bytes) ≡ number_at x n bytes
@@ -75,12 +69,6 @@ none-down pc m n a s is = cc
 no-wrap : (a n b long : ℕ) → 0 < n → n ≤ 4 → a < 2 ^ 32 → long ≤ 2 ^ 24 → b ≡ backward a n → b + n ≤ long → b + n ≡ a
 no-wrap a n b long some few fits small is within = omega arith
 
-pub few-bytes : (s : Size) → bytes_of s ≤ 4
-few-bytes Zero = omega arith
-few-bytes One = omega arith
-few-bytes Two = omega arith
-few-bytes Four = omega arith
-
 -- the numbers of one list before those of another, each before the one before
 abbrev pub onto : List ℕ → List ℕ → List ℕ
 onto [] others = others
@@ -104,7 +92,7 @@ all_saved (v ∷ vs) others pc m n a s some small fits is stand =
     let b : ℕ = backward a (bytes_of s) in
     let one = one-down pc m n a s v vs is in
     let within : b + bytes_of s ≤ length m.bytes = (passes m b (bytes_of s) some one.0).within in
-    let next : b + bytes_of s ≡ a = no-wrap a (bytes_of s) b (length m.bytes) some (few-bytes s) fits small refl within in
+    let next : b + bytes_of s ≡ a = no-wrap a (bytes_of s) b (length m.bytes) some (bytes-few s) fits small refl within in
     let long : length (put b (big_bytes (bytes_of s) v) m.bytes) ≡ length m.bytes = length-put b (big_bytes (bytes_of s) v) m.bytes (rw (size-bytes s v) within) in
     let above : Stand (stored m b s v) s (b + bytes_of s) others = subst (λ x. Stand (stored m b s v) s x others) (sym next) (still-stand others m b a s v some one.0 (omega arith) stand) in
     let rest = all_saved vs (v ∷ others) pc (stored m b s v) n b s some (rw long small) (omega arith) one.1 (loads_back m b s v (size-there m b s one.0), above) in

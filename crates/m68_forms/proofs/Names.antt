@@ -1,5 +1,6 @@
 -- A form stands in the table exactly for the names of the list: computed over both.
-use Rattle.std.proofs.Common.{ℕ, ◌≡◌, ◌==◌, ◌||◌, ◌⊎◌, inl, inr, List, [], ◌∷◌, Bool, true, false, Option, Some, None, slice_index, if◌then◌else◌, refl, sym, subst}
+use Rattle.std.proofs.Common.{ℕ, ◌≡◌, ◌==◌, inl, inr, List, [], ◌∷◌, Bool, true, false, Option, Some, None, slice_index, if◌then◌else◌, refl, sym, subst}
+use Rattle.std.proofs.lemmas.Bool.{or_cases}
 use Rattle.std.proofs.lemmas.Slice.Eq.{bytes_eq-Decides}
 use Rattle.std.specs.List.{list_any}
 use Rattle.std.specs.Option.{is_some}
@@ -12,10 +13,6 @@ use Rattle.m68_forms.specs.Table.{Entry, form_by, form_of, found_in, rows_a, row
 both : (b c : Bool) → (if b then c else false) ≡ true → (b ≡ true) × (c ≡ true)
 both true c h = (refl, h)
 both false c h = cc
-
-either : (b c : Bool) → (b || c) ≡ true → (b ≡ true) ⊎ (c ≡ true)
-either true c h = inl refl
-either false c h = inr h
 
 same : (b c : Bool) → (b ≡ true → c ≡ true) → (c ≡ true → b ≡ true) → b ≡ c
 same true c to from = sym (to refl)
@@ -147,7 +144,7 @@ among [] n found h = cc
 among (m ∷ ms) n found h =
     let parts : (is_some (form_of m) ≡ true) × (all_found ms ≡ true) = both (is_some (form_of m)) (all_found ms) found in
     let rest : list_any (λ k. bytes_eq k n) ms ≡ true → is_some (form_of n) ≡ true = among ms n parts.1 in
-    elim (either (bytes_eq m n) (list_any (λ k. bytes_eq k n) ms) h) [ inl here ↦ subst (λ k. is_some (form_of k) ≡ true) (same_bytes m n here) parts.0 | inr there ↦ rest there ]
+    elim (or_cases (bytes_eq m n) (list_any (λ k. bytes_eq k n) ms) h) [ inl here ↦ subst (λ k. is_some (form_of k) ≡ true) (same_bytes m n here) parts.0 | inr there ↦ rest there ]
 
 pub is_listed : FormsAreListed
 unfolding form_of

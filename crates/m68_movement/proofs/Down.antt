@@ -1,7 +1,6 @@
 -- Stores downwards that nothing refuses.
 use Rattle.std.proofs.Common.{◌≡◌, ℕ, suc, ◌+◌, ◌-◌, ◌*◌, ◌^◌, ◌<◌, ◌≤◌, true, None, List, [], ◌∷◌, Ok, refl, arith}
 use Rattle.mix_bits.specs.declared.size.Size.{Size}
-use Rattle.mix_bits.specs.declared.size.Size.TheVariants.{Zero, One, Two, Four}
 use Rattle.mix_bits.specs.declared.fault.Fault.{Fault}
 use Rattle.mix_bits.specs.Sizes.{bytes_of}
 use Rattle.big_memory.specs.Laws.{PassesWithin}
@@ -10,12 +9,6 @@ use Rattle.big_memory.specs.Stores.{OnlyFree}
 use Rattle.m68_ea.specs.Places.{backward}
 use Rattle.m68_effects.specs.Multiple.{stored_down}
 use Rattle.m68_movement.specs.Along.{CanStore}
-
-pub most_bytes : (s : Size) → bytes_of s ≤ 4
-most_bytes Zero = omega arith
-most_bytes One = omega arith
-most_bytes Two = omega arith
-most_bytes Four = omega arith
 
 -- the place of the next one
 pub place_below : (at n : ℕ) → n ≤ at → at < 2 ^ 32 → at - n ≡ backward at n

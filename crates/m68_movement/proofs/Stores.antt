@@ -1,5 +1,5 @@
 -- Stores one after another.
-use Rattle.std.proofs.Common.{◌≡◌, ℕ, ◌-◌, ◌^◌, ◌<◌, ◌≢◌, ◌∙◌, Bool, true, false, List, [], ◌∷◌, None, Some, Option, MatchOption, Result, Ok, Err, length, refl, sym, ap, subst, get_or, take, drop, take_all, arith}
+use Rattle.std.proofs.Common.{◌≡◌, ℕ, ◌-◌, ◌^◌, ◌<◌, ◌≢◌, ◌∙◌, Bool, true, false, List, [], ◌∷◌, None, Some, Result, Ok, Err, length, refl, sym, ap, subst, get_or, take, drop, take_all, arith}
 use Rattle.std.specs.Result.{IsOk}
 use Rattle.mix_bits.specs.declared.size.Size.{Size}
 use Rattle.mix_bits.specs.declared.size.Size.TheVariants.{Zero, One, Two, Four}
@@ -13,6 +13,7 @@ use Rattle.big_memory.specs.Faults.{fault_of}
 use Rattle.big_memory.specs.Laws.{FreeJoins, FreeKeepsRam, FreeKeepsRefusals, StoresAreFree}
 use Rattle.big_memory.specs.Memory.{Memory, IsRam, refusal, stored}
 use Rattle.big_memory.specs.Stores.{stored_value}
+use Rattle.big_memory.proofs.Longs.{size-bytes}
 use Rattle.m68_ea.specs.Places.{backward}
 use Rattle.m68_ea.specs.Operands.{stored_at}
 use Rattle.m68_effects.specs.Multiple.{stored_along, stored_down}
@@ -21,12 +22,6 @@ use Rattle.m68_movement.specs.Along.{CanStore, CanStoreAll}
 bind-same : (x : Result Memory Fault) (f g : Memory → Result Memory Fault) → ((n : Memory) → f n ≡ g n) → (x >>= f) ≡ (x >>= g)
 bind-same (Ok n) f g same = same n
 bind-same (Err e) f g same = refl
-
-size-bytes : (s : Size) (v : ℕ) → length (big_bytes (bytes_of s) v) ≡ bytes_of s
-size-bytes Zero v = refl
-size-bytes One v = refl
-size-bytes Two v = refl
-size-bytes Four v = refl
 
 -- memory refuses it
 pub access_refused : (pc : ℕ) (m : Memory) (a : ℕ) (s : Size) (e : Access) (cell : Fault) → FreeKeepsRefusals
@@ -102,15 +97,6 @@ none_done pc m a step s (v ∷ vs) none = absurd (omega (arith, none))
 
 pub none_to_store : (pc : ℕ) (m : Memory) (a step : ℕ) (s : Size) (vs : List ℕ) (cell : Fault) → length vs ≡ 0 → CanStoreAll pc m a step s vs true cell
 none_to_store pc m a step s vs cell none = λ n free. rw (none_done pc n a step s vs none) refl
-
--- what a probe answers
-pub probe_ok : (reason : Option Access) (result : Result (Unit {0}) Access) → MatchOption reason (result ≡ Ok (record {})) (λ e. result ≡ Err e) → result ≡ Ok (record {}) → reason ≡ None
-probe_ok None result all is = refl
-probe_ok (Some f) result all is = absurd (let refused = sym all ∙ is in cc)
-
-pub probe_err : (reason : Option Access) (result : Result (Unit {0}) Access) (e : Access) → MatchOption reason (result ≡ Ok (record {})) (λ e. result ≡ Err e) → result ≡ Err e → reason ≡ Some e
-probe_err None result e all is = absurd (let done = sym all ∙ is in cc)
-probe_err (Some f) result e all is = let refused = sym all ∙ is in cc
 
 -- downwards
 pub some_bytes : (s : Size) → s ≢ Zero → 0 < bytes_of s

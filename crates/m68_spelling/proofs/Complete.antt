@@ -1,6 +1,8 @@
 -- The text of an instruction spells its words.
-use Rattle.std.proofs.Common.{◌≡◌, ℕ, zero, suc, ◌+◌, ◌-◌, ◌%◌, ◌<◌, ◌==◌, nat_lt, List, [], ◌∷◌, ◌++◌, map, length, take, drop, slice_index, Bool, true, false, Some, if◌then◌else◌, arith, refl, ap, subst, ◌∙◌}
+use Rattle.std.proofs.Common.{◌≡◌, ℕ, zero, suc, ◌+◌, ◌-◌, ◌%◌, ◌<◌, nat_lt, List, [], ◌∷◌, ◌++◌, map, length, take, drop, slice_index, Bool, true, false, Some, if◌then◌else◌, arith, refl, ap, subst, ◌∙◌}
 use Rattle.std.proofs.Math.Seq.{take-append_seam}
+use Rattle.mix_bits.specs.Names.{ends_name, name_of, rest_of}
+use Rattle.mix_bits.proofs.NamesBack.{name_back}
 use Rattle.m68_isa.specs.First.{First}
 use Rattle.m68_isa.specs.declared.found.Found.{Found}
 use Rattle.m68_isa.specs.declared.found.Found.TheVariants.{Made, Privileged as RowPrivileged, Illegal as RowIllegal}
@@ -14,51 +16,28 @@ use Rattle.m68_isa.specs.Made.{made}
 use Rattle.m68_text.specs.declared.operand.Operand.{Operand}
 use Rattle.m68_text.specs.declared.operand.Operand.TheVariants.{Word}
 use Rattle.m68_text.specs.Names.{name}
-use Rattle.m68_text.specs.Operands.{hex, joined, operand_text, operands, operands_text}
+use Rattle.m68_text.specs.Operands.{hex, operand_text, operands, operands_text}
 use Rattle.m68_forms.specs.declared.form.Form.{Form}
 use Rattle.m68_forms.specs.declared.form.Form.TheVariants.{Always, Chosen, Data as DataWord, Far, Near, Registers}
 use Rattle.m68_forms.specs.Table.{form_of}
 use Rattle.m68_spelling.specs.declared.line.Parsed.{Parsed}
 use Rattle.m68_spelling.specs.Laws.{AreWords, TextsSpell, WordsSpell, spelled_by, spelled_line}
-use Rattle.m68_spelling.specs.Lines.{behind, comma, front_of, name_length, name_of, read_all, rest_of}
+use Rattle.m68_spelling.specs.Lines.{behind, comma, front_of, read_all}
 use Rattle.m68_spelling.specs.Reading.{nothing, read}
 use Rattle.m68_spelling.specs.Spelling.{ending, first_word, following, leading, spelled, value_of, way_of}
 use Rattle.m68_spelling.proofs.Digits.{four_digits}
 use Rattle.m68_spelling.proofs.Texts.{IsTold, cut, read_back}
 use Rattle.m68_spelling.proofs.Commas.{outside, past, scan_hex, whole}
 use Rattle.m68_spelling.proofs.Places.{words_from}
-use Rattle.m68_spelling.proofs.FirstWords.{Spells, are_few, first_spelled, is_data_form, is_near_form, low_part, no_space, padded, told}
+use Rattle.m68_spelling.proofs.FirstWords.{Spells, are_few, first_spelled, is_data_form, is_near_form, low_part, padded, told}
 use Rattle.m68_spelling.proofs.Shapes.{AreTold, Given, IsTelling, Tells}
 use Rattle.m68_spelling.proofs.Telling.{asked, tells}
 
 -- A name and what follows.
 
--- what can follow on a name: nothing, or a space and more
-abbrev pub tail : List Operand → List ℕ
-tail [] = []
-tail (o ∷ os) = joined (o ∷ os)
-
-no_space_first : (b : Bool) (more : Bool) → (if b then false else more) ≡ true → (b ≡ false) × (more ≡ true)
-no_space_first true more h = cc
-no_space_first false more h = (refl, h)
-
-name-length : (n : List ℕ) (os : List Operand) → no_space n ≡ true → name_length (n ++ operands_text os) ≡ length n
-name-length [] [] h = refl
-name-length [] (o ∷ os) h = refl
-name-length (x ∷ xs) os h =
-    let parts : ((x == 32) ≡ false) × (no_space xs ≡ true) = no_space_first (x == 32) (no_space xs) h in
-    ap (λ b. if b then 0 else suc (name_length (xs ++ operands_text os))) parts.0 ∙ ap suc (name-length xs os parts.1)
-
-pub name-back : (n : List ℕ) (os : List Operand) → no_space n ≡ true → name_of (n ++ operands_text os) ≡ n
-name-back n os h = ap (λ k. take k (n ++ operands_text os)) (name-length n os h) ∙ take-append_seam n (operands_text os)
-
-drop-past : (n : List ℕ) (os : List Operand) → drop (suc (length n)) (n ++ operands_text os) ≡ tail os
-drop-past [] [] = refl
-drop-past [] (o ∷ os) = refl
-drop-past (x ∷ xs) os = drop-past xs os
-
-pub rest-back : (n : List ℕ) (os : List Operand) → no_space n ≡ true → rest_of (n ++ operands_text os) ≡ tail os
-rest-back n os h = ap (λ k. drop (suc k) (n ++ operands_text os)) (name-length n os h) ∙ drop-past n os
+ends : (os : List Operand) → ends_name (operands_text os) ≡ true
+ends [] = refl
+ends (o ∷ os) = refl
 
 -- The operands between commas.
 
@@ -96,7 +75,7 @@ by_front text a b e h = ap (λ x. three (read x) (read (front_of (behind text)))
 by_second : (o : Operand) (b c d : List ℕ) → front_of b ≡ c → behind b ≡ d → three o (read (front_of b)) (read (behind b)) ≡ three o (read c) (read d)
 by_second o b c d e h = ap (λ x. three o (read x) (read (behind b))) e ∙ ap (λ y. three o (read c) (read y)) h
 
-all_read : (os : List Operand) → AreTold os → are_few os ≡ true → read_all (tail os) ≡ padded (map cut os)
+all_read : (os : List Operand) → AreTold os → are_few os ≡ true → read_all (drop 1 (operands_text os)) ≡ padded (map cut os)
 all_read [] t few = refl
 all_read (o ∷ []) t few =
     by_front (operand_text o) (operand_text o) [] (front-alone o t.0) (behind-alone o t.0)
@@ -204,10 +183,11 @@ spelled_text at w ws i s below t =
     let n : List ℕ = name i (length (w ∷ ws)) in
     let os : List Operand = operands i (w ∷ ws) at in
     let line : List ℕ = n ++ operands_text os in
-    let named : form_of (name_of line) ≡ Some s.form = ap form_of (name-back n os s.clear) ∙ s.named in
+    let back : (name_of line ≡ n) × (rest_of line ≡ drop 1 (operands_text os)) = name_back n (operands_text os) s.clear (ends os) in
+    let named : form_of (name_of line) ≡ Some s.form = ap form_of back.0 ∙ s.named in
     ap (λ o. spelled_by o at (rest_of line)) named
     ∙ by_instruction s.form at (rest_of line) s.is_instruction
-    ∙ ap (λ text. spelled s.form at (read_all text)) (rest-back n os s.clear)
+    ∙ ap (λ text. spelled s.form at (read_all text)) back.1
     ∙ ap (λ p. spelled s.form at p) (all_read os t.are_told s.few)
     ∙ spelled_words at w ws i s below t
 

@@ -15,7 +15,7 @@ glyph_back x below = eqb-true _ _ (every_at 4 (λ y. nibble (digit_glyph true y)
 no_brackets : every 4 0 (λ x. not (digit_glyph true x == 40)) ≡ true
 no_brackets = refl
 
-negated : (b : Bool) → not b ≡ true → b ≡ false
+pub negated : (b : Bool) → not b ≡ true → b ≡ false
 negated true h = cc
 negated false h = refl
 

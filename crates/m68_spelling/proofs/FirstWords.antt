@@ -1,8 +1,10 @@
 -- An instruction's name and operands spell its first word: computed over all first words, whatever words follow.
 use Rattle.std.proofs.Common.{◌≡◌, ℕ, zero, suc, ◌+◌, ◌*◌, ◌/◌, ◌%◌, ◌<◌, ◌==◌, not, List, [], ◌∷◌, map, Bool, true, false, Option, Some, None, if◌then◌else◌, arith, refl, sym, ap, subst, ◌∙◌}
 use Rattle.std.proofs.lemmas.Bool.{eqb-true}
+use Rattle.mix_bits.specs.Names.{no_space}
 use Rattle.mix_bits.specs.Ranges.{every}
 use Rattle.mix_bits.proofs.Every.{every_at}
+use Rattle.mix_bits.proofs.Conditions.{both}
 use Rattle.m68_isa.specs.declared.instructions.Instr68.{Instr68}
 use Rattle.m68_isa.specs.declared.instructions.Instr68.TheVariants.{Bcc, MulLong, DivLong}
 use Rattle.m68_isa.specs.declared.found.Found.{Found}
@@ -20,6 +22,7 @@ use Rattle.m68_spelling.specs.declared.line.Parsed.{Parsed}
 use Rattle.m68_spelling.specs.Reading.{nothing}
 use Rattle.m68_spelling.specs.Spelling.{Ending, ending, first_word}
 use Rattle.m68_spelling.specs.Spelling.Ending.{Alone, Distance, Extended, Paired}
+use Rattle.m68_spelling.proofs.Digits.{negated}
 use Rattle.m68_spelling.proofs.Texts.{cut}
 
 -- a list of operands as they are read
@@ -38,10 +41,6 @@ are_few (o ∷ []) = true
 are_few (o ∷ p ∷ []) = true
 are_few (o ∷ p ∷ q ∷ []) = true
 are_few (o ∷ p ∷ q ∷ r ∷ os) = false
-
-abbrev pub no_space : List ℕ → Bool
-no_space [] = true
-no_space (b ∷ bs) = if b == 32 then false else no_space bs
 
 -- a branch with its displacement in the first word
 abbrev pub is_near : Instr68 → ℕ → Bool
@@ -228,14 +227,6 @@ of_word : (ws : List ℕ) (at w : ℕ) → w < 65536 → word_spells ws at w ≡
 of_word ws at w below =
     let parts : 4096 * (w / 4096) + w % 4096 ≡ w = omega arith in
     subst (λ v. word_spells ws at v ≡ true) parts (of_line ws at (w / 4096) (w % 4096) (line ws at (w / 4096) (omega (arith, below))) (omega arith))
-
-both : (b c : Bool) → (if b then c else false) ≡ true → (b ≡ true) × (c ≡ true)
-both true c h = (refl, h)
-both false c h = cc
-
-negated : (b : Bool) → not b ≡ true → b ≡ false
-negated true h = cc
-negated false h = refl
 
 implied : (form i : Bool) → near_as form i ≡ true → form ≡ true → i ≡ true
 implied true i h is = h

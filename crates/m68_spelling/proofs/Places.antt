@@ -42,7 +42,7 @@ cut_index_word w = let i = index_of w in index_word (record i { disp = i.disp % 
 indices_back : every 16 0 (λ w. if is_index w then cut_index_word w == w else true) ≡ true
 indices_back = refl
 
-when : (b c : Bool) → (if b then c else true) ≡ true → b ≡ true → c ≡ true
+pub when : (b c : Bool) → (if b then c else true) ≡ true → b ≡ true → c ≡ true
 when true c h is = h
 when false c h is = cc
 
@@ -71,7 +71,7 @@ one_word at ws g k = ap (λ v. v ∷ []) (word_back (slice_index ws k) (g.below 
 index_shown : (ws : List ℕ) (g : Words ws) (k : ℕ) → is_index (slice_index ws k) ≡ true → (cut_index_word (slice_index ws k) ∷ []) ≡ words_from ws k 1
 index_shown ws g k is = ap (λ v. v ∷ []) (index_back (slice_index ws k) (g.below k) is)
 
-plain_word : (v : ℕ) → v < 65536 → (v % 65536 % 65536 ∷ []) ≡ v ∷ []
+pub plain_word : (v : ℕ) → v < 65536 → (v % 65536 % 65536 ∷ []) ≡ v ∷ []
 plain_word v below = let e : v % 65536 % 65536 ≡ v = omega (arith, below) in ap (λ x. x ∷ []) e
 
 pub immediate_shown : (at : ℕ) (ws : List ℕ) (g : Words ws) (k : ℕ) (s : Size) → is_any s ≡ true → Shows at ws k (k + immediate_words s) (immediate s ws k)

@@ -5,6 +5,7 @@ use Rattle.mix_bits.specs.Ranges.{every}
 use Rattle.mix_bits.specs.Sizes.{sign_extended}
 use Rattle.mix_bits.specs.declared.size.Size.{Size}
 use Rattle.mix_bits.specs.declared.size.Size.TheVariants.{One, Two, Four}
+use Rattle.mix_bits.proofs.Conditions.{both}
 use Rattle.mix_bits.proofs.Every.{every_at}
 use Rattle.m68_isa.specs.Classes.Class.{Data as DataClass, DataAlterable}
 use Rattle.m68_isa.specs.declared.ea.Ea.{Ea}
@@ -30,7 +31,7 @@ use Rattle.m68_spelling.specs.Code.{long_words}
 use Rattle.m68_spelling.specs.Spelling.{content, contents, following, way}
 use Rattle.m68_spelling.specs.Spelling.Ending.{Extended, Paired}
 use Rattle.m68_spelling.proofs.Texts.{IsTold, cut}
-use Rattle.m68_spelling.proofs.Places.{IsShown, Shows, immediate_shown, long_back, shown, word_back, words_from}
+use Rattle.m68_spelling.proofs.Places.{IsShown, Shows, immediate_shown, long_back, plain_word, shown, when, word_back, words_from}
 use Rattle.m68_spelling.proofs.FirstWords.{ending_of, is_near, padded}
 use Rattle.m68_spelling.proofs.Shapes.{AreTold, Given, IsNone, IsTelling, Tells, and_mask, and_place, no_alterable}
 
@@ -86,9 +87,6 @@ counted_alone at false q n m = refl
 
 -- Displacements.
 
-pub word_shown : (v : ℕ) → v < 65536 → (v % 65536 % 65536 ∷ []) ≡ v ∷ []
-word_shown v below = let e : v % 65536 % 65536 ≡ v = omega (arith, below) in ap (λ x. x ∷ []) e
-
 pub extended_shown : (at : ℕ) (ws : List ℕ) (f : First) (g : Given at ws f) → (extended_word ws 1 % 65536 % 65536 ∷ []) ≡ words_from ws 1 1
 extended_shown at ws f g = ap (λ x. x ∷ []) (word_back (slice_index ws 1) (g.words.below 1))
 
@@ -126,13 +124,9 @@ distance_shown at ws f g =
 low_signed : every 8 0 (λ b. if nat_lt (sign_extended b One) 4294967296 then sign_extended b One % 256 == b else false) ≡ true
 low_signed = refl
 
-byte_parts : (b c : Bool) → (if b then c else false) ≡ true → (b ≡ true) × (c ≡ true)
-byte_parts true c h = (refl, h)
-byte_parts false c h = cc
-
 pub near_back : (at b : ℕ) → at < 4294967296 → b < 256 → way at (branch_target at (sign_extended b One) % 4294967296) % 256 ≡ b
 near_back at b fits below =
-    let parts = byte_parts (nat_lt (sign_extended b One) 4294967296) (sign_extended b One % 256 == b) (every_at 8 (λ v. if nat_lt (sign_extended v One) 4294967296 then sign_extended v One % 256 == v else false) b low_signed below) in
+    let parts = both (nat_lt (sign_extended b One) 4294967296) (sign_extended b One % 256 == b) (every_at 8 (λ v. if nat_lt (sign_extended v One) 4294967296 then sign_extended v One % 256 == v else false) b low_signed below) in
     ap (λ x. x % 256) (way_back at (sign_extended b One) fits (ltb-true _ _ parts.0)) ∙ eqb-true _ _ parts.1
 
 -- Rows.
@@ -143,7 +137,7 @@ immediate_row at ws f g alterable s some make is plain good =
     and_place at ws g.words (make e.ea) (immediate s ws 1) (1 + immediate_words s) s f.mode f.lower g.mode g.lower some (no_alterable f.mode f.lower alterable) (immediate_shown at ws g.words 1 s some) (is e.ea) (plain e.ea) good
 
 pub first_word_shown : (at : ℕ) (ws : List ℕ) (f : First) (g : Given at ws f) → Shows at ws 1 2 (Word (slice_index ws 1))
-first_word_shown at ws f g = record { told = tt; count = 1; upto = refl; words = word_shown (slice_index ws 1) (g.words.below 1) }
+first_word_shown at ws f g = record { told = tt; count = 1; upto = refl; words = plain_word (slice_index ws 1) (g.words.below 1) }
 
 up_to_none : (mode lower : ℕ) → up_to 5 mode lower ≡ true → not ((mode == 7) && (lower == 4)) ≡ true → IsNone mode lower
 up_to_none mode lower high plain seven four =
@@ -188,10 +182,6 @@ register_word signed wide high low = ((if signed then 2048 else 0) + (if wide th
 
 registers_back : every 16 0 (λ w. if is_register_word w then register_word (is_signed w) (is_wide w) (high_of w) (low_of w) == w else true) ≡ true
 registers_back = refl
-
-when : (b c : Bool) → (if b then c else true) ≡ true → b ≡ true → c ≡ true
-when true c h is = h
-when false c h is = cc
 
 register_back : (w : ℕ) → w < 65536 → is_register_word w ≡ true → register_word (is_signed w) (is_wide w) (high_of w) (low_of w) ≡ w
 register_back w below is = eqb-true _ _ (when (is_register_word w) (register_word (is_signed w) (is_wide w) (high_of w) (low_of w) == w) (every_at 16 (λ v. if is_register_word v then register_word (is_signed v) (is_wide v) (high_of v) (low_of v) == v else true) w registers_back below) is)

@@ -22,7 +22,8 @@ use Rattle.m68_isa.specs.Operands.{immediate_at, operand_at}
 use Rattle.m68_isa.specs.Shifts.{shift_op}
 use Rattle.m68_isa.specs.Widths.{is_any}
 use Rattle.m68_text.specs.declared.operand.Operand.TheVariants.{Data, Address, Word, Number, ConditionCodes, StatusRegister}
-use Rattle.m68_spelling.proofs.Rows.{bits_none, counted_alone, counted_told, distance_shown, either_none, exchanged_alone, exchanged_told, ext_row, extended_shown, first_word_shown, from_memory_row, front, immediate_row, last, long_shown, mode_none, move_row, movep_row, near_back, paired_alone, paired_told, product_row, quick_told, quotient_row, target_shown, to_memory_row, trap_told, word_shown}
+use Rattle.m68_spelling.proofs.Places.{plain_word}
+use Rattle.m68_spelling.proofs.Rows.{bits_none, counted_alone, counted_told, distance_shown, either_none, exchanged_alone, exchanged_told, ext_row, extended_shown, first_word_shown, from_memory_row, front, immediate_row, last, long_shown, mode_none, move_row, movep_row, near_back, paired_alone, paired_told, product_row, quick_told, quotient_row, target_shown, to_memory_row, trap_told}
 use Rattle.m68_spelling.proofs.Shapes.{Given, IsTelling, after, and_place, before, no_control, no_control_alterable, single, some_long, some_size}
 
 -- what the row of an operation asks of the first word, where its text tells the words by that
@@ -76,7 +77,7 @@ tells at ws f g Subi h = told_immediate at ws f g h ImmediateBy.Subi
 tells at ws f g Addi h = told_immediate at ws f g h ImmediateBy.Addi
 tells at ws f g Eori h = told_immediate at ws f g h ImmediateBy.Eori
 tells at ws f g Cmpi h = told_immediate at ws f g h ImmediateBy.Cmpi
-tells at ws f g LogicToCcr h = λ good. record { are_told = (tt, (tt, tt)); words = word_shown (slice_index ws 1) (g.words.below 1); low = λ n. cc }
+tells at ws f g LogicToCcr h = λ good. record { are_told = (tt, (tt, tt)); words = plain_word (slice_index ws 1) (g.words.below 1); low = λ n. cc }
 tells at ws f g BitByNumber h = λ good. and_place at ws g.words (Instr.BitByNumber (bit_op f.size) (slice_index ws 1 % 256) (operand_at ws 2 One f.mode f.lower).ea) (Word (slice_index ws 1)) 2 One f.mode f.lower g.mode g.lower refl (bits_none (f.size == 0) f.mode f.lower (front _ _ h) (last _ _ h)) (first_word_shown at ws f g) refl (λ n. (refl, refl)) good
 tells at ws f g BitByRegister h = before at ws f g One refl (λ e. Instr.BitByRegister (bit_op f.size) f.upper e) (Data f.upper) g.upper refl (λ e. refl) (λ e n. (refl, refl))
 tells at ws f g Movep h = movep_row at ws f g (long_or_word (f.size % 2)) (nat_lt 1 f.size)

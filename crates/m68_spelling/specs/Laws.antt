@@ -1,6 +1,7 @@
 -- The text of an instruction spells its words, and what is known of its operands and sizes.
 use Rattle.std.specs.Prelude.{ℕ, ◌≡◌, ◌+◌, ◌^◌, ◌<◌, ◌≤◌, List, [], ◌∷◌, ◌++◌, length, true, Option, Some, None}
 use Rattle.mix_bits.specs.declared.size.Size.{Size}
+use Rattle.mix_bits.specs.Names.{name_of, rest_of}
 use Rattle.m68_isa.specs.declared.ea.Ea.TheVariants.{Imm}
 use Rattle.m68_isa.specs.declared.instructions.Instr68.{Instr68}
 use Rattle.m68_isa.specs.declared.instructions.Decoded68.TheVariants.{Op}
@@ -13,7 +14,7 @@ use Rattle.m68_text.specs.Operands.{hex, operands, operands_text}
 use Rattle.m68_forms.specs.declared.form.Form.{Form}
 use Rattle.m68_forms.specs.declared.form.Form.TheVariants.{Data}
 use Rattle.m68_forms.specs.Table.{form_of}
-use Rattle.m68_spelling.specs.Lines.{name_of, read_all, rest_of}
+use Rattle.m68_spelling.specs.Lines.{read_all}
 use Rattle.m68_spelling.specs.Spelling.{spelled}
 
 -- the words of a line whose name has this form of an instruction

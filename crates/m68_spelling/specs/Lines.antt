@@ -1,20 +1,7 @@
--- The parts of a line: its name, and its operands, between which commas stand. A comma inside parentheses belongs to an
--- operand.
+-- The operands of a line, between which commas stand. A comma inside parentheses belongs to an operand.
 use Rattle.std.specs.Prelude.{ℕ, suc, ◌==◌, ◌&&◌, not, Bool, true, false, List, [], ◌∷◌, take, drop, if◌then◌else◌}
 use Rattle.m68_spelling.specs.declared.line.Parsed.{Parsed}
 use Rattle.m68_spelling.specs.Reading.{read}
-
--- the bytes before the first space, or all
-abbrev pub name_length : List ℕ → ℕ
-name_length [] = 0
-name_length (b ∷ bs) = if b == 32 then 0 else suc (name_length bs)
-
-abbrev pub name_of : List ℕ → List ℕ
-name_of line = take (name_length line) line
-
--- the bytes after it
-abbrev pub rest_of : List ℕ → List ℕ
-rest_of line = drop (suc (name_length line)) line
 
 -- whether the bytes behind this one are inside parentheses
 abbrev pub within : Bool → ℕ → Bool

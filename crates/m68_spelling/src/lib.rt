@@ -12,5 +12,5 @@ mod spelling;
 
 pub use code::Code68;
 pub use laws::{operand_laws, spelling_laws};
-pub use line::{Parsed, read_operands, split_name};
+pub use line::{Parsed, read_operands};
 pub use spelling::spell;

@@ -1,6 +1,6 @@
-// The parts of a line.
+// The operands of a line.
 ghost use Rattle.std.specs.Prelude.{◌≡◌, ◌≤◌, length, false};
-ghost use Rattle.m68_spelling.specs.Lines.{behind, comma as comma_of, front_of, name_length as name_length_of, name_of, read_all, rest_of, within as within_of};
+ghost use Rattle.m68_spelling.specs.Lines.{behind, comma as comma_of, front_of, read_all, within as within_of};
 
 use super::reading::read;
 use m68_text::Operand;
@@ -11,32 +11,6 @@ pub struct Parsed {
     pub first: Operand,
     pub second: Operand,
     pub third: Operand,
-}
-
-/// A line's name, and what follows on the space behind it.
-pub fn split_name(line: &[u8]) -> (&[u8], &[u8])
-    ensures name { result.0.now ≡ name_of line.now }
-    ensures rest { result.1.now ≡ rest_of line.now }
-{
-    let end = name_length(line);
-    if end < line.len() {
-        (&line[..end], &line[end + 1..])
-    } else {
-        (line, &[])
-    }
-}
-
-/// How many bytes stand before the first space.
-fn name_length(line: &[u8]) -> usize
-    ensures value { result ≡ name_length_of line.now }
-    ensures within { result ≤ length line.now }
-{
-    for (i, b) in line.iter().enumerate() {
-        if *b == b' ' {
-            return i;
-        }
-    }
-    line.len()
 }
 
 /// The operands of a text.

@@ -3,15 +3,15 @@ use Rattle.std.proofs.Common.{◌≡◌, ℕ, ◌-◌, ◌==◌, Bool, true, fal
 use Rattle.std.specs.Prelude.{◌↔◌, MatchBool}
 use Rattle.std.proofs.lemmas.List.{length-drop, take_all}
 use Rattle.mix_bits.specs.declared.isa.Isa.{Isa}
+use Rattle.mix_bits.specs.Names.{name_of}
 use Rattle.m68_text.specs.Listed.{is_name as is_name_68k}
 use Rattle.m68_spelling.specs.declared.code.Code68.{Code68}
 use Rattle.m68_spelling.specs.Code.{kept}
-use Rattle.m68_spelling.specs.Lines.{name_of as name_68k}
 use Rattle.asm_m68.specs.Assembly.{answer, Gives as Gives68k}
 use Rattle.asm_m68.specs.declared.assembler.AsmError.{AsmError as Error68k}
 use Rattle.asm_m68.specs.declared.assembler.AsmError.TheVariants.{Name as Name68k, Operands as Operands68k}
 use Rattle.ppc_text.specs.Listed.{is_name as is_name_ppc}
-use Rattle.asm_ppc.specs.Assembly.{Gives as GivesPpc, name_of as name_ppc}
+use Rattle.asm_ppc.specs.Assembly.{Gives as GivesPpc}
 use Rattle.asm_ppc.specs.declared.assembler.AsmError.{AsmError as ErrorPpc}
 use Rattle.asm_ppc.specs.declared.assembler.AsmError.TheVariants.{Name as NamePpc, Operands as OperandsPpc}
 use Rattle.mix_assemble.specs.Lines.{address_in, is_silent}
@@ -25,10 +25,10 @@ abbrev pub Words68k : List ℕ → ℕ → Result Code68 Error68k → Type 0
 Words68k line at r = (ws : List ℕ) → (answer r ≡ Ok ws) ↔ Gives68k line at ws
 
 abbrev pub Name68kIs : List ℕ → Result Code68 Error68k → Type 0
-Name68kIs line r = (r ≡ Err Name68k) ↔ (is_name_68k (name_68k line) ≡ false)
+Name68kIs line r = (r ≡ Err Name68k) ↔ (is_name_68k (name_of line) ≡ false)
 
 abbrev pub Operands68kAre : List ℕ → ℕ → Result Code68 Error68k → Type 0
-Operands68kAre line at r = (r ≡ Err Operands68k) ↔ ((is_name_68k (name_68k line) ≡ true) × ((ws : List ℕ) → Gives68k line at ws → ⊥))
+Operands68kAre line at r = (r ≡ Err Operands68k) ↔ ((is_name_68k (name_of line) ≡ true) × ((ws : List ℕ) → Gives68k line at ws → ⊥))
 
 pub words-68k : (line : List ℕ) (at : ℕ) (code : Code68) (bytes : List ℕ) → Words68k line at (Ok code) → bytes ≡ word_bytes (kept code) → Is68k line at (Ok bytes)
 words-68k line at code bytes words is = (kept code, (words (kept code)).0 refl, is)
@@ -45,10 +45,10 @@ abbrev pub WordPpc : List ℕ → ℕ → Result ℕ ErrorPpc → Type 0
 WordPpc line at r = (w : ℕ) → (r ≡ Ok w) ↔ GivesPpc line at w
 
 abbrev pub NamePpcIs : List ℕ → Result ℕ ErrorPpc → Type 0
-NamePpcIs line r = (r ≡ Err NamePpc) ↔ (is_name_ppc (name_ppc line) ≡ false)
+NamePpcIs line r = (r ≡ Err NamePpc) ↔ (is_name_ppc (name_of line) ≡ false)
 
 abbrev pub OperandsPpcAre : List ℕ → ℕ → Result ℕ ErrorPpc → Type 0
-OperandsPpcAre line at r = (r ≡ Err OperandsPpc) ↔ ((is_name_ppc (name_ppc line) ≡ true) × ((w : ℕ) → GivesPpc line at w → ⊥))
+OperandsPpcAre line at r = (r ≡ Err OperandsPpc) ↔ ((is_name_ppc (name_of line) ≡ true) × ((w : ℕ) → GivesPpc line at w → ⊥))
 
 pub word-ppc : (line : List ℕ) (at word : ℕ) (bytes : List ℕ) → WordPpc line at (Ok word) → bytes ≡ long_bytes word → IsPpc line at (Ok bytes)
 word-ppc line at word bytes words is = (word, (words word).0 refl, is)

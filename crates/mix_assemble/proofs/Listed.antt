@@ -22,6 +22,7 @@ use Rattle.asm_m68.proofs.Prefix.{none_missing}
 use Rattle.asm_m68.proofs.TakenBack.{first_given}
 use Rattle.ppc_text.specs.Text.{word_text}
 use Rattle.mix_list.specs.Listing.{Listed, bytes_68k, instruction, listed_ppc}
+use Rattle.mix_list.proofs.Words.{listed_as}
 use Rattle.mix_assemble.specs.Assembling.{IsInstruction}
 use Rattle.mix_assemble.proofs.Bytes.{AreBytesOf, IsLong, is_long, words_are, words_back}
 use Rattle.mix_assemble.proofs.OneLines.{OneLine, text_line_68k, word_line}
@@ -32,9 +33,6 @@ pub record Gives (set : Isa) (m : Memory) (at : ℕ) (i : Listed) : Type 0 where
   pub next : onward at i.bytes ≡ at + i.bytes
   pub long : length (part at i.bytes m.bytes) ≡ i.bytes
   pub bytes : IsInstruction set i.text at (Ok (part at i.bytes m.bytes))
-
-abbrev listed_as : List ℕ → ℕ → Listed
-listed_as text bytes = record { text = text; bytes = bytes }
 
 part_long : (at n : ℕ) (bytes : List ℕ) → (0 < n → at + n ≤ length bytes) → length (part at n bytes) ≡ n
 part_long at zero bytes within = refl

@@ -4,12 +4,12 @@ use Rattle.std.specs.Prelude.{MatchBool}
 use Rattle.mix_bits.specs.Addresses.{onward}
 use Rattle.mix_bits.specs.declared.isa.Isa.{Isa}
 use Rattle.mix_bits.specs.declared.isa.Isa.TheVariants.{M68, Ppc}
+use Rattle.mix_bits.specs.Names.{name_of}
 use Rattle.m68_text.specs.Listed.{is_name as is_name_68k}
-use Rattle.m68_spelling.specs.Lines.{name_of as name_68k}
 use Rattle.asm_m68.specs.Assembly.{Gives as Gives68k}
 use Rattle.asm_m68.proofs.Complete.{given_named as named_68k, gives_one as one_68k}
 use Rattle.ppc_text.specs.Listed.{is_name as is_name_ppc}
-use Rattle.asm_ppc.specs.Assembly.{Gives as GivesPpc, name_of as name_ppc}
+use Rattle.asm_ppc.specs.Assembly.{Gives as GivesPpc}
 use Rattle.asm_ppc.proofs.Complete.{given_named as named_ppc, gives_one as one_ppc}
 use Rattle.mix_assemble.specs.Lines.{address_in, is_silent, lines_of}
 use Rattle.mix_assemble.specs.Assembling.{Assembles, IsAddressed, IsAnswer, IsGiven, IsInstruction, IsWithRest, before, long_bytes, refused_at, word_bytes}
@@ -41,8 +41,8 @@ one_answer {X} Gives bytes_of known one named (Err Operands) (Err Name) a b = no
 one_answer {X} Gives bytes_of known one named (Err Operands) (Err Operands) a b = refl
 
 one_instruction : (set : Isa) (line : List ℕ) (at : ℕ) → at < 2 ^ 32 → IsOne (IsInstruction set line at)
-one_instruction M68 line at fits = one_answer (Gives68k line at) word_bytes (is_name_68k (name_68k line)) (λ vs ws. one_68k line at vs ws fits) (λ ws. named_68k line at ws fits)
-one_instruction Ppc line at fits = one_answer (GivesPpc line at) long_bytes (is_name_ppc (name_ppc line)) (λ v w. one_ppc line at v w fits) (λ w. named_ppc line at w fits)
+one_instruction M68 line at fits = one_answer (Gives68k line at) word_bytes (is_name_68k (name_of line)) (λ vs ws. one_68k line at vs ws fits) (λ ws. named_68k line at ws fits)
+one_instruction Ppc line at fits = one_answer (GivesPpc line at) long_bytes (is_name_ppc (name_of line)) (λ v w. one_ppc line at v w fits) (λ w. named_ppc line at w fits)
 
 -- of two ways, by a test
 either_way : {A : Type 0} (b : Bool) (Yes No : A → Type 0) → IsOne Yes → IsOne No → IsOne (λ r. MatchBool b (Yes r) (No r))

@@ -1,5 +1,6 @@
 -- No text of an instruction holds a line feed.
-use Rattle.std.proofs.Common.{◌≡◌, ℕ, zero, suc, ◌+◌, ◌/◌, ◌%◌, ◌^◌, ◌<◌, ◌==◌, ◌||◌, ◌⊎◌, inl, inr, nat_lt, List, [], ◌∷◌, ◌++◌, map, codes, decimal, Bool, true, false, Option, Some, None, ℤ, pos, negsuc, if◌then◌else◌, arith, refl, ap, subst, ◌∙◌}
+use Rattle.std.proofs.Common.{◌≡◌, ℕ, zero, suc, ◌+◌, ◌/◌, ◌%◌, ◌^◌, ◌<◌, ◌==◌, inl, inr, nat_lt, List, [], ◌∷◌, ◌++◌, map, codes, decimal, Bool, true, false, Option, Some, None, ℤ, pos, negsuc, if◌then◌else◌, arith, refl, ap, subst, ◌∙◌}
+use Rattle.std.proofs.lemmas.Bool.{or_cases}
 use Rattle.std.proofs.lemmas.Bool.Decides.{nat_tests}
 use Rattle.std.proofs.lemmas.Slice.Eq.{bytes_eq-Decides}
 use Rattle.std.specs.Fmt.{digit_glyph, digits, digits_onto, signed_decimal}
@@ -8,6 +9,7 @@ use Rattle.std.specs.Str.{bytes_eq}
 use Rattle.mix_bits.specs.Sizes.{signed_of}
 use Rattle.mix_bits.specs.Text.{hexadecimal}
 use Rattle.mix_bits.specs.declared.size.Size.TheVariants.{Two as TwoBytes}
+use Rattle.mix_bits.proofs.Conditions.{both}
 use Rattle.m68_isa.specs.declared.ea.Index.{Index}
 use Rattle.m68_isa.specs.declared.instructions.Decoded68.{Decoded68}
 use Rattle.m68_isa.specs.declared.instructions.Decoded68.TheVariants.{Op, LineA, LineF, Privileged, Illegal, Short}
@@ -162,20 +164,12 @@ abbrev are_lines : List (List ℕ) → Bool
 are_lines [] = true
 are_lines (n ∷ ns) = if is_one_line n then are_lines ns else false
 
-both : (b c : Bool) → (if b then c else false) ≡ true → (b ≡ true) × (c ≡ true)
-both true c h = (refl, h)
-both false c h = cc
-
-either : (b c : Bool) → (b || c) ≡ true → (b ≡ true) ⊎ (c ≡ true)
-either true c h = inl refl
-either false c h = inr h
-
 listed_line : (ns : List (List ℕ)) (n : List ℕ) → are_lines ns ≡ true → list_any (λ m. bytes_eq m n) ns ≡ true → OneLine n
 listed_line [] n all h = cc
 listed_line (m ∷ ns) n all h =
     let parts : (is_one_line m ≡ true) × (are_lines ns ≡ true) = both (is_one_line m) (are_lines ns) all in
     let rest : list_any (λ k. bytes_eq k n) ns ≡ true → OneLine n = listed_line ns n parts.1 in
-    elim (either (bytes_eq m n) (list_any (λ k. bytes_eq k n) ns) h) [ inl here ↦ subst OneLine ((bytes_eq-Decides m n).0 here) (lit m parts.0) | inr there ↦ rest there ]
+    elim (or_cases (bytes_eq m n) (list_any (λ k. bytes_eq k n) ns) h) [ inl here ↦ subst OneLine ((bytes_eq-Decides m n).0 here) (lit m parts.0) | inr there ↦ rest there ]
 
 names_are_68k : are_lines names_68k ≡ true
 unfolding names_68k stems_68k wide_68k plain_68k tested_68k conditions_68k

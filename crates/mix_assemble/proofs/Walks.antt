@@ -20,10 +20,6 @@ before-more : (xs ys : List ℕ) (r : Result (List ℕ) Refused) → before xs (
 before-more xs ys (Ok zs) = ap Ok (sym (append_assoc xs ys zs))
 before-more xs ys (Err refused) = refl
 
-before-none : (r : Result (List ℕ) Refused) → before [] r ≡ r
-before-none (Ok zs) = refl
-before-none (Err refused) = refl
-
 -- a line was taken from the text that is left
 pub record Takes (rest line behind : List ℕ) : Type 0 where
   pub some : 0 < length rest
@@ -42,10 +38,6 @@ pub record Walked (set : Isa) (at : ℕ) (text : List ℕ) (number next : ℕ) (
   pub done : List ℕ
   pub leads : (all : Result (List ℕ) Refused) → Left set number next rest all → IsAssembled set at text (before done all)
   pub fewer : number + length rest ≤ 1 + length text
-
-pub walked-begins : (set : Isa) (at : ℕ) (text : List ℕ) → Walked set at text 1 at text
-walked-begins set at text =
-    record { done = []; leads = λ all is. subst (IsAssembled set at text) (sym (before-none all)) is; fewer = omega arith }
 
 pub walked-on : (set : Isa) (at : ℕ) (text : List ℕ) (number next after : ℕ) (rest line behind bytes : List ℕ) → Walked set at text number next rest
     → Takes rest line behind → IsGiven set line next (Ok bytes) → after ≡ onward next (length bytes) → Walked set at text (number + 1) after behind
@@ -182,7 +174,3 @@ err-of {V} {E} {P} (Err e) Q f q = f q
 pub ok-of : {V E P : Type 0} (r : Result V E) (Q : Type 0) → (Q → P) → OnOk r Q → OnOk r P
 ok-of {V} {E} {P} (Ok v) Q f q = f q
 ok-of {V} {E} {P} (Err e) Q f q = tt
-
-pub on-err : {V E P : Type 0} (r : Result V E) → P → OnErr r P
-on-err (Ok v) p = tt
-on-err (Err e) p = p

@@ -3,11 +3,11 @@ use Rattle.std.specs.Prelude.{ℕ, ◌≡◌, ◌+◌, ◌/◌, ◌%◌, ◌==�
 use Rattle.mix_bits.specs.Addresses.{onward}
 use Rattle.mix_bits.specs.declared.isa.Isa.{Isa}
 use Rattle.mix_bits.specs.declared.isa.Isa.TheVariants.{M68, Ppc}
+use Rattle.mix_bits.specs.Names.{name_of}
 use Rattle.m68_text.specs.Listed.{is_name as is_name_68k}
-use Rattle.m68_spelling.specs.Lines.{name_of as name_68k}
 use Rattle.asm_m68.specs.Assembly.{Gives as Gives68k}
 use Rattle.ppc_text.specs.Listed.{is_name as is_name_ppc}
-use Rattle.asm_ppc.specs.Assembly.{Gives as GivesPpc, name_of as name_ppc}
+use Rattle.asm_ppc.specs.Assembly.{Gives as GivesPpc}
 use Rattle.mix_assemble.specs.Lines.{address_in, is_silent, lines_of}
 use Rattle.mix_assemble.specs.declared.refused.Reason.{Reason}
 use Rattle.mix_assemble.specs.declared.refused.Reason.TheVariants.{Address, Name, Operands}
@@ -31,11 +31,11 @@ IsAnswer {X = X} Gives bytes_of known (Err Operands) = (known ≡ true) × ((cod
 
 -- a line of 68K code stands for the words whose text at an address it is
 abbrev pub Is68k : List ℕ → ℕ → Result (List ℕ) Reason → Type 0
-Is68k line at given = IsAnswer (Gives68k line at) word_bytes (is_name_68k (name_68k line)) given
+Is68k line at given = IsAnswer (Gives68k line at) word_bytes (is_name_68k (name_of line)) given
 
 -- a line of PowerPC code, the same of its word
 abbrev pub IsPpc : List ℕ → ℕ → Result (List ℕ) Reason → Type 0
-IsPpc line at given = IsAnswer (GivesPpc line at) long_bytes (is_name_ppc (name_ppc line)) given
+IsPpc line at given = IsAnswer (GivesPpc line at) long_bytes (is_name_ppc (name_of line)) given
 
 abbrev pub IsInstruction : Isa → List ℕ → ℕ → Result (List ℕ) Reason → Type 0
 IsInstruction M68 line at given = Is68k line at given

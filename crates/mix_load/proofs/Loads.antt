@@ -2,7 +2,7 @@
 use Rattle.std.proofs.Common.{◌≡◌, sym, ap, ◌∙◌, ℕ, Result, Ok, Err}
 use Rattle.mix_bits.specs.declared.isa.Isa.{Isa}
 use Rattle.switch_frame.specs.declared.program.Program.{Program}
-use Rattle.mix_load.specs.declared.error.File.TheVariants.{Flat, Rsrc, Pef}
+use Rattle.mix_bits.specs.declared.file.File.TheVariants.{Flat, Rsrc, Pef}
 use Rattle.mix_load.specs.declared.error.LoadError.{LoadError}
 use Rattle.mix_load.specs.declared.files.Files.{Files}
 use Rattle.mix_load.specs.declared.image.Image.{Image}

@@ -18,8 +18,8 @@ use Rattle.rsrc_fork.specs.Resources.{Resource}
 use Rattle.switch_frame.specs.declared.program.Program.{Program}
 use Rattle.switch_frame.specs.Pieces.{puts}
 use Rattle.switch_frame.specs.Program.{gate_longs, program_start}
-use Rattle.mix_load.specs.declared.error.File.{File}
-use Rattle.mix_load.specs.declared.error.File.TheVariants.{Flat, Rsrc, Pef}
+use Rattle.mix_bits.specs.declared.file.File.{File}
+use Rattle.mix_bits.specs.declared.file.File.TheVariants.{Flat, Rsrc, Pef}
 use Rattle.mix_load.specs.declared.error.LoadError.{LoadError}
 use Rattle.mix_load.specs.declared.error.LoadError.TheVariants.{Empty, JumpTable}
 use Rattle.mix_load.specs.declared.files.Files.{Files}

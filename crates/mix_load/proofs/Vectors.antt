@@ -9,11 +9,6 @@ neither : (a b : Bool) (x : ℕ) → b ≡ false → (if a && b then Some x else
 neither true b x q = rw q refl
 neither false b x q = refl
 
-pub vector-nowhere : (bytes : List ℕ) (start section offset : ℕ) → main_of bytes ≡ Some (section, offset) → instantiated_count bytes ≤ section → main_vector bytes start ≡ None
-vector-nowhere bytes start section offset is le =
-    let out : nat_lt section (instantiated_count bytes) ≡ false = grind (arith, nat_tests) in
-    ap (vector_in bytes start) is ∙ (rw out refl)
-
 pub vector-cut : (bytes : List ℕ) (start section offset : ℕ) → main_of bytes ≡ Some (section, offset) → total_at bytes section < offset + 8 → main_vector bytes start ≡ None
 vector-cut bytes start section offset is lt =
     let out : nat_le (offset + 8) (total_at bytes section) ≡ false = grind (arith, nat_tests) in

@@ -7,8 +7,8 @@ use Rattle.big_memory.specs.Memory.{floor_of, zeroed}
 use Rattle.switch_frame.specs.declared.program.Program.{Program}
 use Rattle.switch_frame.specs.Pieces.{piece}
 use Rattle.switch_frame.specs.Program.{program_start}
-use Rattle.mix_load.specs.declared.error.File.{File}
-use Rattle.mix_load.specs.declared.error.File.TheVariants.{Flat, Rsrc, Pef}
+use Rattle.mix_bits.specs.declared.file.File.{File}
+use Rattle.mix_bits.specs.declared.file.File.TheVariants.{Flat, Rsrc, Pef}
 use Rattle.mix_load.specs.declared.error.LoadError.{LoadError}
 use Rattle.mix_load.specs.declared.error.LoadError.TheVariants.{Empty}
 use Rattle.mix_load.specs.declared.files.Files.{Files}

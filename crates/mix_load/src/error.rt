@@ -1,20 +1,13 @@
-ghost use Rattle.std.specs.Prelude.{◌≡◌, ◌≢◌};
-ghost use Rattle.rsrc_fork.specs.declared.error.RsrcError.TheVariants.{NoMemory as NoForkMemory};
+ghost use Rattle.std.specs.Prelude.{◌≡◌};
+ghost use Rattle.rsrc_fork.specs.declared.error.ReadError.TheVariants.{NoMemory as NoForkMemory, Refused};
 ghost use Rattle.mix_load.specs.declared.error.LoadError.TheVariants.{NoMemory};
 
+use mix_bits::File;
 use pef_head::PefError;
 use pef_reloc::RelocError;
-use rsrc_fork::RsrcError;
+use rsrc_fork::{ReadError, RsrcError};
 use std::alloc::{AllocError, AllocFailed};
 use thiserror::Error;
-
-/// One of the files of a program.
-#[derive(Clone, Copy, Debug, PartialEq, Eq)]
-pub enum File {
-    Flat,
-    Rsrc,
-    Pef,
-}
 
 /// Why a program was not loaded. Ids are those of CODE resources.
 #[derive(Clone, Copy, Debug, PartialEq, Eq, Error)]
@@ -77,13 +70,13 @@ impl<T: Drop> From<AllocFailed<T>> for LoadError {
     }
 }
 
-/// The refusal of a fork as that of its program.
-pub fn fork_error(e: RsrcError) -> LoadError
+/// Why a fork was not read, as the refusal of its program.
+pub fn fork_error(e: ReadError) -> LoadError
     ensures memory { e ≡ NoForkMemory → result ≡ LoadError.NoMemory }
-    ensures other { e ≢ NoForkMemory → result ≡ LoadError.Rsrc e }
+    ensures refused { (why : RsrcError) → e ≡ Refused why → result ≡ LoadError.Rsrc why }
 {
     match e {
-        RsrcError::NoMemory => LoadError::NoMemory,
-        _ => LoadError::Rsrc(e),
+        ReadError::NoMemory => LoadError::NoMemory,
+        ReadError::Refused(why) => LoadError::Rsrc(why),
     }
 }

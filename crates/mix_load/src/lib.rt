@@ -25,8 +25,9 @@ mod segments;
 mod table;
 mod vector;
 
-pub use error::{File, LoadError};
+pub use error::LoadError;
 pub use files::{FileBytes, Files};
 pub use laws::load_laws;
 pub use loader::load;
+pub use mix_bits::File;
 pub use switch_frame::Program;

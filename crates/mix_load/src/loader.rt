@@ -7,14 +7,14 @@ ghost use Rattle.mix_load.specs.Loaded.{IsImage};
 ghost use Rattle.mix_load.specs.Outcome.{Gives};
 
 use crate::container::add_container;
-use crate::error::{File, LoadError};
+use crate::error::LoadError;
 use crate::files::{FileBytes, Files};
 use crate::flat::add_flat;
 use crate::fork::add_fork;
 use crate::image::{Image, PROGRAM_START};
 use crate::program::program;
 use big_memory::Ram;
-use mix_bits::Isa;
+use mix_bits::{File, Isa};
 use std::alloc::Global;
 use switch_frame::Program;
 

@@ -1,5 +1,5 @@
 -- A digit of four bits taken away from a number, and another one added in its place.
-use Rattle.std.proofs.Common.{◌≡◌, ℕ, ◌+◌, ◌-◌, ◌*◌, ◌/◌, ◌%◌, ◌^◌, ◌<◌, ◌≤◌, arith, sym, ap, subst, ◌∙◌}
+use Rattle.std.proofs.Common.{◌≡◌, ℕ, ◌+◌, ◌-◌, ◌*◌, ◌/◌, ◌%◌, ◌^◌, ◌<◌, arith, sym, ap, subst, ◌∙◌}
 use Rattle.std.proofs.lemmas.Nat.{mul-add-lt, pow-add, pow_pos, shr-shr}
 use Rattle.std.proofs.Math.Nat.{add-mul, div-add-mod, div-lt_iff_lt-mul, mod-lt, mul_comm}
 use Rattle.mix_bits.specs.Digits.{digit_of, digit_replaced}
@@ -11,11 +11,6 @@ parts v p =
     let split : 16 * (v / p / 16) + v / p % 16 ≡ v / p = div-add-mod (v / p) 16 in
     let product : p * (v / p) ≡ 16 * (v / p / 16) * p + v / p % 16 * p =
     ap (λ n. p * n) (sym split) ∙ mul_comm p _ ∙ add-mul (16 * (v / p / 16)) (v / p % 16) p in
-    omega arith
-
-pub digit_within : (v at : ℕ) → digit_of v at 4 * 2 ^ at ≤ v
-digit_within v at =
-    let is : v ≡ 16 * (v / 2 ^ at / 16) * 2 ^ at + v / 2 ^ at % 16 * 2 ^ at + v % 2 ^ at = parts v (2 ^ at) in
     omega arith
 
 pub exchanged : (v at d : ℕ) → v - digit_of v at 4 * 2 ^ at + d * 2 ^ at ≡ digit_replaced v at 4 d

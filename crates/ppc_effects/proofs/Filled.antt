@@ -17,11 +17,12 @@ use Rattle.big_memory.specs.Numbers.{AreLongs, number_at}
 use Rattle.big_memory.specs.Steps.{After}
 use Rattle.big_memory.specs.Steps.After.{Goes, Stops}
 use Rattle.ppc_isa.specs.declared.registers.RegsPpc.{RegsPpc}
+use Rattle.ppc_isa.specs.Valid.{string_length}
 use Rattle.ppc_alu.specs.Xer.{string_length_of}
 use Rattle.ppc_effects.specs.File.{base_of, gpr_of, onto_next}
 use Rattle.ppc_effects.specs.Storage.{index_address}
 use Rattle.ppc_effects.specs.StorageLaws.{IndexedStringsFill, IsFilled, StringsFill}
-use Rattle.ppc_effects.specs.Strings.{fills, in_order, length_of, load_byte, load_string, with_string_byte}
+use Rattle.ppc_effects.specs.Strings.{fills, in_order, load_byte, load_string, with_string_byte}
 use Rattle.ppc_effects.proofs.Reversed.{lies-within, loaded-then, number-of}
 
 -- four elements of a list as digits to the base 256
@@ -201,11 +202,11 @@ string-fills r q m k d at n ram file fits few is =
 base-fits : (r : RegsPpc) (a : ℕ) → AreLongs 32 r.gpr → base_of r a < 2 ^ 32
 base-fits r a file = elim (a == 0) as (λ b. (if b then 0 else gpr_of r a) < 2 ^ 32) [ true ↦ omega arith | false ↦ file.each a ]
 
-length-fits : (nb : ℕ) → nb < 32 → length_of nb ≤ 128
+length-fits : (nb : ℕ) → nb < 32 → string_length nb ≤ 128
 length-fits nb few = elim (nb == 0) as (λ b. (if b then 32 else nb) ≤ 128) [ true ↦ omega arith | false ↦ omega arith ]
 
 pub strings_fill : StringsFill
-strings_fill r q m k word d a nb ram file few is = string-fills r q m k d (base_of r a) (length_of nb) ram file (base-fits r a file) (length-fits nb few) is
+strings_fill r q m k word d a nb ram file few is = string-fills r q m k d (base_of r a) (string_length nb) ram file (base-fits r a file) (length-fits nb few) is
 
 goes-on : (stops : Bool) (pc word : ℕ) (step : After RegsPpc) (q : RegsPpc) (k : Memory) → (if stops then Stops (fault_at pc BadInstr word) else step) ≡ Goes q k → step ≡ Goes q k
 goes-on true pc word step q k is = absurd (cc)

@@ -17,10 +17,11 @@ use Rattle.ppc_alu.specs.Traps.{traps_on}
 use Rattle.ppc_alu.specs.Xer.{string_length_of}
 use Rattle.ppc_isa.specs.declared.instruction.LoadKind.{LoadKind}
 use Rattle.ppc_isa.specs.declared.instruction.ReversedKind.{ReversedKind}
+use Rattle.ppc_isa.specs.Valid.{string_length}
 use Rattle.ppc_effects.specs.File.{base_of, gpr_of, onto_next, with_gpr}
 use Rattle.ppc_effects.specs.Arithmetic.{immediate_of}
 use Rattle.ppc_effects.specs.Storage.{after_load, index_address, load, load_reversed, load_size, load_value, offset_address, reversed, reversed_size, store_size, updated}
-use Rattle.ppc_effects.specs.Strings.{fills, in_order, length_of, load_byte, load_string, load_word, store_byte}
+use Rattle.ppc_effects.specs.Strings.{fills, in_order, load_byte, load_string, load_word, store_byte}
 use Rattle.ppc_effects.specs.Effects.{at_gate_page, goes_on, runs, runs_decoded, stepped, trap_word}
 use Rattle.ppc_effects.specs.Laws.{LeavesAtHostCode}
 
@@ -75,8 +76,8 @@ runs-stays r m word (StoreReversed kind s a b) =
     store-stays r.pc (onto_next r) (stored_value m (index_address r a b) (reversed_size kind) (reversed kind (gpr_of r s)))
 runs-stays r m word (LoadMultiple d a offset) = file-stays r m (in_order (load_word m (offset_address r a offset) d) r.gpr (32 - d))
 runs-stays r m word (StoreMultiple s a offset) = store-stays r.pc (onto_next r) (stored_longs m (offset_address r a offset) (drop s r.gpr))
-runs-stays r m word (LoadStringImmediate d a nb) = strings-stay r m d (base_of r a) (length_of nb)
-runs-stays r m word (StoreStringImmediate s a nb) = store-stays r.pc (onto_next r) (in_order (store_byte r.gpr s (base_of r a)) m (length_of nb))
+runs-stays r m word (LoadStringImmediate d a nb) = strings-stay r m d (base_of r a) (string_length nb)
+runs-stays r m word (StoreStringImmediate s a nb) = store-stays r.pc (onto_next r) (in_order (store_byte r.gpr s (base_of r a)) m (string_length nb))
 runs-stays r m word (LoadStringIndexed d a b) =
     let n = string_length_of r.xer in indexed-stays r m word d (index_address r a b) n (fills a d n || fills b d n)
 runs-stays r m word (StoreStringIndexed s a b) =

@@ -16,6 +16,7 @@ use Rattle.ppc_alu.specs.Traps.{traps_on}
 use Rattle.ppc_alu.specs.Xer.{string_length_of}
 use Rattle.ppc_isa.specs.declared.op.OpPpc.{OpPpc}
 use Rattle.ppc_isa.specs.Made.{made}
+use Rattle.ppc_isa.specs.Valid.{string_length}
 use Rattle.ppc_effects.specs.File.{base_of, gpr_of, onto_next}
 use Rattle.ppc_effects.specs.Arithmetic.{add, add_extended, add_immediate, add_immediate_carrying, divide, immediate_of, multiply_high, multiply_low, multiply_low_immediate, negate, subtract_from, subtract_from_extended, subtract_from_immediate_carrying}
 use Rattle.ppc_effects.specs.Logical.{logical, logical_immediate, unary}
@@ -24,7 +25,7 @@ use Rattle.ppc_effects.specs.Conditions.{compare_immediate, compare_registers, c
 use Rattle.ppc_effects.specs.Special.{move_from_special, move_to_special}
 use Rattle.ppc_effects.specs.Branches.{branch, branch_conditional, branch_conditional_to_register}
 use Rattle.ppc_effects.specs.Storage.{after_load, index_address, load, load_reversed, offset_address, store, store_reversed}
-use Rattle.ppc_effects.specs.Strings.{length_of, load_multiple, load_string, load_string_indexed, store_multiple, store_string}
+use Rattle.ppc_effects.specs.Strings.{load_multiple, load_string, load_string_indexed, store_multiple, store_string}
 
 -- the registers have changed, and the next instruction follows
 abbrev pub goes_on : Memory → RegsPpc → After RegsPpc
@@ -77,8 +78,8 @@ runs r m word (LoadReversed kind d a b) = load_reversed r m kind d (index_addres
 runs r m word (StoreReversed kind s a b) = store_reversed r m kind s (index_address r a b)
 runs r m word (LoadMultiple d a offset) = load_multiple r m d (offset_address r a offset)
 runs r m word (StoreMultiple s a offset) = store_multiple r m s (offset_address r a offset)
-runs r m word (LoadStringImmediate d a nb) = load_string r m d (base_of r a) (length_of nb)
-runs r m word (StoreStringImmediate s a nb) = store_string r m s (base_of r a) (length_of nb)
+runs r m word (LoadStringImmediate d a nb) = load_string r m d (base_of r a) (string_length nb)
+runs r m word (StoreStringImmediate s a nb) = store_string r m s (base_of r a) (string_length nb)
 runs r m word (LoadStringIndexed d a b) = load_string_indexed r m word d a b (index_address r a b)
 runs r m word (StoreStringIndexed s a b) = store_string r m s (index_address r a b) (string_length_of r.xer)
 runs r m word InstructionSynchronize = goes_on m r

@@ -8,11 +8,11 @@ use Rattle.big_memory.specs.Steps.After.{Goes}
 use Rattle.ppc_isa.specs.declared.registers.RegsPpc.{RegsPpc}
 use Rattle.ppc_isa.specs.declared.instruction.InstrPpc.TheVariants.{LoadReversed, StoreReversed, LoadStringImmediate, LoadStringIndexed}
 use Rattle.ppc_isa.specs.declared.instruction.ReversedKind.{ReversedKind}
+use Rattle.ppc_isa.specs.Valid.{string_length}
 use Rattle.ppc_alu.specs.Xer.{string_length_of}
 use Rattle.ppc_effects.specs.Effects.{runs}
 use Rattle.ppc_effects.specs.File.{base_of, gpr_of, onto_next, with_gpr}
 use Rattle.ppc_effects.specs.Storage.{index_address, reversed_size}
-use Rattle.ppc_effects.specs.Strings.{length_of}
 
 -- a string of n bytes at an address fills registers from d on, where register 0 follows on register 31: each has the
 -- big-endian number of the string's next four bytes, a last, short one with zeros at its low end; and all others stay
@@ -24,7 +24,7 @@ pub record IsFilled (r q : RegsPpc) (m : Memory) (d at n : ℕ) : Type 0 where
 abbrev pub StringsFill : Type 0
 StringsFill =
     (r q : RegsPpc) (m k : Memory) (word d a nb : ℕ) → IsRam m → AreLongs 32 r.gpr → nb < 32
-    → runs r m word (LoadStringImmediate d a nb) ≡ Goes q k → IsFilled r q m d (base_of r a) (length_of nb)
+    → runs r m word (LoadStringImmediate d a nb) ≡ Goes q k → IsFilled r q m d (base_of r a) (string_length nb)
 
 abbrev pub IndexedStringsFill : Type 0
 IndexedStringsFill =

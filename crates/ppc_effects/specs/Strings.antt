@@ -58,10 +58,6 @@ load_byte m at d gpr k = loaded m (onward at k) One >>= λ byte. Ok (with_string
 abbrev pub store_byte : List ℕ → ℕ → ℕ → Memory → ℕ → Result Memory Access
 store_byte gpr s at m k = stored_value m (onward at k) One (string_byte gpr s k)
 
--- a string of NB bytes, where 0 stands for 32
-abbrev pub length_of : ℕ → ℕ
-length_of nb = if nb == 0 then 32 else nb
-
 abbrev pub load_string : RegsPpc → Memory → ℕ → ℕ → ℕ → After RegsPpc
 load_string r m d at n = after_load r.pc (λ gpr. Goes (onto_next (record r { gpr = gpr })) m) (in_order (load_byte m at d) r.gpr n)
 

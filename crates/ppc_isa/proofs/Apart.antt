@@ -3,6 +3,7 @@ use Rattle.std.proofs.Common.{◌≡◌, ◌≢◌, ℕ, ◌+◌, ◌*◌, ◌%�
 use Rattle.std.proofs.lemmas.Bool.Decides.{nat_tests}
 use Rattle.std.proofs.lemmas.List.Sums.{sum_by-cons}
 use Rattle.std.specs.List.{count_by}
+use Rattle.mix_bits.proofs.Conditions.{both}
 use Rattle.ppc_isa.specs.declared.fields.Fields.{Fields}
 use Rattle.ppc_isa.specs.Fields.{fields_of}
 use Rattle.ppc_isa.specs.Laws.{RowsAreApart}
@@ -51,10 +52,6 @@ numbers_clash false false x n k other is = grind (arith, nat_tests)
 left : (b c : Bool) → (b && c) ≡ true → b ≡ true
 left true c h = refl
 left false c h = h
-
-both : (b c : Bool) → (if b then c else false) ≡ true → (b ≡ true) × (c ≡ true)
-both true c h = (refl, h)
-both false c h = cc
 
 specials_clash : (x y n k p q : ℕ) → (if n == k then not (p == q) else true) ≡ true → ((x == n) && (y == p)) ≡ true → ((x == k) && (y == q)) ≡ false
 specials_clash x y n k p q other is = grind (arith, nat_tests)

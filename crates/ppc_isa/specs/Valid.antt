@@ -60,9 +60,13 @@ InRange (MoveFromSpecial d _) = d < 32
 InRange (MoveToSpecial _ s) = s < 32
 InRange Synchronize = Unit {0}
 
--- how many registers a string of this length fills, where 0 stands for 32 bytes
+-- how many bytes a string of NB bytes has, where 0 stands for 32
+abbrev pub string_length : ℕ → ℕ
+string_length nb = if nb == 0 then 32 else nb
+
+-- how many registers it fills
 abbrev pub string_registers : ℕ → ℕ
-string_registers nb = ((if nb == 0 then 32 else nb) + 3) / 4
+string_registers nb = (string_length nb + 3) / 4
 
 -- the numbers of `count` registers from `d` on; register 0 follows on register 31
 abbrev pub registers_from : ℕ → ℕ → List ℕ

@@ -24,7 +24,7 @@ pub use op::OpPpc;
 pub use operation::op_of;
 pub use register_longs::long_laws;
 pub use registers::RegsPpc;
-pub use strings::is_filled;
+pub use strings::{is_filled, string_length};
 pub use target::branch_target;
 pub use word::{
     a_of, b_of, d_of, far_displacement_of, field_of, from_field_of, is_absolute, is_last,

@@ -4,7 +4,7 @@ ghost use Rattle.ppc_isa.specs.Fields.{fields_of};
 ghost use Rattle.ppc_isa.specs.Rows.{bare, count_branch, is_field as is_field_of, load_update, mask_move, multiple_load, one_field, one_register, store_update, string_load, to_field, two_fields};
 
 use super::strings::{is_filled, string_registers};
-use super::word::{a_of, b_of, d_of, is_last};
+use super::word::{a_of, b_of, d_of, is_last, shift_of};
 
 /// Whether a number of five bits is that of a field of the condition register, with zeros behind it.
 #[inline(always)]
@@ -107,5 +107,5 @@ pub fn is_store_update(word: u32) -> bool
 pub fn is_string_load(word: u32) -> bool
     ensures { result ≡ (not (fields_of word).last && string_load (fields_of word)) }
 {
-    !is_last(word) && !is_filled(a_of(word), d_of(word), string_registers(b_of(word)))
+    !is_last(word) && !is_filled(a_of(word), d_of(word), string_registers(shift_of(word)))
 }

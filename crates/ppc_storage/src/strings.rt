@@ -5,7 +5,7 @@ ghost use Rattle.big_memory.specs.Steps.{Does};
 ghost use Rattle.ppc_isa.specs.Fields.{fields_of};
 ghost use Rattle.ppc_effects.specs.Effects.{runs};
 ghost use Rattle.big_memory.specs.Stores.{OnlyFree};
-ghost use Rattle.ppc_effects.specs.Strings.{fills as fills_lem, in_order, length_of as length_of_lem, load_byte, load_string as load_string_of, store_byte, store_string as store_string_of, string_byte as string_byte_of, with_string_byte};
+ghost use Rattle.ppc_effects.specs.Strings.{fills as fills_lem, in_order, load_byte, load_string as load_string_of, store_byte, store_string as store_string_of, string_byte as string_byte_of, with_string_byte};
 ghost use Rattle.ppc_isa.specs.declared.instruction.InstrPpc.TheVariants.{LoadStringImmediate, LoadStringIndexed, StoreStringImmediate, StoreStringIndexed};
 ghost use Rattle.ppc_storage.specs.Tested.{BytesOpen, BytesTested, BytesThere, OpenTested};
 
@@ -13,7 +13,7 @@ use big_memory::{Access, Did, Ram, refuse, stop};
 use mix_bits::{Fault, FaultKind, Size, digit, onward, with_digit};
 use ppc_alu::xer_string_length;
 use ppc_effects::{advance, base, index_address};
-use ppc_isa::{RegsPpc, a_of, b_of, d_of, is_filled, shift_of};
+use ppc_isa::{RegsPpc, a_of, b_of, d_of, is_filled, shift_of, string_length};
 
 /// lswi.
 #[inline(never)]
@@ -21,7 +21,14 @@ pub fn load_string_immediate(regs: &mut RegsPpc, ram: &Ram, fault: &mut Fault, w
     ensures { let f = fields_of word in Does (runs regs.old ram.now word (LoadStringImmediate f.d f.a f.b)) result fault.new regs.old regs.new ram.now ram.now }
 {
     let at = base(regs, a_of(word));
-    load_string(regs, ram, fault, d_of(word), at, length_of(shift_of(word)))
+    load_string(
+        regs,
+        ram,
+        fault,
+        d_of(word),
+        at,
+        string_length(shift_of(word)),
+    )
 }
 
 /// stswi.
@@ -35,7 +42,14 @@ pub fn store_string_immediate(
     ensures { let f = fields_of word in Does (runs regs.old ram.old word (StoreStringImmediate f.d f.a f.b)) result fault.new regs.old regs.new ram.old ram.new }
 {
     let at = base(regs, a_of(word));
-    store_string(regs, ram, fault, d_of(word), at, length_of(shift_of(word)))
+    store_string(
+        regs,
+        ram,
+        fault,
+        d_of(word),
+        at,
+        string_length(shift_of(word)),
+    )
 }
 
 /// lswx.
@@ -60,15 +74,6 @@ pub fn store_string_indexed(regs: &mut RegsPpc, ram: &mut Ram, fault: &mut Fault
     let at = index_address(regs, word);
     let length = xer_string_length(regs.xer);
     store_string(regs, ram, fault, d_of(word), at, length)
-}
-
-/// How many bytes a string of NB bytes has.
-fn length_of(nb: u32) -> u32
-    requires { nb < 32 }
-    ensures is { result ≡ length_of_lem nb }
-    ensures below { result < 128 }
-{
-    if nb == 0 { 32 } else { nb }
 }
 
 /// Whether a string of `length` bytes fills a register.

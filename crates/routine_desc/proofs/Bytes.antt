@@ -1,12 +1,12 @@
 -- A descriptor is read from its bytes alone.
-use Rattle.std.proofs.Common.{◌≡◌, ℕ, zero, suc, ◌+◌, ◌-◌, ◌*◌, ◌^◌, ◌<◌, ◌≤◌, nat_lt, Bool, true, false, not, ◌==◌, ◌&&◌, if◌then◌else◌, List, [], ◌∷◌, ◌++◌, length, take, drop, get_or, Option, Some, None, is_none, Result, Ok, Err, arith, ap, sym, ◌∙◌, refl}
+use Rattle.std.proofs.Common.{◌≡◌, ℕ, zero, suc, ◌+◌, ◌-◌, ◌*◌, ◌<◌, ◌≤◌, nat_lt, Bool, true, false, not, ◌==◌, ◌&&◌, if◌then◌else◌, List, [], ◌∷◌, ◌++◌, length, take, drop, get_or, Option, Some, None, is_none, Result, Ok, Err, arith, ap, sym, ◌∙◌, refl}
 use Rattle.std.proofs.lemmas.Bool.Decides.{nat_tests}
 use Rattle.std.proofs.lemmas.List.{places}
-use Rattle.byteorder.specs.Endian.{big_from}
 use Rattle.mix_bits.specs.Results.{◌>>=◌}
 use Rattle.big_memory.specs.Lists.{part}
 use Rattle.big_memory.specs.Memory.{Memory, in_memory}
 use Rattle.big_memory.specs.Numbers.{number_at}
+use Rattle.big_memory.proofs.Numbers.{same_from}
 use Rattle.proc_info.specs.Signature.{signature_of}
 use Rattle.routine_desc.specs.declared.record.BadDesc.{BadDesc}
 use Rattle.routine_desc.specs.declared.record.BadDesc.TheVariants.{Access, Magic, Version, Reserved, Count, Isa, Flags, Mixed}
@@ -15,14 +15,6 @@ use Rattle.routine_desc.specs.Read.{body_of, first_records, if_alike, if_signed,
 use Rattle.routine_desc.specs.Laws.{ReadsItsBytes}
 use Rattle.routine_desc.proofs.Chains.{none_broken}
 use Rattle.routine_desc.proofs.Held.{desc-read, length-first, next}
-
--- numbers in lists that are the same so far
-same_from : (n i : ℕ) (xs ys : List ℕ) → ((j : ℕ) → j < i + n → get_or xs j 0 ≡ get_or ys j 0) → big_from i n xs ≡ big_from i n ys
-same_from zero i xs ys same = refl
-same_from (suc n) i xs ys same =
-    let head : get_or xs i 0 ≡ get_or ys i 0 = same i (omega arith) in
-    let rest : big_from (suc i) n xs ≡ big_from (suc i) n ys = same_from n (suc i) xs ys (λ j below. same j (omega arith)) in
-    ap (λ h. h * 256 ^ n + big_from (suc i) n xs) head ∙ ap (λ t. get_or ys i 0 * 256 ^ n + t) rest
 
 -- two memories with the same bytes from an address on
 record AreSame (m n : Memory) (a len : ℕ) : Type 0 where

@@ -1,5 +1,5 @@
 -- What stands in a frame is the image of the record that is read of it.
-use Rattle.std.proofs.Common.{◌≡◌, ◌⊎◌, inl, inr, ℕ, zero, suc, ◌+◌, ◌-◌, ◌*◌, ◌/◌, ◌%◌, ◌^◌, ◌<◌, ◌≤◌, ◌==◌, nat_lt, Bool, true, false, cond, lit<, List, [], ◌∷◌, ◌++◌, length, get_or, Option, Some, None, unwrap_or, arith, ap, sym, subst, ◌∙◌, refl}
+use Rattle.std.proofs.Common.{◌≡◌, ◌⊎◌, inl, inr, ℕ, ◌+◌, ◌-◌, ◌*◌, ◌/◌, ◌%◌, ◌^◌, ◌<◌, ◌≤◌, ◌==◌, nat_lt, Bool, true, false, cond, lit<, List, [], ◌∷◌, ◌++◌, length, get_or, Option, Some, None, unwrap_or, arith, ap, sym, ◌∙◌, refl}
 use Rattle.std.specs.Int.{from_bool}
 use Rattle.std.proofs.lemmas.Bool.{and_from, and_parts, eqb-true}
 use Rattle.std.proofs.lemmas.Bool.Decides.{nat_tests}
@@ -15,7 +15,7 @@ use Rattle.ppc_isa.specs.Longs.{longs_of as longs_of_ppc}
 use Rattle.big_memory.specs.Lists.{part}
 use Rattle.big_memory.specs.Memory.{Memory}
 use Rattle.big_memory.specs.Numbers.{AreBytes, bytes_of_longs, long_at, longs_at}
-use Rattle.big_memory.proofs.Numbers.{longs_again, longs_fit}
+use Rattle.big_memory.proofs.Numbers.{four-longs, long_fits, longs-split, longs_again, longs_fit}
 use Rattle.switch_frame.specs.declared.active.Active.{Active}
 use Rattle.switch_frame.specs.declared.active.Active.TheVariants.{M68, Ppc}
 use Rattle.switch_frame.specs.declared.kind.Kind.{Kind}
@@ -24,36 +24,11 @@ use Rattle.switch_frame.specs.Sets.{caller_isa, frame_size, kind_at, kind_code, 
 use Rattle.switch_frame.specs.Records.{file_at, fill_of, head_of, image, isa_of, longs_of, longs_of_file, m68_at, ppc_at, record_at}
 use Rattle.switch_frame.specs.Chain.{FitsAlone, IsFile, IsHeld}
 use Rattle.switch_frame.specs.Checks.{holds_file}
-use Rattle.switch_frame.proofs.Images.{ccr-small, m68-longs, ppc-longs}
+use Rattle.switch_frame.proofs.Images.{bit-small, ccr-small, m68-longs, ppc-longs}
 use Rattle.switch_frame.proofs.Pieces.{long-behind, parted}
 use Rattle.switch_frame.proofs.Walks.{IsGood}
 
 -- longs one after the other
-pub cons-long : (n a b : ℕ) (bytes : List ℕ) → b ≡ a + 4 → longs_at (suc n) a bytes ≡ long_at a bytes ∷ longs_at n b bytes
-unfolding longs_at
-cons-long n a b bytes next = ap (λ c. long_at a bytes ∷ longs_at n c bytes) (sym next)
-
-pub no-longs : (a : ℕ) (bytes : List ℕ) → longs_at 0 a bytes ≡ []
-unfolding longs_at
-no-longs a bytes = refl
-
-pub longs-split : (m n a b : ℕ) (bytes : List ℕ) → b ≡ a + 4 * m → longs_at (m + n) a bytes ≡ longs_at m a bytes ++ longs_at n b bytes
-unfolding longs_at
-longs-split zero n a b bytes place =
-    let count : zero + n ≡ n = omega arith in
-    let same : a ≡ b = omega arith in
-    ap (λ k. longs_at k a bytes) count ∙ ap (λ c. longs_at n c bytes) same
-longs-split (suc m) n a b bytes place =
-    let count : suc m + n ≡ suc (m + n) = omega arith in
-    ap (λ k. longs_at k a bytes) count ∙ ap (λ xs. long_at a bytes ∷ xs) (longs-split m n (a + 4) b bytes (omega arith))
-
-pub four-longs : (a b c d : ℕ) (bytes : List ℕ) → b ≡ a + 4 → c ≡ a + 8 → d ≡ a + 12 → longs_at 4 a bytes ≡ long_at a bytes ∷ long_at b bytes ∷ long_at c bytes ∷ long_at d bytes ∷ []
-four-longs a b c d bytes b_is c_is d_is =
-    cons-long 3 a b bytes b_is
-    ∙ ap (λ xs. long_at a bytes ∷ xs) (cons-long 2 b c bytes (omega arith)
-    ∙ ap (λ xs. long_at b bytes ∷ xs) (cons-long 1 c d bytes (omega arith)
-    ∙ ap (λ xs. long_at c bytes ∷ xs) (cons-long 0 d (d + 4) bytes refl ∙ ap (λ xs. long_at d bytes ∷ xs) (no-longs (d + 4) bytes))))
-
 pub eight-longs : (a b c d e f g h : ℕ) (bytes : List ℕ) → b ≡ a + 4 → c ≡ a + 8 → d ≡ a + 12 → e ≡ a + 16 → f ≡ a + 20 → g ≡ a + 24 → h ≡ a + 28
     → longs_at 8 a bytes ≡ long_at a bytes ∷ long_at b bytes ∷ long_at c bytes ∷ long_at d bytes ∷ long_at e bytes ∷ long_at f bytes ∷ long_at g bytes ∷ long_at h bytes ∷ []
 eight-longs a b c d e f g h bytes b_is c_is d_is e_is f_is g_is h_is =
@@ -161,31 +136,26 @@ image-again lo n kind bytes fit is held size within =
     sym (ap bytes_of_longs (sym longs) ∙ longs_again (frame_longs set) lo bytes fit (omega (arith, size_here, within)) ∙ ap (λ k. part lo k bytes) size_here)
 
 -- the fields of a record that is read of bytes
-pub one-long : (a : ℕ) (bytes : List ℕ) → AreBytes bytes → long_at a bytes < 2 ^ 32
-one-long a bytes fit =
-    let same : get_or (longs_at 1 a bytes) 0 0 ≡ long_at a bytes = ap (λ xs. get_or xs 0 0) (cons-long 0 a (a + 4) bytes refl) in
-    subst (λ n. n < 2 ^ 32) same ((longs_fit 1 a bytes fit).each 0)
-
 pub file-fits : (set : Isa) (a : ℕ) (bytes : List ℕ) → AreBytes bytes → IsFile (file_at set a bytes)
-file-fits set_m68 a bytes fit = record { data_registers = longs_fit 8 a bytes fit; address_registers = longs_fit 8 (a + 32) bytes fit; pc_fits = one-long (a + 64) bytes fit }
+file-fits set_m68 a bytes fit = record { data_registers = longs_fit 8 a bytes fit; address_registers = longs_fit 8 (a + 32) bytes fit; pc_fits = long_fits (a + 64) bytes fit }
 file-fits set_ppc a bytes fit =
     record {
       general = longs_fit 32 a bytes fit;
-      cr_fits = one-long (a + 128) bytes fit;
-      lr_fits = one-long (a + 132) bytes fit;
-      ctr_fits = one-long (a + 136) bytes fit;
-      xer_fits = one-long (a + 140) bytes fit;
-      pc_fits = one-long (a + 144) bytes fit;
+      cr_fits = long_fits (a + 128) bytes fit;
+      lr_fits = long_fits (a + 132) bytes fit;
+      ctr_fits = long_fits (a + 136) bytes fit;
+      xer_fits = long_fits (a + 140) bytes fit;
+      pc_fits = long_fits (a + 144) bytes fit;
     }
 
 held-again : (lo : ℕ) (bytes : List ℕ) → AreBytes bytes → IsHeld (record_at lo bytes)
 held-again lo bytes fit =
     record {
       file = file-fits (caller_isa (kind_told (long_at (lo + 4) bytes))) (lo + 32) bytes fit;
-      info_fits = one-long (lo + 8) bytes fit;
-      selector_fits = one-long (lo + 12) bytes fit;
-      target_fits = one-long (lo + 16) bytes fit;
-      want_fits = one-long (lo + 24) bytes fit;
+      info_fits = long_fits (lo + 8) bytes fit;
+      selector_fits = long_fits (lo + 12) bytes fit;
+      target_fits = long_fits (lo + 16) bytes fit;
+      want_fits = long_fits (lo + 24) bytes fit;
     }
 
 set-of-file : (set : Isa) (a : ℕ) (bytes : List ℕ) → isa_of (file_at set a bytes) ≡ set
@@ -221,10 +191,6 @@ good-read m main callee lo kind fit good =
     }
 
 -- a frame that holds the image of a record holds its file
-bit-small : (b : Bool) → from_bool b < 2
-bit-small true = lit< tt
-bit-small false = lit< tt
-
 pub bits-small : (c : Ccr) → ccr_bits c < 32
 bits-small c =
     let a = bit-small c.x in let b = bit-small c.n in let d = bit-small c.z in let e = bit-small c.v in let f = bit-small c.c in omega arith

@@ -45,7 +45,7 @@ blank-long : (a n : ℕ) → long_at a (blank n) ≡ 0
 unfolding long_at blank
 blank-long a n = rw (blank-byte a 0 n, blank-byte a 1 n, blank-byte a 2 n, blank-byte a 3 n) refl
 
-length-blank : (n : ℕ) → length (blank n) ≡ n
+pub length-blank : (n : ℕ) → length (blank n) ≡ n
 unfolding blank
 length-blank n = grind (arith, places)
 

@@ -27,7 +27,7 @@ covers m lo hi unit (r ∷ rs) links live read =
     ap (λ a. in_range a r.hi unit || covered unit rs) (sym links.first) ∙ ap (λ b. in_range lo b unit || covered unit rs) end
 
 -- memory with the same bytes has the same frames
-links-same : (m n : Memory) (top : ℕ) (rs : List Record) → IsRam n → n.bytes ≡ m.bytes → Links m top rs → Links n top rs
+pub links-same : (m n : Memory) (top : ℕ) (rs : List Record) → IsRam n → n.bytes ≡ m.bytes → Links m top rs → Links n top rs
 links-same m n top rs ram same links =
     record { ram = ram; first = links.first; few = links.few; frames = subst (λ xs. Frames (length xs) xs rs) (sym same) links.frames }
 

@@ -39,7 +39,7 @@ bit-low : (q : ℕ) (b : Bool) → ((2 * q + from_bool b) % 2 == 1) ≡ b
 bit-low q true = let one : (2 * q + 1) % 2 ≡ 1 = omega arith in rw one refl
 bit-low q false = let none : (2 * q + 0) % 2 ≡ 0 = omega arith in rw none refl
 
-bit-small : (b : Bool) → from_bool b < 2
+pub bit-small : (b : Bool) → from_bool b < 2
 bit-small true = lit< tt
 bit-small false = lit< tt
 

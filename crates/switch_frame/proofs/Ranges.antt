@@ -2,11 +2,9 @@
 use Rattle.std.proofs.Common.{◌≡◌, ◌≢◌, inl, inr, ℕ, zero, suc, ◌+◌, ◌-◌, ◌<◌, ◌≤◌, nat_lt, Bool, true, false, ◌&&◌, ◌||◌, lit<, List, [], ◌∷◌, length, get_or, None, arith, ap, sym, subst, ◌∙◌, refl}
 use Rattle.std.proofs.lemmas.Bool.{cases_Bool}
 use Rattle.std.proofs.lemmas.Bool.Decides.{nat_tests}
-use Rattle.std.proofs.lemmas.Grind.{same_number_lists}
-use Rattle.std.proofs.lemmas.List.{places}
 use Rattle.big_memory.specs.Lists.{part}
 use Rattle.big_memory.specs.Memory.{Memory, meets_gate, meets_guard, refusal}
-use Rattle.big_memory.proofs.Free.{free_ram}
+use Rattle.big_memory.proofs.Free.{free_ram, same_part}
 use Rattle.big_memory.specs.Laws.{Passes}
 use Rattle.big_memory.proofs.Guarded.{passes, refusal-none, test_from_free}
 use Rattle.switch_frame.specs.Records.{Record}
@@ -60,10 +58,6 @@ frame-refused m top rs a chain within met none =
     let free : meets_frames a 1 rs ≡ false = sym (guard_is_frames m top rs a 1 (lit< tt) (omega arith) chain) ∙ all.guard in
     let e : true ≡ false = sym met ∙ free in cc
 
--- lists that agree on a part
-same-part : (at n : ℕ) (xs ys : List ℕ) → length xs ≡ length ys → at + n ≤ length ys → ((k : ℕ) → at ≤ k → k < at + n → get_or xs k 0 ≡ get_or ys k 0) → part at n xs ≡ part at n ys
-same-part at n xs ys same within each = same_number_lists _ _ (grind (arith, places)) (λ k w. grind (arith, places, each (at + k)))
-
 byte-meets : (a lo hi : ℕ) → lo ≤ a → a < hi → (nat_lt a hi && nat_lt lo (a + 1)) ≡ true
 byte-meets a lo hi from to = grind (arith, nat_tests)
 
@@ -82,7 +76,7 @@ frames-same m n [] ok same kept frames = tt
 frames-same m n (r ∷ rs) ok same kept frames =
     let range : IsRange (length m.bytes) r = range-fits (length m.bytes) r rs ok frames.1 in
     let first : part r.lo (r.hi - r.lo) n.bytes ≡ part r.lo (r.hi - r.lo) m.bytes
-    = same-part r.lo (r.hi - r.lo) n.bytes m.bytes same (omega (arith, range.some, range.end)) (λ k from to.
+    = same_part r.lo (r.hi - r.lo) n.bytes m.bytes same (omega (arith, range.some, range.end)) (λ k from to.
     let end : k < r.hi = omega (arith, range.some, to) in
     kept k (omega (arith, end, range.end)) (or-first (nat_lt k r.hi && nat_lt r.lo (k + 1)) (meets_frames k 1 rs) (byte-meets k r.lo r.hi from end))) in
     (first ∙ frames.0, frames.1, frames-same m n rs ok same (λ a within met. kept a within (or-second (nat_lt a r.hi && nat_lt r.lo (a + 1)) (meets_frames a 1 rs) met)) frames.2)

@@ -1,5 +1,5 @@
 -- What a push and a pop do to a chain, and what is read of its innermost frame.
-use Rattle.std.proofs.Common.{◌≡◌, ℕ, suc, ◌+◌, ◌-◌, ◌*◌, ◌/◌, ◌%◌, ◌<◌, ◌≤◌, ◌==◌, nat_lt, Bool, true, false, not, ◌&&◌, ◌||◌, IsSome, List, [], ◌∷◌, length, drop, get_or, replicate, cond, Some, arith, ap, sym, subst, ◌∙◌, refl}
+use Rattle.std.proofs.Common.{◌≡◌, ℕ, suc, ◌+◌, ◌-◌, ◌*◌, ◌/◌, ◌%◌, ◌<◌, ◌≤◌, Bool, true, false, ◌||◌, IsSome, List, [], ◌∷◌, length, drop, get_or, replicate, cond, Some, arith, ap, sym, subst, ◌∙◌, refl}
 use Rattle.std.proofs.lemmas.Bool.Decides.{nat_tests}
 use Rattle.mix_bits.specs.declared.isa.Isa.{Isa}
 use Rattle.mix_bits.specs.declared.isa.Isa.TheVariants.{M68, Ppc}
@@ -12,12 +12,12 @@ use Rattle.switch_frame.specs.declared.kind.Kind.{Kind}
 use Rattle.big_memory.specs.Numbers.{long_at}
 use Rattle.switch_frame.specs.Sets.{caller_isa, frame_size, kind_code, kind_at, kind_told}
 use Rattle.switch_frame.specs.Records.{Record, isa_of, image, record_at, record_of, held_of}
-use Rattle.switch_frame.specs.Chain.{Above, Apart, Fits, Frames, IsFrameRange, IsHeld, IsInside, Links, Chain, outer_of, records, depth_at, covered, in_range, cleared, zeros, most_frames}
+use Rattle.switch_frame.specs.Chain.{Above, Apart, Fits, Frames, IsFrameRange, IsHeld, IsInside, Links, Chain, outer_of, records, covered, in_range, cleared, zeros, most_frames}
 use Rattle.switch_frame.specs.Calls.{IsPlace, IsCalled, IsInnermost, innermost, is_crossed}
 use Rattle.big_memory.proofs.Rams.{bytes_keep_ram}
 use Rattle.switch_frame.proofs.Pieces.{length-zeros}
 use Rattle.switch_frame.proofs.Images.{IsReadAt, kind-back}
-use Rattle.switch_frame.proofs.Linked.{IsLen, IsRange, apart-above, first-back, depth-back, frames_above, frames-kept, len-ram, length-cleared, length-image_fits, range-fits, reads_back}
+use Rattle.switch_frame.proofs.Linked.{IsLen, IsRange, apart-above, first-back, frames_above, frames-kept, len-ram, length-cleared, length-image_fits, range-fits, reads_back}
 use Rattle.switch_frame.proofs.Beside.{cleared-put}
 use Rattle.switch_frame.proofs.Marked.{fits_is_range, mark_at, marks_kept, range_moves}
 use Rattle.switch_frame.proofs.Places.{called-inside}
@@ -281,17 +281,6 @@ fits-place m rs held place numbers signature kind called =
       };
       inside = inside-place (record_of held) rs place.below called;
     }
-
--- the tests of a room
-pub crossed-is : (m : Memory) (top sp : ℕ) (rs : List Record) → Links m top rs → is_crossed rs sp ≡ (not (top == 0) && nat_lt top sp)
-crossed-is m top sp [] links = rw links.first refl
-crossed-is m top sp (r ∷ rs) links =
-    let range : IsRange (length m.bytes) r = range-fits (length m.bytes) r rs (len-ram m links.ram) links.frames.1 in
-    let live : (r.lo == 0) ≡ false = grind (arith, nat_tests, range.start) in
-    rw (links.first, live) refl
-
-pub depth-is : (m : Memory) (top : ℕ) (rs : List Record) → Links m top rs → depth_at m.bytes top ≡ length rs
-depth-is m top rs links = ap (λ t. depth_at m.bytes t) links.first ∙ depth-back (length m.bytes) m.bytes rs (len-ram m links.ram) (omega (arith, links.few)) links.frames
 
 -- the chain outside the innermost frame
 pub record IsOuter (m : Memory) (outer : ℕ) (rs : List Record) : Type 0 where

@@ -10,7 +10,6 @@ use Rattle.mix_bits.specs.declared.size.Size.TheVariants.{Four}
 use Rattle.switch_frame.specs.declared.kind.Kind.{Kind}
 use Rattle.switch_frame.specs.declared.kind.Kind.TheVariants.{M68ToPpc, PpcToM68, PpcToPpc, M68ToM68}
 use Rattle.switch_frame.specs.Sets.{kind_of}
-use Rattle.call_trace.specs.Lines.{marked}
 use Rattle.call_trace.specs.Names.{set_name, set_names}
 use Rattle.trace_lines.specs.Pieces.{after_mark, hex_front, marked_value, set_front}
 use Rattle.trace_lines.specs.Reading.{head_of}

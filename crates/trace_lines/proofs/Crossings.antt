@@ -1,11 +1,11 @@
 -- A call: it is read where it was written, and nothing else is.
-use Rattle.std.proofs.Common.{◌≡◌, ℕ, ◌-◌, ◌^◌, ◌<◌, true, List, ◌++◌, length, take, drop, replicate, Bool, Option, Some, None, Result, Ok, Err, refl, ap, subst, sym, ◌∙◌}
+use Rattle.std.proofs.Common.{◌≡◌, ℕ, ◌-◌, true, List, ◌++◌, length, take, drop, replicate, Option, Some, None, Result, Ok, Err, refl, ap, subst, sym, ◌∙◌}
 use Rattle.std.specs.Prelude.{codes, is_ok}
 use Rattle.std.specs.Option.{option_and_then, option_map}
 use Rattle.std.proofs.Math.Seq.{take-append_seam}
 use Rattle.mix_bits.specs.Sizes.{truncated}
 use Rattle.proc_info.specs.Cut.{cut}
-use Rattle.proc_info.specs.Signature.{Signature, has_signature, no_parameters, signature_in, signature_of, signed_or}
+use Rattle.proc_info.specs.Signature.{Signature, no_parameters, signature_in, signature_of, signed_or}
 use Rattle.proc_info.specs.declared.bad_info.BadInfo.{BadInfo}
 use Rattle.call_trace.specs.Lines.{arguments, marked}
 use Rattle.trace_lines.specs.Events.{IsCrossing, args_of}

@@ -1,13 +1,12 @@
 -- Ends: they are read where they were written, and nothing else is.
-use Rattle.std.proofs.Common.{◌≡◌, ℕ, suc, ◌+◌, ◌-◌, ◌%◌, ◌^◌, ◌<◌, ◌≤◌, ◌==◌, List, [], ◌∷◌, ◌++◌, length, take, drop, Bool, true, false, Option, Some, None, if◌then◌else◌, refl, ap, subst, sym, ◌∙◌, arith}
-use Rattle.std.specs.Prelude.{codes, decimal}
+use Rattle.std.proofs.Common.{◌≡◌, ℕ, suc, ◌+◌, ◌-◌, ◌%◌, ◌^◌, ◌<◌, ◌≤◌, ◌==◌, List, [], ◌∷◌, ◌++◌, length, take, drop, Bool, true, false, Option, Some, None, if◌then◌else◌, refl, ap, subst, ◌∙◌, arith}
+use Rattle.std.specs.Prelude.{codes}
 use Rattle.std.specs.Option.{option_and_then, option_map}
 use Rattle.std.specs.Str.{bytes_eq}
 use Rattle.std.proofs.Math.ListN.{drop_of_length-le}
 use Rattle.std.proofs.Math.Seq.{drop-append-add, take-append_seam}
-use Rattle.std.proofs.lemmas.Bool.{eqb-true, eq-eqb}
+use Rattle.std.proofs.lemmas.Bool.{eqb-true}
 use Rattle.std.proofs.lemmas.List.{append-nil, drop-drop}
-use Rattle.mix_bits.specs.Numbers.{decimal_number}
 use Rattle.mix_bits.specs.Text.{hexadecimal}
 use Rattle.mix_bits.specs.declared.fault.Fault.{Fault as AFault}
 use Rattle.mix_bits.specs.declared.fault.FaultKind.{FaultKind}
@@ -15,17 +14,15 @@ use Rattle.mix_bits.specs.declared.fault.FaultKind.TheVariants.{Illegal, Privile
 use Rattle.mix_bits.specs.declared.isa.Isa.{Isa}
 use Rattle.mix_bits.specs.declared.isa.Isa.TheVariants.{M68, Ppc}
 use Rattle.mix_bits.specs.declared.size.Size.TheVariants.{Four}
-use Rattle.mix_bits.proofs.ReadDecimals.{reads_decimals}
 use Rattle.call_trace.specs.declared.end.End.{End}
-use Rattle.call_trace.specs.declared.end.End.TheVariants.{Exit, Fault, Limit}
+use Rattle.call_trace.specs.declared.end.End.TheVariants.{Fault}
 use Rattle.call_trace.specs.Names.{fault_name, set_name}
-use Rattle.trace_lines.specs.Events.{IsEnd, IsFault}
-use Rattle.trace_lines.specs.Pieces.{after_mark, first_space, hex_front, marked_value, set_front}
-use Rattle.trace_lines.specs.Reading.{all_kinds, details_of, end_of, exit_or_fault, fault_of, kind_in, place_of}
+use Rattle.trace_lines.specs.Events.{IsFault}
+use Rattle.trace_lines.specs.Pieces.{first_space, hex_front, marked_value, set_front}
+use Rattle.trace_lines.specs.Reading.{all_kinds, details_of, fault_of, kind_in, place_of}
 use Rattle.trace_lines.proofs.AskLines.{same-text}
 use Rattle.trace_lines.proofs.CallLines.{set-read}
 use Rattle.trace_lines.proofs.Digits.{hex-read, hex-written}
-use Rattle.trace_lines.proofs.Marks.{after-marked, marked-after}
 use Rattle.trace_lines.proofs.Sized.{value-read, value-written}
 use Rattle.trace_lines.proofs.Spaces.{space-read}
 
@@ -179,10 +176,6 @@ fault-by text end (Some k) p is = kinds-by text end k (kind_in all_kinds (take k
 pub fault-read : (text : List ℕ) (end : End) → fault_of text ≡ Some end → IsFaulty end text
 unfolding fault_of
 fault-read text end is = fault-by text end (first_space text) refl is
-
-long-place : (set : Isa) (pc detail also : ℕ) → length (place_text set pc detail also) ≡ 30
-long-place M68 pc detail also = refl
-long-place Ppc pc detail also = refl
 
 details-written : (kind : FaultKind) (set : Isa) (pc detail also : ℕ) → detail < 2 ^ 32 → also < 2 ^ 32
     → details_of kind set pc ((codes " " ++ hexadecimal 8 detail) ++ (codes " " ++ hexadecimal 8 also)) ≡ Some (Fault set (fault_with kind pc detail also))

@@ -1,5 +1,5 @@
 -- A text is read as an event exactly where it is the line of that event.
-use Rattle.std.proofs.Common.{◌≡◌, ℕ, ◌^◌, ◌<◌, List, [], ◌∷◌, ◌++◌, Bool, true, false, Option, Some, None, if◌then◌else◌, refl, ap, subst, sym, ◌∙◌, append_assoc}
+use Rattle.std.proofs.Common.{◌≡◌, ℕ, List, ◌∷◌, ◌++◌, Bool, true, false, Option, Some, None, if◌then◌else◌, refl, ap, subst, sym, ◌∙◌, append_assoc}
 use Rattle.std.specs.Prelude.{codes, decimal}
 use Rattle.std.specs.Option.{option_and_then, option_map}
 use Rattle.std.specs.Str.{bytes_eq}
@@ -15,7 +15,7 @@ use Rattle.call_trace.specs.declared.end.End.TheVariants.{Exit, Fault, Limit}
 use Rattle.trace_lines.specs.Events.{IsEnd, IsEvent, args_of, line_of}
 use Rattle.trace_lines.specs.Laws.{ReadsExactly}
 use Rattle.trace_lines.specs.Pieces.{after_mark}
-use Rattle.trace_lines.specs.Reading.{ask_of, ask_or_end, by_mark, call_of, end_of, event_of, exit_or_fault, fault_of, return_of, return_or_other}
+use Rattle.trace_lines.specs.Reading.{ask_or_end, by_mark, call_of, end_of, event_of, exit_or_fault, fault_of, return_or_other}
 use Rattle.trace_lines.specs.declared.event.Crossing.{Crossing}
 use Rattle.trace_lines.specs.declared.event.Event.{Event}
 use Rattle.trace_lines.specs.declared.event.Event.TheVariants.{Called, Returned, Asked, Ended}

@@ -2,17 +2,12 @@
 use Rattle.std.proofs.Common.{◌≡◌, ℕ, List, [], ◌∷◌, ◌++◌, take, drop, Option, Some, None, refl, sym, ap, ◌∙◌, append_assoc}
 use Rattle.std.specs.Option.{option_map}
 use Rattle.std.proofs.lemmas.List.{append-nil, take-append-drop}
-use Rattle.trace_lines.specs.Reading.{Appends, behind}
+use Rattle.trace_lines.specs.Reading.{behind}
 
 -- a value and then others, behind some values
 pub behind_front : (xs : List ℕ) (v : ℕ) (vs : Option (List ℕ)) → behind xs (option_map (λ ys. v ∷ ys) vs) ≡ behind (xs ++ v ∷ []) vs
 behind_front xs v (Some ys) = ap Some (sym (append_assoc xs (v ∷ []) ys))
 behind_front xs v None = refl
-
--- others appended behind a value that was appended
-pub appends_front : {T : Type 0} → (done : Option T) (old new : List ℕ) (v : ℕ) (vs : Option (List ℕ)) → Appends done (old ++ v ∷ []) new vs → Appends done old new (option_map (λ ys. v ∷ ys) vs)
-appends_front (Some done) old new v vs is = behind_front old v vs ∙ is
-appends_front None old new v vs is = ap (option_map (λ ys. v ∷ ys)) is
 
 -- none behind some values
 pub behind_none : (xs : List ℕ) → behind xs (Some []) ≡ Some xs

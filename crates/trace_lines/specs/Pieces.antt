@@ -1,5 +1,5 @@
 -- The pieces of a line, read from its front.
-use Rattle.std.specs.Prelude.{ℕ, ◌+◌, ◌*◌, ◌==◌, List, [], ◌∷◌, length, take, codes, if◌then◌else◌, Option, Some, None, is_some}
+use Rattle.std.specs.Prelude.{ℕ, ◌+◌, ◌==◌, List, [], ◌∷◌, length, take, codes, if◌then◌else◌, Option, Some, None, is_some}
 use Rattle.std.specs.List.{position_from}
 use Rattle.std.specs.Option.{option_and_then}
 use Rattle.mix_bits.specs.declared.isa.Isa.{Isa}

@@ -3,9 +3,10 @@ use Rattle.std.specs.List.{range_with_len}
 use Rattle.mix_bits.specs.declared.fault.FaultKind.TheVariants.{Odd}
 use Rattle.mix_bits.specs.Sizes.{bytes_of}
 use Rattle.mix_bits.specs.Faults.{fault_at}
+use Rattle.mix_bits.proofs.Sizes.{bytes-few}
 use Rattle.m68_effects.specs.Multiple.{listed, register_of, stored_down}
 use Rattle.m68_movement.specs.Along.{CanStore}
-use Rattle.m68_movement.proofs.Down.{last_place, may_below, most_bytes, none_down, one_down, one_less, place_below}
+use Rattle.m68_movement.proofs.Down.{last_place, may_below, none_down, one_down, one_less, place_below}
 use Rattle.m68_movement.proofs.Masks.{all_listed, has, has_bit, lacks_bit, left_has, left_lacks}
 use Rattle.m68_movement.proofs.Stores.{can_store}
 use Rattle.m68_movement.proofs.multiple.put_down.Goals as goal
@@ -24,7 +25,7 @@ pub put-requires : goal.put-requires
 put-requires c =
     let at : c.bytes-at.result ≡ bytes_of c.args.size = c.bytes-at.ensures in
     let none = may_below c.args.ram.now c.args.base c.loop-k.at c.loop-k.k (bytes_of c.args.size) c.memory_laws.ensures.within c.meets_invariant.ensures c.requires.open c.requires.from
-    c.loop-k.invariant.4 (omega arith) c.loop-k.invariant.3 (most_bytes c.args.size) in
+    c.loop-k.invariant.4 (omega arith) c.loop-k.invariant.3 (bytes-few c.args.size) in
     rw at (c.memory_laws.ensures.refusals c.args.ram.now c.loop-k.ram (c.loop-k.at - bytes_of c.args.size) (bytes_of c.args.size) c.loop-k.invariant.1 ∙ none)
 
 pub loop-k-preserved : goal.loop-k-preserved
@@ -35,7 +36,7 @@ loop-k-preserved c =
       | then-digit-eq1 w ↦
           let is : has c.args.mask c.loop-k.k ≡ true = has_bit c.args.mask c.loop-k.k c.digit.result c.digit.ensures (omega arith) in
           let left = left_has c.args.mask c.loop-k.k below is in
-          let few : bytes_of c.args.size ≤ 4 = most_bytes c.args.size in
+          let few : bytes_of c.args.size ≤ 4 = bytes-few c.args.size in
           let within : bytes_of c.args.size ≤ c.loop-k.at = omega (arith, few, c.loop-k.invariant.4, c.requires.from, below) in
           let none = may_below c.args.ram.now c.args.base c.loop-k.at c.loop-k.k (bytes_of c.args.size) c.memory_laws.ensures.within c.meets_invariant.ensures c.requires.open c.requires.from
           c.loop-k.invariant.4 below c.loop-k.invariant.3 few in

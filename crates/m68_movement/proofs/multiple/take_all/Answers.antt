@@ -2,8 +2,8 @@ use Rattle.std.proofs.Common.{◌≡◌, ◌≤◌, ◌<◌, ◌+◌, ◌-◌, �
 use Rattle.std.specs.List.{range_with_len}
 use Rattle.mix_bits.specs.Addresses.{onward}
 use Rattle.mix_bits.specs.Sizes.{bytes_of}
+use Rattle.mix_bits.proofs.Sizes.{bytes-few}
 use Rattle.m68_effects.specs.Multiple.{listed, loaded_along}
-use Rattle.m68_movement.proofs.Down.{most_bytes}
 use Rattle.m68_movement.proofs.Up.{is_loaded, not_refused, onward_within, small_end, there_above}
 use Rattle.m68_movement.proofs.Masks.{all_listed, has, has_bit, lacks_bit, left_has, left_lacks, none_loaded, one_loaded, same_pc}
 use Rattle.m68_movement.proofs.multiple.take_all.Goals as goal
@@ -23,7 +23,7 @@ loop-k-init c =
 pub unreachable-requires : goal.unreachable-requires
 unreachable-requires c =
     absurd (not_refused c.args.ram.now c.loop-k.at c.args.size _
-    (there_above c.args.ram.now c.args.a c.loop-k.at c.loop-k.k (bytes_of c.args.size) c.memory_laws.ensures.inside c.requires c.loop-k.invariant.4 c.loop-k.invariant.5 (omega arith) (most_bytes c.args.size))
+    (there_above c.args.ram.now c.args.a c.loop-k.at c.loop-k.k (bytes_of c.args.size) c.memory_laws.ensures.inside c.requires c.loop-k.invariant.4 c.loop-k.invariant.5 (omega arith) (bytes-few c.args.size))
     c.in_default.ensures.is)
 
 pub loop-k-preserved : goal.loop-k-preserved
@@ -34,7 +34,7 @@ loop-k-preserved c =
       | then-digit-eq1+in-Ok w ↦
           let is : has c.args.mask c.loop-k.k ≡ true = has_bit c.args.mask c.loop-k.k c.digit.result c.digit.ensures (omega arith) in
           let left = left_has c.args.mask c.loop-k.k below is in
-          let few : bytes_of c.args.size ≤ 4 = most_bytes c.args.size in
+          let few : bytes_of c.args.size ≤ 4 = bytes-few c.args.size in
           let end : c.args.a + 64 ≤ 16777216 = small_end c.args.ram.now c.args.a c.meets_invariant.ensures.most c.requires in
           let next : onward c.loop-k.at (bytes_of c.args.size) ≡ c.loop-k.at + bytes_of c.args.size = onward_within _ _ (omega (arith, few, end, below, c.loop-k.invariant.5)) in
           let long : length (filter (has c.args.mask) (range_with_len c.loop-k.k (16 - c.loop-k.k))) ≡ suc (length rest) = ap length left in (

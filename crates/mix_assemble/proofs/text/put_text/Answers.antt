@@ -3,8 +3,9 @@ use Rattle.std.proofs.Common.{◌≡◌, ◌<◌, [], length, rules, ap, ◌∙�
 use Rattle.mix_bits.specs.Addresses.{onward}
 use Rattle.mix_io.specs.Streams.{Breaks, Grows, output}
 use Rattle.mix_assemble.specs.Parts.{Adds}
-use Rattle.mix_assemble.proofs.Walks.{Takes, err-of, ok-of, on-err, putting-ends, putting-begins, putting-breaks, putting-known, putting-on}
+use Rattle.mix_assemble.proofs.Walks.{Takes, err-of, ok-of, putting-ends, putting-begins, putting-breaks, putting-known, putting-on}
 use Rattle.mix_assemble.proofs.text.put_text.Goals as goal
+use Rattle.mix_list.proofs.Lines.{on-err}
 
 pub lines-init : goal.lines-init
 lines-init g c = putting-begins _ c.args.set c.args.at c.args.text.now _ c.ranges.at.fits c.requires c.new-piece.ensures
