@@ -11,6 +11,34 @@ pub struct Words {
 }
 
 impl Words {
+    ghost use Rattle.std.specs.Prelude.{◌+◌, ◌<◌, [], ◌∷◌, ◌++◌};
+
+    /// No words.
+    #[inline(always)]
+    pub fn empty() -> Words
+        ensures values { words_of result ≡ [] }
+        ensures count { result.count ≡ 0 }
+        ensures rest { drop result.count result.value ≡ replicate (13 - result.count) 0 }
+    {
+        Words {
+            count: 0,
+            value: [0; 13],
+        }
+    }
+
+    /// Appends a word, for which there is room.
+    #[inline(always)]
+    pub fn push(&mut self, word: u32)
+        requires room { self.old.count < 13 }
+        requires rest { drop self.old.count self.old.value ≡ replicate (13 - self.old.count) 0 }
+        ensures values { words_of self.new ≡ words_of self.old ++ word ∷ [] }
+        ensures count { self.new.count ≡ self.old.count + 1 }
+        ensures rest { drop self.new.count self.new.value ≡ replicate (13 - self.new.count) 0 }
+    {
+        self.value[self.count as usize] = word;
+        self.count += 1;
+    }
+
     /// Words of these values.
     pub fn of(values: &[u32]) -> Words
         requires { length values.now ≤ 13 }
