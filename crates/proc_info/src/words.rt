@@ -1,4 +1,4 @@
-ghost use Rattle.std.specs.Prelude.{◌≡◌, ◌-◌, ◌≤◌, length, drop, replicate};
+ghost use Rattle.std.specs.Prelude.{◌≡◌, ◌-◌, drop, replicate};
 ghost use Rattle.proc_info.specs.Arguments.{words_of};
 
 /// The arguments of a call, at most thirteen.
@@ -37,20 +37,5 @@ impl Words {
     {
         self.value[self.count as usize] = word;
         self.count += 1;
-    }
-
-    /// Words of these values.
-    pub fn of(values: &[u32]) -> Words
-        requires { length values.now ≤ 13 }
-        ensures values { words_of result ≡ values.now }
-        ensures count { result.count ≡ length values.now }
-        ensures rest { drop result.count result.value ≡ replicate (13 - result.count) 0 }
-    {
-        let mut value = [0; 13];
-        value[..values.len()].copy_from_slice(values);
-        Words {
-            count: values.len() as u8,
-            value,
-        }
     }
 }

@@ -30,5 +30,5 @@ pub returns-else-words-gt8 : goal.returns-else-words-gt8
 returns-else-words-gt8 c =
     let sp = c.args.sp in
     let words = c.args.words.now in
-    c.fix.ensures ∙ blank sp 64 words c.args.ram.now (short (length words) c.if-words-gt8.false) (omega arith)
+    c.fix-else-words-gt8.ensures ∙ blank sp 64 words c.args.ram.now (short (length words) c.if-words-gt8.false) (omega arith)
     ∙ frame-short words sp c.args.ram.now c.if-words-gt8.false
