@@ -1,5 +1,6 @@
 // What a callee is given.
 ghost use Rattle.std.specs.Prelude.{◌≡◌, ◌+◌, ◌-◌, ◌*◌, ◌<◌, ◌≤◌, ◌++◌, Option, IsSome, is_some, if◌then◌else◌, true, length};
+ghost use Rattle.m68_isa.specs.Registers.{cleared_registers};
 ghost use Rattle.proc_info.specs.Codes.{is_dispatched};
 ghost use Rattle.proc_info.specs.Views.{signature};
 ghost use Rattle.args_m68.specs.Gather.{words_of};
@@ -60,14 +61,37 @@ pub fn deliver68(
     ensures memory { ram.new ≡ delivered (signature sig.now) selector (words_of args.now) lo ram.old }
     ensures registers { result ≡ callee_registers (signature sig.now) selector (words_of args.now) a5 (callee_sp (signature sig.now) selector lo) target }
 {
+    let mut regs = Regs68::cleared();
+    let values = &args.value[..args.count as usize];
+    start_68(sig, values, selector, lo, a5, target, ram, &mut regs);
+    regs
+}
+
+/// The same for registers that are all 0, which become the callee's.
+pub fn start_68(
+    sig: &Sig,
+    values: &[u32],
+    selector: Option<u32>,
+    lo: u32,
+    a5: u32,
+    target: u32,
+    ram: &mut Ram,
+    regs: &mut Regs68,
+)
+    requires count { length values.now ≡ sig.now.count }
+    requires cleared { regs.old ≡ cleared_registers }
+    requires selector { IsSome selector → is_dispatched sig.now.conv ≡ true }
+    requires room { below (signature sig.now) (is_some selector) ≤ lo }
+    requires inside { lo ≤ length ram.old.bytes }
+    ensures memory { ram.new ≡ delivered (signature sig.now) selector values.now lo ram.old }
+    ensures registers { regs.new ≡ callee_registers (signature sig.now) selector values.now a5 (callee_sp (signature sig.now) selector lo) target }
+{
     let sp = lo - below68(sig, selector.is_some());
     let params = sig.params();
-    let values = &args.value[..args.count as usize];
     ram.fix(sp, &stack(sig, params, values, selector));
-    let mut regs = fresh(a5, sp, target);
-    put_selector(&mut regs, sig, selector);
-    put_arguments(&mut regs, route_for(sig.conv), params, values);
-    regs
+    begin(regs, a5, sp, target);
+    put_selector(regs, sig, selector);
+    put_arguments(regs, route_for(sig.conv), params, values);
 }
 
 /// The bytes of a callee's stack.
@@ -146,15 +170,14 @@ fn append_packed(stack: &mut Stack, size: Size, value: u32)
     }
 }
 
-/// The registers of a callee before it is passed anything.
-fn fresh(a5: u32, sp: u32, target: u32) -> Regs68
-    ensures { result ≡ fresh_lem a5 sp target }
+/// Puts what a callee begins with into registers that are all 0.
+fn begin(regs: &mut Regs68, a5: u32, sp: u32, target: u32)
+    requires { regs.old ≡ cleared_registers }
+    ensures { regs.new ≡ fresh_lem a5 sp target }
 {
-    let mut regs = Regs68::cleared();
     regs.a[5] = a5;
     regs.a[7] = sp;
     regs.pc = target;
-    regs
 }
 
 /// Puts a selector that is passed in a register into it.

@@ -12,7 +12,7 @@ mod places;
 mod results;
 mod values;
 
-pub use deliver::{below68, deliver68};
+pub use deliver::{below68, deliver68, start_68};
 pub use gather::{gather68, select68};
 pub use laws::{args68_laws, place68_laws, result68_laws};
 pub use proc_info::Words;

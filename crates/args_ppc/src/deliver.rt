@@ -19,6 +19,9 @@ use proc_info::{Param, Sig, Words};
 /// the words in registers.
 const FIXED_BYTES: u32 = 56;
 
+/// How many bytes a stack frame has whose words all stand in registers.
+const SHORT_BYTES: usize = 64;
+
 /// The zeros of the largest stack frame.
 const ZEROS: [u8; 80] = [0; 80];
 
@@ -141,9 +144,11 @@ fn write_frame(words: &[u32], sp: u32, ram: &mut Ram)
     ensures { ram.new ≡ with_bytes sp (frame_of words.now) ram.old }
 {
     ram.meets_invariant();
-    ram.fix(sp, &ZEROS[..frame_bytes(words.len()) as usize]);
     if words.len() > 8 {
+        ram.fix(sp, &ZEROS[..frame_bytes(words.len()) as usize]);
         ram.fix_longs(sp + FIXED_BYTES, &words[8..]);
+    } else {
+        ram.fix(sp, &ZEROS[..SHORT_BYTES]);
     }
 }
 

@@ -1,10 +1,10 @@
 // What CallUniversalProc is passed.
 ghost use Rattle.std.specs.Prelude.{◌≡◌, ◌+◌, ◌-◌, ◌≤◌, true, IfOk, length, drop, replicate};
+ghost use Rattle.proc_info.specs.Arguments.{words_of};
 ghost use Rattle.proc_info.specs.Codes.{is_dispatched};
 ghost use Rattle.proc_info.specs.Views.{signature};
 ghost use Rattle.args_ppc.specs.Words.{Appends, answered, gathered, selector_in, value_at, values_at, word_at};
 
-use arrayvec::ArrayVec;
 use big_memory::{Access, Ram};
 use mix_bits::{Size, onward, trunc};
 use ppc_isa::RegsPpc;
@@ -30,30 +30,32 @@ pub fn gather_ppc(sig: &Sig, regs: &RegsPpc, ram: &Ram) -> Result<Words, Access>
     ensures rest { IfOk result (λ words. drop words.count words.value ≡ replicate (13 - words.count) 0) }
 {
     let first = if sig.conv.is_dispatched() { 3 } else { 2 };
-    let mut values = ArrayVec::new();
-    append_values(&mut values, regs, ram, first, sig.params())?;
-    Ok(Words::of(&values))
+    let mut words = Words::empty();
+    append_values(&mut words, regs, ram, first, sig.params())?;
+    Ok(words)
 }
 
 /// Appends the values of parameters in the words from `first` on.
 #[tactic(auto, using(proc_info::proofs::Chains::behind_front, proc_info::proofs::Chains::behind_none))]
 fn append_values(
-    values: &mut ArrayVec<u32, 13>,
+    words: &mut Words,
     regs: &RegsPpc,
     ram: &Ram,
     first: u32,
     params: &[Param],
 ) -> Result<(), Access>
-    requires room { length values.old.items + length params.now ≤ 13 }
+    requires room { words.old.count + length params.now ≤ 13 }
+    requires rest { drop words.old.count words.old.value ≡ replicate (13 - words.old.count) 0 }
     requires near { first + length params.now ≤ 100 }
-    ensures values { Appends result values.old.items values.new.items (values_at regs.now ram.now first params.now) }
-    ensures count { IfOk result (λ done. length values.new.items ≡ length values.old.items + length params.now) }
+    ensures values { Appends result (words_of words.old) (words_of words.new) (values_at regs.now ram.now first params.now) }
+    ensures count { IfOk result (λ done. words.new.count ≡ words.old.count + length params.now) }
+    ensures rest { drop words.new.count words.new.value ≡ replicate (13 - words.new.count) 0 }
 {
     match params {
         [] => Ok(()),
         [param, rest @ ..] => {
-            values.push(value(regs, ram, first, param.size)?);
-            append_values(values, regs, ram, first + 1, rest)
+            words.push(value(regs, ram, first, param.size)?);
+            append_values(words, regs, ram, first + 1, rest)
         }
     }
 }

@@ -13,6 +13,7 @@ use proc_info::{Param, Sig};
 use switch_frame::Held;
 
 /// `call FROM TO TARGET PROCINFO #SELECTOR ARGUMENTS`
+#[inline(always)]
 #[tactic(auto, unfolding(crate::specs::Lines::call_line))]
 pub fn put_call_text(line: &mut Line, held: &Held, sig: &Sig, args: &[u32])
     requires empty { line.old ≡ [] }
@@ -25,6 +26,7 @@ pub fn put_call_text(line: &mut Line, held: &Held, sig: &Sig, args: &[u32])
 }
 
 /// The line of a call up to its arguments.
+#[inline(always)]
 fn start_call(line: &mut Line, held: &Held, sig: &Sig)
     requires empty { line.old ≡ [] }
     ensures text { line.new ≡ call_head (record_of held.now) (signature sig.now) }
@@ -40,6 +42,7 @@ fn start_call(line: &mut Line, held: &Held, sig: &Sig)
 }
 
 /// `ret RESULT`
+#[inline(always)]
 #[tactic(auto, unfolding(crate::specs::Lines::ret_line))]
 pub fn put_ret_text(line: &mut Line, sig: &Sig, value: u32)
     requires empty { line.old ≡ [] }
@@ -146,16 +149,6 @@ fn add_digits(line: &mut Line, mark: &str, value: u32, digits: u32)
     ensures { line.new ≡ line.old ++ (mark.now ++ hexadecimal digits value) }
 {
     line.add(mark);
-    add_value(line, value, digits);
-}
-
-/// Appends hexadecimal digits, by a call: the mark before them is one byte or two, and known where it is added.
-#[inline(never)]
-fn add_value(line: &mut Line, value: u32, digits: u32)
-    requires digits { (digits ≡ 2) ⊎ (digits ≡ 4) ⊎ (digits ≡ 8) }
-    requires room { length line.old + digits ≤ 160 }
-    ensures { line.new ≡ line.old ++ hexadecimal digits value }
-{
     line.add_hex(value, digits);
 }
 

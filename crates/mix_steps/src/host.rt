@@ -8,6 +8,7 @@ ghost use Rattle.toolbox.specs.Functions.{trap_number};
 ghost use Rattle.mixed_machine.specs.Acts.{Acts};
 ghost use Rattle.mixed_machine.specs.Host.{hosts, traps_to, universal};
 ghost use Rattle.mixed_machine.specs.Machine.{IsWhole};
+ghost use Rattle.routine_desc.specs.Layout.{mixed_mode_magic};
 ghost use Rattle.switch_frame.specs.Files.{pc_of};
 ghost use Rattle.mix_steps.specs.Beside.{AreSame, machine_beside};
 ghost use Rattle.mix_steps.specs.Called.{IsCalled};
@@ -56,15 +57,38 @@ pub fn leave_code<'i, 'o, 't, 'd, I: Source, O: Sink, T: Sink, D: Devices>(
     body_laws();
     let number = fault.detail;
     match active {
-        Active::M68(regs) => {
+        Active::M68(_) => {
             if number == MIXED_MODE_MAGIC {
-                let wanted = wants_68k(&body.ram, regs);
-                cross(body, active, &wanted, outside.trace, fault)
+                cross_from_68k(body, active, outside.trace, fault)
             } else {
                 trap(number, body, active, outside, fault)
             }
         }
         Active::Ppc(_) => call_function(number, body, active, outside, fault),
+    }
+}
+
+/// What 68K code wants at a routine descriptor. This is a call of its own, since traps need none of its room.
+#[inline(never)]
+fn cross_from_68k<T: Sink>(
+    body: &mut Body,
+    active: &mut Active,
+    trace: &mut T,
+    fault: &mut Fault,
+) -> Did
+    requires whole { IsWhole body.old (isa_of active.old) }
+    requires set { isa_of active.old ≡ set_m68 }
+    requires word { fault.old.detail ≡ mixed_mode_magic }
+    ensures { Does (λ s. leaves_code active.old s fault.old.detail) result fault.new body.old body.new active.old active.new
+        (output (T.held trace.old) (T.faults trace.old)) (output (T.held trace.new) (T.faults trace.new)) }
+{
+    body_laws();
+    match active {
+        Active::M68(regs) => {
+            let wanted = wants_68k(&body.ram, regs);
+            cross(body, active, &wanted, trace, fault)
+        }
+        Active::Ppc(_) => unreachable!(),
     }
 }
 
@@ -167,6 +191,7 @@ fn call<'i, 'o, 't, 'd, I: Source, O: Sink, T: Sink, D: Devices>(
 }
 
 /// Goes on at a universal pointer, with a procInfo.
+#[inline(never)]
 fn cross_at<T: Sink>(
     pointer: u32,
     info: u32,

@@ -10,9 +10,10 @@ ghost use Rattle.mode_switch.specs.Views.{crossing};
 ghost use Rattle.mode_switch.specs.Wanted.{passed_selector as passed_selector_lem};
 
 use crate::{Call, Entry};
-use args_m68::{Words, below68, deliver68, removed68};
+use args_m68::{Words, below68, removed68, start_68};
 use args_ppc::{below_ppc, start_ppc};
 use big_memory::Ram;
+use m68_isa::Regs68;
 use mix_bits::{Isa, onward};
 use ppc_isa::RegsPpc;
 use proc_info::Sig;
@@ -55,21 +56,25 @@ pub fn deliver(
     ensures set { isa_of active.new ≡ callee_isa call.now.kind }
 {
     let selector = passed_selector(call);
+    let values = &args.value[..args.count as usize];
     match call.kind.callee() {
         Isa::M68 => {
-            *active = Active::M68(deliver68(
-                &call.sig,
-                args,
-                selector,
-                lo,
-                entry.globals,
-                entry.code,
-                ram,
-            ));
+            *active = Active::M68(Regs68::cleared());
+            if let Active::M68(regs) = active {
+                start_68(
+                    &call.sig,
+                    values,
+                    selector,
+                    lo,
+                    entry.globals,
+                    entry.code,
+                    ram,
+                    regs,
+                );
+            }
         }
         Isa::Ppc => {
             *active = Active::Ppc(RegsPpc::cleared());
-            let values = &args.value[..args.count as usize];
             if let Active::Ppc(regs) = active {
                 start_ppc(
                     &call.sig,

@@ -17,11 +17,14 @@ use routine_desc::{Rec, choose_among};
 
 /// What 68K code wants at a routine descriptor at its pc, with the return address at A7. Refusals come in
 /// this order: the descriptor's, the selector's bytes, no record.
+#[inline(always)]
 pub fn wants_68k(ram: &Ram, regs: &Regs68) -> Wanted
     ensures exact { wanted_of result ≡ wants_68k_lem ram.now regs.now }
     ensures meant { Means Isa.M68 (wanted_of result) }
 {
-    wants_desc(ram, regs, regs.pc)
+    let mut wanted = Wanted::Jumps(0);
+    wants_desc(ram, regs, regs.pc, &mut wanted);
+    wanted
 }
 
 impl Asker for Regs68 {
@@ -34,13 +37,13 @@ impl Asker for Regs68 {
     }
 
     #[inline(always)]
-    fn takes(&self, ram: &Ram, records: &[Rec]) -> Wanted {
+    fn takes(&self, ram: &Ram, records: &[Rec], wanted: &mut Wanted) {
         match selector_among(ram, self, records) {
             Ok(selector) => match choose_among(records, Isa::M68, selector) {
-                Some(rec) => goes_by(rec, selector),
-                None => no_record(self.pc, selector),
+                Some(rec) => goes_by(rec, selector, wanted),
+                None => *wanted = no_record(self.pc, selector),
             },
-            Err(fault) => Wanted::Refuses(fault),
+            Err(fault) => *wanted = Wanted::Refuses(fault),
         }
     }
 }
@@ -71,11 +74,11 @@ fn selector(ram: &Ram, regs: &Regs68, sig: &Sig) -> Result<Option<u32>, Fault>
 
 /// Code of its own set is gone on with, and what has a vector is called.
 #[inline(always)]
-fn goes_by(rec: &Rec, selector: Option<u32>) -> Wanted
-    ensures { wanted_of result ≡ goes_by_lem (target_of_lem (routine rec.now)) (routine rec.now) selector }
+fn goes_by(rec: &Rec, selector: Option<u32>, wanted: &mut Wanted)
+    ensures { wanted_of wanted.new ≡ goes_by_lem (target_of_lem (routine rec.now)) (routine rec.now) selector }
 {
     match target_of(rec) {
-        Target::Code(address) => Wanted::Jumps(address),
-        Target::Vector(_) => Wanted::Calls(call_of(Isa::M68, rec, selector)),
+        Target::Code(address) => *wanted = Wanted::Jumps(address),
+        Target::Vector(_) => *wanted = Wanted::Calls(call_of(Isa::M68, rec, selector)),
     }
 }

@@ -21,49 +21,57 @@ use switch_frame::Kind;
 /// What PowerPC code wants by CallUniversalProc with a universal pointer and a procInfo. Refusals come in
 /// this order: the word at the pointer outside memory; then for 68K code there the procInfo without a
 /// signature, or for a descriptor there the descriptor's, no record, another procInfo than the record's.
+#[inline(always)]
 pub fn wants_ppc(ram: &Ram, regs: &RegsPpc, pointer: u32, info: u32) -> Wanted
     ensures exact { wanted_of result ≡ wants_ppc_lem ram.now regs.now pointer info }
     ensures meant { Means Isa.Ppc (wanted_of result) }
 {
-    wants_word(ram, regs, pointer, info)
+    let mut wanted = Wanted::Jumps(0);
+    wants_word(ram, regs, pointer, info, &mut wanted);
+    wanted
 }
 
-/// What it wants by the word at the pointer.
-fn wants_word(ram: &Ram, regs: &RegsPpc, pointer: u32, info: u32) -> Wanted
-    ensures { wanted_of result ≡ settled (wants_word_lem ram.now regs.now pointer info (loaded ram.now pointer Two)) }
+/// What it wants by the word at the pointer, put in place.
+#[inline(always)]
+fn wants_word(ram: &Ram, regs: &RegsPpc, pointer: u32, info: u32, wanted: &mut Wanted)
+    ensures { wanted_of wanted.new ≡ settled (wants_word_lem ram.now regs.now pointer info (loaded ram.now pointer Two)) }
 {
     match ram.load_word(pointer) {
         Ok(word) => {
             if word == MIXED_MODE_MAGIC {
-                wants_desc(ram, &Universal { regs, info }, pointer)
+                wants_desc(ram, &Universal { regs, info }, pointer, wanted)
             } else {
-                wants_raw(regs, pointer, info)
+                wants_raw(regs, pointer, info, wanted)
             }
         }
-        Err(_) => Wanted::Refuses(bad_desc(regs.pc, pointer, BadDesc::Access)),
+        Err(_) => *wanted = Wanted::Refuses(bad_desc(regs.pc, pointer, BadDesc::Access)),
     }
 }
 
 /// What it wants of raw 68K code.
 #[inline(always)]
-fn wants_raw(regs: &RegsPpc, pointer: u32, info: u32) -> Wanted
-    ensures { wanted_of result ≡ settled (wants_raw_lem regs.now pointer info) }
+fn wants_raw(regs: &RegsPpc, pointer: u32, info: u32, wanted: &mut Wanted)
+    ensures { wanted_of wanted.new ≡ settled (wants_raw_lem regs.now pointer info) }
 {
     match read(info) {
-        Ok(sig) => Wanted::Calls(Call {
-            kind: Kind::PpcToM68,
-            info,
-            sig,
-            selector: selector(regs, &sig),
-            passes: sig.conv.is_dispatched(),
-            target: Target::Code(pointer),
-        }),
-        Err(bad) => Wanted::Refuses(Fault {
-            kind: FaultKind::Info,
-            pc: regs.pc,
-            detail: info,
-            also: bad.code(),
-        }),
+        Ok(sig) => {
+            *wanted = Wanted::Calls(Call {
+                kind: Kind::PpcToM68,
+                info,
+                sig,
+                selector: selector(regs, &sig),
+                passes: sig.conv.is_dispatched(),
+                target: Target::Code(pointer),
+            });
+        }
+        Err(bad) => {
+            *wanted = Wanted::Refuses(Fault {
+                kind: FaultKind::Info,
+                pc: regs.pc,
+                detail: info,
+                also: bad.code(),
+            });
+        }
     }
 }
 
@@ -84,11 +92,11 @@ impl Asker for Universal<'_> {
     }
 
     #[inline(always)]
-    fn takes(&self, _ram: &Ram, records: &[Rec]) -> Wanted {
+    fn takes(&self, _ram: &Ram, records: &[Rec], wanted: &mut Wanted) {
         let selector = selector_among(self.regs, records);
         match choose_among(records, Isa::Ppc, selector) {
-            Some(rec) => called_by(self.regs.pc, self.info, rec, selector),
-            None => no_record(self.regs.pc, selector),
+            Some(rec) => called_by(self.regs.pc, self.info, rec, selector, wanted),
+            None => *wanted = no_record(self.regs.pc, selector),
         }
     }
 }
@@ -116,17 +124,17 @@ fn selector(regs: &RegsPpc, sig: &Sig) -> Option<u32>
 
 /// The call of a record. Another procInfo than the record's is refused.
 #[inline(always)]
-fn called_by(pc: u32, info: u32, rec: &Rec, selector: Option<u32>) -> Wanted
-    ensures { wanted_of result ≡ settled (called_by_lem pc info selector (routine rec.now)) }
+fn called_by(pc: u32, info: u32, rec: &Rec, selector: Option<u32>, wanted: &mut Wanted)
+    ensures { wanted_of wanted.new ≡ settled (called_by_lem pc info selector (routine rec.now)) }
 {
     if info == rec.info {
-        Wanted::Calls(call_of(Isa::Ppc, rec, selector))
+        *wanted = Wanted::Calls(call_of(Isa::Ppc, rec, selector));
     } else {
-        Wanted::Refuses(Fault {
+        *wanted = Wanted::Refuses(Fault {
             kind: FaultKind::Mismatch,
             pc,
             detail: info,
             also: rec.info,
-        })
+        });
     }
 }

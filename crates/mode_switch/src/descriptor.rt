@@ -26,57 +26,71 @@ pub trait Asker {
     fn pc(&self) -> u32
         ensures { result ≡ at self.now };
 
-    /// What it wants of the records.
-    fn takes(&self, ram: &Ram, records: &[Rec]) -> Wanted
-        ensures { wanted_of result ≡ settled (takes_of self.now ram.now (routines records.now)) };
+    /// What it wants of the records, put in place.
+    fn takes(&self, ram: &Ram, records: &[Rec], wanted: &mut Wanted)
+        ensures { wanted_of wanted.new ≡ settled (takes_of self.now ram.now (routines records.now)) };
 }
 
-/// What it wants at the descriptor at `pointer`.
-pub fn wants_desc<A: Asker>(ram: &Ram, asker: &A, pointer: u32) -> Wanted
-    ensures { wanted_of result ≡ settled (wants_desc_lem ram.now (A.at asker.now) pointer (A.takes_of asker.now ram.now)) }
+/// What it wants at the descriptor at `pointer`, put in place.
+#[inline(always)]
+pub fn wants_desc<A: Asker>(ram: &Ram, asker: &A, pointer: u32, wanted: &mut Wanted)
+    ensures { wanted_of wanted.new ≡ settled (wants_desc_lem ram.now (A.at asker.now) pointer (A.takes_of asker.now ram.now)) }
 {
     match count_records(ram, pointer) {
-        Ok(count) if count <= FEW => wants_of_few(ram, asker, pointer, count),
-        Ok(count) => wants_of_many(ram, asker, pointer, count),
-        Err(bad) => Wanted::Refuses(bad_desc(asker.pc(), pointer, bad)),
+        Ok(1) => wants_of_one(ram, asker, pointer, wanted),
+        Ok(count) if count <= FEW => wants_of_few(ram, asker, pointer, count, wanted),
+        Ok(count) => wants_of_many(ram, asker, pointer, count, wanted),
+        Err(bad) => *wanted = Wanted::Refuses(bad_desc(asker.pc(), pointer, bad)),
     }
 }
 
+/// What it wants at a descriptor of one record.
+#[inline(always)]
+fn wants_of_one<A: Asker>(ram: &Ram, asker: &A, pointer: u32, wanted: &mut Wanted)
+    requires header { Counts ram.now pointer (Ok 1) }
+    requires within { pointer + 12 ≤ length ram.now.bytes }
+    ensures { wanted_of wanted.new ≡ settled (wants_desc_lem ram.now (A.at asker.now) pointer (A.takes_of asker.now ram.now)) }
+{
+    let mut records = [Rec::empty()];
+    wants_in(ram, asker, pointer, &mut records, wanted);
+}
+
 /// What it wants at a descriptor of few records.
-fn wants_of_few<A: Asker>(ram: &Ram, asker: &A, pointer: u32, count: u32) -> Wanted
+#[inline(never)]
+fn wants_of_few<A: Asker>(ram: &Ram, asker: &A, pointer: u32, count: u32, wanted: &mut Wanted)
     requires header { Counts ram.now pointer (Ok count) }
     requires within { pointer + 12 ≤ length ram.now.bytes }
     requires few { count ≤ 4 }
-    ensures { wanted_of result ≡ settled (wants_desc_lem ram.now (A.at asker.now) pointer (A.takes_of asker.now ram.now)) }
+    ensures { wanted_of wanted.new ≡ settled (wants_desc_lem ram.now (A.at asker.now) pointer (A.takes_of asker.now ram.now)) }
 {
     let empty = Rec::empty();
     let mut records = [empty; 4];
-    wants_in(ram, asker, pointer, &mut records[..count as usize])
+    wants_in(ram, asker, pointer, &mut records[..count as usize], wanted);
 }
 
 /// What it wants at a descriptor of any number of records.
 #[inline(never)]
-fn wants_of_many<A: Asker>(ram: &Ram, asker: &A, pointer: u32, count: u32) -> Wanted
+fn wants_of_many<A: Asker>(ram: &Ram, asker: &A, pointer: u32, count: u32, wanted: &mut Wanted)
     requires header { Counts ram.now pointer (Ok count) }
     requires within { pointer + 12 ≤ length ram.now.bytes }
     requires few { count ≤ 64 }
-    ensures { wanted_of result ≡ settled (wants_desc_lem ram.now (A.at asker.now) pointer (A.takes_of asker.now ram.now)) }
+    ensures { wanted_of wanted.new ≡ settled (wants_desc_lem ram.now (A.at asker.now) pointer (A.takes_of asker.now ram.now)) }
 {
     let empty = Rec::empty();
     let mut records = [empty; 64];
-    wants_in(ram, asker, pointer, &mut records[..count as usize])
+    wants_in(ram, asker, pointer, &mut records[..count as usize], wanted);
 }
 
 /// What it wants at a descriptor, which is read into a list with a place for each record.
 #[inline(always)]
-fn wants_in<A: Asker>(ram: &Ram, asker: &A, pointer: u32, records: &mut [Rec]) -> Wanted
+fn wants_in<A: Asker>(ram: &Ram, asker: &A, pointer: u32, records: &mut [Rec], wanted: &mut Wanted)
     requires header { Counts ram.now pointer (Ok (length records.old)) }
     requires within { pointer + 12 ≤ length ram.now.bytes }
     requires few { length records.old ≤ 64 }
-    ensures { wanted_of result ≡ settled (wants_desc_lem ram.now (A.at asker.now) pointer (A.takes_of asker.now ram.now)) }
+    ensures { wanted_of wanted.new ≡ settled (wants_desc_lem ram.now (A.at asker.now) pointer (A.takes_of asker.now ram.now)) }
 {
     match read_all(ram, pointer, records) {
-        Ok(()) => asker.takes(ram, records),
-        Err(bad) => Wanted::Refuses(bad_desc(asker.pc(), pointer, bad)),
+        Ok(()) => asker.takes(ram, records, wanted),
+        Err(bad) => *wanted = Wanted::Refuses(bad_desc(asker.pc(), pointer, bad)),
     }
 }

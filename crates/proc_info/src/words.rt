@@ -1,4 +1,4 @@
-ghost use Rattle.std.specs.Prelude.{◌≡◌, ◌-◌, ◌≤◌, length, drop, replicate};
+ghost use Rattle.std.specs.Prelude.{◌≡◌, ◌-◌, drop, replicate};
 ghost use Rattle.proc_info.specs.Arguments.{words_of};
 
 /// The arguments of a call, at most thirteen.
@@ -11,18 +11,31 @@ pub struct Words {
 }
 
 impl Words {
-    /// Words of these values.
-    pub fn of(values: &[u32]) -> Words
-        requires { length values.now ≤ 13 }
-        ensures values { words_of result ≡ values.now }
-        ensures count { result.count ≡ length values.now }
+    ghost use Rattle.std.specs.Prelude.{◌+◌, ◌<◌, [], ◌∷◌, ◌++◌};
+
+    /// No words.
+    #[inline(always)]
+    pub fn empty() -> Words
+        ensures values { words_of result ≡ [] }
+        ensures count { result.count ≡ 0 }
         ensures rest { drop result.count result.value ≡ replicate (13 - result.count) 0 }
     {
-        let mut value = [0; 13];
-        value[..values.len()].copy_from_slice(values);
         Words {
-            count: values.len() as u8,
-            value,
+            count: 0,
+            value: [0; 13],
         }
+    }
+
+    /// Appends a word, for which there is room.
+    #[inline(always)]
+    pub fn push(&mut self, word: u32)
+        requires room { self.old.count < 13 }
+        requires rest { drop self.old.count self.old.value ≡ replicate (13 - self.old.count) 0 }
+        ensures values { words_of self.new ≡ words_of self.old ++ word ∷ [] }
+        ensures count { self.new.count ≡ self.old.count + 1 }
+        ensures rest { drop self.new.count self.new.value ≡ replicate (13 - self.new.count) 0 }
+    {
+        self.value[self.count as usize] = word;
+        self.count += 1;
     }
 }

@@ -45,6 +45,7 @@ pub fn choose(desc: &Desc, caller: Isa, selector: Option<u32>) -> Option<&Rec>
 }
 
 /// The same among the records of a descriptor.
+#[inline(always)]
 pub fn choose_among(records: &[Rec], caller: Isa, selector: Option<u32>) -> Option<&Rec>
     ensures { picked result ≡ choice (routines records.now) caller selector }
 {
@@ -55,6 +56,7 @@ pub fn choose_among(records: &[Rec], caller: Isa, selector: Option<u32>) -> Opti
 }
 
 /// The choice where there is one record.
+#[inline(always)]
 fn choose_only(only: &Rec, selector: Option<u32>) -> Option<&Rec>
     ensures { picked result ≡ choice_of_one (routine only.now) selector }
 {
@@ -66,6 +68,7 @@ fn choose_only(only: &Rec, selector: Option<u32>) -> Option<&Rec>
 }
 
 /// The choice by one scan of the records.
+#[inline(never)]
 fn choose_by_scan(records: &[Rec], caller: Isa, selector: Option<u32>) -> Option<&Rec>
     ensures { picked result ≡ choice (routines records.now) caller selector }
 {

@@ -54,6 +54,7 @@ pub fn count_records(ram: &Ram, a: u32) -> Result<u32, BadDesc>
 
 /// Fills the list with all records of a descriptor whose header is good, or answers the first rule that
 /// they break; then the list may hold anything.
+#[inline(always)]
 pub fn read_all(ram: &Ram, a: u32, recs: &mut [Rec]) -> Result<(), BadDesc>
     requires header { a + 12 ≤ length ram.now.bytes }
     requires few { length recs.old ≤ 64 }

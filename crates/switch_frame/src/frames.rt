@@ -111,8 +111,22 @@ fn clear(ram: &mut Ram, lo: u32, hi: u32)
     requires { IsFrameRange ram.old lo hi }
     ensures { ram.new ≡ with_frame lo hi (zeros (hi - lo)) false ram.old }
 {
-    ram.fix(lo, &ZEROS[..(hi - lo) as usize]);
+    put_zeros(ram, lo, hi - lo);
     ram.unguard(lo, hi);
+}
+
+/// Puts so many zeros at `lo`. The sizes of the two frames are told apart, so that each is known where it is written.
+#[inline(always)]
+fn put_zeros(ram: &mut Ram, lo: u32, size: u32)
+    requires within { lo + size ≤ length ram.old.bytes }
+    requires small { size ≤ 192 }
+    ensures { ram.new ≡ with_bytes lo (zeros size) ram.old }
+{
+    match size {
+        112 => ram.fix(lo, &ZEROS[..112]),
+        192 => ram.fix(lo, &ZEROS),
+        _ => ram.fix(lo, &ZEROS[..size as usize]),
+    }
 }
 
 /// The caller in the frame that begins at `lo`.

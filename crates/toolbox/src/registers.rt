@@ -56,6 +56,7 @@ fn three(first: u32, second: u32, third: u32) -> Operands
 }
 
 /// Gives the results of a call, and goes on behind it.
+#[inline(always)]
 pub fn settle(function: Function, active: &mut Active, results: Results)
     ensures { active.new ≡ answered function results active.old }
 {
@@ -65,6 +66,7 @@ pub fn settle(function: Function, active: &mut Active, results: Results)
     }
 }
 
+#[inline(always)]
 fn settle_68k(function: Function, regs: &mut Regs68, results: Results)
     ensures { Active.M68 regs.new ≡ answered function results (Active.M68 regs.old) }
 {
@@ -75,6 +77,7 @@ fn settle_68k(function: Function, regs: &mut Regs68, results: Results)
     regs.pc = onward(regs.pc, 2);
 }
 
+#[inline(always)]
 fn give_68k(function: Function, regs: &mut Regs68, results: Results)
     ensures { regs.new ≡ with_stack function (with_registers (row function).results (results.first ∷ results.second ∷ []) regs.old) }
 {

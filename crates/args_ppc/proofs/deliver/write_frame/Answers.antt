@@ -10,6 +10,10 @@ use Rattle.args_ppc.proofs.deliver.write_frame.Goals as goal
 blank : (sp n : ℕ) (words : List ℕ) (m : Memory) → n ≡ frame_bytes (length words) → n ≤ 80 → with_bytes sp (take n (replicate 80 0)) m ≡ with_bytes sp (replicate (frame_bytes (length words)) 0) m
 blank sp n words m size small = ap (λ ys. with_bytes sp ys m) (take-replicate n 80 0 small ∙ ap (λ k. replicate k 0) size)
 
+-- the frame of at most eight words
+short : (n : ℕ) → n ≤ 8 → 64 ≡ frame_bytes n
+short n few = omega (arith, few)
+
 -- the words behind the eighth
 behind : (words : List ℕ) → take (length words - 8) (drop 8 words) ≡ drop 8 words
 behind words = take_all (length words - 8) (drop 8 words) (omega (arith, length-drop_eight words))
@@ -26,5 +30,5 @@ pub returns-else-words-gt8 : goal.returns-else-words-gt8
 returns-else-words-gt8 c =
     let sp = c.args.sp in
     let words = c.args.words.now in
-    c.fix.ensures ∙ blank sp c.frame_bytes.result words c.args.ram.now c.frame_bytes.ensures.value c.frame_bytes.ensures.small
+    c.fix-else-words-gt8.ensures ∙ blank sp 64 words c.args.ram.now (short (length words) c.if-words-gt8.false) (omega arith)
     ∙ frame-short words sp c.args.ram.now c.if-words-gt8.false
