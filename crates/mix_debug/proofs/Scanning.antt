@@ -5,7 +5,7 @@ use Rattle.std.proofs.lemmas.Bool.{cases_Bool, eq-eqb, ne_eqb}
 use Rattle.std.proofs.lemmas.List.{get_or-take, length-append, length-take-le, take-take}
 use Rattle.mix_debug.specs.declared.head.Span.{Span}
 use Rattle.mix_debug.specs.Runs.{Run, begins, joined, olds_of, runs_from}
-use Rattle.mix_debug.specs.Entries.{closed, spans_of}
+use Rattle.mix_debug.specs.Entries.{closed, spans_of, started}
 
 -- the runs from an address on
 abbrev pub runs_at : ℕ → List ℕ → List ℕ → List Run
@@ -255,3 +255,33 @@ pushed-down-same at high on room most xs ys spans before olds kept some below he
     subst (λ a. Pushed (at - 1) 0 (runs_at (at - 1) (take high xs) (take high ys)) room (closed room a on spans) before most olds kept) (one-down at some)
     (pushed-same (at - 1) on room most (take high xs) (take high ys) spans before olds kept (front-long (at - 1) high xs inside here) (front-long (at - 1) high ys inside there) (front-at (at - 1) high xs ys inside same)
     (subst (λ a. Pushed a on (runs_at a (take high xs) (take high ys)) room spans before most olds kept) (sym (one-down at some)) pushed))
+
+-- whether a run of so many bytes is on its way
+abbrev pub opened : ℕ → Bool
+opened zero = false
+opened (suc n) = true
+
+-- the count beside a run on its way
+recounted : (at high : ℕ) (rs : List Run) (a b m n : ℕ) (on : Bool) → m ≡ a → n ≡ b → Counted at high rs a b on → Counted at high rs m n on
+recounted at high rs a b m n on runs bytes counted =
+    subst (λ x. Counted at high rs x n on) (sym runs) (subst (λ y. Counted at high rs a y on) (sym bytes) counted)
+
+counted-grows : (at high : ℕ) (rs : List Run) (runs bytes count : ℕ) → Counted at high rs (runs + started count + cond (not (opened count)) 1 0) (bytes + count + 1) true
+    → Counted at high rs (runs + started (suc count)) (bytes + suc count) true
+counted-grows at high rs runs bytes zero counted = recounted at high rs (runs + 0 + 1) (bytes + 0 + 1) (runs + 1) (bytes + 1) true (omega arith) (omega arith) counted
+counted-grows at high rs runs bytes (suc n) counted = recounted at high rs (runs + 1 + 0) (bytes + suc n + 1) (runs + 1) (bytes + suc (suc n)) true (omega arith) (omega arith) counted
+
+pub counted-on : (at high : ℕ) (xs ys : List ℕ) (runs bytes count : ℕ) → 0 < at → at ≤ high → high ≤ length xs → high ≤ length ys → (get_or xs (at - 1) 0 ≡ get_or ys (at - 1) 0 → ⊥)
+    → Counted at high (runs_at at (take high xs) (take high ys)) (runs + started count) (bytes + count) (opened count)
+    → Counted (at - 1) high (runs_at (at - 1) (take high xs) (take high ys)) (runs + started (suc count)) (bytes + suc count) true
+counted-on at high xs ys runs bytes count some below here there other counted =
+    counted-grows (at - 1) high (runs_at (at - 1) (take high xs) (take high ys)) runs bytes count
+    (counted-down-other at high xs ys (runs + started count) (bytes + count) (opened count) some below here there other counted)
+
+pub counted-off : (at high : ℕ) (xs ys : List ℕ) (runs bytes count more all : ℕ) → 0 < at → at ≤ high → high ≤ length xs → high ≤ length ys → get_or xs (at - 1) 0 ≡ get_or ys (at - 1) 0
+    → more ≡ runs + started count → all ≡ bytes + count
+    → Counted at high (runs_at at (take high xs) (take high ys)) (runs + started count) (bytes + count) (opened count)
+    → Counted (at - 1) high (runs_at (at - 1) (take high xs) (take high ys)) (more + 0) (all + 0) false
+counted-off at high xs ys runs bytes count more all some below here there same first last counted =
+    recounted (at - 1) high (runs_at (at - 1) (take high xs) (take high ys)) (runs + started count) (bytes + count) (more + 0) (all + 0) false (omega (arith, first)) (omega (arith, last))
+    (counted-down-same at high xs ys (runs + started count) (bytes + count) (opened count) some below here there same counted)

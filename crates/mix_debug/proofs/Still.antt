@@ -35,11 +35,11 @@ runs-alike at (x ∷ xs) = rw (eq-eqb x x refl) (runs-alike (suc at) xs)
 runs-none : (old new : List ℕ) → new ≡ old → [] ≡ runs_from 0 old new
 runs-none old new same = sym (ap (runs_from 0 old) same ∙ runs-alike 0 old)
 
-frame-stays : (old new : ℕ) (a b : Isa) → new ≡ old → FrameStays ≡ frame_between old new a b
+pub frame-stays : (old new : ℕ) (a b : Isa) → new ≡ old → FrameStays ≡ frame_between old new a b
 frame-stays old new a b same =
     sym (ap (λ (t : Bool). if t then FrameStays else (if is_made old new then FrameMade new (new + frame_size a) else GivenUp old (old + frame_size b))) (eq-eqb new old same))
 
-block-stays : (old new : List Block) → length new ≡ length old → BlockStays ≡ block_between old new
+pub block-stays : (old new : List Block) → length new ≡ length old → BlockStays ≡ block_between old new
 block-stays old new same =
     sym (ap (λ (t : Bool). if t then BlockStays else (if nat_lt (length old) (length new) then made_of (first_other new old) else freed_of (first_other old new))) (eq-eqb (length new) (length old) same))
 

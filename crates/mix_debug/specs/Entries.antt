@@ -30,6 +30,10 @@ head_with file e = record { file = file; top = e.top; frame = e.frame; block = e
 abbrev pub still : ℕ → Effect
 still top = record { top = top; frame = FrameStays; block = BlockStays; runs = 0; olds = 0 }
 
+-- what a step did that changed these runs of bytes
+abbrev pub effect_of : ℕ → FrameChange → BlockChange → List Run → Effect
+effect_of top frame block rs = record { top = top; frame = frame; block = block; runs = length rs; olds = length (olds_of rs) }
+
 -- how many bytes of history a step takes beside its runs: its register file, top and block
 abbrev pub file_cost : Active → ℕ
 file_cost (M68 file) = 98
@@ -57,6 +61,11 @@ spans_of (r ∷ rs) = record { at = r.at; count = length r.old } ∷ spans_of rs
 abbrev pub closed : ℕ → ℕ → ℕ → List Span → List Span
 closed room at zero spans = spans
 closed room at (suc n) spans = take room (record { at = at; count = suc n } ∷ spans)
+
+-- such a run counts as one, or as none
+abbrev pub started : ℕ → ℕ
+started zero = 0
+started (suc n) = 1
 
 -- the runs that lie there, with their bytes one after another
 unfoldable pub runs_of : List Span → List ℕ → List Run

@@ -1,5 +1,5 @@
 // What a step changed, found beside a copy of what stood before it.
-ghost use Rattle.std.specs.Prelude.{◌≡◌, ◌+◌, ◌≤◌, length};
+ghost use Rattle.std.specs.Prelude.{◌≡◌, ◌+◌, ◌<◌, ◌≤◌, length};
 ghost use Rattle.std.specs.Bool.{OnTrue};
 ghost use Rattle.switch_frame.specs.Sets.{frame_size as frame_size_of};
 ghost use Rattle.big_memory.specs.Lists.{part};
@@ -14,8 +14,11 @@ use mix_bits::Isa;
 use mix_reach::{Reach, Stores, step_reach};
 use switch_frame::Active;
 
-/// How many bytes are compared at once.
+/// How many bytes are compared at once in a large range.
 const PIECE: usize = 1024;
+
+/// How many bytes are compared at once in any other.
+const WORD: usize = 8;
 
 /// A range of bytes outside which none has changed.
 #[derive(Clone, Copy)]
@@ -59,55 +62,71 @@ pub fn narrowed(old: &[u8], new: &[u8], range: Range) -> Range
     requires { Covers range.low range.high old.now new.now }
     ensures { Covers result.low result.high old.now new.now }
 {
-    if range.high - range.low < PIECE {
+    if range.high - range.low < WORD {
         range
     } else {
         without_same(old, new, range)
     }
 }
 
-/// The same where the range has a piece at least.
+/// The same where the range has a word at least.
 #[inline(never)]
 fn without_same(old: &[u8], new: &[u8], range: Range) -> Range
     requires { Covers range.low range.high old.now new.now }
     ensures { Covers result.low result.high old.now new.now }
 {
-    let low = skip_front(old, new, range);
-    let high = skip_back(old, new, Range { low, ..range });
+    let large = without_pieces(old, new, range, PIECE);
+    without_pieces(old, new, large, WORD)
+}
+
+/// The range without the pieces of a size in which no byte has changed.
+#[inline(always)]
+fn without_pieces(old: &[u8], new: &[u8], range: Range, size: usize) -> Range
+    requires covers { Covers range.low range.high old.now new.now }
+    requires some { 0 < size }
+    ensures { Covers result.low result.high old.now new.now }
+{
+    let low = skip_front(old, new, range, size);
+    let high = skip_back(old, new, Range { low, ..range }, size);
     Range { low, high }
 }
 
 /// Where the first piece begins that has changed.
-fn skip_front(old: &[u8], new: &[u8], range: Range) -> usize
-    requires { Covers range.low range.high old.now new.now }
+#[inline(always)]
+fn skip_front(old: &[u8], new: &[u8], range: Range, size: usize) -> usize
+    requires covers { Covers range.low range.high old.now new.now }
+    requires some { 0 < size }
     ensures { Covers result range.high old.now new.now }
 {
     let mut low = range.low;
-    'front: while PIECE <= range.high - low && is_same(old, new, low) {
-        low += PIECE;
+    'front: while size <= range.high - low && is_same(old, new, low, size) {
+        low += size;
     }
     low
 }
 
 /// Where the last piece ends that has changed.
-fn skip_back(old: &[u8], new: &[u8], range: Range) -> usize
-    requires { Covers range.low range.high old.now new.now }
+#[inline(always)]
+fn skip_back(old: &[u8], new: &[u8], range: Range, size: usize) -> usize
+    requires covers { Covers range.low range.high old.now new.now }
+    requires some { 0 < size }
     ensures { Covers range.low result old.now new.now }
 {
     let mut high = range.high;
-    'back: while PIECE <= high - range.low && is_same(old, new, high - PIECE) {
-        high -= PIECE;
+    'back: while size <= high - range.low && is_same(old, new, high - size, size) {
+        high -= size;
     }
     high
 }
 
 /// Whether the piece at an address is the same in both lists.
-fn is_same(old: &[u8], new: &[u8], at: usize) -> bool
-    requires old_long { at + PIECE ≤ length old.now }
-    requires new_long { at + PIECE ≤ length new.now }
-    ensures { OnTrue result (part at PIECE old.now ≡ part at PIECE new.now) }
+#[inline(always)]
+fn is_same(old: &[u8], new: &[u8], at: usize, size: usize) -> bool
+    requires old_long { at + size ≤ length old.now }
+    requires new_long { at + size ≤ length new.now }
+    ensures { OnTrue result (part at size old.now ≡ part at size new.now) }
 {
-    &old[at..at + PIECE] == &new[at..at + PIECE]
+    &old[at..at + size] == &new[at..at + size]
 }
 
 /// What a step did to the frames, from where the innermost one began before and after it, and from the

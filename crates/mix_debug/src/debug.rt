@@ -2,7 +2,7 @@ ghost use Rattle.std.specs.Prelude.{◌≡◌, ◌==◌, ◌&&◌, not, nat_lt, 
 ghost use Rattle.std.specs.List.{list_any};
 ghost use Rattle.switch_frame.specs.Records.{isa_of};
 ghost use Rattle.dev_rack.specs.Accounts.{Accounts};
-ghost use Rattle.toolbox.specs.Calls.{outside as outside_of};
+ghost use Rattle.toolbox.specs.Calls.{counts_beside, outside as outside_of};
 ghost use Rattle.mixed_machine.specs.Counts.{Blames};
 ghost use Rattle.mixed_machine.specs.Machine.{IsWhole};
 ghost use Rattle.mixed_machine.specs.Outside.{at};
@@ -11,19 +11,23 @@ ghost use Rattle.mix_io.specs.Counts.{HasCause};
 ghost use Rattle.mix_io.specs.Streams.{output};
 ghost use Rattle.mix_io.specs.Told.{Puts};
 ghost use Rattle.toolbox.specs.Blames.{counts};
+ghost use Rattle.mix_steps.specs.Beside.{AreSame, machine_beside, outside_lent, trace_lent};
+ghost use Rattle.mix_engine.specs.Ends.{goes_on};
+ghost use Rattle.mix_reach.specs.Steps.{next_stores as next_stores_of};
 ghost use Rattle.mix_debug.specs.Crawl.{crawl_of};
 ghost use Rattle.mix_debug.specs.Histories.{IsHistory, KeepsBeside};
 ghost use Rattle.mix_debug.specs.Trails.{Keeps, TakesBack, Trail, is_done as is_done_by, step_of as step_by, stop_of};
 
 use crate::crawl::put_crawl;
 use crate::history::History;
-use crate::step::{Step, done_of, is_done, step_of};
+use crate::step::{Step, step_of, was_done};
 use arrayvec::ArrayVec;
 use dev_rack::Devices;
 use mix_bits::NoMemory;
-use mix_engine::{Machine, Stop, step};
+use mix_engine::{Machine, Stop, step_beside};
 use mix_io::{Failed, Sink, Source};
-use mix_reach::next_stores;
+use mix_reach::{Stores, is_still, next_stores, no_stores};
+use mix_steps::Outside;
 use std::alloc::Global;
 use std::marker::Model;
 
@@ -96,15 +100,45 @@ impl Debug {
         ensures keeps { Keeps (is_done_by (stop_of result)) self.old self.new }
         ensures breaks { self.new.breaks ≡ self.old.breaks }
     {
-        let stop = advance(
-            &mut self.machine,
-            &mut self.history,
+        let mut outside = Outside {
             input,
             out,
             trace,
             rack,
+        };
+        let mut stop = Stop::Limit;
+        let _on = advance(
+            &mut self.machine,
+            &mut self.history,
+            &mut outside,
+            &mut stop,
         );
         step_of(stop)
+    }
+
+    /// The same beside what lies outside: whether the program goes on. How the step stopped stands in the cell, which holds
+    /// `Limit` before.
+    #[inline(always)]
+    pub fn forward_beside<'i, 'o, 't, 'd, I: Source, O: Sink, T: Sink, D: Devices>(
+        &mut self,
+        outside: &mut Outside<'i, 'o, 't, 'd, I, O, T, D>,
+        stop: &mut Stop,
+    ) -> bool
+        requires cell { stop.old ≡ Stop.Limit }
+        ensures answer { result ≡ goes_on stop.new }
+        ensures whole { IsWhole self.new.machine.body (isa_of self.new.machine.active) }
+        ensures run { Runs 1
+            (machine_beside I.left I.faults O.held O.faults T.held T.faults D.state self.old.machine.body self.old.machine.active outside.old)
+            (machine_beside I.left I.faults O.held O.faults T.held T.faults D.state self.new.machine.body self.new.machine.active outside.new) stop.new }
+        ensures blames { Blames stop.new
+            (counts_beside (outside_lent I.left I.faults O.held O.faults D.state outside.old) (trace_lent T.held T.faults outside.old))
+            (counts_beside (outside_lent I.left I.faults O.held O.faults D.state outside.new) (trace_lent T.held T.faults outside.new)) }
+        ensures devices { Accounts (D.state outside.old.rack.now) (D.state outside.new.rack.now) }
+        ensures keeps { Keeps (is_done_by stop.new) self.old self.new }
+        ensures breaks { self.new.breaks ≡ self.old.breaks }
+        ensures same { AreSame outside.old outside.new }
+    {
+        advance(&mut self.machine, &mut self.history, outside, stop)
     }
 
     /// Takes the newest step back that is kept, and says whether there was one.
@@ -164,32 +198,95 @@ impl Debug {
     }
 }
 
-/// Runs one step of a machine, and keeps what it changed beside it, if it is done.
-fn advance<I: Source, O: Sink, T: Sink, D: Devices>(
+/// Runs one step of a machine, and keeps what it changed beside it, if it is done: whether the program goes on. How the
+/// step stopped stands in the cell, which holds `Limit` before.
+#[inline(always)]
+fn advance<'i, 'o, 't, 'd, I: Source, O: Sink, T: Sink, D: Devices>(
     machine: &mut Machine,
     history: &mut History,
-    input: &mut I,
-    out: &mut O,
-    trace: &mut T,
-    rack: &mut D,
-) -> Stop
-    requires { IsHistory machine.old history.old }
+    outside: &mut Outside<'i, 'o, 't, 'd, I, O, T, D>,
+    stop: &mut Stop,
+) -> bool
+    requires history { IsHistory machine.old history.old }
+    requires cell { stop.old ≡ Stop.Limit }
+    ensures answer { result ≡ goes_on stop.new }
     ensures whole { IsWhole machine.new.body (isa_of machine.new.active) }
     ensures history { IsHistory machine.new history.new }
     ensures run { Runs 1
-        (at machine.old.body machine.old.active (outside_of (I.left input.old) (I.faults input.old) (D.state rack.old) (O.held out.old) (O.faults out.old)) (output (T.held trace.old) (T.faults trace.old)))
-        (at machine.new.body machine.new.active (outside_of (I.left input.new) (I.faults input.new) (D.state rack.new) (O.held out.new) (O.faults out.new)) (output (T.held trace.new) (T.faults trace.new))) result }
-    ensures blames { Blames result (counts (I.faults input.old) (O.faults out.old) (T.faults trace.old)) (counts (I.faults input.new) (O.faults out.new) (T.faults trace.new)) }
-    ensures devices { Accounts (D.state rack.old) (D.state rack.new) }
-    ensures keeps { KeepsBeside (is_done_by result) machine.old machine.new history.old history.new }
+        (machine_beside I.left I.faults O.held O.faults T.held T.faults D.state machine.old.body machine.old.active outside.old)
+        (machine_beside I.left I.faults O.held O.faults T.held T.faults D.state machine.new.body machine.new.active outside.new) stop.new }
+    ensures blames { Blames stop.new
+        (counts_beside (outside_lent I.left I.faults O.held O.faults D.state outside.old) (trace_lent T.held T.faults outside.old))
+        (counts_beside (outside_lent I.left I.faults O.held O.faults D.state outside.new) (trace_lent T.held T.faults outside.new)) }
+    ensures devices { Accounts (D.state outside.old.rack.now) (D.state outside.new.rack.now) }
+    ensures keeps { KeepsBeside (is_done_by stop.new) machine.old machine.new history.old history.new }
+    ensures same { AreSame outside.old outside.new }
+{
+    if is_still(&machine.body.ram, &machine.active) {
+        advance_by(machine, history, outside, stop, &no_stores())
+    } else {
+        advance_storing(machine, history, outside, stop)
+    }
+}
+
+/// The same of a step that may store.
+#[inline(never)]
+fn advance_storing<'i, 'o, 't, 'd, I: Source, O: Sink, T: Sink, D: Devices>(
+    machine: &mut Machine,
+    history: &mut History,
+    outside: &mut Outside<'i, 'o, 't, 'd, I, O, T, D>,
+    stop: &mut Stop,
+) -> bool
+    requires history { IsHistory machine.old history.old }
+    requires cell { stop.old ≡ Stop.Limit }
+    ensures answer { result ≡ goes_on stop.new }
+    ensures whole { IsWhole machine.new.body (isa_of machine.new.active) }
+    ensures history { IsHistory machine.new history.new }
+    ensures run { Runs 1
+        (machine_beside I.left I.faults O.held O.faults T.held T.faults D.state machine.old.body machine.old.active outside.old)
+        (machine_beside I.left I.faults O.held O.faults T.held T.faults D.state machine.new.body machine.new.active outside.new) stop.new }
+    ensures blames { Blames stop.new
+        (counts_beside (outside_lent I.left I.faults O.held O.faults D.state outside.old) (trace_lent T.held T.faults outside.old))
+        (counts_beside (outside_lent I.left I.faults O.held O.faults D.state outside.new) (trace_lent T.held T.faults outside.new)) }
+    ensures devices { Accounts (D.state outside.old.rack.now) (D.state outside.new.rack.now) }
+    ensures keeps { KeepsBeside (is_done_by stop.new) machine.old machine.new history.old history.new }
+    ensures same { AreSame outside.old outside.new }
+{
+    let next = next_stores(&machine.body.ram, &machine.active);
+    advance_by(machine, history, outside, stop, &next)
+}
+
+/// The same of a step that stores where it was told.
+#[inline(always)]
+fn advance_by<'i, 'o, 't, 'd, I: Source, O: Sink, T: Sink, D: Devices>(
+    machine: &mut Machine,
+    history: &mut History,
+    outside: &mut Outside<'i, 'o, 't, 'd, I, O, T, D>,
+    stop: &mut Stop,
+    next: &Stores,
+) -> bool
+    requires history { IsHistory machine.old history.old }
+    requires cell { stop.old ≡ Stop.Limit }
+    requires told { next.now ≡ next_stores_of machine.old.body.ram machine.old.active }
+    ensures answer { result ≡ goes_on stop.new }
+    ensures whole { IsWhole machine.new.body (isa_of machine.new.active) }
+    ensures history { IsHistory machine.new history.new }
+    ensures run { Runs 1
+        (machine_beside I.left I.faults O.held O.faults T.held T.faults D.state machine.old.body machine.old.active outside.old)
+        (machine_beside I.left I.faults O.held O.faults T.held T.faults D.state machine.new.body machine.new.active outside.new) stop.new }
+    ensures blames { Blames stop.new
+        (counts_beside (outside_lent I.left I.faults O.held O.faults D.state outside.old) (trace_lent T.held T.faults outside.old))
+        (counts_beside (outside_lent I.left I.faults O.held O.faults D.state outside.new) (trace_lent T.held T.faults outside.new)) }
+    ensures devices { Accounts (D.state outside.old.rack.now) (D.state outside.new.rack.now) }
+    ensures keeps { KeepsBeside (is_done_by stop.new) machine.old machine.new history.old history.new }
+    ensures same { AreSame outside.old outside.new }
 {
     let top = machine.body.top;
-    let next = next_stores(&machine.body.ram, &machine.active);
     history.prepare(&machine.active);
-    let stop = step(machine, input, out, trace, rack);
-    if !is_done(stop) {
-        return stop;
+    let on = step_beside(machine, outside, stop);
+    if !was_done(on, stop) {
+        return on;
     }
     history.keep(machine, top, next);
-    done_of(stop)
+    on
 }

@@ -182,12 +182,14 @@ fn put_ppc(to: &mut Active, regs: &RegsPpc)
 {
     match to {
         Active::Ppc(file) => {
+            let (cr, lr, ctr, xer) = (regs.cr, regs.lr, regs.ctr, regs.xer);
+            let pc = regs.pc;
             file.gpr = regs.gpr;
-            file.cr = regs.cr;
-            file.lr = regs.lr;
-            file.ctr = regs.ctr;
-            file.xer = regs.xer;
-            file.pc = regs.pc;
+            file.cr = cr;
+            file.lr = lr;
+            file.ctr = ctr;
+            file.xer = xer;
+            file.pc = pc;
         }
         Active::M68(_) => *to = Active::Ppc(*regs),
     }

@@ -12,14 +12,13 @@ ghost use Rattle.mix_reach.specs.Ranges.{Beside};
 ghost use Rattle.mix_debug.specs.Entries.{block_between as block_between_of};
 
 use crate::compare::{Range, block_between, frame_between, in_memory, narrowed, stored_in};
-use crate::head::{BlockChange, Effect};
+use crate::head::{BlockChange, FrameChange};
 use crate::past::{Past, ROOM};
-use crate::runs::changes_in;
 use crate::undo::{copy_range, undo_block, undo_frame};
 use host_heap::{BLOCK_LIMIT, Block, Heap};
 use mix_bits::NoMemory;
 use mix_engine::Machine;
-use mix_reach::Stores;
+use mix_reach::{Reach, Stores};
 use std::alloc::Global;
 use switch_frame::Active;
 
@@ -72,9 +71,9 @@ impl History {
     /// Keeps the step that led to a machine from the registers that were written and from the frame that began at `top`. What
     /// the step changed of memory is looked for where it stored.
     #[inline(always)]
-    pub fn keep(&mut self, machine: &Machine, top: u32, next: Stores)
+    pub fn keep(&mut self, machine: &Machine, top: u32, next: &Stores)
         requires copied { length self.old.copy.items ≡ length machine.now.body.ram.bytes }
-        requires stored { Beside (stored_in_of (block_between_of self.old.blocks.items machine.now.body.heap.blocks) next top machine.now.body.top machine.now.active)
+        requires stored { Beside (stored_in_of (block_between_of self.old.blocks.items machine.now.body.heap.blocks) next.now top machine.now.body.top machine.now.active)
             self.old.copy.items machine.now.body.ram.bytes }
         requires same_blocks { SameBlocks self.old.blocks.items machine.now.body.heap.blocks }
         requires room { block_limit ≤ vec_capacity self.old.blocks }
@@ -91,14 +90,45 @@ impl History {
     {
         let body = &machine.body;
         body.heap.every_heap_is_sound();
-        let none_stored = next.reach.low == next.reach.high;
         let same_frames = body.top == top;
         let same_blocks = body.heap.blocks().len() == self.blocks.len();
-        if none_stored & same_frames & same_blocks {
-            self.past.keep_still(top);
+        if same_frames & same_blocks {
+            self.keep_stored(machine, top, next.reach);
         } else {
-            self.keep_changes(machine, top, next);
+            self.keep_changes(machine, top, *next);
         }
+    }
+
+    /// The same for a step that left the frames and the blocks.
+    #[inline(always)]
+    fn keep_stored(&mut self, machine: &Machine, top: u32, reach: Reach)
+        requires copied { length self.old.copy.items ≡ length machine.now.body.ram.bytes }
+        requires stored { Beside reach self.old.copy.items machine.now.body.ram.bytes }
+        requires blocks { self.old.blocks.items ≡ machine.now.body.heap.blocks }
+        requires frames { machine.now.body.top ≡ top }
+        requires past { IsPast self.old.past }
+        ensures copied { self.new.copy.items ≡ machine.now.body.ram.bytes }
+        ensures blocks { self.new.blocks ≡ self.old.blocks }
+        ensures past { IsPast self.new.past }
+        ensures entries { entries_in self.new.past
+            ≡ within ROOM (entry_of (ready_in self.old.past.heads) top self.old.copy.items self.old.blocks.items machine.now ∷ entries_in self.old.past) }
+    {
+        if reach.low == reach.high {
+            self.past.keep_still(top);
+            return;
+        }
+        let bytes = machine.body.ram.bytes();
+        let range = narrowed(&self.copy, bytes, in_memory(reach, &self.copy, bytes));
+        self.past.keep(
+            top,
+            FrameChange::Stays,
+            BlockChange::Stays,
+            &self.copy,
+            bytes,
+            range.low,
+            range.high,
+        );
+        copy_range(&mut self.copy, bytes, range.low, range.high);
     }
 
     /// The same for any step.
@@ -124,17 +154,9 @@ impl History {
         let block = block_between(&self.blocks, machine.body.heap.blocks());
         let reach = stored_in(block, next, top, machine.body.top, &machine.active);
         let range = narrowed(&self.copy, bytes, in_memory(reach, &self.copy, bytes));
-        let changes = changes_in(&self.copy, bytes, range.low, range.high);
         let set = self.past.ready_isa();
-        let effect = Effect {
-            top,
-            frame: frame_between(top, machine.body.top, set, machine.active.isa()),
-            block,
-            runs: changes.runs,
-            olds: changes.bytes,
-        };
-        self.past
-            .keep(effect, &self.copy, bytes, range.low, range.high);
+        let frame = frame_between(top, machine.body.top, set, machine.active.isa());
+        self.past.keep(top, frame, block, &self.copy, bytes, range.low, range.high);
         copy_range(&mut self.copy, bytes, range.low, range.high);
         follow_blocks(&mut self.blocks, &machine.body.heap);
     }

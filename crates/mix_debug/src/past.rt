@@ -1,8 +1,8 @@
 // The steps that are kept, in three rings: heads, runs, and old bytes. The newest step stands in front. Older steps than those
 // for which there is room in the history may stand behind them, until they are overwritten or a step is taken back.
 ghost use Rattle.std.specs.Prelude.{◌≡◌, ◌<◌, ◌≤◌, ◌∷◌, [], All, IfOk, length, true};
-ghost use Rattle.mix_debug.specs.Runs.{olds_of, runs_in, undone};
-ghost use Rattle.mix_debug.specs.Entries.{IsInside, all_olds, all_spans, file_cost as file_cost_of, head_cost, head_with, newest, still, within};
+ghost use Rattle.mix_debug.specs.Runs.{runs_in, undone};
+ghost use Rattle.mix_debug.specs.Entries.{IsInside, all_olds, all_spans, effect_of, file_cost as file_cost_of, head_cost, head_with, newest, still, within};
 ghost use Rattle.mix_debug.specs.Rows.{ready_in};
 ghost use Rattle.switch_frame.specs.Records.{isa_of};
 ghost use Rattle.mix_debug.specs.Pasts.{IsPast, entries_in};
@@ -100,22 +100,37 @@ impl Past {
         });
     }
 
-    /// Keeps a step whose changed bytes lie in [`low`, `high`). The registers before it were written.
-    pub fn keep(&mut self, effect: Effect, old: &[u8], new: &[u8], low: usize, high: usize)
+    /// Keeps a step whose changed bytes lie in [`low`, `high`), and what it did to the frames and the blocks. The registers
+    /// before it were written.
+    #[inline(always)]
+    pub fn keep(
+        &mut self,
+        top: u32,
+        frame: FrameChange,
+        block: BlockChange,
+        old: &[u8],
+        new: &[u8],
+        low: usize,
+        high: usize,
+    )
         requires past { IsPast self.old }
         requires order { low ≤ high }
         requires old_long { high ≤ length old.now }
         requires new_long { high ≤ length new.now }
         requires small { high ≤ 16777216 }
-        requires runs { effect.runs ≡ length (runs_in low high old.now new.now) }
-        requires olds { effect.olds ≡ length (olds_of (runs_in low high old.now new.now)) }
         ensures past { IsPast self.new }
         ensures entries { entries_in self.new
-            ≡ within ROOM (record { head = head_with (ready_in self.old.heads) effect; runs = runs_in low high old.now new.now } ∷ entries_in self.old) }
+            ≡ within ROOM (record { head = head_with (ready_in self.old.heads) (effect_of top frame block (runs_in low high old.now new.now)); runs = runs_in low high old.now new.now } ∷ entries_in self.old) }
     {
         self.trimmed = false;
-        push_in(&mut self.spans, &mut self.olds, old, new, low, high);
-        self.heads.push(effect);
+        let changes = push_in(&mut self.spans, &mut self.olds, old, new, low, high);
+        self.heads.push(Effect {
+            top,
+            frame,
+            block,
+            runs: changes.runs,
+            olds: changes.bytes,
+        });
     }
 
     /// Which of the newest steps there is room for.

@@ -1,7 +1,7 @@
-// The runs of bytes that a step changed: counted, and put in front of those of earlier steps.
-ghost use Rattle.std.specs.Prelude.{◌≡◌, ◌≤◌, ◌++◌, length, take};
+// The runs of bytes that a step changed: put in front of those of earlier steps, and counted.
+ghost use Rattle.std.specs.Prelude.{◌≡◌, ◌+◌, ◌≤◌, ◌++◌, length, take};
 ghost use Rattle.mix_debug.specs.Runs.{olds_of, runs_in};
-ghost use Rattle.mix_debug.specs.Entries.{closed, spans_of};
+ghost use Rattle.mix_debug.specs.Entries.{closed, spans_of, started};
 
 use crate::head::Span;
 use circular_buffer::HeapCircularBuffer;
@@ -13,53 +13,6 @@ pub struct Changes {
     pub bytes: u32,
 }
 
-/// Counts the changed bytes of [`low`, `high`), where there are any.
-#[inline(always)]
-pub fn changes_in(old: &[u8], new: &[u8], low: usize, high: usize) -> Changes
-    requires order { low ≤ high }
-    requires old_long { high ≤ length old.now }
-    requires new_long { high ≤ length new.now }
-    requires small { high ≤ 16777216 }
-    ensures runs { result.runs ≡ length (runs_in low high old.now new.now) }
-    ensures bytes { result.bytes ≡ length (olds_of (runs_in low high old.now new.now)) }
-    ensures few { result.runs ≤ 16777216 }
-    ensures small { result.bytes ≤ 16777216 }
-{
-    if low == high {
-        Changes { runs: 0, bytes: 0 }
-    } else {
-        count_changes(old, new, low, high)
-    }
-}
-
-/// Counts the changed bytes of [`low`, `high`).
-#[inline(never)]
-fn count_changes(old: &[u8], new: &[u8], low: usize, high: usize) -> Changes
-    requires order { low ≤ high }
-    requires old_long { high ≤ length old.now }
-    requires new_long { high ≤ length new.now }
-    requires small { high ≤ 16777216 }
-    ensures runs { result.runs ≡ length (runs_in low high old.now new.now) }
-    ensures bytes { result.bytes ≡ length (olds_of (runs_in low high old.now new.now)) }
-    ensures few { result.runs ≤ 16777216 }
-    ensures small { result.bytes ≤ 16777216 }
-{
-    let mut changes = Changes { runs: 0, bytes: 0 };
-    let mut inside = false;
-    let mut at = high;
-    'bytes: while at > low {
-        at -= 1;
-        if old[at] == new[at] {
-            inside = false;
-        } else {
-            changes.bytes += 1;
-            changes.runs += u32::from(!inside);
-            inside = true;
-        }
-    }
-    changes
-}
-
 /// Puts the changed bytes of [`low`, `high`), if there are any, in front of those that are kept.
 #[inline(always)]
 pub fn push_in(
@@ -69,22 +22,25 @@ pub fn push_in(
     new: &[u8],
     low: usize,
     high: usize,
-)
+) -> Changes
     requires order { low ≤ high }
     requires old_long { high ≤ length old.now }
     requires new_long { high ≤ length new.now }
     requires small { high ≤ 16777216 }
     requires spans_fit { length spans.old.items ≤ spans.old.capacity }
     requires olds_fit { length olds.old.items ≤ olds.old.capacity }
+    ensures runs { result.runs ≡ length (runs_in low high old.now new.now) }
+    ensures bytes { result.bytes ≡ length (olds_of (runs_in low high old.now new.now)) }
     ensures spans { spans.new.items ≡ take spans.old.capacity (spans_of (runs_in low high old.now new.now) ++ spans.old.items) }
     ensures span_room { spans.new.capacity ≡ spans.old.capacity }
     ensures olds { olds.new.items ≡ take olds.old.capacity (olds_of (runs_in low high old.now new.now) ++ olds.old.items) }
     ensures old_room { olds.new.capacity ≡ olds.old.capacity }
 {
     if low == high {
-        return;
+        Changes { runs: 0, bytes: 0 }
+    } else {
+        push_changes(spans, olds, old, new, low, high)
     }
-    push_changes(spans, olds, old, new, low, high);
 }
 
 /// Puts the changed bytes of [`low`, `high`) in front of those that are kept, the lowest run first.
@@ -96,18 +52,21 @@ fn push_changes(
     new: &[u8],
     low: usize,
     high: usize,
-)
+) -> Changes
     requires order { low ≤ high }
     requires old_long { high ≤ length old.now }
     requires new_long { high ≤ length new.now }
     requires small { high ≤ 16777216 }
     requires spans_fit { length spans.old.items ≤ spans.old.capacity }
     requires olds_fit { length olds.old.items ≤ olds.old.capacity }
+    ensures runs { result.runs ≡ length (runs_in low high old.now new.now) }
+    ensures bytes { result.bytes ≡ length (olds_of (runs_in low high old.now new.now)) }
     ensures spans { spans.new.items ≡ take spans.old.capacity (spans_of (runs_in low high old.now new.now) ++ spans.old.items) }
     ensures span_room { spans.new.capacity ≡ spans.old.capacity }
     ensures olds { olds.new.items ≡ take olds.old.capacity (olds_of (runs_in low high old.now new.now) ++ olds.old.items) }
     ensures old_room { olds.new.capacity ≡ olds.old.capacity }
 {
+    let mut changes = Changes { runs: 0, bytes: 0 };
     let mut count = 0;
     let mut at = high;
     'bytes: while at > low {
@@ -116,23 +75,34 @@ fn push_changes(
             olds.push_front(old[at]);
             count += 1;
         } else {
-            close(spans, at + 1, count);
+            changes = close(spans, at + 1, count, changes);
             count = 0;
         }
     }
-    close(spans, low, count);
+    close(spans, low, count, changes)
 }
 
-/// Puts the run of `count` bytes from `at` on in front, if it has any.
-fn close(spans: &mut HeapCircularBuffer<Span>, at: usize, count: u32)
-    requires { at ≤ 16777216 }
+/// Puts the run of `count` bytes from `at` on in front, if it has any, and counts it beside others.
+#[inline(always)]
+fn close(spans: &mut HeapCircularBuffer<Span>, at: usize, count: u32, others: Changes) -> Changes
+    requires at { at ≤ 16777216 }
+    requires runs { others.runs ≤ 16777216 }
+    requires bytes { others.bytes + count ≤ 16777216 }
     ensures spans { spans.new.items ≡ closed spans.old.capacity at count spans.old.items }
     ensures room { spans.new.capacity ≡ spans.old.capacity }
+    ensures runs { result.runs ≡ others.runs + started count }
+    ensures bytes { result.bytes ≡ others.bytes + count }
 {
     if count > 0 {
         spans.push_front(Span {
             at: at as u32,
             count,
         });
+        Changes {
+            runs: others.runs + 1,
+            bytes: others.bytes + count,
+        }
+    } else {
+        others
     }
 }

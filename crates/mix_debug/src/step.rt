@@ -1,4 +1,5 @@
-ghost use Rattle.std.specs.Prelude.{◌≡◌, true};
+ghost use Rattle.std.specs.Prelude.{◌≡◌};
+ghost use Rattle.mix_engine.specs.Ends.{goes_on};
 ghost use Rattle.mix_debug.specs.Trails.{is_done as is_done_by, step_of as step_by, stop_of};
 
 use mixed_machine::Stop;
@@ -33,14 +34,11 @@ pub(crate) fn is_done(stop: Stop) -> bool
     }
 }
 
-/// The same answer of a step that is done, which tells nothing beside.
+/// The same of a step of which it is known whether the program goes on.
 #[inline(always)]
-pub(crate) fn done_of(stop: Stop) -> Stop
-    requires { is_done_by stop ≡ true }
-    ensures { result ≡ stop }
+pub(crate) fn was_done(on: bool, stop: &Stop) -> bool
+    requires { on ≡ goes_on stop.now }
+    ensures { result ≡ is_done_by stop.now }
 {
-    match stop {
-        Stop::TraceFault => Stop::TraceFault,
-        _ => Stop::Limit,
-    }
+    if on { true } else { is_done(*stop) }
 }

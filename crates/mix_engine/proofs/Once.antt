@@ -1,9 +1,10 @@
 -- One step by itself.
-use Rattle.std.proofs.Common.{ℕ, arith, subst}
+use Rattle.std.proofs.Common.{◌≡◌, ℕ, arith, subst, sym}
 use Rattle.mix_bits.specs.declared.fault.Fault.{Fault}
 use Rattle.switch_frame.specs.Records.{isa_of}
 use Rattle.mixed_machine.specs.declared.did.Did.{Did}
 use Rattle.mixed_machine.specs.declared.did.Did.TheVariants.{Exit, Fault as FaultDid, ReadFault, OutFault, TraceFault}
+use Rattle.mixed_machine.specs.declared.stop.Stop.{Stop}
 use Rattle.mixed_machine.specs.declared.stop.Stop.TheVariants.{Exit as ExitStop, Fault as FaultStop, Limit, ReadFault as ReadStop, OutFault as OutStop, TraceFault as TraceStop}
 use Rattle.mixed_machine.specs.Acts.{Acts}
 use Rattle.toolbox.specs.Blames.{Calm}
@@ -26,6 +27,10 @@ pub once-done : (did : Did) (cell : Fault) (a b : At) → IsWhole a.body (isa_of
 once-done did cell a b whole done calm acts =
     let way : Way 0 1 0 a b = way-on 0 1 1 did cell a a b (omega arith) done (whole-begins 1 a whole) acts calm (omega arith) in
     record { whole = way.whole; fewer = way.fewer; blames = way.calm; devices = way.devices; stops = limit-at 0 1 0 a b (omega arith) way.going }
+
+pub once-on : (did : Did) (cell : Fault) (a b : At) (stop : Stop) → stop ≡ Limit → IsWhole a.body (isa_of a.active) → IsDone did → Calm (counts_of a) (counts_of b) → Acts step did cell a b
+    → Ended 0 1 0 a b stop
+once-on did cell a b stop is whole done calm acts = subst (Ended 0 1 0 a b) (sym is) (once-done did cell a b whole done calm acts)
 
 -- the ends
 pub once-exits : (code : ℕ) (cell : Fault) (a b : At) → IsWhole a.body (isa_of a.active) → Acts step (Exit code) cell a b → Ended 0 1 0 a b (ExitStop code)

@@ -13,6 +13,6 @@ mod turn;
 
 pub use machine::{Machine, run};
 pub use mixed_machine::{Body, Stop};
-pub use one_step::step;
+pub use one_step::{step, step_beside};
 pub use runs::{run_m68, run_ppc};
 pub use turn::Turn;

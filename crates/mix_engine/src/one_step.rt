@@ -1,4 +1,5 @@
 // One step of a machine, without a loop.
+ghost use Rattle.std.specs.Prelude.{◌≡◌};
 ghost use Rattle.switch_frame.specs.Records.{isa_of};
 ghost use Rattle.dev_rack.specs.Accounts.{Accounts};
 ghost use Rattle.toolbox.specs.Blames.{counts};
@@ -9,14 +10,14 @@ ghost use Rattle.mixed_machine.specs.Outside.{at};
 ghost use Rattle.mixed_machine.specs.Runs.{Runs};
 ghost use Rattle.mix_steps.specs.Beside.{AreSame, machine_beside, outside_lent, trace_lent};
 ghost use Rattle.mix_io.specs.Streams.{output};
+ghost use Rattle.mix_engine.specs.Ends.{goes_on};
 
 use crate::machine::Machine;
 use dev_rack::Devices;
 use mix_bits::{Fault, FaultKind};
 use mix_io::{Sink, Source};
 use mix_steps::{Outside, advance_once};
-use mixed_machine::{Body, Did, Stop};
-use switch_frame::Active;
+use mixed_machine::{Did, Stop};
 
 /// Does one step, as `run` does that is allowed one.
 #[inline(always)]
@@ -41,36 +42,56 @@ pub fn step<I: Source, O: Sink, T: Sink, D: Devices>(
         trace,
         rack,
     };
-    step_beside(&mut m.body, &mut m.active, &mut outside)
+    let mut stop = Stop::Limit;
+    let _on = step_beside(m, &mut outside, &mut stop);
+    stop
 }
 
-/// The same beside what lies outside.
+/// The same beside what lies outside: whether the program goes on. How the step stopped stands in the cell, which holds
+/// `Limit` before.
 #[inline(always)]
-fn step_beside<'i, 'o, 't, 'd, I: Source, O: Sink, T: Sink, D: Devices>(
-    body: &mut Body,
-    active: &mut Active,
+pub fn step_beside<'i, 'o, 't, 'd, I: Source, O: Sink, T: Sink, D: Devices>(
+    m: &mut Machine,
     outside: &mut Outside<'i, 'o, 't, 'd, I, O, T, D>,
-) -> Stop
-    requires { IsWhole body.old (isa_of active.old) }
-    ensures whole { IsWhole body.new (isa_of active.new) }
+    stop: &mut Stop,
+) -> bool
+    requires whole { IsWhole m.old.body (isa_of m.old.active) }
+    requires cell { stop.old ≡ Stop.Limit }
+    ensures answer { result ≡ goes_on stop.new }
+    ensures whole { IsWhole m.new.body (isa_of m.new.active) }
     ensures run { Runs 1
-        (machine_beside I.left I.faults O.held O.faults T.held T.faults D.state body.old active.old outside.old)
-        (machine_beside I.left I.faults O.held O.faults T.held T.faults D.state body.new active.new outside.new) result }
-    ensures blames { Blames result
+        (machine_beside I.left I.faults O.held O.faults T.held T.faults D.state m.old.body m.old.active outside.old)
+        (machine_beside I.left I.faults O.held O.faults T.held T.faults D.state m.new.body m.new.active outside.new) stop.new }
+    ensures blames { Blames stop.new
         (counts_beside (outside_lent I.left I.faults O.held O.faults D.state outside.old) (trace_lent T.held T.faults outside.old))
         (counts_beside (outside_lent I.left I.faults O.held O.faults D.state outside.new) (trace_lent T.held T.faults outside.new)) }
     ensures devices { Accounts (D.state outside.old.rack.now) (D.state outside.new.rack.now) }
     ensures same { AreSame outside.old outside.new }
 {
     let mut fault = Fault::at(0, FaultKind::Illegal, 0);
-    match advance_once(body, active, outside, &mut fault) {
-        Did::Next => Stop::Limit,
-        Did::Call => Stop::Limit,
-        Did::Return => Stop::Limit,
-        Did::Exit(code) => Stop::Exit(code),
-        Did::Fault => Stop::Fault(fault),
-        Did::ReadFault => Stop::ReadFault,
-        Did::OutFault => Stop::OutFault,
-        Did::TraceFault => Stop::TraceFault,
+    match advance_once(&mut m.body, &mut m.active, outside, &mut fault) {
+        Did::Next => true,
+        Did::Call => true,
+        Did::Return => true,
+        Did::Exit(code) => {
+            *stop = Stop::Exit(code);
+            false
+        }
+        Did::Fault => {
+            *stop = Stop::Fault(fault);
+            false
+        }
+        Did::ReadFault => {
+            *stop = Stop::ReadFault;
+            false
+        }
+        Did::OutFault => {
+            *stop = Stop::OutFault;
+            false
+        }
+        Did::TraceFault => {
+            *stop = Stop::TraceFault;
+            false
+        }
     }
 }

@@ -1,13 +1,13 @@
 -- Where an instruction of 68K code stores, as its first word and the modes in it tell.
-use Rattle.std.proofs.Common.{◌≡◌, ℕ, ◌+◌, ◌%◌, ◌<◌, ◌≤◌, ◌==◌, ◌&&◌, nat_lt, Bool, true, false, if◌then◌else◌, List, [], ◌∷◌, length, slice_index, Option, Some, None, arith, ap, sym, subst, ◌∙◌, refl}
+use Rattle.std.proofs.Common.{◌≡◌, ℕ, ◌+◌, ◌%◌, ◌≤◌, ◌==◌, ◌&&◌, nat_lt, Bool, true, false, if◌then◌else◌, List, [], ◌∷◌, length, slice_index, Option, Some, None, arith, ap, sym, subst, ◌∙◌, refl}
 use Rattle.std.specs.Prelude.{IfSome}
-use Rattle.std.proofs.lemmas.Bool.{le-ltb, ne_eqb}
+use Rattle.std.proofs.lemmas.Bool.{eqb-true, le-ltb, ne_eqb}
 use Rattle.mix_bits.specs.Sizes.{sign_extended}
 use Rattle.mix_bits.specs.declared.size.Size.{Size}
 use Rattle.mix_bits.specs.declared.size.Size.TheVariants.{One, Two, Four}
 use Rattle.m68_isa.specs.declared.registers.Regs68.{Regs68}
 use Rattle.m68_isa.specs.declared.ea.Ea.{Ea}
-use Rattle.m68_isa.specs.declared.ea.Ea.TheVariants.{Pre}
+use Rattle.m68_isa.specs.declared.ea.Ea.TheVariants.{Dn, Pre}
 use Rattle.m68_isa.specs.declared.found.Found.{Found}
 use Rattle.m68_isa.specs.declared.found.Found.TheVariants.{Made}
 use Rattle.m68_isa.specs.declared.found.Found.TheVariants as Row
@@ -25,7 +25,7 @@ use Rattle.m68_isa.specs.Fits.{Fits}
 use Rattle.m68_isa.specs.Made.{made}
 use Rattle.m68_isa.specs.Miscellaneous.{masked}
 use Rattle.m68_isa.specs.Moves.{move_mode, moved_of}
-use Rattle.m68_isa.specs.Operands.{extended_word, long_at, operand_at, plain as plain_operand}
+use Rattle.m68_isa.specs.Operands.{extended_word, immediate_at, immediate_words, long_at, operand_at, plain as plain_operand}
 use Rattle.m68_isa.specs.Rows.{taken}
 use Rattle.mix_bits.specs.declared.fault.Fault.{Fault}
 use Rattle.m68_ea.specs.declared.operands.Target.{Target}
@@ -36,8 +36,13 @@ use Rattle.m68_ea.specs.Words.{words_at}
 use Rattle.big_memory.specs.Memory.{Memory}
 use Rattle.mix_reach.specs.declared.reach.Reach.{Reach}
 use Rattle.mix_reach.specs.Ranges.{nothing, plain}
-use Rattle.mix_reach.specs.Rows68.{at_place, into, pushes, stores}
-use Rattle.mix_reach.specs.Quick.{Changes, IsInto, Moves, Saves, is_storing}
+use Rattle.mix_reach.specs.Rows68.{at_place, behind, into, links, pushes, stores}
+use Rattle.m68_effects.specs.Bits.{bit_size}
+use Rattle.m68_effects.specs.Parts.{partner}
+use Rattle.m68_isa.specs.Immediates.{immediate_with}
+use Rattle.m68_isa.specs.declared.instructions.ImmediateOp.{ImmediateOp}
+use Rattle.m68_isa.specs.declared.instructions.ImmediateOp.TheVariants as ImmediateBy
+use Rattle.mix_reach.specs.Quick.{Changes, ChangesBy, IsInto, Moves, Saves, keeps_memory}
 use Rattle.mix_reach.specs.Steps.{Tells, TellsBy, decoded_stores}
 
 -- an instruction whose words are all there
@@ -68,94 +73,112 @@ extends-none r false n = refl
 branches-none : (r : Regs68) (condition disp : ℕ) → 2 ≤ condition → stores r (Bcc condition disp) ≡ nothing
 branches-none r condition disp fits = rw (ne_eqb condition 1 (λ e. omega (arith, e, fits))) refl
 
-pub none_told : (op : Op68) (word : ℕ) (r : Regs68) (ws : List ℕ) → is_storing op ≡ false → Fits op word → decoded_stores r (read op (first_of word) ws) ≡ plain nothing
-none_told Ori word r ws keeps fits = absurd (let e : true ≡ false = keeps in cc)
-none_told Andi word r ws keeps fits = absurd (let e : true ≡ false = keeps in cc)
-none_told Subi word r ws keeps fits = absurd (let e : true ≡ false = keeps in cc)
-none_told Addi word r ws keeps fits = absurd (let e : true ≡ false = keeps in cc)
-none_told Eori word r ws keeps fits = absurd (let e : true ≡ false = keeps in cc)
-none_told Cmpi word r ws keeps fits = absurd (let e : true ≡ false = keeps in cc)
+-- a data register is no place in memory
+data-operand : (ws : List ℕ) (at : ℕ) (size : Size) (mode lower : ℕ) → (mode == 0) ≡ true → operand_at ws at size mode lower ≡ plain_operand (Dn lower) at
+data-operand ws at size mode lower is = rw is refl
+
+data-into : (r : Regs68) (ws : List ℕ) (at : ℕ) (size t : Size) (mode lower : ℕ) → (mode == 0) ≡ true → into r t (operand_at ws at size mode lower).ea ≡ nothing
+data-into r ws at size t mode lower is = ap (λ (e : Operand). into r t e.ea) (data-operand ws at size mode lower is)
+
+data-bit : (r : Regs68) (ws : List ℕ) (at : ℕ) (mode lower : ℕ) → (mode == 0) ≡ true → into r (bit_size (operand_at ws at One mode lower).ea) (operand_at ws at One mode lower).ea ≡ nothing
+data-bit r ws at mode lower is = ap (λ (e : Operand). into r (bit_size e.ea) e.ea) (data-operand ws at One mode lower is)
+
+data-moved : (r : Regs68) (ws : List ℕ) (f : First) (size : Size) → (move_mode f == 0) ≡ true
+    → into (placed r (operand_at ws 1 size f.mode f.lower).ea size).0 size (operand_at ws (operand_at ws 1 size f.mode f.lower).next size (move_mode f) f.upper).ea ≡ nothing
+data-moved r ws f size is =
+    data-into (placed r (operand_at ws 1 size f.mode f.lower).ea size).0 ws (operand_at ws 1 size f.mode f.lower).next size size (move_mode f) f.upper is
+
+data-pair : (r : Regs68) (size : Size) (mode from to : ℕ) → (mode == 0) ≡ true → behind r size (partner (mode == 1) from) (partner (mode == 1) to) ≡ nothing
+data-pair r size mode from to is = ap (λ (m : ℕ). behind r size (partner (m == 1) from) (partner (m == 1) to)) (eqb-true mode 0 is)
+
+pub none_told : (op : Op68) (word : ℕ) (r : Regs68) (ws : List ℕ) → keeps_memory op (first_of word) ≡ true → Fits op word → decoded_stores r (read op (first_of word) ws) ≡ plain nothing
+none_told Ori word r ws keeps fits = found-none r (made Ori (first_of word) ws) (length ws) (data-into r ws (1 + immediate_words (size_of (first_of word).size)) (size_of (first_of word).size) (size_of (first_of word).size) (first_of word).mode (first_of word).lower keeps)
+none_told Andi word r ws keeps fits = found-none r (made Andi (first_of word) ws) (length ws) (data-into r ws (1 + immediate_words (size_of (first_of word).size)) (size_of (first_of word).size) (size_of (first_of word).size) (first_of word).mode (first_of word).lower keeps)
+none_told Subi word r ws keeps fits = found-none r (made Subi (first_of word) ws) (length ws) (data-into r ws (1 + immediate_words (size_of (first_of word).size)) (size_of (first_of word).size) (size_of (first_of word).size) (first_of word).mode (first_of word).lower keeps)
+none_told Addi word r ws keeps fits = found-none r (made Addi (first_of word) ws) (length ws) (data-into r ws (1 + immediate_words (size_of (first_of word).size)) (size_of (first_of word).size) (size_of (first_of word).size) (first_of word).mode (first_of word).lower keeps)
+none_told Eori word r ws keeps fits = found-none r (made Eori (first_of word) ws) (length ws) (data-into r ws (1 + immediate_words (size_of (first_of word).size)) (size_of (first_of word).size) (size_of (first_of word).size) (first_of word).mode (first_of word).lower keeps)
+none_told Cmpi word r ws keeps fits = found-none r (made Cmpi (first_of word) ws) (length ws) (data-into r ws (1 + immediate_words (size_of (first_of word).size)) (size_of (first_of word).size) (size_of (first_of word).size) (first_of word).mode (first_of word).lower keeps)
 none_told LogicToCcr word r ws keeps fits = found-none r (made LogicToCcr (first_of word) ws) (length ws) refl
-none_told BitByNumber word r ws keeps fits = absurd (let e : true ≡ false = keeps in cc)
-none_told BitByRegister word r ws keeps fits = absurd (let e : true ≡ false = keeps in cc)
-none_told Movep word r ws keeps fits = absurd (let e : true ≡ false = keeps in cc)
-none_told MoveByte word r ws keeps fits = absurd (let e : true ≡ false = keeps in cc)
-none_told MoveWord word r ws keeps fits = absurd (let e : true ≡ false = keeps in cc)
-none_told MoveLong word r ws keeps fits = absurd (let e : true ≡ false = keeps in cc)
+none_told BitByNumber word r ws keeps fits = found-none r (made BitByNumber (first_of word) ws) (length ws) (data-bit r ws 2 (first_of word).mode (first_of word).lower keeps)
+none_told BitByRegister word r ws keeps fits = found-none r (made BitByRegister (first_of word) ws) (length ws) (data-bit r ws 1 (first_of word).mode (first_of word).lower keeps)
+none_told Movep word r ws keeps fits = absurd (let e : false ≡ true = keeps in cc)
+none_told MoveByte word r ws keeps fits = found-none r (made MoveByte (first_of word) ws) (length ws) (data-moved r ws (first_of word) One keeps)
+none_told MoveWord word r ws keeps fits = found-none r (made MoveWord (first_of word) ws) (length ws) (data-moved r ws (first_of word) Two keeps)
+none_told MoveLong word r ws keeps fits = found-none r (made MoveLong (first_of word) ws) (length ws) (data-moved r ws (first_of word) Four keeps)
 none_told MoveaWord word r ws keeps fits = found-none r (made MoveaWord (first_of word) ws) (length ws) refl
 none_told MoveaLong word r ws keeps fits = found-none r (made MoveaLong (first_of word) ws) (length ws) refl
-none_told Negx word r ws keeps fits = absurd (let e : true ≡ false = keeps in cc)
-none_told Clr word r ws keeps fits = absurd (let e : true ≡ false = keeps in cc)
-none_told Neg word r ws keeps fits = absurd (let e : true ≡ false = keeps in cc)
-none_told Not word r ws keeps fits = absurd (let e : true ≡ false = keeps in cc)
-none_told MoveFromSr word r ws keeps fits = absurd (let e : true ≡ false = keeps in cc)
+none_told Negx word r ws keeps fits = found-none r (made Negx (first_of word) ws) (length ws) (data-into r ws 1 (size_of (first_of word).size) (size_of (first_of word).size) (first_of word).mode (first_of word).lower keeps)
+none_told Clr word r ws keeps fits = found-none r (made Clr (first_of word) ws) (length ws) (data-into r ws 1 (size_of (first_of word).size) (size_of (first_of word).size) (first_of word).mode (first_of word).lower keeps)
+none_told Neg word r ws keeps fits = found-none r (made Neg (first_of word) ws) (length ws) (data-into r ws 1 (size_of (first_of word).size) (size_of (first_of word).size) (first_of word).mode (first_of word).lower keeps)
+none_told Not word r ws keeps fits = found-none r (made Not (first_of word) ws) (length ws) (data-into r ws 1 (size_of (first_of word).size) (size_of (first_of word).size) (first_of word).mode (first_of word).lower keeps)
+none_told MoveFromSr word r ws keeps fits = found-none r (made MoveFromSr (first_of word) ws) (length ws) (data-into r ws 1 Two Two (first_of word).mode (first_of word).lower keeps)
 none_told MoveToCcr word r ws keeps fits = found-none r (made MoveToCcr (first_of word) ws) (length ws) refl
-none_told Nbcd word r ws keeps fits = absurd (let e : true ≡ false = keeps in cc)
+none_told Nbcd word r ws keeps fits = found-none r (made Nbcd (first_of word) ws) (length ws) (data-into r ws 1 One One (first_of word).mode (first_of word).lower keeps)
 none_told Swap word r ws keeps fits = found-none r (made Swap (first_of word) ws) (length ws) refl
-none_told Pea word r ws keeps fits = absurd (let e : true ≡ false = keeps in cc)
+none_told Pea word r ws keeps fits = absurd (let e : false ≡ true = keeps in cc)
 none_told Ext word r ws keeps fits = found-none r (made Ext (first_of word) ws) (length ws) (extends-none r ((first_of word).size % 2 == 0) (first_of word).lower)
 none_told ExtByte word r ws keeps fits = found-none r (made ExtByte (first_of word) ws) (length ws) refl
-none_told MovemToMemory word r ws keeps fits = absurd (let e : true ≡ false = keeps in cc)
+none_told MovemToMemory word r ws keeps fits = absurd (let e : false ≡ true = keeps in cc)
 none_told MovemFromMemory word r ws keeps fits = found-none r (made MovemFromMemory (first_of word) ws) (length ws) refl
 none_told MulLong word r ws keeps fits = found-none r (made MulLong (first_of word) ws) (length ws) refl
 none_told DivLong word r ws keeps fits = found-none r (made DivLong (first_of word) ws) (length ws) refl
 none_told Tst word r ws keeps fits = found-none r (made Tst (first_of word) ws) (length ws) refl
-none_told Tas word r ws keeps fits = absurd (let e : true ≡ false = keeps in cc)
+none_told Tas word r ws keeps fits = found-none r (made Tas (first_of word) ws) (length ws) (data-into r ws 1 One One (first_of word).mode (first_of word).lower keeps)
 none_told Trap word r ws keeps fits = found-none r (made Trap (first_of word) ws) (length ws) refl
-none_told Link word r ws keeps fits = absurd (let e : true ≡ false = keeps in cc)
-none_told LinkLong word r ws keeps fits = absurd (let e : true ≡ false = keeps in cc)
+none_told Link word r ws keeps fits = absurd (let e : false ≡ true = keeps in cc)
+none_told LinkLong word r ws keeps fits = absurd (let e : false ≡ true = keeps in cc)
 none_told Unlk word r ws keeps fits = found-none r (made Unlk (first_of word) ws) (length ws) refl
 none_told Nop word r ws keeps fits = found-none r (made Nop (first_of word) ws) (length ws) refl
 none_told Rtd word r ws keeps fits = found-none r (made Rtd (first_of word) ws) (length ws) refl
 none_told Rts word r ws keeps fits = found-none r (made Rts (first_of word) ws) (length ws) refl
 none_told Trapv word r ws keeps fits = found-none r (made Trapv (first_of word) ws) (length ws) refl
 none_told Rtr word r ws keeps fits = found-none r (made Rtr (first_of word) ws) (length ws) refl
-none_told Jsr word r ws keeps fits = absurd (let e : true ≡ false = keeps in cc)
+none_told Jsr word r ws keeps fits = absurd (let e : false ≡ true = keeps in cc)
 none_told Jmp word r ws keeps fits = found-none r (made Jmp (first_of word) ws) (length ws) refl
 none_told Chk word r ws keeps fits = found-none r (made Chk (first_of word) ws) (length ws) refl
 none_told Lea word r ws keeps fits = found-none r (made Lea (first_of word) ws) (length ws) refl
-none_told Addq word r ws keeps fits = absurd (let e : true ≡ false = keeps in cc)
-none_told Subq word r ws keeps fits = absurd (let e : true ≡ false = keeps in cc)
-none_told Scc word r ws keeps fits = absurd (let e : true ≡ false = keeps in cc)
+none_told Addq word r ws keeps fits = found-none r (made Addq (first_of word) ws) (length ws) (data-into r ws 1 (size_of (first_of word).size) (size_of (first_of word).size) (first_of word).mode (first_of word).lower keeps)
+none_told Subq word r ws keeps fits = found-none r (made Subq (first_of word) ws) (length ws) (data-into r ws 1 (size_of (first_of word).size) (size_of (first_of word).size) (first_of word).mode (first_of word).lower keeps)
+none_told Scc word r ws keeps fits = found-none r (made Scc (first_of word) ws) (length ws) (data-into r ws 1 One One (first_of word).mode (first_of word).lower keeps)
 none_told Dbcc word r ws keeps fits = found-none r (made Dbcc (first_of word) ws) (length ws) refl
 none_told BraByte word r ws keeps fits = found-none r (made BraByte (first_of word) ws) (length ws) refl
 none_told BraWord word r ws keeps fits = found-none r (made BraWord (first_of word) ws) (length ws) refl
 none_told BraLong word r ws keeps fits = found-none r (made BraLong (first_of word) ws) (length ws) refl
-none_told BsrByte word r ws keeps fits = absurd (let e : true ≡ false = keeps in cc)
-none_told BsrWord word r ws keeps fits = absurd (let e : true ≡ false = keeps in cc)
-none_told BsrLong word r ws keeps fits = absurd (let e : true ≡ false = keeps in cc)
+none_told BsrByte word r ws keeps fits = absurd (let e : false ≡ true = keeps in cc)
+none_told BsrWord word r ws keeps fits = absurd (let e : false ≡ true = keeps in cc)
+none_told BsrLong word r ws keeps fits = absurd (let e : false ≡ true = keeps in cc)
 none_told BccByte word r ws keeps fits = found-none r (made BccByte (first_of word) ws) (length ws) (branches-none r (condition_of (first_of word)) (sign_extended (low_byte (first_of word)) One) fits)
 none_told BccWord word r ws keeps fits = found-none r (made BccWord (first_of word) ws) (length ws) (branches-none r (condition_of (first_of word)) (extended_word ws 1) fits)
 none_told BccLong word r ws keeps fits = found-none r (made BccLong (first_of word) ws) (length ws) (branches-none r (condition_of (first_of word)) (long_at ws 1) fits)
 none_told Moveq word r ws keeps fits = found-none r (made Moveq (first_of word) ws) (length ws) refl
 none_told OrToRegister word r ws keeps fits = found-none r (made OrToRegister (first_of word) ws) (length ws) refl
-none_told OrToMemory word r ws keeps fits = absurd (let e : true ≡ false = keeps in cc)
+none_told OrToMemory word r ws keeps fits = absurd (let e : false ≡ true = keeps in cc)
 none_told Divu word r ws keeps fits = found-none r (made Divu (first_of word) ws) (length ws) refl
 none_told Divs word r ws keeps fits = found-none r (made Divs (first_of word) ws) (length ws) refl
-none_told Sbcd word r ws keeps fits = absurd (let e : true ≡ false = keeps in cc)
+none_told Sbcd word r ws keeps fits = found-none r (made Sbcd (first_of word) ws) (length ws) (data-pair r One (first_of word).mode (first_of word).lower (first_of word).upper keeps)
 none_told SubToRegister word r ws keeps fits = found-none r (made SubToRegister (first_of word) ws) (length ws) refl
-none_told SubToMemory word r ws keeps fits = absurd (let e : true ≡ false = keeps in cc)
+none_told SubToMemory word r ws keeps fits = absurd (let e : false ≡ true = keeps in cc)
 none_told Suba word r ws keeps fits = found-none r (made Suba (first_of word) ws) (length ws) refl
-none_told Subx word r ws keeps fits = absurd (let e : true ≡ false = keeps in cc)
+none_told Subx word r ws keeps fits = found-none r (made Subx (first_of word) ws) (length ws) (data-pair r (size_of (first_of word).size) (first_of word).mode (first_of word).lower (first_of word).upper keeps)
 none_told Cmp word r ws keeps fits = found-none r (made Cmp (first_of word) ws) (length ws) refl
 none_told Cmpa word r ws keeps fits = found-none r (made Cmpa (first_of word) ws) (length ws) refl
-none_told Eor word r ws keeps fits = absurd (let e : true ≡ false = keeps in cc)
+none_told Eor word r ws keeps fits = found-none r (made Eor (first_of word) ws) (length ws) (data-into r ws 1 (size_of (first_of word).size) (size_of (first_of word).size) (first_of word).mode (first_of word).lower keeps)
 none_told Cmpm word r ws keeps fits = found-none r (made Cmpm (first_of word) ws) (length ws) refl
 none_told AndToRegister word r ws keeps fits = found-none r (made AndToRegister (first_of word) ws) (length ws) refl
-none_told AndToMemory word r ws keeps fits = absurd (let e : true ≡ false = keeps in cc)
+none_told AndToMemory word r ws keeps fits = absurd (let e : false ≡ true = keeps in cc)
 none_told Mulu word r ws keeps fits = found-none r (made Mulu (first_of word) ws) (length ws) refl
 none_told Muls word r ws keeps fits = found-none r (made Muls (first_of word) ws) (length ws) refl
-none_told Abcd word r ws keeps fits = absurd (let e : true ≡ false = keeps in cc)
+none_told Abcd word r ws keeps fits = found-none r (made Abcd (first_of word) ws) (length ws) (data-pair r One (first_of word).mode (first_of word).lower (first_of word).upper keeps)
 none_told Exg word r ws keeps fits = found-none r (made Exg (first_of word) ws) (length ws) refl
 none_told AddToRegister word r ws keeps fits = found-none r (made AddToRegister (first_of word) ws) (length ws) refl
-none_told AddToMemory word r ws keeps fits = absurd (let e : true ≡ false = keeps in cc)
+none_told AddToMemory word r ws keeps fits = absurd (let e : false ≡ true = keeps in cc)
 none_told Adda word r ws keeps fits = found-none r (made Adda (first_of word) ws) (length ws) refl
-none_told Addx word r ws keeps fits = absurd (let e : true ≡ false = keeps in cc)
+none_told Addx word r ws keeps fits = found-none r (made Addx (first_of word) ws) (length ws) (data-pair r (size_of (first_of word).size) (first_of word).mode (first_of word).lower (first_of word).upper keeps)
 none_told Shift word r ws keeps fits = found-none r (made Shift (first_of word) ws) (length ws) refl
-none_told ShiftMemory word r ws keeps fits = absurd (let e : true ≡ false = keeps in cc)
+none_told ShiftMemory word r ws keeps fits = absurd (let e : false ≡ true = keeps in cc)
 none_told Illegal word r ws keeps fits = found-none r (made Illegal (first_of word) ws) (length ws) tt
 none_told Privileged word r ws keeps fits = found-none r (made Privileged (first_of word) ws) (length ws) tt
-none_told LineA word r ws keeps fits = absurd (let e : true ≡ false = keeps in cc)
+none_told LineA word r ws keeps fits = absurd (let e : false ≡ true = keeps in cc)
 none_told LineF word r ws keeps fits = refl
 
 -- one operand is changed
@@ -165,6 +188,14 @@ changed_told r ws f make w few each told =
     let e : Operand = operand_at ws 1 (size_of f.size) f.mode f.lower in
     let ends : e.next ≤ 5 = told.1 in
     ended-told r (make (size_of f.size) e.ea) e.next (length ws) e.good w (omega (arith, few, ends)) told.0 (each e.ea ∙ sym told.2)
+
+-- the same behind an immediate
+pub immediate_told : (r : Regs68) (ws : List ℕ) (f : First) (op : ImmediateOp) (w : Reach) → 5 ≤ length ws → ChangesBy r ws f w → decoded_stores r (ended (immediate_with op f ws) (length ws)) ≡ plain w
+immediate_told r ws f op w few told =
+    let size : Size = size_of f.size in
+    let e : Operand = operand_at ws (1 + immediate_words size) size f.mode f.lower in
+    let ends : e.next ≤ 5 = told.1 in
+    ended-told r (Instr.Immediate op size (immediate_at ws 1 size) e.ea) e.next (length ws) e.good w (omega (arith, few, ends)) told.0 (sym told.2)
 
 -- a value is moved
 both : (a b : Bool) → a ≡ true → b ≡ true → (a && b) ≡ true
@@ -192,6 +223,10 @@ saved_told r ws f w few told =
 -- bsr with its displacement in so many words
 pub called_told : (r : Regs68) (disp used count : ℕ) → used ≤ count → decoded_stores r (ended (Made (Bcc 1 disp) used true) count) ≡ plain (pushes r)
 called_told r disp used count few = ended-told r (Bcc 1 disp) used count true (pushes r) few refl refl
+
+-- link
+pub linked_told : (r : Regs68) (register disp count : ℕ) → 2 ≤ count → decoded_stores r (ended (Made (Instr.Link Two register disp) 2 true) count) ≡ plain (links r)
+linked_told r register disp count few = ended-told r (Instr.Link Two register disp) 2 count true (links r) few refl refl
 
 -- the words that begin with a first word
 first-read : (ws : List ℕ) → 5 ≤ length ws → decoded ws ≡ read (operation (first_of (slice_index ws 0))) (first_of (slice_index ws 0)) ws
@@ -312,3 +347,31 @@ changes_AndToMemory r ws word op x few is holds =
 pub changes_AddToMemory : (r : Regs68) (ws : List ℕ) (word : ℕ) (op : Op68) (x : Option Reach) → 5 ≤ length ws → op ≡ AddToMemory → IfSome x (Changes r ws (first_of word)) → IfSome x (TellsBy r ws (first_of word) op)
 changes_AddToMemory r ws word op x few is holds =
     some_told x (Changes r ws (first_of word)) (TellsBy r ws (first_of word) op) holds (λ w goes. by-op r ws (first_of word) op AddToMemory w is (changed_told r ws (first_of word) (λ s e. Instr.Add s true (first_of word).upper e) w few (λ e. refl) goes))
+
+pub changes_Ori : (r : Regs68) (ws : List ℕ) (word : ℕ) (op : Op68) (x : Option Reach) → 5 ≤ length ws → op ≡ Ori → IfSome x (ChangesBy r ws (first_of word)) → IfSome x (TellsBy r ws (first_of word) op)
+changes_Ori r ws word op x few is holds =
+    some_told x (ChangesBy r ws (first_of word)) (TellsBy r ws (first_of word) op) holds (λ w goes. by-op r ws (first_of word) op Ori w is (immediate_told r ws (first_of word) ImmediateBy.Ori w few goes))
+
+pub changes_Andi : (r : Regs68) (ws : List ℕ) (word : ℕ) (op : Op68) (x : Option Reach) → 5 ≤ length ws → op ≡ Andi → IfSome x (ChangesBy r ws (first_of word)) → IfSome x (TellsBy r ws (first_of word) op)
+changes_Andi r ws word op x few is holds =
+    some_told x (ChangesBy r ws (first_of word)) (TellsBy r ws (first_of word) op) holds (λ w goes. by-op r ws (first_of word) op Andi w is (immediate_told r ws (first_of word) ImmediateBy.Andi w few goes))
+
+pub changes_Subi : (r : Regs68) (ws : List ℕ) (word : ℕ) (op : Op68) (x : Option Reach) → 5 ≤ length ws → op ≡ Subi → IfSome x (ChangesBy r ws (first_of word)) → IfSome x (TellsBy r ws (first_of word) op)
+changes_Subi r ws word op x few is holds =
+    some_told x (ChangesBy r ws (first_of word)) (TellsBy r ws (first_of word) op) holds (λ w goes. by-op r ws (first_of word) op Subi w is (immediate_told r ws (first_of word) ImmediateBy.Subi w few goes))
+
+pub changes_Addi : (r : Regs68) (ws : List ℕ) (word : ℕ) (op : Op68) (x : Option Reach) → 5 ≤ length ws → op ≡ Addi → IfSome x (ChangesBy r ws (first_of word)) → IfSome x (TellsBy r ws (first_of word) op)
+changes_Addi r ws word op x few is holds =
+    some_told x (ChangesBy r ws (first_of word)) (TellsBy r ws (first_of word) op) holds (λ w goes. by-op r ws (first_of word) op Addi w is (immediate_told r ws (first_of word) ImmediateBy.Addi w few goes))
+
+pub changes_Eori : (r : Regs68) (ws : List ℕ) (word : ℕ) (op : Op68) (x : Option Reach) → 5 ≤ length ws → op ≡ Eori → IfSome x (ChangesBy r ws (first_of word)) → IfSome x (TellsBy r ws (first_of word) op)
+changes_Eori r ws word op x few is holds =
+    some_told x (ChangesBy r ws (first_of word)) (TellsBy r ws (first_of word) op) holds (λ w goes. by-op r ws (first_of word) op Eori w is (immediate_told r ws (first_of word) ImmediateBy.Eori w few goes))
+
+pub changes_Cmpi : (r : Regs68) (ws : List ℕ) (word : ℕ) (op : Op68) (x : Option Reach) → 5 ≤ length ws → op ≡ Cmpi → IfSome x (ChangesBy r ws (first_of word)) → IfSome x (TellsBy r ws (first_of word) op)
+changes_Cmpi r ws word op x few is holds =
+    some_told x (ChangesBy r ws (first_of word)) (TellsBy r ws (first_of word) op) holds (λ w goes. by-op r ws (first_of word) op Cmpi w is (immediate_told r ws (first_of word) ImmediateBy.Cmpi w few goes))
+
+pub linked_by : (r : Regs68) (ws : List ℕ) (word : ℕ) (op : Op68) (w : Reach) → 5 ≤ length ws → op ≡ Link → w ≡ links r → TellsBy r ws (first_of word) op w
+linked_by r ws word op w few is told =
+    by-op r ws (first_of word) op Link w is (linked_told r (first_of word).lower (extended_word ws 1) (length ws) (omega (arith, few)) ∙ ap plain (sym told))

@@ -1,5 +1,5 @@
 -- Where an instruction of PowerPC code stores, by its operation.
-use Rattle.std.proofs.Common.{◌≡◌, ap, ◌∙◌, refl}
+use Rattle.std.proofs.Common.{◌≡◌, refl}
 use Rattle.ppc_isa.specs.declared.registers.RegsPpc.{RegsPpc}
 use Rattle.ppc_isa.specs.declared.fields.Fields.{Fields}
 use Rattle.ppc_isa.specs.declared.op.OpPpc.{OpPpc}
@@ -145,3 +145,124 @@ none_told Sthbrx r f keeps = absurd keeps
 none_told Extsh r f keeps = refl
 none_told Extsb r f keeps = refl
 none_told Invalid r f keeps = refl
+
+-- all operations but those that store
+pub others_keep : (x : OpPpc) → (x ≡ Stw → ⊥) → (x ≡ Stwu → ⊥) → (x ≡ Stb → ⊥) → (x ≡ Stbu → ⊥) → (x ≡ Sth → ⊥) → (x ≡ Sthu → ⊥) → (x ≡ Stmw → ⊥) → (x ≡ Stwx → ⊥) → (x ≡ Stwux → ⊥) → (x ≡ Stbx → ⊥) → (x ≡ Stbux → ⊥) → (x ≡ Sthx → ⊥) → (x ≡ Sthux → ⊥) → (x ≡ Stwbrx → ⊥) → (x ≡ Sthbrx → ⊥) → (x ≡ Stswi → ⊥) → (x ≡ Stswx → ⊥) → KeepsMemory x
+others_keep x stw stwu stb stbu sth sthu stmw stwx stwux stbx stbux sthx sthux stwbrx sthbrx stswi stswx =
+    elim x as (λ (o : OpPpc). x ≡ o → KeepsMemory o) [
+      | Twi ↦ λ is. tt
+      | Mulli ↦ λ is. tt
+      | Subfic ↦ λ is. tt
+      | Cmpli ↦ λ is. tt
+      | Cmpi ↦ λ is. tt
+      | Addic ↦ λ is. tt
+      | AddicRecord ↦ λ is. tt
+      | Addi ↦ λ is. tt
+      | Addis ↦ λ is. tt
+      | Bc ↦ λ is. tt
+      | B ↦ λ is. tt
+      | Rlwimi ↦ λ is. tt
+      | Rlwinm ↦ λ is. tt
+      | Rlwnm ↦ λ is. tt
+      | Ori ↦ λ is. tt
+      | Oris ↦ λ is. tt
+      | Xori ↦ λ is. tt
+      | Xoris ↦ λ is. tt
+      | Andi ↦ λ is. tt
+      | Andis ↦ λ is. tt
+      | Lwz ↦ λ is. tt
+      | Lwzu ↦ λ is. tt
+      | Lbz ↦ λ is. tt
+      | Lbzu ↦ λ is. tt
+      | Stw ↦ λ is. absurd (stw is)
+      | Stwu ↦ λ is. absurd (stwu is)
+      | Stb ↦ λ is. absurd (stb is)
+      | Stbu ↦ λ is. absurd (stbu is)
+      | Lhz ↦ λ is. tt
+      | Lhzu ↦ λ is. tt
+      | Lha ↦ λ is. tt
+      | Lhau ↦ λ is. tt
+      | Sth ↦ λ is. absurd (sth is)
+      | Sthu ↦ λ is. absurd (sthu is)
+      | Lmw ↦ λ is. tt
+      | Stmw ↦ λ is. absurd (stmw is)
+      | Mcrf ↦ λ is. tt
+      | Bclr ↦ λ is. tt
+      | Crnor ↦ λ is. tt
+      | Crandc ↦ λ is. tt
+      | Isync ↦ λ is. tt
+      | Crxor ↦ λ is. tt
+      | Crnand ↦ λ is. tt
+      | Crand ↦ λ is. tt
+      | Creqv ↦ λ is. tt
+      | Crorc ↦ λ is. tt
+      | Cror ↦ λ is. tt
+      | Bcctr ↦ λ is. tt
+      | Cmp ↦ λ is. tt
+      | Tw ↦ λ is. tt
+      | Subfc ↦ λ is. tt
+      | Addc ↦ λ is. tt
+      | Mulhwu ↦ λ is. tt
+      | Mfcr ↦ λ is. tt
+      | Lwzx ↦ λ is. tt
+      | Slw ↦ λ is. tt
+      | Cntlzw ↦ λ is. tt
+      | And ↦ λ is. tt
+      | Cmpl ↦ λ is. tt
+      | Subf ↦ λ is. tt
+      | Lwzux ↦ λ is. tt
+      | Andc ↦ λ is. tt
+      | Mulhw ↦ λ is. tt
+      | Lbzx ↦ λ is. tt
+      | Neg ↦ λ is. tt
+      | Lbzux ↦ λ is. tt
+      | Nor ↦ λ is. tt
+      | Subfe ↦ λ is. tt
+      | Adde ↦ λ is. tt
+      | Mtcrf ↦ λ is. tt
+      | Stwx ↦ λ is. absurd (stwx is)
+      | Stwux ↦ λ is. absurd (stwux is)
+      | Subfze ↦ λ is. tt
+      | Addze ↦ λ is. tt
+      | Stbx ↦ λ is. absurd (stbx is)
+      | Subfme ↦ λ is. tt
+      | Addme ↦ λ is. tt
+      | Mullw ↦ λ is. tt
+      | Stbux ↦ λ is. absurd (stbux is)
+      | Add ↦ λ is. tt
+      | Lhzx ↦ λ is. tt
+      | Eqv ↦ λ is. tt
+      | Lhzux ↦ λ is. tt
+      | Xor ↦ λ is. tt
+      | Mfxer ↦ λ is. tt
+      | Mflr ↦ λ is. tt
+      | Mfctr ↦ λ is. tt
+      | Lhax ↦ λ is. tt
+      | Lhaux ↦ λ is. tt
+      | Sthx ↦ λ is. absurd (sthx is)
+      | Orc ↦ λ is. tt
+      | Sthux ↦ λ is. absurd (sthux is)
+      | Or ↦ λ is. tt
+      | Divwu ↦ λ is. tt
+      | Mtxer ↦ λ is. tt
+      | Mtlr ↦ λ is. tt
+      | Mtctr ↦ λ is. tt
+      | Nand ↦ λ is. tt
+      | Divw ↦ λ is. tt
+      | Mcrxr ↦ λ is. tt
+      | Lswx ↦ λ is. tt
+      | Lwbrx ↦ λ is. tt
+      | Srw ↦ λ is. tt
+      | Lswi ↦ λ is. tt
+      | Sync ↦ λ is. tt
+      | Stswx ↦ λ is. absurd (stswx is)
+      | Stwbrx ↦ λ is. absurd (stwbrx is)
+      | Stswi ↦ λ is. absurd (stswi is)
+      | Lhbrx ↦ λ is. tt
+      | Sraw ↦ λ is. tt
+      | Srawi ↦ λ is. tt
+      | Sthbrx ↦ λ is. absurd (sthbrx is)
+      | Extsh ↦ λ is. tt
+      | Extsb ↦ λ is. tt
+      | Invalid ↦ λ is. tt
+    ] refl

@@ -1,5 +1,5 @@
 -- Where an instruction of 68K code stores, as the modes in its first word tell.
-use Rattle.std.specs.Prelude.{◌≡◌, ℕ, ◌%◌, ◌≤◌, Bool, true, false, List, slice_index}
+use Rattle.std.specs.Prelude.{◌≡◌, ℕ, ◌+◌, ◌%◌, ◌==◌, ◌≤◌, Bool, true, false, List, slice_index}
 use Rattle.mix_bits.specs.Sizes.{bytes_of}
 use Rattle.mix_bits.specs.declared.size.Size.{Size}
 use Rattle.m68_isa.specs.declared.registers.Regs68.{Regs68}
@@ -7,7 +7,7 @@ use Rattle.m68_isa.specs.declared.op.Op68.{Op68}
 use Rattle.m68_isa.specs.declared.op.Op68.TheVariants.{Ori, Andi, Subi, Addi, Eori, Cmpi, BitByNumber, BitByRegister, Movep, MoveByte, MoveWord, MoveLong, Negx, Clr, Neg, Not, MoveFromSr, Nbcd, Pea, MovemToMemory, Tas, Link, LinkLong, Jsr, Addq, Subq, Scc, BsrByte, BsrWord, BsrLong, OrToMemory, Sbcd, SubToMemory, Subx, Eor, AndToMemory, Abcd, AddToMemory, Addx, ShiftMemory, LineA}
 use Rattle.m68_isa.specs.First.{First, long_or_word, size_of}
 use Rattle.m68_isa.specs.Moves.{move_mode}
-use Rattle.m68_isa.specs.Operands.{operand_at}
+use Rattle.m68_isa.specs.Operands.{immediate_words, operand_at}
 use Rattle.m68_ea.specs.Places.{backward, placed}
 use Rattle.mix_reach.specs.declared.reach.Reach.{Reach}
 use Rattle.mix_reach.specs.Rows68.{below, into}
@@ -32,47 +32,51 @@ Moves r ws f size w =
 abbrev pub Saves : Regs68 → First → Reach → Type 0
 Saves r f w = (f.mode ≡ 4) × (w ≡ below (backward (slice_index r.a f.lower) (bytes_of (long_or_word (f.size % 2)))))
 
--- whether an operation stores in memory, or may
-abbrev pub is_storing : Op68 → Bool
-is_storing Ori = true
-is_storing Andi = true
-is_storing Subi = true
-is_storing Addi = true
-is_storing Eori = true
-is_storing Cmpi = true
-is_storing BitByNumber = true
-is_storing BitByRegister = true
-is_storing Movep = true
-is_storing MoveByte = true
-is_storing MoveWord = true
-is_storing MoveLong = true
-is_storing Negx = true
-is_storing Clr = true
-is_storing Neg = true
-is_storing Not = true
-is_storing MoveFromSr = true
-is_storing Nbcd = true
-is_storing Pea = true
-is_storing MovemToMemory = true
-is_storing Tas = true
-is_storing Link = true
-is_storing LinkLong = true
-is_storing Jsr = true
-is_storing Addq = true
-is_storing Subq = true
-is_storing Scc = true
-is_storing BsrByte = true
-is_storing BsrWord = true
-is_storing BsrLong = true
-is_storing OrToMemory = true
-is_storing Sbcd = true
-is_storing SubToMemory = true
-is_storing Subx = true
-is_storing Eor = true
-is_storing AndToMemory = true
-is_storing Abcd = true
-is_storing AddToMemory = true
-is_storing Addx = true
-is_storing ShiftMemory = true
-is_storing LineA = true
-is_storing op = false
+-- the same behind an immediate
+abbrev pub ChangesBy : Regs68 → List ℕ → First → Reach → Type 0
+ChangesBy r ws f = IsInto r ws (1 + immediate_words (size_of f.size)) (size_of f.size) f.mode f.lower
+
+-- whether an operation leaves memory as it is, as the first word tells: it changes a data register, or stores nowhere
+abbrev pub keeps_memory : Op68 → First → Bool
+keeps_memory Ori f = f.mode == 0
+keeps_memory Andi f = f.mode == 0
+keeps_memory Subi f = f.mode == 0
+keeps_memory Addi f = f.mode == 0
+keeps_memory Eori f = f.mode == 0
+keeps_memory Cmpi f = f.mode == 0
+keeps_memory BitByNumber f = f.mode == 0
+keeps_memory BitByRegister f = f.mode == 0
+keeps_memory Movep f = false
+keeps_memory MoveByte f = move_mode f == 0
+keeps_memory MoveWord f = move_mode f == 0
+keeps_memory MoveLong f = move_mode f == 0
+keeps_memory Negx f = f.mode == 0
+keeps_memory Clr f = f.mode == 0
+keeps_memory Neg f = f.mode == 0
+keeps_memory Not f = f.mode == 0
+keeps_memory MoveFromSr f = f.mode == 0
+keeps_memory Nbcd f = f.mode == 0
+keeps_memory Pea f = false
+keeps_memory MovemToMemory f = false
+keeps_memory Tas f = f.mode == 0
+keeps_memory Link f = false
+keeps_memory LinkLong f = false
+keeps_memory Jsr f = false
+keeps_memory Addq f = f.mode == 0
+keeps_memory Subq f = f.mode == 0
+keeps_memory Scc f = f.mode == 0
+keeps_memory BsrByte f = false
+keeps_memory BsrWord f = false
+keeps_memory BsrLong f = false
+keeps_memory OrToMemory f = false
+keeps_memory Sbcd f = f.mode == 0
+keeps_memory SubToMemory f = false
+keeps_memory Subx f = f.mode == 0
+keeps_memory Eor f = f.mode == 0
+keeps_memory AndToMemory f = false
+keeps_memory Abcd f = f.mode == 0
+keeps_memory AddToMemory f = false
+keeps_memory Addx f = f.mode == 0
+keeps_memory ShiftMemory f = false
+keeps_memory LineA f = false
+keeps_memory op f = true

@@ -189,7 +189,7 @@ pub fn pushes(regs: &Regs68) -> Reach
 }
 
 /// LINK's old value, at the stack pointer as it is then.
-fn links(regs: &Regs68) -> Reach
+pub fn links(regs: &Regs68) -> Reach
     ensures { result ≡ links_of regs.now }
 {
     let mut found = *regs;

@@ -1,10 +1,10 @@
 // Where an instruction of PowerPC code stores.
-ghost use Rattle.std.specs.Prelude.{◌≡◌, ◌<◌};
+ghost use Rattle.std.specs.Prelude.{◌≡◌, ◌<◌, false};
 ghost use Rattle.ppc_isa.specs.Fields.{fields_of};
 ghost use Rattle.ppc_isa.specs.Rows.{decoded};
 ghost use Rattle.ppc_effects.specs.Storage.{index_address as index_address_of, offset_address as offset_address_of};
 ghost use Rattle.ppc_effects.specs.Strings.{length_of as length_of_field};
-ghost use Rattle.mix_reach.specs.Ranges.{plain, range as range_of};
+ghost use Rattle.mix_reach.specs.Ranges.{nothing as nothing_of, plain, range as range_of};
 ghost use Rattle.mix_reach.specs.RowsPpc.{string_at as string_at_of};
 ghost use Rattle.mix_reach.specs.Steps.{word_decoded};
 
@@ -38,6 +38,33 @@ pub fn stores(regs: &RegsPpc, word: u32) -> Reach
         OpPpc::Stswi => string_at(base(regs, a_of(word)), length_of(shift_of(word))),
         OpPpc::Stswx => string_at(index_address(regs, word), xer_string_length(regs.xer)),
         _ => nothing(),
+    }
+}
+
+/// Whether the instruction of a word stores, or may.
+#[inline(always)]
+pub fn is_storing(word: u32) -> bool
+    ensures { (r : RegsPpc) → result ≡ false → word_decoded r (decoded word) ≡ plain nothing_of }
+{
+    match op_of(word) {
+        OpPpc::Stw => true,
+        OpPpc::Stwu => true,
+        OpPpc::Stb => true,
+        OpPpc::Stbu => true,
+        OpPpc::Sth => true,
+        OpPpc::Sthu => true,
+        OpPpc::Stmw => true,
+        OpPpc::Stwx => true,
+        OpPpc::Stwux => true,
+        OpPpc::Stbx => true,
+        OpPpc::Stbux => true,
+        OpPpc::Sthx => true,
+        OpPpc::Sthux => true,
+        OpPpc::Stwbrx => true,
+        OpPpc::Sthbrx => true,
+        OpPpc::Stswi => true,
+        OpPpc::Stswx => true,
+        _ => false,
     }
 }
 

@@ -1,11 +1,15 @@
 // Where an instruction of 68K code stores, as its first word and the modes of its operands tell, without decoding it.
-ghost use Rattle.std.specs.Prelude.{◌≡◌, ◌<◌, ◌≤◌, IfSome, IsTrue, length};
+ghost use Rattle.std.specs.Prelude.{◌≡◌, ◌+◌, ◌<◌, ◌≤◌, ◌==◌, IfSome, IsTrue, length, true};
+ghost use Rattle.m68_isa.specs.Decode.{decoded};
+ghost use Rattle.m68_isa.specs.Moves.{move_mode};
+ghost use Rattle.m68_isa.specs.Operands.{immediate_words};
 ghost use Rattle.m68_isa.specs.First.{first_of};
 ghost use Rattle.m68_ea.specs.Words.{words_at};
-ghost use Rattle.mix_reach.specs.Quick.{Changes, IsInto, Moves, Saves, is_storing as is_storing_by};
-ghost use Rattle.mix_reach.specs.Steps.{Tells, TellsBy};
+ghost use Rattle.mix_reach.specs.Quick.{Changes, ChangesBy, IsInto, Moves, Saves, keeps_memory as keeps_memory_by};
+ghost use Rattle.mix_reach.specs.Ranges.{nothing as nothing_of, plain as plain_of};
+ghost use Rattle.mix_reach.specs.Steps.{Tells, TellsBy, decoded_stores};
 
-use crate::m68::{at_place, below, pushes};
+use crate::m68::{at_place, below, links, pushes};
 use crate::reach::{Reach, nothing};
 use big_memory::Ram;
 use m68_ea::{backward, find, word_at};
@@ -23,55 +27,81 @@ pub fn has_five(ram: &Ram, pc: u32) -> bool
     ram.has(pc, 10)
 }
 
-/// Whether an operation stores in memory, or may.
+/// Whether an operation leaves memory as it is, as the first word tells: it changes a data register, or stores nowhere.
 #[inline(always)]
-fn is_storing(op: Op68) -> bool
-    ensures { result ≡ is_storing_by op }
+fn keeps_memory(op: Op68, word: u32) -> bool
+    ensures { result ≡ keeps_memory_by op (first_of word) }
 {
     match op {
-        Op68::Ori => true,
-        Op68::Andi => true,
-        Op68::Subi => true,
-        Op68::Addi => true,
-        Op68::Eori => true,
-        Op68::Cmpi => true,
-        Op68::BitByNumber => true,
-        Op68::BitByRegister => true,
-        Op68::Movep => true,
-        Op68::MoveByte => true,
-        Op68::MoveWord => true,
-        Op68::MoveLong => true,
-        Op68::Negx => true,
-        Op68::Clr => true,
-        Op68::Neg => true,
-        Op68::Not => true,
-        Op68::MoveFromSr => true,
-        Op68::Nbcd => true,
-        Op68::Pea => true,
-        Op68::MovemToMemory => true,
-        Op68::Tas => true,
-        Op68::Link => true,
-        Op68::LinkLong => true,
-        Op68::Jsr => true,
-        Op68::Addq => true,
-        Op68::Subq => true,
-        Op68::Scc => true,
-        Op68::BsrByte => true,
-        Op68::BsrWord => true,
-        Op68::BsrLong => true,
-        Op68::OrToMemory => true,
-        Op68::Sbcd => true,
-        Op68::SubToMemory => true,
-        Op68::Subx => true,
-        Op68::Eor => true,
-        Op68::AndToMemory => true,
-        Op68::Abcd => true,
-        Op68::AddToMemory => true,
-        Op68::Addx => true,
-        Op68::ShiftMemory => true,
-        Op68::LineA => true,
-        _ => false,
+        Op68::Ori => changes_data(word),
+        Op68::Andi => changes_data(word),
+        Op68::Subi => changes_data(word),
+        Op68::Addi => changes_data(word),
+        Op68::Eori => changes_data(word),
+        Op68::Cmpi => changes_data(word),
+        Op68::BitByNumber => changes_data(word),
+        Op68::BitByRegister => changes_data(word),
+        Op68::Movep => false,
+        Op68::MoveByte => moves_to_data(word),
+        Op68::MoveWord => moves_to_data(word),
+        Op68::MoveLong => moves_to_data(word),
+        Op68::Negx => changes_data(word),
+        Op68::Clr => changes_data(word),
+        Op68::Neg => changes_data(word),
+        Op68::Not => changes_data(word),
+        Op68::MoveFromSr => changes_data(word),
+        Op68::Nbcd => changes_data(word),
+        Op68::Pea => false,
+        Op68::MovemToMemory => false,
+        Op68::Tas => changes_data(word),
+        Op68::Link => false,
+        Op68::LinkLong => false,
+        Op68::Jsr => false,
+        Op68::Addq => changes_data(word),
+        Op68::Subq => changes_data(word),
+        Op68::Scc => changes_data(word),
+        Op68::BsrByte => false,
+        Op68::BsrWord => false,
+        Op68::BsrLong => false,
+        Op68::OrToMemory => false,
+        Op68::Sbcd => changes_data(word),
+        Op68::SubToMemory => false,
+        Op68::Subx => changes_data(word),
+        Op68::Eor => changes_data(word),
+        Op68::AndToMemory => false,
+        Op68::Abcd => changes_data(word),
+        Op68::AddToMemory => false,
+        Op68::Addx => changes_data(word),
+        Op68::ShiftMemory => false,
+        Op68::LineA => false,
+        _ => true,
     }
+}
+
+/// Whether bits 5 to 3 tell a data register.
+#[inline(always)]
+fn changes_data(word: u32) -> bool
+    ensures { result ≡ ((first_of word).mode == 0) }
+{
+    mode_of(word) == 0
+}
+
+/// Whether the destination of a move is a data register.
+#[inline(always)]
+fn moves_to_data(word: u32) -> bool
+    ensures { result ≡ (move_mode (first_of word) == 0) }
+{
+    move_mode_of(word) == 0
+}
+
+/// Whether an instruction none of whose words is missing leaves memory as it is, as its first word tells.
+#[inline(always)]
+pub fn is_still(ram: &Ram, regs: &Regs68) -> bool
+    requires { 5 ≤ length (words_at ram.now regs.now.pc) }
+    ensures { result ≡ true → decoded_stores regs.now (decoded (words_at ram.now regs.now.pc)) ≡ plain_of nothing_of }
+{
+    let word = word_at(ram, regs.pc, 0);
+    keeps_memory(op_of(word), word)
 }
 
 /// Where an instruction stores none of whose words is missing; None where it has to be decoded.
@@ -82,10 +112,10 @@ pub fn quick_stores(ram: &Ram, regs: &Regs68) -> Option<Reach>
 {
     let word = word_at(ram, regs.pc, 0);
     let op = op_of(word);
-    if is_storing(op) {
-        storing(ram, regs, word, op)
-    } else {
+    if keeps_memory(op, word) {
         Some(nothing())
+    } else {
+        storing(ram, regs, word, op)
     }
 }
 
@@ -112,6 +142,13 @@ fn storing(ram: &Ram, regs: &Regs68, word: u32, op: Op68) -> Option<Reach>
         Op68::AddToMemory => changed(ram, regs, word),
         Op68::BsrByte => Some(pushes(regs)),
         Op68::BsrWord => Some(pushes(regs)),
+        Op68::Ori => changed_by(ram, regs, word),
+        Op68::Andi => changed_by(ram, regs, word),
+        Op68::Subi => changed_by(ram, regs, word),
+        Op68::Addi => changed_by(ram, regs, word),
+        Op68::Eori => changed_by(ram, regs, word),
+        Op68::Cmpi => changed_by(ram, regs, word),
+        Op68::Link => Some(links(regs)),
         Op68::MovemToMemory => saved(regs, word),
         _ => None,
     }
@@ -124,6 +161,37 @@ fn changed(ram: &Ram, regs: &Regs68, word: u32) -> Option<Reach>
 {
     let size = size_of(word);
     at_operand(ram, regs, word, 1, size, mode_of(word), lower_of(word))
+}
+
+/// The same of an instruction with an immediate, whose words come first.
+#[inline(never)]
+fn changed_by(ram: &Ram, regs: &Regs68, word: u32) -> Option<Reach>
+    ensures { IfSome result (ChangesBy regs.now (words_at ram.now regs.now.pc) (first_of word)) }
+{
+    let size = size_of(word);
+    at_operand(
+        ram,
+        regs,
+        word,
+        behind_immediate(size),
+        size,
+        mode_of(word),
+        lower_of(word),
+    )
+}
+
+/// The number of the word behind an immediate.
+#[inline(always)]
+fn behind_immediate(size: Size) -> u32
+    ensures is { result ≡ 1 + immediate_words size }
+    ensures near { result < 4 }
+{
+    match size {
+        Size::Zero => 1,
+        Size::One => 2,
+        Size::Two => 2,
+        Size::Four => 3,
+    }
 }
 
 /// Where a move stores: its destination is found behind its source.

@@ -26,6 +26,14 @@ pub(crate) fn plain(reach: Reach) -> Stores
     Stores { reach, filled: 0 }
 }
 
+/// Where a step stores that stores nowhere.
+#[inline(always)]
+pub fn no_stores() -> Stores
+    ensures { result ≡ plain_of nothing_of }
+{
+    plain(nothing())
+}
+
 /// In a block that is made.
 pub(crate) fn filling(filled: u32) -> Stores
     ensures { result ≡ filling_of filled }

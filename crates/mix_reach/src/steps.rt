@@ -1,10 +1,10 @@
 // Where a step stores.
-ghost use Rattle.std.specs.Prelude.{◌≡◌, Some};
+ghost use Rattle.std.specs.Prelude.{◌≡◌, Some, true};
 ghost use Rattle.big_memory.specs.Map.{host_code as host_code_of};
 ghost use Rattle.toolbox.specs.Functions.{trap_number};
 ghost use Rattle.toolbox.specs.Registers.{operands_of};
 ghost use Rattle.toolbox.specs.declared.function.Function.TheVariants.{BlockMove, NewPtrClear};
-ghost use Rattle.mix_reach.specs.Ranges.{range as range_of};
+ghost use Rattle.mix_reach.specs.Ranges.{nothing as nothing_of, plain as plain_of, range as range_of};
 ghost use Rattle.mix_reach.specs.Steps.{decoded_stores as decoded_stores_of, frame_given_up as frame_given_up_of, frame_made as frame_made_of, host_stores as host_stores_of, next_stores as next_stores_of, reach, word_stores as word_stores_of};
 ghost use Rattle.big_memory.specs.Memory.{loaded};
 ghost use Rattle.m68_isa.specs.Decode.{decoded};
@@ -14,7 +14,7 @@ ghost use Rattle.switch_frame.specs.declared.active.Active.TheVariants.{M68, Ppc
 
 use crate::quick::{has_five, quick_stores};
 use crate::reach::{Reach, Stores, filling, nothing, plain, range};
-use crate::{m68, ppc};
+use crate::{m68, ppc, quick};
 use big_memory::{Ram, host_code, in_gate_page};
 use m68_isa::{Decoded68, Regs68};
 use mix_bits::onward;
@@ -48,6 +48,52 @@ pub fn next_stores(ram: &Ram, active: &Active) -> Stores
                 word_stores(ram, regs)
             }
         }
+    }
+}
+
+/// Whether the next step of code stores nowhere and makes no block, as its first word tells. Where it is false, it may.
+#[inline(always)]
+pub fn is_still(ram: &Ram, active: &Active) -> bool
+    ensures { result ≡ true → next_stores_of ram.now active.now ≡ plain_of nothing_of }
+{
+    match active {
+        Active::M68(regs) => is_still_68k(ram, regs),
+        Active::Ppc(regs) => is_still_ppc(ram, regs),
+    }
+}
+
+/// The same for 68K code.
+#[inline(always)]
+fn is_still_68k(ram: &Ram, regs: &Regs68) -> bool
+    ensures { result ≡ true → decoded_stores_of regs.now (decoded (words_at ram.now regs.now.pc)) ≡ plain_of nothing_of }
+{
+    if has_five(ram, regs.pc) {
+        quick::is_still(ram, regs)
+    } else {
+        false
+    }
+}
+
+/// The same for PowerPC code.
+#[inline(always)]
+fn is_still_ppc(ram: &Ram, regs: &RegsPpc) -> bool
+    ensures { result ≡ true → next_stores_of ram.now (Ppc regs.now) ≡ plain_of nothing_of }
+{
+    if in_gate_page(regs.pc) {
+        false
+    } else {
+        is_still_word(ram, regs)
+    }
+}
+
+/// The same for the word of PowerPC code.
+#[inline(always)]
+fn is_still_word(ram: &Ram, regs: &RegsPpc) -> bool
+    ensures { result ≡ true → word_stores_of regs.now (loaded ram.now regs.now.pc Four) ≡ plain_of nothing_of }
+{
+    match ram.load_long(regs.pc) {
+        Ok(word) => !ppc::is_storing(word),
+        Err(_) => true,
     }
 }
 

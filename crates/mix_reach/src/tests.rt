@@ -1,5 +1,5 @@
 // The words are those that GNU as gives.
-use crate::{next_stores, step_reach};
+use crate::{is_still, next_stores, step_reach};
 use big_memory::Ram;
 use m68_isa::{Ccr, Regs68};
 use ppc_isa::RegsPpc;
@@ -79,6 +79,9 @@ fn instructions_of_68k_code(rt: HostRuntime) -> Result<(), Fail> {
         row(0x2080, 0, 0x1_1000, 0x1_1004),
         row(0x1F00, 0, 0x1_BFFE, 0x1_C002),
         row(0xD368, 4, 0x1_1004, 0x1_1008),
+        // link a6,#-8; addi.w #16,(a0)
+        row(0x4E56, 0xFFF8, 0x1_BFFC, 0x1_C000),
+        row(0x0650, 0x10, 0x1_1000, 0x1_1004),
         // movem.l d0-d7/a0-a6,-(sp); bsr.s; moveq #1,d0
         row(0x48E7, 0xFFFE, 0x1_BFBC, 0x1_C000),
         row(0x6102, 0, 0x1_BFFC, 0x1_C000),
@@ -101,6 +104,30 @@ fn instructions_of_powerpc_code(rt: HostRuntime) -> Result<(), Fail> {
         row(0x38E7, 0xFFFF, 0, 0),
     ];
     assert!(rt; stores_there(&mut ram, &ppc(), &rows));
+    Ok(())
+}
+
+/// Whether the instruction of two words is told to store nowhere.
+fn still_there(ram: &mut Ram, active: &Active, first: u32, second: u32) -> bool {
+    ram.store_word(CODE, first).is_ok()
+        && ram.store_word(CODE + 2, second).is_ok()
+        && is_still(ram, active)
+}
+
+#[test]
+fn instructions_that_store_nowhere(rt: HostRuntime) -> Result<(), Fail> {
+    let mut ram = Ram::new(rt.alloc(), 131_072)?;
+    // move.l (a0),d0; addi.w #16,d1; addq.l #1,d2; clr.l d3; tst.w (a0)
+    assert!(rt; still_there(&mut ram, &m68(), 0x2010, 0));
+    assert!(rt; still_there(&mut ram, &m68(), 0x0641, 0x10));
+    assert!(rt; still_there(&mut ram, &m68(), 0x5282, 0));
+    assert!(rt; still_there(&mut ram, &m68(), 0x4283, 0));
+    assert!(rt; still_there(&mut ram, &m68(), 0x4A50, 0));
+    // addq.l #1,(a0); link a6,#-8; addi r7,r7,-1; stw r0,4(r3)
+    assert!(rt; !still_there(&mut ram, &m68(), 0x5290, 0));
+    assert!(rt; !still_there(&mut ram, &m68(), 0x4E56, 0xFFF8));
+    assert!(rt; still_there(&mut ram, &ppc(), 0x38E7, 0xFFFF));
+    assert!(rt; !still_there(&mut ram, &ppc(), 0x9003, 4));
     Ok(())
 }
 

@@ -32,7 +32,7 @@ use Rattle.mix_script.specs.Sessions.{Past, Session, cost_of, fitting, past_of, 
 use Rattle.mix_script.specs.Events.{Event, after, lines_by, said_by, steps_to}
 use Rattle.mix_script.specs.Places.{Over, Place, counts_in, place, sinks_in}
 use Rattle.mix_script.specs.Plays.{AllDone}
-use Rattle.mix_script.specs.Parts.{DoesOnce, halt_in, once_of}
+use Rattle.mix_script.specs.Parts.{DoesOnce, halt_in, once_in, once_of}
 use Rattle.mix_script.specs.declared.walk.Once.{Once}
 
 -- ---- a run of one step
@@ -350,3 +350,18 @@ pub once-does : (old new : Trail) (o p : Outside) (v w : Output) (stop : Stop) (
 once-does old new o p v w stop set once set_is same is runs blames devices =
     subst (λ r. Over (halt_in r) (λ s t. DoesOnce r s t (sinks_in (place old o v)) (sinks_in (place new p w))) (place old o v) (place new p w)) (sym same)
     (once-over old new o p v w stop set set_is is runs blames devices)
+
+-- by the set that is active behind the step
+same-once : (old new : Trail) (stop : Stop) → Keeps (is_done stop) old new → once_of (isa_of new.machine.active) stop ≡ once_of (isa_of old.machine.active) stop
+same-once old new (Exit code) keeps = refl
+same-once old new (Fault fault) keeps = ap (λ (m : Machine). once_of (isa_of m.active) (Fault fault)) keeps.0
+same-once old new Limit keeps = refl
+same-once old new ReadFault keeps = refl
+same-once old new OutFault keeps = refl
+same-once old new TraceFault keeps = refl
+
+pub once-does_in : (old new : Trail) (o p : Outside) (v w : Output) (stop : Stop) → IsStep old new stop
+    → Runs 1 (at old.machine.body old.machine.active o v) (at new.machine.body new.machine.active p w) stop
+    → Blames stop (counts_in (place old o v)) (counts_in (place new p w)) → Accounts o.rack p.rack
+    → Over (halt_in (once_in new stop)) (λ s t. DoesOnce (once_in new stop) s t (sinks_in (place old o v)) (sinks_in (place new p w))) (place old o v) (place new p w)
+once-does_in old new o p v w stop is = once-does old new o p v w stop (isa_of old.machine.active) (once_in new stop) refl (same-once old new stop is.keeps) is

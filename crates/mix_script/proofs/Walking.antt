@@ -7,6 +7,13 @@ use Rattle.mixed_machine.specs.Next.{Next}
 use Rattle.mixed_machine.specs.Next.Next.{Exits, Faults}
 use Rattle.mixed_machine.specs.Runs.{Sinks}
 use Rattle.mixed_machine.specs.Step.{step}
+use Rattle.mixed_machine.specs.declared.stop.Stop.{Stop}
+use Rattle.mixed_machine.specs.declared.stop.Stop.TheVariants as By
+use Rattle.mix_bits.specs.declared.isa.Isa.{Isa}
+use Rattle.std.specs.Prelude.{Result}
+use Rattle.mix_engine.specs.Ends.{goes_on}
+use Rattle.toolbox.specs.declared.broken.Broken.TheVariants as Halt
+use Rattle.mix_script.specs.declared.walk.Walked.{Walked}
 use Rattle.mix_engine.specs.declared.machine.Machine.{Machine}
 use Rattle.mix_debug.specs.Machines.{Kept}
 use Rattle.mix_debug.specs.Trails.{TakesBack, Trail}
@@ -14,7 +21,7 @@ use Rattle.mix_script.specs.Sessions.{Past, Session, past_of, returned, session_
 use Rattle.mix_script.specs.Events.{Event, Walk, after, back_by, backward, forward, goes_back, halts, lines_by, onward, said_by, steps_to, stops, walk_by}
 use Rattle.mix_script.specs.Places.{Over, Place, sinks_in}
 use Rattle.mix_script.specs.Plays.{AllDone, Played}
-use Rattle.mix_script.specs.Parts.{DoesOnce, EndsAt, GoesForward, GoesOn, Walks, WalksBack}
+use Rattle.mix_script.specs.Parts.{DoesOnce, EndsAt, GoesForward, GoesOn, Walks, WalksBack, ended_by, halt_in, once_of}
 use Rattle.mix_script.specs.declared.walk.Once.TheVariants.{Went, Ended, Halted}
 use Rattle.toolbox.specs.declared.broken.Broken.{Broken}
 use Rattle.mix_script.specs.declared.walk.Until.{Until}
@@ -152,6 +159,49 @@ pub going-halted : (until : Until) (count done : ℕ) (stopped : Broken) (a b c 
     → Over (Some stopped) (λ s t. DoesOnce (Halted stopped) s t (sinks_in b) (sinks_in c)) b c → GoesForward until count a c (Err stopped)
 going-halted until count done stopped a b c more going went =
     over-more (Some stopped) _ _ _ a b c (λ x y z so_far one. halted-one until count done stopped _ _ _ (sinks_in a) (sinks_in b) (sinks_in c) more so_far one) going went
+
+-- by how the step stopped
+pub limit-on : (stop : Stop) → goes_on stop ≡ true → stop ≡ By.Limit
+limit-on (By.Exit code) on = absurd (let e : false ≡ true = on in cc)
+limit-on (By.Fault fault) on = absurd (let e : false ≡ true = on in cc)
+limit-on By.Limit on = refl
+limit-on By.ReadFault on = absurd (let e : false ≡ true = on in cc)
+limit-on By.OutFault on = absurd (let e : false ≡ true = on in cc)
+limit-on By.TraceFault on = absurd (let e : false ≡ true = on in cc)
+
+pub going-on_by : (until : Until) (count done : ℕ) (a b c : Place) (set : Isa) (stop : Stop) → goes_on stop ≡ true → done < count → ((around : Around) → stops until (session_of c.trail around) ≡ false)
+    → GoingAt until count done a b → Over (halt_in (once_of set stop)) (λ s t. DoesOnce (once_of set stop) s t (sinks_in b) (sinks_in c)) b c → GoingAt until count (done + 1) a c
+going-on_by until count done a b c set (By.Exit code) on more is going went = absurd (let e : false ≡ true = on in cc)
+going-on_by until count done a b c set (By.Fault fault) on more is going went = absurd (let e : false ≡ true = on in cc)
+going-on_by until count done a b c set By.Limit on more is going went = going-on until count done a b c more is going went
+going-on_by until count done a b c set By.ReadFault on more is going went = absurd (let e : false ≡ true = on in cc)
+going-on_by until count done a b c set By.OutFault on more is going went = absurd (let e : false ≡ true = on in cc)
+going-on_by until count done a b c set By.TraceFault on more is going went = absurd (let e : false ≡ true = on in cc)
+
+pub going-there_by : (until : Until) (count done : ℕ) (a b c : Place) (set : Isa) (stop : Stop) → goes_on stop ≡ true → done < count → ((around : Around) → stops until (session_of c.trail around) ≡ true)
+    → GoingAt until count done a b → Over (halt_in (once_of set stop)) (λ s t. DoesOnce (once_of set stop) s t (sinks_in b) (sinks_in c)) b c
+    → GoesForward until count a c (Ok (record { done = done + 1; end = None }))
+going-there_by until count done a b c set (By.Exit code) on more is going went = absurd (let e : false ≡ true = on in cc)
+going-there_by until count done a b c set (By.Fault fault) on more is going went = absurd (let e : false ≡ true = on in cc)
+going-there_by until count done a b c set By.Limit on more is going went = going-there until count done a b c more is going went
+going-there_by until count done a b c set By.ReadFault on more is going went = absurd (let e : false ≡ true = on in cc)
+going-there_by until count done a b c set By.OutFault on more is going went = absurd (let e : false ≡ true = on in cc)
+going-there_by until count done a b c set By.TraceFault on more is going went = absurd (let e : false ≡ true = on in cc)
+
+-- where the program does not go on
+going-off : (until : Until) (count done : ℕ) (a b c : Place) (set : Isa) (stop : Stop) → goes_on stop ≡ false → done < count
+    → GoingAt until count done a b → Over (halt_in (once_of set stop)) (λ s t. DoesOnce (once_of set stop) s t (sinks_in b) (sinks_in c)) b c
+    → GoesForward until count a c (ended_by done (once_of set stop))
+going-off until count done a b c set (By.Exit code) off more going went = going-ended until count done (Exit code) a b c more going went
+going-off until count done a b c set (By.Fault fault) off more going went = going-ended until count done (Fault set fault) a b c more going went
+going-off until count done a b c set By.Limit off more going went = absurd (let e : true ≡ false = off in cc)
+going-off until count done a b c set By.ReadFault off more going went = going-halted until count done Halt.Input a b c more going went
+going-off until count done a b c set By.OutFault off more going went = going-halted until count done Halt.Output a b c more going went
+going-off until count done a b c set By.TraceFault off more going went = going-halted until count done Halt.Trace a b c more going went
+
+pub going-off_by : (until : Until) (count done : ℕ) (a b c : Place) (set : Isa) (stop : Stop) (result : Result Walked Broken) → result ≡ ended_by done (once_of set stop) → goes_on stop ≡ false → done < count
+    → GoingAt until count done a b → Over (halt_in (once_of set stop)) (λ s t. DoesOnce (once_of set stop) s t (sinks_in b) (sinks_in c)) b c → GoesForward until count a c result
+going-off_by until count done a b c set stop result is off more going went = subst (GoesForward until count a c) (sym is) (going-off until count done a b c set stop off more going went)
 
 -- where all steps were done
 forward-none : (until : Until) (n : ℕ) (t : Session) → n ≡ 0 → forward until n t ≡ halts None

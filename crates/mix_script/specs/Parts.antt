@@ -14,6 +14,7 @@ use Rattle.mixed_machine.specs.Step.{step}
 use Rattle.mixed_machine.specs.Runs.{Sinks}
 use Rattle.mixed_machine.specs.declared.stop.Stop.{Stop}
 use Rattle.mixed_machine.specs.declared.stop.Stop.TheVariants.{Exit, Fault, Limit, ReadFault, OutFault, TraceFault}
+use Rattle.mix_debug.specs.Trails.{Trail}
 use Rattle.mix_script.specs.Sessions.{Session}
 use Rattle.mix_script.specs.Events.{Walk, after, forward, lines_by, said_by, steps_to}
 use Rattle.mix_script.specs.Places.{Over, Place, sinks_in, stop_in}
@@ -33,6 +34,16 @@ once_of set Limit = Went
 once_of set ReadFault = Halted Input
 once_of set OutFault = Halted Out
 once_of set TraceFault = Halted Trace
+
+-- the same where the set is that of the machine behind the step: a fault changes none
+abbrev pub once_in : Trail → Stop → Once
+once_in d stop = once_of (isa_of d.machine.active) stop
+
+-- what a walk of so many steps came to that a further one ended
+abbrev pub ended_by : ℕ → Once → Result Walked Broken
+ended_by done Went = Ok (record { done = done; end = None })
+ended_by done (Ended end) = Ok (record { done = done; end = Some end })
+ended_by done (Halted stopped) = Err stopped
 
 abbrev pub halt_in : Once → Option Broken
 halt_in Went = None

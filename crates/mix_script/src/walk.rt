@@ -2,17 +2,17 @@
 ghost use Rattle.std.specs.Prelude.{◌≡◌, ◌≤◌, length};
 ghost use Rattle.toolbox.specs.Effects.{Around};
 ghost use Rattle.mixed_machine.specs.Machine.{callers_of};
-ghost use Rattle.mix_debug.specs.Trails.{stop_of};
+ghost use Rattle.mix_engine.specs.Ends.{goes_on};
 ghost use Rattle.mix_steps.specs.Beside.{AreSame};
 ghost use Rattle.mix_script.specs.Events.{backward, stops};
-ghost use Rattle.mix_script.specs.Parts.{DoesOnce, GoesForward, WalksBack, halt_in, once_of as once_by};
+ghost use Rattle.mix_script.specs.Parts.{DoesOnce, GoesForward, WalksBack, ended_by, halt_in, once_in, once_of as once_by};
 ghost use Rattle.mix_script.specs.Places.{Over, place_beside, sinks_in};
 ghost use Rattle.mix_script.specs.Sessions.{session_of};
 
 use call_trace::End;
 use dev_rack::Devices;
 use mix_bits::Isa;
-use mix_debug::{Debug, Step};
+use mix_debug::Debug;
 use mix_io::{Sink, Source};
 use mix_steps::Outside;
 use mixed_machine::Stop;
@@ -62,55 +62,56 @@ pub fn walk_forward<'i, 'o, 't, 'd, I: Source, O: Sink, T: Sink, D: Devices>(
     ensures same { AreSame outside.old outside.new }
 {
     let mut done = 0;
+    let mut stop = Stop::Limit;
     'steps: while done < count {
-        match step_once(debug, outside) {
-            Once::Went => {
-                done += 1;
-                if is_there(debug, until) {
-                    return Ok(Walked { done, end: None });
-                }
-            }
-            Once::Ended(end) => {
-                return Ok(Walked {
-                    done,
-                    end: Some(end),
-                });
-            }
-            Once::Halted(stopped) => return Err(stopped),
+        if !step_once(debug, outside, &mut stop) {
+            return ended(debug, done, stop);
+        }
+        done += 1;
+        if is_there(debug, until) {
+            return Ok(Walked { done, end: None });
         }
     }
     Ok(Walked { done, end: None })
 }
 
-/// Does one step.
+/// Does one step: whether the program goes on. How the step stopped stands in the cell, which holds `Limit` before.
+#[inline(always)]
 fn step_once<'i, 'o, 't, 'd, I: Source, O: Sink, T: Sink, D: Devices>(
     debug: &mut Debug,
     outside: &mut Outside<'i, 'o, 't, 'd, I, O, T, D>,
-) -> Once
-    ensures step { Over (halt_in result)
-        (λ s t. DoesOnce result s t
+    stop: &mut Stop,
+) -> bool
+    requires cell { stop.old ≡ Stop.Limit }
+    ensures answer { result ≡ goes_on stop.new }
+    ensures step { Over (halt_in (once_in debug.new stop.new))
+        (λ s t. DoesOnce (once_in debug.new stop.new) s t
         (sinks_in (place_beside I.left I.faults O.held O.faults T.held T.faults D.state debug.old outside.old))
         (sinks_in (place_beside I.left I.faults O.held O.faults T.held T.faults D.state debug.new outside.new)))
         (place_beside I.left I.faults O.held O.faults T.held T.faults D.state debug.old outside.old)
         (place_beside I.left I.faults O.held O.faults T.held T.faults D.state debug.new outside.new) }
     ensures same { AreSame outside.old outside.new }
 {
-    let set = debug.machine().active.isa();
-    let step = debug.forward(outside.input, outside.out, outside.trace, outside.rack);
-    once_of(set, step)
+    let _whole = debug.machine();
+    debug.forward_beside(outside, stop)
 }
 
-/// What a step by code of a set came to.
-fn once_of(set: Isa, step: Step) -> Once
-    ensures { result ≡ once_by set (stop_of step) }
+/// What a walk came to, where a step behind so many ended it.
+#[inline(never)]
+fn ended(debug: &Debug, done: u32, stop: Stop) -> Result<Walked, Broken>
+    ensures { result ≡ ended_by done (once_in debug.now stop) }
 {
-    match step {
-        Step::Next => Once::Went,
-        Step::End(stop) => once_at(set, stop),
+    match once_at(debug.machine().active.isa(), stop) {
+        Once::Went => Ok(Walked { done, end: None }),
+        Once::Ended(end) => Ok(Walked {
+            done,
+            end: Some(end),
+        }),
+        Once::Halted(stopped) => Err(stopped),
     }
 }
 
-/// The same by how a run of one step stopped.
+/// What a step by code of a set came to, by how a run of one step stopped.
 fn once_at(set: Isa, stop: Stop) -> Once
     ensures { result ≡ once_by set stop }
 {

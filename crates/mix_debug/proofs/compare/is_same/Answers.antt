@@ -14,4 +14,4 @@ same-parts at n m xs ys r size is =
     OnTrue_from r (part at n xs ≡ part at n ys) (λ yes. subst (λ k. part at k xs ≡ part at k ys) size ((slice_eq-Decides Decides-eqb (take m (drop at xs)) (take m (drop at ys)) r is).0 yes))
 
 pub returns : goal.returns
-returns c = same-parts c.args.at 1024 (c.args.at + 1024 - c.args.at) c.args.old.now c.args.new.now c.eq.result (omega arith) c.eq.ensures
+returns c = same-parts c.args.at c.args.size (c.args.at + c.args.size - c.args.at) c.args.old.now c.args.new.now c.eq.result (omega arith) c.eq.ensures

@@ -4,5 +4,5 @@ use Rattle.mix_debug.proofs.compare.skip_back.Goals as goal
 
 pub back-preserved : goal.back-preserved
 back-preserved c =
-    let inside : c.args.range.low + 1024 ≤ c.back.high = omega (arith, c.back-test.true) in
-    covers-back c.args.range.low c.back.high 1024 c.args.old.now c.args.new.now inside c.if-is_same.ensures c.back.invariant
+    let inside : c.args.range.low + c.args.size ≤ c.back.high = omega (arith, c.back-test.true) in
+    covers-back c.args.range.low c.back.high c.args.size c.args.old.now c.args.new.now inside c.if-is_same.ensures c.back.invariant

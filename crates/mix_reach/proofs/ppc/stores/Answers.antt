@@ -1,11 +1,10 @@
-use Rattle.std.proofs.Common.{◌≡◌, ap, sym, ◌∙◌, refl}
+use Rattle.std.proofs.Common.{ap, sym, ◌∙◌}
 use Rattle.ppc_isa.specs.declared.op.OpPpc.{OpPpc}
-use Rattle.ppc_isa.specs.declared.op.OpPpc.TheVariants.{Twi, Mulli, Subfic, Cmpli, Cmpi, Addic, AddicRecord, Addi, Addis, Bc, B, Rlwimi, Rlwinm, Rlwnm, Ori, Oris, Xori, Xoris, Andi, Andis, Lwz, Lwzu, Lbz, Lbzu, Stw, Stwu, Stb, Stbu, Lhz, Lhzu, Lha, Lhau, Sth, Sthu, Lmw, Stmw, Mcrf, Bclr, Crnor, Crandc, Isync, Crxor, Crnand, Crand, Creqv, Crorc, Cror, Bcctr, Cmp, Tw, Subfc, Addc, Mulhwu, Mfcr, Lwzx, Slw, Cntlzw, And, Cmpl, Subf, Lwzux, Andc, Mulhw, Lbzx, Neg, Lbzux, Nor, Subfe, Adde, Mtcrf, Stwx, Stwux, Subfze, Addze, Stbx, Subfme, Addme, Mullw, Stbux, Add, Lhzx, Eqv, Lhzux, Xor, Mfxer, Mflr, Mfctr, Lhax, Lhaux, Sthx, Orc, Sthux, Or, Divwu, Mtxer, Mtlr, Mtctr, Nand, Divw, Mcrxr, Lswx, Lwbrx, Srw, Lswi, Sync, Stswx, Stwbrx, Stswi, Lhbrx, Sraw, Srawi, Sthbrx, Extsh, Extsb, Invalid}
 use Rattle.ppc_isa.specs.Fields.{fields_of}
 use Rattle.ppc_isa.specs.Made.{made}
 use Rattle.mix_reach.specs.Ranges.{plain}
 use Rattle.mix_reach.specs.Steps.{word_decoded}
-use Rattle.mix_reach.proofs.QuickPpc.{KeepsMemory, none_told}
+use Rattle.mix_reach.proofs.QuickPpc.{none_told, others_keep}
 use Rattle.mix_reach.proofs.ppc.stores.Goals as goal
 
 pub returns-in-Stw : goal.returns-in-Stw
@@ -69,121 +68,5 @@ pub returns-in_default : goal.returns-in_default
 returns-in_default c =
     ap (word_decoded c.args.regs.now) c.op_of.ensures.makes
     ∙ none_told c.op_of.result c.args.regs.now (fields_of c.args.word)
-    (elim c.op_of.result as (λ (o : OpPpc). c.op_of.result ≡ o → KeepsMemory o) [
-      | Twi ↦ λ is. tt
-      | Mulli ↦ λ is. tt
-      | Subfic ↦ λ is. tt
-      | Cmpli ↦ λ is. tt
-      | Cmpi ↦ λ is. tt
-      | Addic ↦ λ is. tt
-      | AddicRecord ↦ λ is. tt
-      | Addi ↦ λ is. tt
-      | Addis ↦ λ is. tt
-      | Bc ↦ λ is. tt
-      | B ↦ λ is. tt
-      | Rlwimi ↦ λ is. tt
-      | Rlwinm ↦ λ is. tt
-      | Rlwnm ↦ λ is. tt
-      | Ori ↦ λ is. tt
-      | Oris ↦ λ is. tt
-      | Xori ↦ λ is. tt
-      | Xoris ↦ λ is. tt
-      | Andi ↦ λ is. tt
-      | Andis ↦ λ is. tt
-      | Lwz ↦ λ is. tt
-      | Lwzu ↦ λ is. tt
-      | Lbz ↦ λ is. tt
-      | Lbzu ↦ λ is. tt
-      | Stw ↦ λ is. absurd (c.in_default.not-Stw is)
-      | Stwu ↦ λ is. absurd (c.in_default.not-Stwu is)
-      | Stb ↦ λ is. absurd (c.in_default.not-Stb is)
-      | Stbu ↦ λ is. absurd (c.in_default.not-Stbu is)
-      | Lhz ↦ λ is. tt
-      | Lhzu ↦ λ is. tt
-      | Lha ↦ λ is. tt
-      | Lhau ↦ λ is. tt
-      | Sth ↦ λ is. absurd (c.in_default.not-Sth is)
-      | Sthu ↦ λ is. absurd (c.in_default.not-Sthu is)
-      | Lmw ↦ λ is. tt
-      | Stmw ↦ λ is. absurd (c.in_default.not-Stmw is)
-      | Mcrf ↦ λ is. tt
-      | Bclr ↦ λ is. tt
-      | Crnor ↦ λ is. tt
-      | Crandc ↦ λ is. tt
-      | Isync ↦ λ is. tt
-      | Crxor ↦ λ is. tt
-      | Crnand ↦ λ is. tt
-      | Crand ↦ λ is. tt
-      | Creqv ↦ λ is. tt
-      | Crorc ↦ λ is. tt
-      | Cror ↦ λ is. tt
-      | Bcctr ↦ λ is. tt
-      | Cmp ↦ λ is. tt
-      | Tw ↦ λ is. tt
-      | Subfc ↦ λ is. tt
-      | Addc ↦ λ is. tt
-      | Mulhwu ↦ λ is. tt
-      | Mfcr ↦ λ is. tt
-      | Lwzx ↦ λ is. tt
-      | Slw ↦ λ is. tt
-      | Cntlzw ↦ λ is. tt
-      | And ↦ λ is. tt
-      | Cmpl ↦ λ is. tt
-      | Subf ↦ λ is. tt
-      | Lwzux ↦ λ is. tt
-      | Andc ↦ λ is. tt
-      | Mulhw ↦ λ is. tt
-      | Lbzx ↦ λ is. tt
-      | Neg ↦ λ is. tt
-      | Lbzux ↦ λ is. tt
-      | Nor ↦ λ is. tt
-      | Subfe ↦ λ is. tt
-      | Adde ↦ λ is. tt
-      | Mtcrf ↦ λ is. tt
-      | Stwx ↦ λ is. absurd (c.in_default.not-Stwx is)
-      | Stwux ↦ λ is. absurd (c.in_default.not-Stwux is)
-      | Subfze ↦ λ is. tt
-      | Addze ↦ λ is. tt
-      | Stbx ↦ λ is. absurd (c.in_default.not-Stbx is)
-      | Subfme ↦ λ is. tt
-      | Addme ↦ λ is. tt
-      | Mullw ↦ λ is. tt
-      | Stbux ↦ λ is. absurd (c.in_default.not-Stbux is)
-      | Add ↦ λ is. tt
-      | Lhzx ↦ λ is. tt
-      | Eqv ↦ λ is. tt
-      | Lhzux ↦ λ is. tt
-      | Xor ↦ λ is. tt
-      | Mfxer ↦ λ is. tt
-      | Mflr ↦ λ is. tt
-      | Mfctr ↦ λ is. tt
-      | Lhax ↦ λ is. tt
-      | Lhaux ↦ λ is. tt
-      | Sthx ↦ λ is. absurd (c.in_default.not-Sthx is)
-      | Orc ↦ λ is. tt
-      | Sthux ↦ λ is. absurd (c.in_default.not-Sthux is)
-      | Or ↦ λ is. tt
-      | Divwu ↦ λ is. tt
-      | Mtxer ↦ λ is. tt
-      | Mtlr ↦ λ is. tt
-      | Mtctr ↦ λ is. tt
-      | Nand ↦ λ is. tt
-      | Divw ↦ λ is. tt
-      | Mcrxr ↦ λ is. tt
-      | Lswx ↦ λ is. tt
-      | Lwbrx ↦ λ is. tt
-      | Srw ↦ λ is. tt
-      | Lswi ↦ λ is. tt
-      | Sync ↦ λ is. tt
-      | Stswx ↦ λ is. absurd (c.in_default.not-Stswx is)
-      | Stwbrx ↦ λ is. absurd (c.in_default.not-Stwbrx is)
-      | Stswi ↦ λ is. absurd (c.in_default.not-Stswi is)
-      | Lhbrx ↦ λ is. tt
-      | Sraw ↦ λ is. tt
-      | Srawi ↦ λ is. tt
-      | Sthbrx ↦ λ is. absurd (c.in_default.not-Sthbrx is)
-      | Extsh ↦ λ is. tt
-      | Extsb ↦ λ is. tt
-      | Invalid ↦ λ is. tt
-    ] refl)
+    (others_keep c.op_of.result c.in_default.not-Stw c.in_default.not-Stwu c.in_default.not-Stb c.in_default.not-Stbu c.in_default.not-Sth c.in_default.not-Sthu c.in_default.not-Stmw c.in_default.not-Stwx c.in_default.not-Stwux c.in_default.not-Stbx c.in_default.not-Stbux c.in_default.not-Sthx c.in_default.not-Sthux c.in_default.not-Stwbrx c.in_default.not-Sthbrx c.in_default.not-Stswi c.in_default.not-Stswx)
     ∙ ap plain (sym c.nothing.ensures)

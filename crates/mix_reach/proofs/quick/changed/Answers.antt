@@ -1,4 +1,3 @@
-use Rattle.std.proofs.Common.{refl}
 use Rattle.m68_isa.specs.First.{first_of, size_of}
 use Rattle.m68_ea.specs.Words.{words_at}
 use Rattle.mix_reach.proofs.Quick68.{into_same}

@@ -4,13 +4,13 @@ use Rattle.mix_reach.specs.Ranges.{plain}
 use Rattle.mix_reach.proofs.Quick68.{by_first, none_told, told}
 use Rattle.mix_reach.proofs.quick.quick_stores.Goals as goal
 
-pub returns-then-is_storing : goal.returns-then-is_storing
-returns-then-is_storing c =
+pub returns-else-keeps_memory : goal.returns-else-keeps_memory
+returns-else-keeps_memory c =
     by_first c.args.regs.now (words_at c.args.ram.now c.args.regs.now.pc) c.word_at-word.result c.op_of-op.result c.storing.result c.requires c.word_at-word.ensures.value (sym c.op_of-op.ensures.value) c.storing.ensures
 
-pub returns-else-is_storing : goal.returns-else-is_storing
-returns-else-is_storing c =
+pub returns-then-keeps_memory : goal.returns-then-keeps_memory
+returns-then-keeps_memory c =
     record {
       is = told c.args.regs.now (words_at c.args.ram.now c.args.regs.now.pc) c.word_at-word.result c.op_of-op.result c.nothing.result c.requires c.word_at-word.ensures.value (sym c.op_of-op.ensures.value)
-          (none_told c.op_of-op.result c.word_at-word.result c.args.regs.now (words_at c.args.ram.now c.args.regs.now.pc) (sym c.is_storing.ensures ∙ c.if-is_storing.false) c.op_of-op.ensures.fits ∙ ap plain (sym c.nothing.ensures));
+          (none_told c.op_of-op.result c.word_at-word.result c.args.regs.now (words_at c.args.ram.now c.args.regs.now.pc) (sym c.keeps_memory.ensures ∙ c.if-keeps_memory.true) c.op_of-op.ensures.fits ∙ ap plain (sym c.nothing.ensures));
     }

@@ -1,5 +1,5 @@
 use Rattle.m68_ea.specs.Words.{words_at}
-use Rattle.mix_reach.proofs.Quick68.{changes_AddToMemory, changes_Addq, changes_AndToMemory, changes_Clr, changes_Eor, changes_Neg, changes_Negx, changes_Not, changes_OrToMemory, changes_SubToMemory, changes_Subq, moves_MoveByte, moves_MoveLong, moves_MoveWord, saves_by}
+use Rattle.mix_reach.proofs.Quick68.{changes_Ori, changes_Andi, changes_Subi, changes_Addi, changes_Eori, changes_Cmpi, linked_by, changes_AddToMemory, changes_Addq, changes_AndToMemory, changes_Clr, changes_Eor, changes_Neg, changes_Negx, changes_Not, changes_OrToMemory, changes_SubToMemory, changes_Subq, moves_MoveByte, moves_MoveLong, moves_MoveWord, saves_by}
 use Rattle.mix_reach.proofs.quick.storing.Goals as goal
 
 pub returns-in-MoveByte : goal.returns-in-MoveByte
@@ -46,3 +46,24 @@ returns-in-AddToMemory c = changes_AddToMemory c.args.regs.now (words_at c.args.
 
 pub returns-in-MovemToMemory : goal.returns-in-MovemToMemory
 returns-in-MovemToMemory c = saves_by c.args.regs.now (words_at c.args.ram.now c.args.regs.now.pc) c.args.word c.args.op c.saved.result c.requires c.in-MovemToMemory.is c.saved.ensures
+
+pub returns-in-Ori : goal.returns-in-Ori
+returns-in-Ori c = changes_Ori c.args.regs.now (words_at c.args.ram.now c.args.regs.now.pc) c.args.word c.args.op c.changed_by.result c.requires c.in-Ori.is c.changed_by.ensures
+
+pub returns-in-Andi : goal.returns-in-Andi
+returns-in-Andi c = changes_Andi c.args.regs.now (words_at c.args.ram.now c.args.regs.now.pc) c.args.word c.args.op c.changed_by-in-Andi.result c.requires c.in-Andi.is c.changed_by-in-Andi.ensures
+
+pub returns-in-Subi : goal.returns-in-Subi
+returns-in-Subi c = changes_Subi c.args.regs.now (words_at c.args.ram.now c.args.regs.now.pc) c.args.word c.args.op c.changed_by-in-Subi.result c.requires c.in-Subi.is c.changed_by-in-Subi.ensures
+
+pub returns-in-Addi : goal.returns-in-Addi
+returns-in-Addi c = changes_Addi c.args.regs.now (words_at c.args.ram.now c.args.regs.now.pc) c.args.word c.args.op c.changed_by-in-Addi.result c.requires c.in-Addi.is c.changed_by-in-Addi.ensures
+
+pub returns-in-Eori : goal.returns-in-Eori
+returns-in-Eori c = changes_Eori c.args.regs.now (words_at c.args.ram.now c.args.regs.now.pc) c.args.word c.args.op c.changed_by-in-Eori.result c.requires c.in-Eori.is c.changed_by-in-Eori.ensures
+
+pub returns-in-Cmpi : goal.returns-in-Cmpi
+returns-in-Cmpi c = changes_Cmpi c.args.regs.now (words_at c.args.ram.now c.args.regs.now.pc) c.args.word c.args.op c.changed_by-in-Cmpi.result c.requires c.in-Cmpi.is c.changed_by-in-Cmpi.ensures
+
+pub returns-in-Link : goal.returns-in-Link
+returns-in-Link c = linked_by c.args.regs.now (words_at c.args.ram.now c.args.regs.now.pc) c.args.word c.args.op c.links.result c.requires c.in-Link.is c.links.ensures

@@ -17,11 +17,10 @@ returns-clause-entries c =
     let low = c.narrowed-range.result.low in
     let high = c.narrowed-range.result.high in
     let ram = c.args.machine.now.body.ram.bytes in
-    let counted = runs-found low high c.args.self.now.copy.items c.deref-2.result.now c.deref-4.result.now c.bytes-bytes.result.now ram c.deref-2.ensures.value c.deref-4.ensures.value c.bytes-bytes.ensures.is c.requires.copied c.narrowed-range.ensures in
-    let kept = runs-found low high c.args.self.now.copy.items c.deref-2.result.now c.deref-5.result.now c.bytes-bytes.result.now ram c.deref-2.ensures.value c.deref-5.ensures.value c.bytes-bytes.ensures.is c.requires.copied c.narrowed-range.ensures in
+    let kept = runs-found low high c.args.self.now.copy.items c.deref-2.result.now c.deref-4.result.now c.bytes-bytes.result.now ram c.deref-2.ensures.value c.deref-4.ensures.value c.bytes-bytes.ensures.is c.requires.copied c.narrowed-range.ensures in
     c.keep.ensures.entries
     ∙ ap (λ e. within 1048576 (e ∷ entries_in c.args.self.now.past))
-    (entry-is (ready_in c.args.self.now.past.heads) c.args.top c.args.self.now.copy.items c.args.self.now.blocks.items c.args.machine.now c.ready_isa-set.result c.isa.result c.frame_between.result
-    c.deref.result.now c.blocks-2.result.now c.block_between-block.result c.changes_in-changes.result.runs c.changes_in-changes.result.bytes _
-    c.ready_isa-set.ensures c.isa.ensures c.frame_between.ensures c.deref.ensures.value c.blocks-2.ensures c.block_between-block.ensures
-    (c.changes_in-changes.ensures.runs ∙ ap length counted) (c.changes_in-changes.ensures.bytes ∙ ap (λ rs. length (olds_of rs)) counted) kept)
+    (entry-is (ready_in c.args.self.now.past.heads) c.args.top c.args.self.now.copy.items c.args.self.now.blocks.items c.args.machine.now c.ready_isa-set.result c.isa.result c.frame_between-frame.result
+    c.deref.result.now c.blocks-2.result.now c.block_between-block.result _ _ _
+    c.ready_isa-set.ensures c.isa.ensures c.frame_between-frame.ensures c.deref.ensures.value c.blocks-2.ensures c.block_between-block.ensures
+    (ap length kept) (ap (λ rs. length (olds_of rs)) kept) kept)

@@ -1,13 +1,14 @@
-use Rattle.std.proofs.Common.{◌≡◌, false, refl}
+use Rattle.std.proofs.Common.{◌≡◌, true, refl}
 use Rattle.m68_isa.specs.declared.op.Op68.{Op68}
 use Rattle.m68_isa.specs.declared.op.Op68.TheVariants.{Ori, Andi, Subi, Addi, Eori, Cmpi, LogicToCcr, BitByNumber, BitByRegister, Movep, MoveByte, MoveWord, MoveLong, MoveaWord, MoveaLong, Negx, Clr, Neg, Not, MoveFromSr, MoveToCcr, Nbcd, Swap, Pea, Ext, ExtByte, MovemToMemory, MovemFromMemory, MulLong, DivLong, Tst, Tas, Trap, Link, LinkLong, Unlk, Nop, Rtd, Rts, Trapv, Rtr, Jsr, Jmp, Chk, Lea, Addq, Subq, Scc, Dbcc, BraByte, BraWord, BraLong, BsrByte, BsrWord, BsrLong, BccByte, BccWord, BccLong, Moveq, OrToRegister, OrToMemory, Divu, Divs, Sbcd, SubToRegister, SubToMemory, Suba, Subx, Cmp, Cmpa, Eor, Cmpm, AndToRegister, AndToMemory, Mulu, Muls, Abcd, Exg, AddToRegister, AddToMemory, Adda, Addx, Shift, ShiftMemory, Illegal, Privileged, LineA, LineF}
-use Rattle.mix_reach.specs.Quick.{is_storing}
-use Rattle.mix_reach.proofs.quick.is_storing.Goals as goal
+use Rattle.m68_isa.specs.First.{first_of}
+use Rattle.mix_reach.specs.Quick.{keeps_memory}
+use Rattle.mix_reach.proofs.quick.keeps_memory.Goals as goal
 
--- no other operation stores
+-- every other operation keeps memory
 pub returns-in_default : goal.returns-in_default
 returns-in_default c =
-    elim c.args.op as (λ (o : Op68). c.args.op ≡ o → false ≡ is_storing o) [
+    elim c.args.op as (λ (o : Op68). c.args.op ≡ o → true ≡ keeps_memory o (first_of c.args.word)) [
       | Ori ↦ λ is. absurd (c.in_default.not-Ori is)
       | Andi ↦ λ is. absurd (c.in_default.not-Andi is)
       | Subi ↦ λ is. absurd (c.in_default.not-Subi is)
