@@ -2,10 +2,12 @@
 ghost use Rattle.std.specs.Prelude.{◌≡◌, ◌^◌, ◌≤◌, length};
 ghost use Rattle.mix_load.specs.Load.{IsSmall};
 
+use crate::unmade::unmade_section;
 use look_text::{Piece, add_line};
 use mix_bits::NoMemory;
 use mix_load::{File, FileBytes, Files, LoadError};
 use pef_head::{Import, Pef};
+use pef_reloc::RelocError;
 use rsrc_fork::RsrcError;
 use std::alloc::Global;
 
@@ -24,6 +26,7 @@ pub fn refusal_text(alloc: Global, files: &Files, error: LoadError) -> Result<Ve
             resource(alloc, kind, id, " is compressed")
         }
         LoadError::Unresolved(i) => unresolved(alloc, &files.pef, i),
+        LoadError::Reloc(e) => unmade(alloc, &files.pef, e),
         _ => plain(alloc, error),
     }
 }
@@ -87,11 +90,42 @@ fn named(alloc: Global, i: u32, import: Import) -> Result<Vec<u8>, NoMemory> {
     Ok(text)
 }
 
+/// The sentence about a section that is not made.
+fn unmade(alloc: Global, file: &Option<FileBytes>, error: RelocError) -> Result<Vec<u8>, NoMemory>
+    requires { IsSmall file.now }
+{
+    let sentence = match unmade_in(alloc, file, error)? {
+        Some(k) => format!(in alloc; "section {k} is not made: {error}")?,
+        None => format!(in alloc; "a section is not made: {error}")?,
+    };
+    told(alloc, sentence.as_str())
+}
+
+/// The number of that section.
+fn unmade_in(
+    alloc: Global,
+    file: &Option<FileBytes>,
+    error: RelocError,
+) -> Result<Option<u32>, NoMemory>
+    requires { IsSmall file.now }
+{
+    if let Some(file) = file {
+        if let Ok(pef) = Pef::read(file.bytes()) {
+            return unmade_section(alloc, &pef, error);
+        }
+    }
+    Ok(None)
+}
+
 /// A sentence that needs nothing of the files.
 fn plain(alloc: Global, error: LoadError) -> Result<Vec<u8>, NoMemory> {
     let sentence = sentence(alloc, error)?;
+    told(alloc, sentence.as_str())
+}
+
+fn told(alloc: Global, sentence: &str) -> Result<Vec<u8>, NoMemory> {
     let mut text = Vec::new(alloc);
-    add_line(&mut text, &[Piece::Text(sentence.as_str())])?;
+    add_line(&mut text, &[Piece::Text(sentence)])?;
     Ok(text)
 }
 
@@ -120,7 +154,6 @@ fn sentence(alloc: Global, error: LoadError) -> Result<String, NoMemory> {
         }
         LoadError::Rsrc(e) => format!(in alloc; "the fork is none: {e}")?,
         LoadError::Pef(e) => format!(in alloc; "the container is none: {e}")?,
-        LoadError::Reloc(e) => format!(in alloc; "a section is not made: {e}")?,
         _ => format!(in alloc; "{error}")?,
     };
     Ok(text)
