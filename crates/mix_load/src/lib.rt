@@ -34,5 +34,5 @@ pub use laws::load_laws;
 pub use loader::load;
 pub use sections::base_behind;
 pub use segments::{code_at, segment_at};
-pub use table::{is_bad_entry, offset_in, segment_in};
 pub use switch_frame::Program;
+pub use table::{is_bad_entry, offset_in, segment_in};
