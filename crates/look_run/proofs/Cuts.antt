@@ -1,5 +1,5 @@
 -- Runs of one step each, one after the other, are one run.
-use Rattle.std.proofs.Common.{◌≡◌, ◌≢◌, ℕ, zero, suc, ◌+◌, ◌-◌, ◌<◌, ◌≤◌, Bool, true, false, None, arith, sym, ap, ◌∙◌, subst, refl}
+use Rattle.std.proofs.Common.{◌≡◌, ◌≢◌, ℕ, suc, ◌+◌, ◌-◌, ◌<◌, ◌≤◌, Bool, true, false, None, arith, sym, subst, refl}
 use Rattle.std.specs.Int.{from_bool}
 use Rattle.mix_bits.specs.declared.fault.Fault.{Fault as AFault}
 use Rattle.switch_frame.specs.Records.{isa_of}
@@ -13,11 +13,11 @@ use Rattle.mixed_machine.specs.State.{State}
 use Rattle.mixed_machine.specs.Next.{Next}
 use Rattle.mixed_machine.specs.Next.Next.{Exits, Faults, Goes}
 use Rattle.mixed_machine.specs.Step.{step}
-use Rattle.mixed_machine.specs.Exec.{How, Leads, exec_to, goes_on, is_back, log, line_of, rests}
+use Rattle.mixed_machine.specs.Exec.{How, Leads, exec_to, goes_on, is_back, rests}
 use Rattle.mixed_machine.specs.Exec.End.{Ended}
 use Rattle.mixed_machine.specs.Exec.How.{Exited, Faulted, Limited}
 use Rattle.mixed_machine.specs.Machine.{IsWhole}
-use Rattle.mixed_machine.specs.Counts.{Blames, broken_at, counts_of}
+use Rattle.mixed_machine.specs.Counts.{Blames, counts_of}
 use Rattle.mixed_machine.specs.Events.{StopsAt}
 use Rattle.mixed_machine.specs.Outside.{At, state_of}
 use Rattle.mixed_machine.specs.Runs.{OutBroke, Ran, ReadBroke, Runs, Sinks, SinksTook, Stops, TraceBroke, sinks_of}
@@ -25,7 +25,7 @@ use Rattle.mixed_machine.proofs.Events.{cut-stops}
 use Rattle.mixed_machine.proofs.Machines.{begins-at, limit-at}
 use Rattle.mixed_machine.proofs.Over.{over-more, over-same}
 use Rattle.mixed_machine.proofs.Runs.{exec-stays, limits-last}
-use Rattle.look_run.specs.Counted.{RanSteps, is_done}
+use Rattle.look_run.specs.Counted.{RanSteps, ends, is_done}
 
 -- a run of one step that ended with an exit has no step left, and one with a fault has it left
 rests-exit : (b : Bool) (s t : State) (left code : ℕ) → rests b s ≡ Ended (Exited code) t left → left ≡ 0
@@ -161,7 +161,7 @@ one b c stop runs =
     runs.run
 
 -- one step more
-pub cut-goes : (n : ℕ) (a b c : At) (stop : Stop) → stop ≡ Limit → Cut n a b → IsWhole c.body (isa_of c.active) → Runs 1 b c stop → Blames stop (counts_of b) (counts_of c)
+cut-goes : (n : ℕ) (a b c : At) (stop : Stop) → stop ≡ Limit → Cut n a b → IsWhole c.body (isa_of c.active) → Runs 1 b c stop → Blames stop (counts_of b) (counts_of c)
     → Accounts b.outside.rack c.outside.rack → Cut (n + 1) a c
 cut-goes n a b c stop is cut whole runs blames noted =
     record {
@@ -187,7 +187,7 @@ more m b c stop ended stops =
     (λ s input answers it. stops-more m (1 - from_bool (is_done stop)) s (state_of c input answers) (sinks_of b) (sinks_of c) stop ended it)
     stops
 
-pub cut-stops_at : (n i done : ℕ) (a b c : At) (stop : Stop) → i < n → done ≡ i + from_bool (is_done stop) → stop ≢ Limit → Cut i a b → Runs 1 b c stop
+cut-stops_at : (n i done : ℕ) (a b c : At) (stop : Stop) → i < n → done ≡ i + from_bool (is_done stop) → stop ≢ Limit → Cut i a b → Runs 1 b c stop
     → Accounts b.outside.rack c.outside.rack → RanSteps n done a c stop
 cut-stops_at n i done a b c stop fewer done_is ended cut runs noted =
     let m = n - suc i in
@@ -200,11 +200,31 @@ cut-stops_at n i done a b c stop fewer done_is ended cut runs noted =
       run = subst (λ k. StopsAt 0 k (n - done) a c stop) all (subst (λ l. StopsAt 0 (i + (1 + m)) l a c stop) left whole);
     }
 
-pub cut-blames : (a b c : At) (stop : Stop) (i : ℕ) → Cut i a b → Blames stop (counts_of b) (counts_of c) → Blames stop (counts_of a) (counts_of c)
-cut-blames a b c stop i cut blames = blamed-after (broken_at stop) (counts_of a) (counts_of b) (counts_of c) cut.calm blames
+-- how the step ended is told by whether it ended the run
+ended-other : (stop : Stop) → true ≡ ends stop → stop ≢ Limit
+ended-other (Exit code) is = λ same. cc
+ended-other (Fault fault) is = λ same. cc
+ended-other Limit is = λ same. cc
+ended-other ReadFault is = λ same. cc
+ended-other OutFault is = λ same. cc
+ended-other TraceFault is = λ same. cc
 
-pub cut-devices : (a b c : At) (i : ℕ) → Cut i a b → Accounts b.outside.rack c.outside.rack → Accounts a.outside.rack c.outside.rack
-cut-devices a b c i cut noted = accounts-join a.outside.rack b.outside.rack c.outside.rack cut.devices noted
+limit-is : (stop : Stop) → false ≡ ends stop → stop ≡ Limit
+limit-is (Exit code) is = cc
+limit-is (Fault fault) is = cc
+limit-is Limit is = refl
+limit-is ReadFault is = cc
+limit-is OutFault is = cc
+limit-is TraceFault is = cc
+
+pub stopped : (n i done : ℕ) (a b c : At) (stop told : Stop) → i < n → done ≡ i + from_bool (is_done stop) → told ≡ stop → true ≡ ends stop → Cut i a b → Runs 1 b c stop
+    → Accounts b.outside.rack c.outside.rack → RanSteps n done a c told
+stopped n i done a b c stop told fewer done_is same is cut runs noted =
+    subst (λ s. RanSteps n done a c s) (sym same) (cut-stops_at n i done a b c stop fewer done_is (ended-other stop is) cut runs noted)
+
+pub went-on : (n : ℕ) (a b c : At) (stop : Stop) → false ≡ ends stop → Cut n a b → IsWhole c.body (isa_of c.active) → Runs 1 b c stop → Blames stop (counts_of b) (counts_of c)
+    → Accounts b.outside.rack c.outside.rack → Cut (n + 1) a c
+went-on n a b c stop is cut whole runs blames noted = cut-goes n a b c stop (limit-is stop is) cut whole runs blames noted
 
 -- all steps are done
 pub cut-ends : (n : ℕ) (a b : At) → Cut n a b → RanSteps n n a b Limit

@@ -14,6 +14,15 @@ is_done ReadFault = false
 is_done OutFault = false
 is_done TraceFault = true
 
+-- whether a run of one step ends a run that goes on by such steps
+abbrev pub ends : Stop → Bool
+ends (Exit code) = true
+ends (Fault fault) = true
+ends Limit = false
+ends ReadFault = true
+ends OutFault = true
+ends TraceFault = true
+
 -- one run of at most n steps leads from a to b, with its output and its trace, and so many of its steps were done
 pub record RanSteps (n done : ℕ) (a b : At) (stop : Stop) : Type 0 where
   pub few : done ≤ n

@@ -9,7 +9,7 @@ ghost use Rattle.mixed_machine.specs.Counts.{Blames};
 ghost use Rattle.mixed_machine.specs.Machine.{IsWhole};
 ghost use Rattle.mixed_machine.specs.Outside.{at};
 ghost use Rattle.mix_io.specs.Streams.{output};
-ghost use Rattle.look_run.specs.Counted.{RanSteps, is_done as is_done_at};
+ghost use Rattle.look_run.specs.Counted.{RanSteps, ends as ends_at, is_done as is_done_at};
 
 use crate::step::{Step, step_at};
 use circular_buffer::HeapCircularBuffer;
@@ -51,13 +51,23 @@ pub fn run_keeping<I: Source, O: Sink, T: Sink, D: Devices>(
         if is_done(stop) {
             let _oldest = kept.push_back(step);
         }
-        if stop != Stop::Limit {
+        if ends(stop) {
             return ended(stop, done);
         }
     }
     Ending {
         stop: Stop::Limit,
         done: steps,
+    }
+}
+
+/// Whether a run of one step ends what runs on by such steps.
+fn ends(stop: Stop) -> bool
+    ensures { result ≡ ends_at stop }
+{
+    match stop {
+        Stop::Limit => false,
+        _ => true,
     }
 }
 
