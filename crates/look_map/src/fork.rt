@@ -10,7 +10,9 @@ use crate::entries::add_entries;
 use crate::segments::add_segments;
 use look_text::{Piece, add_line};
 use mix_bits::NoMemory;
-use mix_load::{PROGRAM_START, a5_of, code_at, has_table, read_header, segments_start, table_start};
+use mix_load::{
+    PROGRAM_START, a5_of, code_at, has_table, read_header, segments_start, table_start,
+};
 use rsrc_fork::{Fork, RsrcError};
 use std::alloc::Global;
 

@@ -9,7 +9,7 @@ use mix_load::{File, FileBytes, Files, LoadError};
 use pef_head::{Import, Pef};
 use pef_reloc::RelocError;
 use rsrc_fork::RsrcError;
-use std::alloc::Global;
+use std::alloc::{AllocError, Global};
 
 /// How many bytes of a name are told.
 const NAME_BYTES: usize = 255;
@@ -129,32 +129,27 @@ fn told(alloc: Global, sentence: &str) -> Result<Vec<u8>, NoMemory> {
     Ok(text)
 }
 
-fn sentence(alloc: Global, error: LoadError) -> Result<String, NoMemory> {
-    let text = match error {
-        LoadError::Empty(File::Flat) => format!(in alloc; "the flat file has no byte")?,
-        LoadError::Empty(File::Rsrc) => format!(in alloc; "the fork's file has no byte")?,
-        LoadError::Empty(File::Pef) => format!(in alloc; "the container's file has no byte")?,
-        LoadError::NoCode(1) => format!(in alloc; "the fork has no CODE above 0")?,
-        LoadError::NoCode(id) => format!(in alloc; "the fork has no CODE {id}")?,
+fn sentence(alloc: Global, error: LoadError) -> Result<String, AllocError> {
+    match error {
+        LoadError::Empty(File::Flat) => format!(in alloc; "the flat file has no byte"),
+        LoadError::Empty(File::Rsrc) => format!(in alloc; "the fork's file has no byte"),
+        LoadError::Empty(File::Pef) => format!(in alloc; "the container's file has no byte"),
+        LoadError::NoCode(1) => format!(in alloc; "the fork has no CODE above 0"),
+        LoadError::NoCode(id) => format!(in alloc; "the fork has no CODE {id}"),
         LoadError::Far(id) => {
-            format!(in alloc; "CODE {id} is of the far model, which is not loaded")?
+            format!(in alloc; "CODE {id} is of the far model, which is not loaded")
         }
-        LoadError::JumpTable(0) => {
-            format!(in alloc;
-                "CODE 0 has no jump table above A5, or a CODE has fewer than 4 bytes"
-            )?
-        }
+        LoadError::JumpTable(0) => format!(in alloc;
+            "CODE 0 has no jump table above A5, or a CODE has fewer than 4 bytes"
+        ),
         LoadError::JumpTable(at) => {
-            format!(in alloc; "the jump table's entry at {at} in CODE 0 names no place in a CODE")?
+            format!(in alloc; "the jump table's entry at {at} in CODE 0 names no place in a CODE")
         }
-        LoadError::TooLarge(end) => {
-            format!(in alloc;
-                "the program would end at ${end:08X}, in the quarter of RAM that is the stack's"
-            )?
-        }
-        LoadError::Rsrc(e) => format!(in alloc; "the fork is none: {e}")?,
-        LoadError::Pef(e) => format!(in alloc; "the container is none: {e}")?,
-        _ => format!(in alloc; "{error}")?,
-    };
-    Ok(text)
+        LoadError::TooLarge(end) => format!(in alloc;
+            "the program would end at ${end:08X}, in the quarter of RAM that is the stack's"
+        ),
+        LoadError::Rsrc(e) => format!(in alloc; "the fork is none: {e}"),
+        LoadError::Pef(e) => format!(in alloc; "the container is none: {e}"),
+        _ => format!(in alloc; "{error}"),
+    }
 }

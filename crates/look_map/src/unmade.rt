@@ -24,16 +24,12 @@ struct Sections {
 }
 
 /// The number of the first section that is refused in this way, if there is one.
-pub fn unmade_section(
-    alloc: Global,
-    pef: &Pef,
-    error: RelocError,
-) -> Result<Option<u32>, NoMemory>
+pub fn unmade_section(alloc: Global, pef: &Pef, error: RelocError) -> Result<Option<u32>, NoMemory>
     ensures { IfOk result (λ section. IfSome section (λ k. k < instantiated_count pef.now)) }
 {
     match error {
         RelocError::Pattern(_) => badly_packed(alloc, pef, pef.sections()),
-        _ => badly_relocated(alloc, pef),
+        _ => badly_relocated(alloc, pef, MOST),
     }
 }
 
@@ -66,7 +62,10 @@ fn is_badly_packed(alloc: Global, section: Section) -> Result<bool, NoMemory>
 
 /// The first section whose relocations are refused. Where sections stand and what they hold makes no difference to that,
 /// so each is taken for zeros at the address 0.
-fn badly_relocated(alloc: Global, pef: &Pef) -> Result<Option<u32>, NoMemory>
+fn badly_relocated(alloc: Global, pef: &Pef, ram: u32) -> Result<Option<u32>, NoMemory>
+    requires least { 131072 ≤ ram }
+    requires most { ram ≤ 16777216 }
+    requires whole { ram % 1024 ≡ 0 }
     ensures { IfOk result (λ section. IfSome section (λ k. k < instantiated_count pef.now)) }
 {
     let count = pef.sections();
@@ -76,7 +75,7 @@ fn badly_relocated(alloc: Global, pef: &Pef) -> Result<Option<u32>, NoMemory>
         totals: totals(alloc, pef, count)?,
         imports: vec![in alloc; 0; pef.imports() as usize]?,
     };
-    let mut ram = Ram::new(alloc, MOST)?;
+    let mut ram = Ram::new(alloc, ram)?;
     Ok(first_refused(&mut ram, pef, &headers, &sections, count))
 }
 
@@ -110,7 +109,14 @@ fn first_refused(
 {
     for k in 0..count {
         let words = pef.relocs_by(k, headers[k as usize]);
-        if is_refused(ram, k, words, &sections.bases, &sections.totals, &sections.imports) {
+        if is_refused(
+            ram,
+            k,
+            words,
+            &sections.bases,
+            &sections.totals,
+            &sections.imports,
+        ) {
             return Some(k);
         }
     }
