@@ -11,6 +11,7 @@ use super::op::Op68;
 use super::places::{is_bit_place, is_data_alterable_sized, is_immediate};
 
 /// Words 0000: immediates, bits, movep.
+#[inline(always)]
 pub fn line_0(word: u32) -> Op68
     requires { (first_of word).line ≡ 0 }
     ensures value { result ≡ operation (first_of word) }
@@ -28,6 +29,7 @@ pub fn line_0(word: u32) -> Op68
 }
 
 /// Words 0000 xxx0.
+#[inline(always)]
 fn immediates(word: u32) -> Op68
     requires line { (first_of word).line ≡ 0 }
     requires even { (first_of word).bit8 ≡ 0 }
