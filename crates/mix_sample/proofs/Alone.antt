@@ -38,8 +38,3 @@ alone-faults b c x y set fault set_is runs =
 
 pub alone-goes : (b c : Body) (x y : Active) → Runs 1 (alone b x) (alone c y) LimitStop → Steps (flat b x nothing) (flat c y nothing) LimitEnd
 alone-goes b c x y runs = record { left = runs.left; how = Limited; ends = (ran-alone b c x y LimitStop runs).ends; end_is = refl }
-
--- no count of such an outside rises
-pub never-rose : Rose 0 0 → ⊥
-never-rose (inl more) = omega (arith, more)
-never-rose (inr last) = omega (arith, last.0)

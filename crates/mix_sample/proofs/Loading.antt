@@ -14,7 +14,7 @@ use Rattle.mix_load.specs.ForkImage.{too_large, with_fork}
 use Rattle.mix_load.specs.Load.{AreLoadable, flat_image, load_of, no_image, with_file, with_flat}
 use Rattle.mix_load.specs.ContainerImage.{with_container}
 use Rattle.mix_load.specs.Outcome.{unless}
-use Rattle.mix_load.specs.declared.error.File.TheVariants.{Flat, Pef, Rsrc}
+use Rattle.mix_bits.specs.declared.file.File.TheVariants.{Flat, Pef, Rsrc}
 use Rattle.mix_load.specs.declared.error.LoadError.TheVariants.{NoMemory, Empty, Rsrc as NoFork, NoCode, Far, JumpTable, Pef as NoHead, TooLarge, Reloc, Unresolved, NoMain}
 use Rattle.mix_load.specs.Start.{program_of}
 use Rattle.mix_gen.specs.Sample.{sample_files, sample_image}

@@ -2,6 +2,7 @@
 use Rattle.std.proofs.Common.{◌≡◌, ℕ, ◌-◌, ◌≤◌, length, take, drop, get_or, arith, List, [], ◌∷◌, ◌++◌, Option, Some, None, Result, Ok, Err, IfOk, IfErr, sym, ap, subst, ◌∙◌, append_assoc}
 use Rattle.std.specs.Option.{option_map}
 use Rattle.std.proofs.lemmas.List.{take_all}
+use Rattle.mix_bits.specs.declared.file.File.TheVariants.{Flat, Rsrc, Pef}
 use Rattle.mix_io.specs.Counts.{CountsStay, CountRose, Rose}
 use Rattle.mix_io.specs.declared.errors.FetchError.{FetchError}
 use Rattle.mix_io.specs.declared.errors.FetchError.TheVariants.{NoMemory, Failed, TooLong}
@@ -9,7 +10,7 @@ use Rattle.job_words.specs.Jobs.{keys_in_order, limit_of, place_in, wanted_among
 use Rattle.job_words.specs.Words.{name_at}
 use Rattle.job_words.specs.declared.job.Command.{Command}
 use Rattle.job_words.specs.declared.job.Key.{Key}
-use Rattle.job_words.specs.declared.job.Key.TheVariants.{Flat, Rsrc, Pef, Image, Text, Script}
+use Rattle.job_words.specs.declared.job.Key.TheVariants.{Program, Image, Text, Script}
 use Rattle.mix_top.specs.World.{Contents, NoneRose, ShelfCounts}
 use Rattle.mix_top.specs.Files.{AreFetched, AreFiles, IsNamed, IsOf}
 use Rattle.mix_top.specs.Parts.{Adds, IsCause, Misses, MissesFirst, with_file}
@@ -116,9 +117,9 @@ abbrev no_files : Fetched
 no_files = record { program = record { flat = None; rsrc = None; pef = None }; image = None; text = None; script = None }
 
 files-of_keys : (words : List (List ℕ)) (contents : Contents) (command : Command) (files : Fetched) → Adds words contents command keys_in_order no_files files → AreFiles words contents command files
-files-of_keys words contents command files adds Flat = subst (λ f. IsOf words contents command Flat f.program.flat) (sym adds.rest.rest.rest.rest.rest.rest) adds.is
-files-of_keys words contents command files adds Rsrc = subst (λ f. IsOf words contents command Rsrc f.program.rsrc) (sym adds.rest.rest.rest.rest.rest.rest) adds.rest.is
-files-of_keys words contents command files adds Pef = subst (λ f. IsOf words contents command Pef f.program.pef) (sym adds.rest.rest.rest.rest.rest.rest) adds.rest.rest.is
+files-of_keys words contents command files adds (Program Flat) = subst (λ f. IsOf words contents command (Program Flat) f.program.flat) (sym adds.rest.rest.rest.rest.rest.rest) adds.is
+files-of_keys words contents command files adds (Program Rsrc) = subst (λ f. IsOf words contents command (Program Rsrc) f.program.rsrc) (sym adds.rest.rest.rest.rest.rest.rest) adds.rest.is
+files-of_keys words contents command files adds (Program Pef) = subst (λ f. IsOf words contents command (Program Pef) f.program.pef) (sym adds.rest.rest.rest.rest.rest.rest) adds.rest.rest.is
 files-of_keys words contents command files adds Image = subst (λ f. IsOf words contents command Image f.image) (sym adds.rest.rest.rest.rest.rest.rest) adds.rest.rest.rest.is
 files-of_keys words contents command files adds Text = subst (λ f. IsOf words contents command Text f.text) (sym adds.rest.rest.rest.rest.rest.rest) adds.rest.rest.rest.rest.is
 files-of_keys words contents command files adds Script = subst (λ f. IsOf words contents command Script f.script) (sym adds.rest.rest.rest.rest.rest.rest) adds.rest.rest.rest.rest.rest.is

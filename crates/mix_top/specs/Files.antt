@@ -1,12 +1,13 @@
 -- The files that a command wants, as a shelf tells them.
 use Rattle.std.specs.Prelude.{◌≡◌, ℕ, ◌*◌, ◌<◌, ◌≤◌, List, [], ◌∷◌, length, Option, Some, None, IsSomeAnd, IfSome, unwrap_or}
 use Rattle.std.specs.Option.{option_map}
+use Rattle.mix_bits.specs.declared.file.File.TheVariants.{Flat, Rsrc, Pef}
 use Rattle.job_words.specs.Jobs.{limit_of, place_in}
 use Rattle.job_words.specs.Words.{name_at}
 use Rattle.job_words.specs.declared.job.Command.{Command}
 use Rattle.job_words.specs.declared.job.Job.{Job}
 use Rattle.job_words.specs.declared.job.Key.{Key}
-use Rattle.job_words.specs.declared.job.Key.TheVariants.{Flat, Rsrc, Pef, Image, Text, Script}
+use Rattle.job_words.specs.declared.job.Key.TheVariants.{Program, Image, Text, Script}
 use Rattle.mix_top.specs.World.{Contents}
 use Rattle.mix_top.specs.declared.files.Fetched.{Fetched}
 
@@ -42,9 +43,9 @@ IsOf words contents command key file = IsNamed contents (limit_of key) (option_m
 
 -- the files of a command, by their keys
 abbrev pub file_in : Fetched → Key → Option (List ℕ)
-file_in files Flat = files.program.flat
-file_in files Rsrc = files.program.rsrc
-file_in files Pef = files.program.pef
+file_in files (Program Flat) = files.program.flat
+file_in files (Program Rsrc) = files.program.rsrc
+file_in files (Program Pef) = files.program.pef
 file_in files Image = files.image
 file_in files Text = files.text
 file_in files Script = files.script

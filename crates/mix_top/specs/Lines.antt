@@ -1,17 +1,17 @@
 -- The lines of the trace for a call that ends before it runs a program.
 use Rattle.std.specs.Prelude.{ℕ, ℤ, pos, List, ◌++◌, codes, Option, None, Some}
 use Rattle.std.specs.Fmt.{signed_decimal}
+use Rattle.mix_bits.specs.declared.file.File.{File}
+use Rattle.mix_bits.specs.declared.file.File.TheVariants.{Flat, Rsrc, Pef}
 use Rattle.job_words.specs.Settings.{key_text}
 use Rattle.job_words.specs.declared.job.Key.{Key}
-use Rattle.job_words.specs.declared.job.Key.TheVariants.{Flat, Rsrc, Pef, Image, Text, Script}
+use Rattle.job_words.specs.declared.job.Key.TheVariants.{Program, Image, Text, Script}
 use Rattle.rsrc_fork.specs.declared.error.RsrcError.{RsrcError}
-use Rattle.rsrc_fork.specs.declared.error.RsrcError.TheVariants.{NoMemory as NoForkMemory, Short as ForkShort, Overlap, BadOffset, Twice, Compressed}
+use Rattle.rsrc_fork.specs.declared.error.RsrcError.TheVariants.{Short as ForkShort, Overlap, BadOffset, Twice, Compressed}
 use Rattle.pef_head.specs.declared.error.PefError.{PefError}
 use Rattle.pef_head.specs.declared.error.PefError.TheVariants.{Short as HeadShort, Magic, Architecture, Version, Section, NoLoader, Loader, Name, Init}
 use Rattle.pef_reloc.specs.declared.error.RelocError.{RelocError}
 use Rattle.pef_reloc.specs.declared.error.RelocError.TheVariants.{Pattern, Short as RelocShort, Unsupported, OutsideSection, ImportIndex, SectionIndex, RepeatFront, Work}
-use Rattle.mix_load.specs.declared.error.File.{File}
-use Rattle.mix_load.specs.declared.error.File.TheVariants.{Flat as FlatFile, Rsrc as RsrcFile, Pef as PefFile}
 use Rattle.mix_load.specs.declared.error.LoadError.{LoadError}
 use Rattle.mix_load.specs.declared.error.LoadError.TheVariants.{NoMemory, Empty, Rsrc as NoFork, NoCode, Far, JumpTable, Pef as NoHead, TooLarge, Reloc, Unresolved, NoMain}
 
@@ -49,24 +49,21 @@ refused_status None = 9
 refused_status (Some why) = 3
 
 -- the numbers of the files
+abbrev pub file_number : File → ℕ
+file_number Flat = 0
+file_number Rsrc = 1
+file_number Pef = 2
+
 abbrev pub key_number : Key → ℕ
-key_number Flat = 0
-key_number Rsrc = 1
-key_number Pef = 2
+key_number (Program file) = file_number file
 key_number Image = 3
 key_number Text = 4
 key_number Script = 5
-
-abbrev pub file_number : File → ℕ
-file_number FlatFile = 0
-file_number RsrcFile = 1
-file_number PefFile = 2
 
 abbrev pub long_file : Key → Refusal
 long_file key = refusal (codes "long") (pos (key_number key))
 
 abbrev pub fork_refusal : RsrcError → Refusal
-fork_refusal NoForkMemory = refusal (codes "memory") (pos 0)
 fork_refusal (ForkShort length) = refusal (codes "rsrc-short") (pos length)
 fork_refusal Overlap = refusal (codes "rsrc-overlap") (pos 0)
 fork_refusal (BadOffset offset) = refusal (codes "rsrc-offset") (pos offset)

@@ -1,6 +1,7 @@
 -- What the parts of the public call answer.
 use Rattle.std.specs.Prelude.{◌≡◌, ℕ, ◌≤◌, List, [], ◌∷◌, ◌++◌, length, Option, Some, None, Result, Ok, Err, IfSome}
 use Rattle.mix_bits.specs.declared.isa.Isa.{Isa}
+use Rattle.mix_bits.specs.declared.file.File.TheVariants.{Flat, Rsrc, Pef}
 use Rattle.mix_io.specs.Streams.{Output}
 use Rattle.mix_io.specs.declared.errors.Failed.{Failed as Failure}
 use Rattle.mix_io.specs.declared.errors.FetchError.{FetchError}
@@ -16,7 +17,7 @@ use Rattle.job_words.specs.Jobs.{job_in, limit_of, place_in, wanted_among}
 use Rattle.job_words.specs.Words.{name_at}
 use Rattle.job_words.specs.declared.job.Command.{Command}
 use Rattle.job_words.specs.declared.job.Key.{Key}
-use Rattle.job_words.specs.declared.job.Key.TheVariants.{Flat, Rsrc, Pef, Image, Text, Script}
+use Rattle.job_words.specs.declared.job.Key.TheVariants.{Program, Image, Text, Script}
 use Rattle.mix_load.specs.Load.{AreLoadable}
 use Rattle.mix_load.specs.declared.files.Files.{Files}
 use Rattle.mix_engine.specs.declared.machine.Machine.{Machine}
@@ -51,9 +52,9 @@ pub record MissesFirst (words : List (List ℕ)) (contents : Contents) (command 
 
 -- the files with that of one key more, and with those of some keys
 abbrev pub with_file : Fetched → Key → Option (List ℕ) → Fetched
-with_file files Flat file = record files { program = record files.program { flat = file } }
-with_file files Rsrc file = record files { program = record files.program { rsrc = file } }
-with_file files Pef file = record files { program = record files.program { pef = file } }
+with_file files (Program Flat) file = record files { program = record files.program { flat = file } }
+with_file files (Program Rsrc) file = record files { program = record files.program { rsrc = file } }
+with_file files (Program Pef) file = record files { program = record files.program { pef = file } }
 with_file files Image file = record files { image = file }
 with_file files Text file = record files { text = file }
 with_file files Script file = record files { script = file }

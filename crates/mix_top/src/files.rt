@@ -7,6 +7,7 @@ ghost use Rattle.mix_top.specs.World.{NoneRose, counting};
 ghost use Rattle.mix_top.specs.Parts.{Adds, Misses, MissesFirst, with_file as with_file_of};
 
 use job_words::{Command, Key, file_name};
+use mix_bits::File;
 use mix_io::{FetchError, Shelf};
 use mix_load::{FileBytes, Files};
 use std::alloc::Global;
@@ -92,7 +93,7 @@ fn with_file(files: Fetched, key: Key, file: Option<FileBytes>) -> Fetched
         script,
     } = files;
     match key {
-        Key::Flat => Fetched {
+        Key::Program(File::Flat) => Fetched {
             program: Files {
                 flat: file,
                 ..program
@@ -101,7 +102,7 @@ fn with_file(files: Fetched, key: Key, file: Option<FileBytes>) -> Fetched
             text,
             script,
         },
-        Key::Rsrc => Fetched {
+        Key::Program(File::Rsrc) => Fetched {
             program: Files {
                 rsrc: file,
                 ..program
@@ -110,7 +111,7 @@ fn with_file(files: Fetched, key: Key, file: Option<FileBytes>) -> Fetched
             text,
             script,
         },
-        Key::Pef => Fetched {
+        Key::Program(File::Pef) => Fetched {
             program: Files {
                 pef: file,
                 ..program

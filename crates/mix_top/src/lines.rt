@@ -9,9 +9,9 @@ ghost use Rattle.mix_top.specs.Continuing.{image_refusal};
 use itoa::Buffer;
 use job_words::Key;
 use mix_assemble::{Reason, Refused};
-use mix_bits::Line;
+use mix_bits::{File, Line};
 use mix_image::ImageError;
-use mix_load::{File, LoadError};
+use mix_load::LoadError;
 use pef_head::PefError;
 use pef_reloc::RelocError;
 use rsrc_fork::RsrcError;
@@ -72,7 +72,6 @@ fn fork_text(error: RsrcError) -> Line
     ensures { result ≡ load_line (fork_refusal error) }
 {
     match error {
-        RsrcError::NoMemory => refused("memory", 0),
         RsrcError::Short(length) => refused("rsrc-short", length as i128),
         RsrcError::Overlap => refused("rsrc-overlap", 0),
         RsrcError::BadOffset(offset) => refused("rsrc-offset", offset as i128),
@@ -182,9 +181,7 @@ fn key_number(key: Key) -> u32
     ensures { result ≡ key_number_of key }
 {
     match key {
-        Key::Flat => 0,
-        Key::Rsrc => 1,
-        Key::Pef => 2,
+        Key::Program(file) => file_number(file),
         Key::Image => 3,
         Key::Text => 4,
         Key::Script => 5,
