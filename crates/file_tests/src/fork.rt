@@ -1,4 +1,4 @@
-use rsrc_fork::{Fork, ReadError, RsrcError};
+use rsrc_fork::{Fork, RsrcError};
 use std::ops::Range;
 use std::process::Abort;
 use std::test::Fail;
@@ -100,7 +100,7 @@ fn refuses_each_cut(rt: HostRuntime) {
         };
         assert_eq!(rt;
             Fork::read(rt.alloc(), &PROGRAM[..len]).err(),
-            Some(ReadError::Refused(want)),
+            Some(want),
             "at {len}"
         );
     }
@@ -130,10 +130,7 @@ fn refuses_each_bad_field(rt: HostRuntime) {
         (97..98, 1, RsrcError::Twice(CODE, 1)),
     ] {
         let file = program_with(&rt, places, byte);
-        assert_eq!(rt;
-            Fork::read(rt.alloc(), &file).err(),
-            Some(ReadError::Refused(want))
-        );
+        assert_eq!(rt; Fork::read(rt.alloc(), &file).err(), Some(want));
     }
 }
 
@@ -163,14 +160,14 @@ fn tests_the_data_first_and_the_name_last(rt: HostRuntime) {
     file[112] = 1;
     assert_eq!(rt;
         Fork::read(rt.alloc(), &file).err(),
-        Some(ReadError::Refused(RsrcError::Compressed(CODE, 0)))
+        Some(RsrcError::Compressed(CODE, 0))
     );
     for place in 113..116 {
         file[place] = 0xFF;
     }
     assert_eq!(rt;
         Fork::read(rt.alloc(), &file).err(),
-        Some(ReadError::Refused(RsrcError::BadOffset(108)))
+        Some(RsrcError::BadOffset(108))
     );
 }
 

@@ -1,5 +1,5 @@
 //! Forks whose types share one list of references.
-use rsrc_fork::{Fork, ReadError, RsrcError};
+use rsrc_fork::{Fork, RsrcError};
 use std::alloc::{AllocError, Global};
 use std::process::Abort;
 use std::test::Fail;
@@ -29,7 +29,7 @@ fn shared(alloc: Global, types: u16, count: u16) -> Result<Vec<u8>, AllocError> 
 }
 
 /// Reads a fork of at most 16777216 bytes.
-fn read<'a>(rt: &impl Abort, alloc: Global, file: &'a [u8]) -> Result<Fork<'a>, ReadError> {
+fn read<'a>(rt: &impl Abort, alloc: Global, file: &'a [u8]) -> Result<Fork<'a>, RsrcError> {
     assert!(rt; file.len() <= 0x100_0000);
     Fork::read(alloc, file)
 }
@@ -57,7 +57,7 @@ fn keeps_as_many_resources_as_fill_the_largest_file(rt: HostRuntime) -> Result<(
     let file = shared(rt.alloc(), 8191, 171)?;
     assert_eq!(rt;
         read(&rt, rt.alloc(), &file).err(),
-        Some(ReadError::NoMemory)
+        Some(RsrcError::NoMemory)
     );
     Ok(())
 }
@@ -68,13 +68,13 @@ fn an_entry_behind_the_map_counts_for_none(rt: HostRuntime) -> Result<(), Fail> 
     let mut file = shared(rt.alloc(), 22, 0)?;
     assert_eq!(rt;
         read(&rt, rt.alloc(), &file).err(),
-        Some(ReadError::NoMemory)
+        Some(RsrcError::NoMemory)
     );
     assert!(rt; 15 < file.len() && file[15] == 206);
     file[15] = 205;
     assert_eq!(rt;
         read(&rt, rt.alloc(), &file).err(),
-        Some(ReadError::Refused(RsrcError::BadOffset(226)))
+        Some(RsrcError::BadOffset(226))
     );
     Ok(())
 }

@@ -1,7 +1,7 @@
 // The CODEs of a fork.
 ghost use Rattle.std.specs.Prelude.{◌≡◌, ◌≢◌, ◌+◌, ◌^◌, ◌<◌, ◌≤◌, ◌++◌, IfOk, OnOk, true, length};
 ghost use Rattle.rsrc_fork.specs.References.{resources_of};
-ghost use Rattle.rsrc_fork.specs.declared.error.ReadError.TheVariants.{NoMemory as NoForkMemory};
+ghost use Rattle.rsrc_fork.specs.declared.error.RsrcError.TheVariants.{NoMemory as NoForkMemory};
 ghost use Rattle.switch_frame.specs.Program.{program_start};
 ghost use Rattle.mix_load.specs.Segments.{HasTable, entry_count, has_table as has_table_by, header_of, segments_end, segments_start as start_in};
 ghost use Rattle.look_map.specs.Forks.{a5_line, codes_by, codes_end, fork_end, fork_text, segments_text, table_line, table_text, world_text};
@@ -13,7 +13,7 @@ use mix_bits::NoMemory;
 use mix_load::{
     PROGRAM_START, a5_of, code_at, has_table, read_header, segments_start, table_start,
 };
-use rsrc_fork::{Fork, ReadError};
+use rsrc_fork::{Fork, RsrcError};
 use std::alloc::Global;
 
 /// Appends the lines of the fork in a file's bytes, with the CODEs below a count of ids, and says where they end.
@@ -32,13 +32,13 @@ pub fn add_fork(alloc: Global, text: &mut Vec<u8>, bytes: &[u8], ids: u16) -> Re
 }
 
 /// Where a program ends that is nothing but a fork that was refused, unless there was no memory.
-fn end_without(e: ReadError) -> Result<u64, NoMemory>
+fn end_without(e: RsrcError) -> Result<u64, NoMemory>
     ensures end { IfOk result (λ end. end ≡ program_start) }
     ensures why { OnOk result (e ≢ NoForkMemory) }
 {
     match e {
-        ReadError::NoMemory => Err(NoMemory),
-        ReadError::Refused(_) => Ok(u64::from(PROGRAM_START)),
+        RsrcError::NoMemory => Err(NoMemory),
+        _ => Ok(u64::from(PROGRAM_START)),
     }
 }
 

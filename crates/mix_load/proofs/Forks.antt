@@ -2,8 +2,7 @@
 use Rattle.std.proofs.Common.{◌≡◌, ◌≢◌, refl, subst, sym, ap, ◌∙◌, ℕ, List, Option, Some, None, Result, Ok, Err}
 use Rattle.big_memory.specs.Memory.{Memory, floor_of}
 use Rattle.rsrc_fork.specs.declared.error.RsrcError.{RsrcError}
-use Rattle.rsrc_fork.specs.declared.error.ReadError.{ReadError}
-use Rattle.rsrc_fork.specs.declared.error.ReadError.TheVariants.{NoMemory as NoForkMemory, Refused}
+use Rattle.rsrc_fork.specs.declared.error.RsrcError.TheVariants.{NoMemory as NoForkMemory}
 use Rattle.rsrc_fork.specs.References.{resources_of}
 use Rattle.rsrc_fork.specs.Resources.{Resource}
 use Rattle.mix_load.specs.declared.error.LoadError.TheVariants.{NoMemory, Rsrc}
@@ -63,9 +62,9 @@ fork-gives ids bytes image result resources ids_are read gives =
     subst (λ (n : ℕ). Gives result (with_resources n (resources_of bytes) image)) (sym ids_are)
     (subst (λ (r : Result (List Resource) RsrcError). Gives result (with_resources ids r image)) (sym read) gives)
 
-pub fork-refuses : (bytes : List ℕ) (image : Image) (e : ReadError) (r : LoadError) → (e ≡ NoForkMemory → r ≡ NoMemory) → ((why : RsrcError) → e ≡ Refused why → r ≡ Rsrc why)
-    → ((why : RsrcError) → e ≡ Refused why → resources_of bytes ≡ Err why) → r ≢ NoMemory → with_fork bytes image ≡ Err r
+pub fork-refuses : (bytes : List ℕ) (image : Image) (e : RsrcError) (r : LoadError) → (e ≡ NoForkMemory → r ≡ NoMemory) → (e ≢ NoForkMemory → r ≡ Rsrc e)
+    → (e ≢ NoForkMemory → resources_of bytes ≡ Err e) → r ≢ NoMemory → with_fork bytes image ≡ Err r
 unfolding with_fork
-fork-refuses bytes image NoForkMemory r memory refused read real = absurd (real (memory refl))
-fork-refuses bytes image (Refused why) r memory refused read real =
-    ap (λ (x : Result (List Resource) RsrcError). with_resources id_count x image) (read why refl) ∙ ap Err (sym (refused why refl))
+fork-refuses bytes image e r memory other read real =
+    let plain : e ≢ NoForkMemory = λ q. real (memory q) in
+    ap (λ (x : Result (List Resource) RsrcError). with_resources id_count x image) (read plain) ∙ ap Err (sym (other plain))

@@ -1,11 +1,11 @@
-ghost use Rattle.std.specs.Prelude.{◌≡◌};
-ghost use Rattle.rsrc_fork.specs.declared.error.ReadError.TheVariants.{NoMemory as NoForkMemory, Refused};
+ghost use Rattle.std.specs.Prelude.{◌≡◌, ◌≢◌};
+ghost use Rattle.rsrc_fork.specs.declared.error.RsrcError.TheVariants.{NoMemory as NoForkMemory};
 ghost use Rattle.mix_load.specs.declared.error.LoadError.TheVariants.{NoMemory};
 
 use mix_bits::File;
 use pef_head::PefError;
 use pef_reloc::RelocError;
-use rsrc_fork::{ReadError, RsrcError};
+use rsrc_fork::RsrcError;
 use std::alloc::{AllocError, AllocFailed};
 use thiserror::Error;
 
@@ -70,13 +70,13 @@ impl<T: Drop> From<AllocFailed<T>> for LoadError {
     }
 }
 
-/// Why a fork was not read, as the refusal of its program.
-pub fn fork_error(e: ReadError) -> LoadError
+/// The refusal of a fork as that of its program.
+pub fn fork_error(e: RsrcError) -> LoadError
     ensures memory { e ≡ NoForkMemory → result ≡ LoadError.NoMemory }
-    ensures refused { (why : RsrcError) → e ≡ Refused why → result ≡ LoadError.Rsrc why }
+    ensures other { e ≢ NoForkMemory → result ≡ LoadError.Rsrc e }
 {
     match e {
-        ReadError::NoMemory => LoadError::NoMemory,
-        ReadError::Refused(why) => LoadError::Rsrc(why),
+        RsrcError::NoMemory => LoadError::NoMemory,
+        _ => LoadError::Rsrc(e),
     }
 }

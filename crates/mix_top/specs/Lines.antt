@@ -7,7 +7,7 @@ use Rattle.job_words.specs.Settings.{key_text}
 use Rattle.job_words.specs.declared.job.Key.{Key}
 use Rattle.job_words.specs.declared.job.Key.TheVariants.{Program, Image, Text, Script}
 use Rattle.rsrc_fork.specs.declared.error.RsrcError.{RsrcError}
-use Rattle.rsrc_fork.specs.declared.error.RsrcError.TheVariants.{Short as ForkShort, Overlap, BadOffset, Twice, Compressed}
+use Rattle.rsrc_fork.specs.declared.error.RsrcError.TheVariants.{NoMemory as NoForkMemory, Short as ForkShort, Overlap, BadOffset, Twice, Compressed}
 use Rattle.pef_head.specs.declared.error.PefError.{PefError}
 use Rattle.pef_head.specs.declared.error.PefError.TheVariants.{Short as HeadShort, Magic, Architecture, Version, Section, NoLoader, Loader, Name, Init}
 use Rattle.pef_reloc.specs.declared.error.RelocError.{RelocError}
@@ -64,6 +64,7 @@ abbrev pub long_file : Key → Refusal
 long_file key = refusal (codes "long") (pos (key_number key))
 
 abbrev pub fork_refusal : RsrcError → Refusal
+fork_refusal NoForkMemory = refusal (codes "memory") (pos 0)
 fork_refusal (ForkShort length) = refusal (codes "rsrc-short") (pos length)
 fork_refusal Overlap = refusal (codes "rsrc-overlap") (pos 0)
 fork_refusal (BadOffset offset) = refusal (codes "rsrc-offset") (pos offset)

@@ -72,6 +72,7 @@ fn fork_text(error: RsrcError) -> Line
     ensures { result ≡ load_line (fork_refusal error) }
 {
     match error {
+        RsrcError::NoMemory => refused("memory", 0),
         RsrcError::Short(length) => refused("rsrc-short", length as i128),
         RsrcError::Overlap => refused("rsrc-overlap", 0),
         RsrcError::BadOffset(offset) => refused("rsrc-offset", offset as i128),

@@ -1,12 +1,14 @@
 ghost use Rattle.std.specs.Prelude.{◌≡◌};
-ghost use Rattle.rsrc_fork.specs.declared.error.ReadError.TheVariants.{NoMemory, Refused};
+ghost use Rattle.rsrc_fork.specs.declared.error.RsrcError.TheVariants.{NoMemory};
 
 use std::alloc::AllocFailed;
 use thiserror::Error;
 
-/// Why a file is no fork. A place counts from the first byte of the file.
+/// Why a fork was not read. A place counts from the first byte of the file.
 #[derive(Clone, Copy, Debug, PartialEq, Eq, Error)]
 pub enum RsrcError {
+    #[error("out of memory")]
+    NoMemory,
     /// The file has this many bytes, fewer than a header.
     #[error("a file of {0} bytes is too short for a resource fork")]
     Short(u32),
@@ -23,27 +25,10 @@ pub enum RsrcError {
     Compressed(u32, i16),
 }
 
-/// Why a fork was not read.
-#[derive(Clone, Copy, Debug, PartialEq, Eq, Error)]
-pub enum ReadError {
-    #[error("out of memory")]
-    NoMemory,
-    #[error("{0}")]
-    Refused(RsrcError),
-}
-
-impl From<RsrcError> for ReadError {
-    ghost from_gives = { λ why e. e ≡ Refused why };
-
-    fn from(why: RsrcError) -> Self {
-        ReadError::Refused(why)
-    }
-}
-
-impl<T: Drop> From<AllocFailed<T>> for ReadError {
+impl<T: Drop> From<AllocFailed<T>> for RsrcError {
     ghost from_gives = { λ _ e. e ≡ NoMemory };
 
     fn from(_: AllocFailed<T>) -> Self {
-        ReadError::NoMemory
+        RsrcError::NoMemory
     }
 }

@@ -1,4 +1,4 @@
-use crate::error::ReadError;
+use crate::error::RsrcError;
 use crate::lookup::{find, next_id};
 use crate::name::Name;
 use crate::references::{Resources, resources_of};
@@ -35,17 +35,17 @@ impl<'a> Fork<'a> {
     /// of the type list, and then each type and its references in turn, as they are listed. It keeps an entry for
     /// each resource, and copies no bytes. Where the type list says that there are more than 1398101 references, it
     /// is out of memory before it keeps any.
-    pub fn read(alloc: Global, bytes: &'a [u8]) -> Result<Fork<'a>, ReadError>
+    pub fn read(alloc: Global, bytes: &'a [u8]) -> Result<Fork<'a>, RsrcError>
         requires { length bytes.now ≤ 2 ^ 24 }
         ensures is { Gives (λ fork. fork) result (resources_of bytes.now) }
 
         // The same by the list of the references: a file that is a fork is read, and no other.
         ensures fork { IfOk result (IsFork bytes.now) }
-        ensures refused { IfErr result (λ e. e ≢ ReadError.NoMemory →
+        ensures refused { IfErr result (λ e. e ≢ RsrcError.NoMemory →
             (resources : List Resource) → ¬ IsFork bytes.now resources) }
 
         ensures few { IfOk result (λ fork. length fork ≤ reference_limit) }
-        ensures many { IfOk (reference_count bytes.now) (λ count. reference_limit < count → result ≡ Err ReadError.NoMemory) }
+        ensures many { IfOk (reference_count bytes.now) (λ count. reference_limit < count → result ≡ Err RsrcError.NoMemory) }
     {
         let resources = resources_of(alloc, bytes)?;
         Ok(Fork { resources })

@@ -14,5 +14,5 @@ mod lookup;
 mod name;
 mod references;
 
-pub use error::{ReadError, RsrcError};
+pub use error::RsrcError;
 pub use fork::Fork;

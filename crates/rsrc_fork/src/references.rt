@@ -5,7 +5,7 @@ ghost use Rattle.rsrc_fork.specs.Outcome.{Gives};
 ghost use Rattle.rsrc_fork.specs.Resources.{seen, with_resource};
 ghost use Rattle.rsrc_fork.specs.References.{count_below as count_below_lem, count_in as count_in_lem, data_at, entry_at, id_at, reference_count, reference_limit, resources_of, with_reference, with_references, with_type, with_types};
 
-use crate::error::{ReadError, RsrcError};
+use crate::error::RsrcError;
 use crate::header::{Areas, areas_of, list_of};
 use crate::name::Name;
 use byteorder::{BigEndian, ByteOrder};
@@ -53,12 +53,12 @@ fn data_at<'a>(bytes: &'a [u8], areas: Areas, place: u32) -> Result<&'a [u8], Rs
 }
 
 /// Keeps a resource as the last, unless its name is there.
-fn put<'a>(resources: &mut Resources<'a>, name: Name, piece: &'a [u8]) -> Result<(), ReadError>
+fn put<'a>(resources: &mut Resources<'a>, name: Name, piece: &'a [u8]) -> Result<(), RsrcError>
     ensures { Gives (λ _. seen resources.new.entries) result
         (with_resource (seen resources.old.entries) name piece.now) }
 {
     match resources.insert(name, piece)? {
-        Some(_) => Err(ReadError::Refused(RsrcError::Twice(name.kind, name.id))),
+        Some(_) => Err(RsrcError::Twice(name.kind, name.id)),
         None => Ok(()),
     }
 }
@@ -79,7 +79,7 @@ fn add_reference<'a>(
     areas: Areas,
     kind: u32,
     place: u32,
-) -> Result<(), ReadError>
+) -> Result<(), RsrcError>
     requires within { IsWithin areas (length bytes.now) }
     requires near { place < 2 ^ 26 }
     ensures { Gives (λ _. seen resources.new.entries) result
@@ -91,7 +91,7 @@ fn add_reference<'a>(
         id: id_at(bytes, place),
     };
     if bytes[place as usize + 4] % 2 == 1 {
-        return Err(ReadError::Refused(RsrcError::Compressed(name.kind, name.id)));
+        return Err(RsrcError::Compressed(name.kind, name.id));
     }
     put(resources, name, piece)
 }
@@ -102,7 +102,7 @@ fn add_references<'a>(
     bytes: &'a [u8],
     areas: Areas,
     entry: TypeEntry,
-) -> Result<(), ReadError>
+) -> Result<(), RsrcError>
     requires within { IsWithin areas (length bytes.now) }
     requires near { entry.first < 2 ^ 25 }
     requires few { entry.count ≤ 65536 }
@@ -138,7 +138,7 @@ fn add_type<'a>(
     areas: Areas,
     list: u32,
     k: u16,
-) -> Result<(), ReadError>
+) -> Result<(), RsrcError>
     requires within { IsWithin areas (length bytes.now) }
     requires near { list ≤ 2 ^ 24 }
     ensures { Gives (λ _. seen resources.new.entries) result
@@ -146,7 +146,7 @@ fn add_type<'a>(
 {
     let place = list + 2 + 8 * k as u32;
     if areas.map_end < place + 8 {
-        return Err(ReadError::Refused(RsrcError::BadOffset(place)));
+        return Err(RsrcError::BadOffset(place));
     }
     add_references(resources, bytes, areas, entry_at(bytes, list, place))
 }
@@ -158,7 +158,7 @@ fn add_types<'a>(
     areas: Areas,
     list: u32,
     count: u16,
-) -> Result<(), ReadError>
+) -> Result<(), RsrcError>
     requires within { IsWithin areas (length bytes.now) }
     requires near { list ≤ 2 ^ 24 }
     requires empty { resources.old.entries ≡ [] }
@@ -199,17 +199,17 @@ fn count_below(bytes: &[u8], areas: Areas, list: u32, count: u16) -> u32
 }
 
 /// The resources of the fork in a file's bytes.
-pub fn resources_of<'a>(alloc: Global, bytes: &'a [u8]) -> Result<Resources<'a>, ReadError>
+pub fn resources_of<'a>(alloc: Global, bytes: &'a [u8]) -> Result<Resources<'a>, RsrcError>
     requires { length bytes.now ≤ 2 ^ 24 }
     ensures is { Gives (λ resources. seen resources.entries) result (resources_of bytes.now) }
     ensures few { IfOk result (λ resources. length resources.entries ≤ reference_limit) }
-    ensures many { IfOk (reference_count bytes.now) (λ count. reference_limit < count → result ≡ Err ReadError.NoMemory) }
+    ensures many { IfOk (reference_count bytes.now) (λ count. reference_limit < count → result ≡ Err RsrcError.NoMemory) }
 {
     let areas = areas_of(bytes)?;
     let list = list_of(bytes, areas)?;
     let count = word_at(bytes, list).wrapping_add(1);
     if REFERENCE_LIMIT < count_below(bytes, areas, list, count) {
-        return Err(ReadError::NoMemory);
+        return Err(RsrcError::NoMemory);
     }
     let mut resources = IndexMap::new(alloc);
     add_types(&mut resources, bytes, areas, list, count)?;

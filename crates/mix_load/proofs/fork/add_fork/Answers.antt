@@ -7,4 +7,4 @@ returns-in-Ok-clause-is c =
 
 pub returns-in-Err-clause-is : goal.returns-in-Err-clause-is
 returns-in-Err-clause-is c =
-    fork-refuses c.args.bytes.now c.args.image c.in-Err.e c.fork_error.result c.fork_error.ensures.memory c.fork_error.ensures.refused c.in-Err.ensures.is
+    fork-refuses c.args.bytes.now c.args.image c.in-Err.e c.fork_error.result c.fork_error.ensures.memory c.fork_error.ensures.other c.in-Err.ensures.is

@@ -7,5 +7,5 @@ use Rattle.rsrc_fork.proofs.references.add_references.Goals as goal
 pub returns-in_err-add_reference : goal.returns-in_err-add_reference
 returns-in_err-add_reference c =
     let p = err_from_is_err_and c.from_residual.result c.from_residual.ensures.1 in
-    rw (p.1, p.2) (λ why is. failed_below (with_numbered c.args.bytes.now c.args.areas c.args.entry) (seen c.args.resources.now.entries)
-    _ c.loop-j.j (seen c.loop-j.resources.entries) _ c.loop-j-test.true c.loop-j.invariant (c.in_err-add_reference.ensures why is))
+    rw (p.1, p.2) (λ real. failed_below (with_numbered c.args.bytes.now c.args.areas c.args.entry) (seen c.args.resources.now.entries)
+    _ c.loop-j.j (seen c.loop-j.resources.entries) _ c.loop-j-test.true c.loop-j.invariant (c.in_err-add_reference.ensures real))

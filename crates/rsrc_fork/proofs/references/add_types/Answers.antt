@@ -8,5 +8,5 @@ use Rattle.rsrc_fork.proofs.references.add_types.Goals as goal
 pub returns-in_err-add_type : goal.returns-in_err-add_type
 returns-in_err-add_type c =
     let p = err_from_is_err_and c.from_residual.result c.from_residual.ensures.1 in
-    rw (p.1, p.2) (λ why is. failed_below (with_type c.args.bytes.now c.args.areas c.args.list) []
-    _ c.loop-k.k (seen c.loop-k.resources.entries) _ c.loop-k-test.true c.loop-k.invariant (c.in_err-add_type.ensures why is))
+    rw (p.1, p.2) (λ real. failed_below (with_type c.args.bytes.now c.args.areas c.args.list) []
+    _ c.loop-k.k (seen c.loop-k.resources.entries) _ c.loop-k-test.true c.loop-k.invariant (c.in_err-add_type.ensures real))

@@ -5,7 +5,7 @@ use Rattle.rsrc_fork.proofs.Lookups.{found_new, found_twice}
 use Rattle.rsrc_fork.proofs.references.put.Goals as goal
 
 pub returns-in-Some : goal.returns-in-Some
-returns-in-Some c = λ why is.
+returns-in-Some c = λ _.
     found_twice c.args.name c.args.resources.now.entries c.args.piece _ (sym c.in_ok-insert.ensures.old ∙ c.in-Some.is)
     ∙ search rules
 
