@@ -11,6 +11,7 @@ use mix_io::{Counter, Device, FileKeep, FileShelf, NoMemory, Sink, StdSink, StdS
 use mix_top::mixed_main;
 use mix_top::status::{BAD_WORDS, NO_MEMORY, OUTPUT_FAILED, SUCCESS, TRACE_FAILED};
 use std::env;
+use std::fs::{self, File};
 use std::io::{self, BufReader, ErrorKind};
 use std::process::ExitCode;
 
@@ -84,6 +85,7 @@ The folder docs/ says what the machine is and what the lines of the trace mean.
 const VERSION: &str = "mixedrun 0.1.0\n";
 
 fn main(rt: HostRuntime) -> ExitCode {
+    let _holders = [hold(&rt), hold(&rt), hold(&rt)];
     ExitCode::from(match words(&rt) {
         Ok(words) => match words.as_slice() {
             [word] if word.as_str() == "--help" => print(&rt, HELP),
@@ -92,6 +94,12 @@ fn main(rt: HostRuntime) -> ExitCode {
         },
         Err(error) => refuse(&rt, error.kind()),
     })
+}
+
+/// Opens the root folder, which can be neither read nor written as a file. Held three times, it takes the numbers
+/// of standard streams that are closed, so that no file that is opened later becomes one of them.
+fn hold(rt: &HostRuntime) -> Option<File> {
+    fs::open(rt, "/").ok()
 }
 
 /// The words after the program's name.
