@@ -9,7 +9,7 @@ use m68_ea::{find, put};
 use m68_isa::Regs68;
 use mix_bits::{Fault, Size};
 
-/// Writes a value into an operand of any mode, and tells whether it did; its increment or decrement is
+/// Writes a value into an operand of a mode that may be written, and tells whether it did; its increment or decrement is
 /// applied. Its extension words begin with word `next`, which goes on behind them.
 #[inline(always)]
 pub fn write(
