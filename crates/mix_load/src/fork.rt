@@ -16,7 +16,7 @@ use rsrc_fork::Fork;
 use std::alloc::{AllocError, Global};
 
 /// How many ids are not negative.
-const ID_COUNT: u16 = 32768;
+pub const ID_COUNT: u16 = 32768;
 
 /// Tests the segments below a count of ids and the jump table, and gives where they end.
 fn test_codes(fork: &Fork, code0: &[u8], ids: u16, floor: u32) -> Result<u64, LoadError>

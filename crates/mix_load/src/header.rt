@@ -33,6 +33,7 @@ pub fn has_table(code0: &[u8]) -> bool
     requires { length code0.now ≤ 2 ^ 24 }
     ensures is { result ≡ has_table code0.now }
     ensures facts { IsTrue result → HasTable code0.now }
+    ensures room { IsTrue result → (header_of code0.now).table_offset + (header_of code0.now).table_len < 2 ^ 32 }
 {
     if code0.len() < 16 {
         return false;

@@ -3,7 +3,7 @@
 //! alone or beside a fork.
 //!
 //! [`load`] gives the program as it starts. Where things are placed, and which refusal comes first, is this
-//! project's own.
+//! project's own. The places of pieces are told by the calls that `load` goes by.
 #![tactic(auto)]
 
 mod container;
@@ -27,6 +27,12 @@ mod vector;
 
 pub use error::{File, LoadError};
 pub use files::{FileBytes, Files};
+pub use fork::ID_COUNT;
+pub use header::{CodeHeader, a5_of, has_table, read_header, segments_start, table_start};
+pub use image::PROGRAM_START;
 pub use laws::load_laws;
 pub use loader::load;
+pub use sections::base_behind;
+pub use segments::{code_at, segment_at};
 pub use switch_frame::Program;
+pub use table::{is_bad_entry, offset_in, segment_in};

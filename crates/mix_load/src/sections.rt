@@ -28,7 +28,7 @@ pub struct Placement {
 }
 
 /// Where a section stands that follows an end.
-fn base_behind(section: Section, end: u64) -> u64
+pub fn base_behind(section: Section, end: u64) -> u64
     requires near { end ≤ 2 ^ 60 }
     requires aligned { section.align ≤ 4096 }
     ensures is { result ≡ base_behind (parts section.entry) end }

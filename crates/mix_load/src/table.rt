@@ -30,7 +30,8 @@ fn entry_place(i: u32) -> u32
     16 + 8 * i
 }
 
-fn offset_in(code0: &[u8], i: u32) -> u16
+/// The offset that an entry names, behind the segment's header.
+pub fn offset_in(code0: &[u8], i: u32) -> u16
     requires within { entry_place i + 8 ≤ length code0.now }
     requires few { i < 2 ^ 24 }
     ensures { result ≡ offset_in code0.now i }
@@ -38,7 +39,8 @@ fn offset_in(code0: &[u8], i: u32) -> u16
     word_at(code0, entry_place(i))
 }
 
-fn segment_in(code0: &[u8], i: u32) -> u16
+/// The number of the segment that an entry names.
+pub fn segment_in(code0: &[u8], i: u32) -> u16
     requires within { entry_place i + 8 ≤ length code0.now }
     requires few { i < 2 ^ 24 }
     ensures { result ≡ segment_in code0.now i }
@@ -66,7 +68,8 @@ fn reaches(fork: &Fork, segment: u16, offset: u16) -> bool
     }
 }
 
-fn is_bad_entry(fork: &Fork, code0: &[u8], i: u32) -> bool
+/// Whether an entry cannot be loaded.
+pub fn is_bad_entry(fork: &Fork, code0: &[u8], i: u32) -> bool
     requires within { entry_place i + 8 ≤ length code0.now }
     requires few { i < 2 ^ 24 }
     ensures { result ≡ is_bad_entry fork.now code0.now i }
