@@ -1,7 +1,15 @@
 // A run by single steps.
 ghost use Rattle.std.specs.Prelude.{◌≡◌, ◌+◌, ◌<◌, ◌≤◌};
+ghost use Rattle.std.specs.Int.{from_bool};
 ghost use Rattle.switch_frame.specs.Records.{isa_of};
+ghost use Rattle.dev_rack.specs.Accounts.{Accounts};
+ghost use Rattle.toolbox.specs.Blames.{counts};
+ghost use Rattle.toolbox.specs.Calls.{outside as outside_of};
+ghost use Rattle.mixed_machine.specs.Counts.{Blames};
 ghost use Rattle.mixed_machine.specs.Machine.{IsWhole};
+ghost use Rattle.mixed_machine.specs.Outside.{at};
+ghost use Rattle.mix_io.specs.Streams.{output};
+ghost use Rattle.look_run.specs.Counted.{RanSteps, ends as ends_at, is_done as is_done_at};
 
 use crate::step::{Step, step_at};
 use circular_buffer::HeapCircularBuffer;
@@ -18,6 +26,8 @@ pub struct Ending {
 
 /// Runs at most `steps` steps, and puts each that is done behind those that are kept. The lines of calls, returns and asks
 /// go to the trace, as in any run.
+///
+/// The machine, the output and the trace are those of one run of at most so many steps.
 pub fn run_keeping<I: Source, O: Sink, T: Sink, D: Devices>(
     machine: &mut Machine,
     kept: &mut HeapCircularBuffer<Step>,
@@ -29,15 +39,19 @@ pub fn run_keeping<I: Source, O: Sink, T: Sink, D: Devices>(
 ) -> Ending
     requires { IsWhole machine.old.body (isa_of machine.old.active) }
     ensures whole { IsWhole machine.new.body (isa_of machine.new.active) }
-    ensures few { result.done ≤ steps }
+    ensures run { RanSteps steps result.done
+        (at machine.old.body machine.old.active (outside_of (I.left input.old) (I.faults input.old) (D.state rack.old) (O.held out.old) (O.faults out.old)) (output (T.held trace.old) (T.faults trace.old)))
+        (at machine.new.body machine.new.active (outside_of (I.left input.new) (I.faults input.new) (D.state rack.new) (O.held out.new) (O.faults out.new)) (output (T.held trace.new) (T.faults trace.new))) result.stop }
+    ensures blames { Blames result.stop (counts (I.faults input.old) (O.faults out.old) (T.faults trace.old)) (counts (I.faults input.new) (O.faults out.new) (T.faults trace.new)) }
+    ensures devices { Accounts (D.state rack.old) (D.state rack.new) }
 {
-    for done in 0..steps {
+    'steps: for done in 0..steps {
         let step = step_at(machine);
         let stop = run(machine, input, out, trace, rack, 1);
         if is_done(stop) {
             let _oldest = kept.push_back(step);
         }
-        if stop != Stop::Limit {
+        if ends(stop) {
             return ended(stop, done);
         }
     }
@@ -47,17 +61,30 @@ pub fn run_keeping<I: Source, O: Sink, T: Sink, D: Devices>(
     }
 }
 
+/// Whether a run of one step ends what runs on by such steps.
+fn ends(stop: Stop) -> bool
+    ensures { result ≡ ends_at stop }
+{
+    match stop {
+        Stop::Limit => false,
+        _ => true,
+    }
+}
+
 /// The ending of a run that stopped at the step after so many.
 fn ended(stop: Stop, before: u32) -> Ending
     requires { before < 4294967295 }
-    ensures { result.done ≤ before + 1 }
+    ensures stop { result.stop ≡ stop }
+    ensures done { result.done ≡ before + from_bool (is_done_at stop) }
 {
-    let done = if is_done(stop) { before + 1 } else { before };
+    let done = before + u32::from(is_done(stop));
     Ending { stop, done }
 }
 
 /// Whether the step is done at which a run stopped.
-fn is_done(stop: Stop) -> bool {
+fn is_done(stop: Stop) -> bool
+    ensures { result ≡ is_done_at stop }
+{
     match stop {
         Stop::Limit | Stop::Exit(_) | Stop::TraceFault => true,
         _ => false,
