@@ -1,13 +1,11 @@
 // Steps as text.
-ghost use Rattle.std.specs.Prelude.{◌≡◌, ◌≢◌, [], IsTrue};
-ghost use Rattle.m68_isa.specs.declared.instructions.Decoded68.TheVariants.{Short as is_short};
+ghost use Rattle.std.specs.Prelude.{◌≡◌, []};
 
 use big_memory::{host_code, in_gate_page};
 use look_run::Step;
 use look_text::{Piece, add_line};
-use m68_isa::{Decoded68, decode68};
-use m68_text::text68;
 use mix_bits::{Isa, Line, NoMemory};
+use mix_list::write_words;
 use ppc_text::text_ppc;
 
 /// Appends `NUMBER SET ADDRESS: TEXT` for each of the last steps, the last of which has the number `last`.
@@ -73,20 +71,8 @@ fn add_instruction(text: &mut Vec<u8>, step: &Step) -> Result<(), NoMemory> {
 fn write_m68(line: &mut Line, words: &[u16], at: u32)
     requires { line.old ≡ [] }
 {
-    let decoded = decode68(words);
-    if is_whole(&decoded) {
-        text68(&decoded, words, at, line);
-    } else {
+    if write_words(words, at, line).is_none() {
         line.add("it does not lie in RAM");
-    }
-}
-
-fn is_whole(decoded: &Decoded68) -> bool
-    ensures { IsTrue result → decoded.now ≢ is_short }
-{
-    match decoded {
-        Decoded68::Short => false,
-        _ => true,
     }
 }
 

@@ -31,8 +31,9 @@ pub fn write_instruction(ram: &Ram, set: Isa, at: u32, text: &mut Line) -> Optio
     }
 }
 
-/// The same of the words of 68K code.
-fn write_words(words: &[u16], at: u32, text: &mut Line) -> Option<u32>
+/// Writes the text of the 68K instruction that these words begin with, and answers how many bytes it has, or None where a
+/// word of it is missing.
+pub fn write_words(words: &[u16], at: u32, text: &mut Line) -> Option<u32>
     requires { text.old ≡ [] }
     ensures is { Writes (listed_68k words.now at) result text.new }
     ensures short { length text.new ≤ 84 }

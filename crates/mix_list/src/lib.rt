@@ -4,4 +4,5 @@
 mod instruction;
 mod listing;
 
+pub use instruction::write_words;
 pub use listing::list;
