@@ -1,5 +1,5 @@
 -- The sections and imports of a container, line by line.
-use Rattle.std.specs.Prelude.{ℕ, zero, suc, ◌==◌, List, [], ◌∷◌, ◌++◌, codes, decimal, if◌then◌else◌, Bool, true, false, Option, Some, None}
+use Rattle.std.specs.Prelude.{ℕ, zero, suc, ◌==◌, List, [], ◌∷◌, ◌++◌, codes, decimal, if◌then◌else◌, Bool, true, false, Option, Some, None, is_some}
 use Rattle.mix_bits.specs.Text.{hexadecimal}
 use Rattle.big_memory.specs.Map.{host_vector_at}
 use Rattle.pef_head.specs.declared.error.PefError.{PefError}
@@ -7,7 +7,7 @@ use Rattle.pef_head.specs.Container.{instantiated_count}
 use Rattle.pef_head.specs.Parts.{ImportParts, SectionParts, cut, import_count, import_of, section_at}
 use Rattle.pef_head.specs.Refusals.{refusal_of}
 use Rattle.toolbox.specs.Names.{import_index}
-use Rattle.mix_load.specs.Sections.{section_base}
+use Rattle.mix_load.specs.Sections.{patterns_refusal, section_base}
 use Rattle.look_text.specs.Pieces.{address_text, joined}
 
 abbrev pub kind_name : ℕ → List ℕ
@@ -60,3 +60,7 @@ container_by (Some e) bytes start = []
 -- a container behind `start`; nothing of one whose head is refused
 abbrev pub container_text : List ℕ → ℕ → List ℕ
 container_text bytes start = container_by (refusal_of bytes) bytes start
+
+-- whether the pattern data of a section is refused
+abbrev pub is_badly_packed : List ℕ → ℕ → Bool
+is_badly_packed bytes k = is_some (patterns_refusal bytes k)

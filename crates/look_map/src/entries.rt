@@ -1,19 +1,12 @@
 // The jump table of a fork, which stands in CODE 0.
 ghost use Rattle.std.specs.Prelude.{◌≡◌, ◌+◌, ◌*◌, ◌^◌, ◌<◌, ◌≤◌, ◌++◌, OnOk, length, slice_index};
-ghost use Rattle.mix_load.specs.Segments.{a5_of as a5_in, entry_place as place_of_entry, header_of, is_bad_entry as is_bad, is_unloaded as is_unloaded_by, jump_target as target_of, offset_in as offset_of, reaches as reaches_by, segment_at as segment_of, segment_in as segment_of_entry};
+ghost use Rattle.mix_load.specs.Segments.{entry_place, header_of, jump_target as target_of};
 ghost use Rattle.look_map.specs.Forks.{entries_text, entry_front, entry_line, target_text};
 
-use crate::segments::segment_at;
-use file_fields::{long_at, word_at};
 use look_text::{Piece, add_line};
-use mix_bits::{NoMemory, round_up};
+use mix_bits::NoMemory;
+use mix_load::{a5_of, is_bad_entry, offset_in, read_header, segment_in};
 use rsrc_fork::Fork;
-
-/// The words of an entry whose segment is not loaded: $3F3C pushes the segment's number, and $A9F0 is the trap
-/// LoadSeg.
-const PUSH: u16 = 0x3F3C;
-
-const LOAD_SEG: u16 = 0xA9F0;
 
 /// Appends the lines of the first entries, whose segments stand at these places.
 #[tactic(auto, using(crate::proofs::Appends::two))]
@@ -25,7 +18,7 @@ pub fn add_entries(
     count: u32,
 ) -> Result<(), NoMemory>
     requires longs { 16 ≤ length code0.now }
-    requires within { place_of_entry count ≤ length code0.now }
+    requires within { entry_place count ≤ length code0.now }
     requires few { count < 2 ^ 24 }
     requires above { (header_of code0.now).table_offset + 8 * count < 2 ^ 32 }
     ensures { OnOk result (text.new.items ≡ text.old.items ++ entries_text fork.now places.now code0.now count) }
@@ -46,13 +39,13 @@ fn add_entry(
     i: u32,
 ) -> Result<(), NoMemory>
     requires longs { 16 ≤ length code0.now }
-    requires within { place_of_entry i + 8 ≤ length code0.now }
+    requires within { entry_place i + 8 ≤ length code0.now }
     requires few { i < 2 ^ 24 }
     requires above { (header_of code0.now).table_offset + 8 * i + 8 < 2 ^ 32 }
     ensures { OnOk result (text.new.items ≡ text.old.items ++ entry_line fork.now places.now code0.now i) }
 {
     let offset = table_offset(code0, i);
-    let at = a5_of(code0) + u64::from(offset);
+    let at = a5_of(read_header(code0)) + u64::from(offset);
     let segment = u32::from(segment_in(code0, i));
     let inside = u32::from(offset_in(code0, i));
     add_front(text, i, at, offset, segment, inside)?;
@@ -70,7 +63,7 @@ fn table_offset(code0: &[u8], i: u32) -> u32
     requires above { (header_of code0.now).table_offset + 8 * i + 8 < 2 ^ 32 }
     ensures { result ≡ (header_of code0.now).table_offset + 8 * i + 2 }
 {
-    long_at(code0, 12) + 8 * i + 2
+    read_header(code0).table_offset + 8 * i + 2
 }
 
 fn add_front(
@@ -113,73 +106,9 @@ fn add_target(text: &mut Vec<u8>, bad: bool, target: u32) -> Result<(), NoMemory
     }
 }
 
-/// Where A5 points.
-pub fn a5_of(code0: &[u8]) -> u64
-    requires { 16 ≤ length code0.now }
-    ensures is { result ≡ a5_in (header_of code0.now) }
-    ensures few { result ≤ 2 ^ 33 }
-{
-    0x1_0000 + round_up(u64::from(long_at(code0, 4)), 16)
-}
-
-fn entry_place(i: u32) -> u32
-    requires { i < 2 ^ 24 }
-    ensures { result ≡ place_of_entry i }
-{
-    16 + 8 * i
-}
-
-/// The offset that an entry names, behind the segment's header.
-fn offset_in(code0: &[u8], i: u32) -> u16
-    requires within { place_of_entry i + 8 ≤ length code0.now }
-    requires few { i < 2 ^ 24 }
-    ensures { result ≡ offset_of code0.now i }
-{
-    word_at(code0, entry_place(i))
-}
-
-/// The segment that an entry names.
-fn segment_in(code0: &[u8], i: u32) -> u16
-    requires within { place_of_entry i + 8 ≤ length code0.now }
-    requires few { i < 2 ^ 24 }
-    ensures { result ≡ segment_of_entry code0.now i }
-{
-    word_at(code0, entry_place(i) + 4)
-}
-
-/// Whether an entry's words say that its segment is not loaded.
-fn is_unloaded(code0: &[u8], i: u32) -> bool
-    requires within { place_of_entry i + 8 ≤ length code0.now }
-    requires few { i < 2 ^ 24 }
-    ensures { result ≡ is_unloaded_by code0.now i }
-{
-    let place = entry_place(i);
-    word_at(code0, place + 2) == PUSH && word_at(code0, place + 6) == LOAD_SEG
-}
-
-/// Whether an offset behind a segment's header reaches into the segment or to its end.
-fn reaches(fork: &Fork, segment: u16, offset: u16) -> bool
-    ensures { result ≡ reaches_by offset (segment_of fork.now segment) }
-{
-    match segment_at(fork, segment) {
-        Some(code) => 4 + offset as usize <= code.len(),
-        None => false,
-    }
-}
-
-/// Whether an entry cannot be loaded.
-fn is_bad_entry(fork: &Fork, code0: &[u8], i: u32) -> bool
-    requires within { place_of_entry i + 8 ≤ length code0.now }
-    requires few { i < 2 ^ 24 }
-    ensures { result ≡ is_bad fork.now code0.now i }
-{
-    let (segment, offset) = (segment_in(code0, i), offset_in(code0, i));
-    !(is_unloaded(code0, i) && reaches(fork, segment, offset))
-}
-
 /// Where an entry jumps to, once its segment is loaded.
 fn jump_target(places: &[u64], code0: &[u8], i: u32) -> u32
-    requires within { place_of_entry i + 8 ≤ length code0.now }
+    requires within { entry_place i + 8 ≤ length code0.now }
     requires few { i < 2 ^ 24 }
     ensures { result ≡ target_of places.now code0.now i }
 {

@@ -1,21 +1,20 @@
 // The CODEs of a fork.
-ghost use Rattle.std.specs.Prelude.{◌≡◌, ◌≢◌, ◌+◌, ◌^◌, ◌<◌, ◌≤◌, ◌++◌, IfOk, OnOk, IsTrue, true, length, option_map};
+ghost use Rattle.std.specs.Prelude.{◌≡◌, ◌≢◌, ◌+◌, ◌^◌, ◌<◌, ◌≤◌, ◌++◌, IfOk, OnOk, true, length};
 ghost use Rattle.rsrc_fork.specs.References.{resources_of};
 ghost use Rattle.rsrc_fork.specs.declared.error.RsrcError.TheVariants.{NoMemory as NoForkMemory};
 ghost use Rattle.switch_frame.specs.Program.{program_start};
 ghost use Rattle.mix_load.specs.Segments.{HasTable, entry_count, has_table as has_table_by, header_of, segments_end, segments_start as start_in};
 ghost use Rattle.look_map.specs.Forks.{a5_line, codes_by, codes_end, fork_end, fork_text, segments_text, table_line, table_text, world_text};
 
-use crate::entries::{a5_of, add_entries};
-use crate::segments::{add_segments, code_at};
-use file_fields::long_at;
+use crate::entries::add_entries;
+use crate::segments::add_segments;
 use look_text::{Piece, add_line};
-use mix_bits::{NoMemory, round_up};
+use mix_bits::NoMemory;
+use mix_load::{
+    PROGRAM_START, a5_of, code_at, has_table, read_header, segments_start, table_start,
+};
 use rsrc_fork::{Fork, RsrcError};
 use std::alloc::Global;
-
-/// Where a program begins.
-pub const PROGRAM_START: u64 = 0x1_0000;
 
 /// Appends the lines of the fork in a file's bytes, with the CODEs below a count of ids, and says where they end.
 #[tactic(auto, using(crate::proofs::Refused::refused_text, crate::proofs::Refused::refused_end))]
@@ -39,7 +38,7 @@ fn end_without(e: RsrcError) -> Result<u64, NoMemory>
 {
     match e {
         RsrcError::NoMemory => Err(NoMemory),
-        _ => Ok(PROGRAM_START),
+        _ => Ok(u64::from(PROGRAM_START)),
     }
 }
 
@@ -81,7 +80,8 @@ fn add_bare(alloc: Global, text: &mut Vec<u8>, fork: &Fork, ids: u16) -> Result<
     ensures end { IfOk result (λ end. end ≡ segments_end fork.now program_start ids) }
     ensures near { IfOk result (λ end. end ≤ 2 ^ 42) }
 {
-    Ok(add_segments(text, fork, Vec::new(alloc), PROGRAM_START, ids)?.end)
+    let start = u64::from(PROGRAM_START);
+    Ok(add_segments(text, fork, Vec::new(alloc), start, ids)?.end)
 }
 
 /// Appends the lines of the world of A5, and of the segments.
@@ -99,8 +99,9 @@ fn add_world(
     ensures end { IfOk result (λ end. end ≡ segments_end fork.now (start_in (header_of code0.now)) ids) }
     ensures near { IfOk result (λ end. end ≤ 2 ^ 42) }
 {
-    add_a5(text, a5_of(code0))?;
-    let segments = add_segments(text, fork, Vec::new(alloc), segments_start(code0), ids)?;
+    let h = read_header(code0);
+    add_a5(text, a5_of(h))?;
+    let segments = add_segments(text, fork, Vec::new(alloc), segments_start(h), ids)?;
     add_table(text, fork, code0, &segments.places)?;
     Ok(segments.end)
 }
@@ -112,15 +113,6 @@ fn add_a5(text: &mut Vec<u8>, a5: u64) -> Result<(), NoMemory>
         text,
         &[Piece::Text("A5: "), Piece::Address(a5), Piece::Text("\n")],
     )
-}
-
-/// Where the segments begin.
-fn segments_start(code0: &[u8]) -> u64
-    requires { 16 ≤ length code0.now }
-    ensures is { result ≡ start_in (header_of code0.now) }
-    ensures few { result ≤ 2 ^ 34 }
-{
-    a5_of(code0) + round_up(u64::from(long_at(code0, 0)), 16)
 }
 
 /// Appends the lines of the jump table, if there is one.
@@ -150,8 +142,9 @@ fn add_whole_table(
     requires small { length code0.now ≤ 2 ^ 24 }
     ensures { OnOk result (text.new.items ≡ text.old.items ++ table_text fork.now places.now code0.now true) }
 {
-    let count = long_at(code0, 8) / 8;
-    add_table_line(text, a5_of(code0) + u64::from(long_at(code0, 12)), count)?;
+    let h = read_header(code0);
+    let count = h.table_len / 8;
+    add_table_line(text, table_start(h), count)?;
     add_entries(text, fork, code0, places, count)
 }
 
@@ -168,19 +161,4 @@ fn add_table_line(text: &mut Vec<u8>, at: u64, count: u32) -> Result<(), NoMemor
             Piece::Text(" entries\n"),
         ],
     )
-}
-
-/// Whether CODE 0 has a table that lies in the world above A5.
-fn has_table(code0: &[u8]) -> bool
-    requires longs { 16 ≤ length code0.now }
-    requires small { length code0.now ≤ 2 ^ 24 }
-    ensures is { result ≡ has_table_by code0.now }
-    ensures facts { IsTrue result → HasTable code0.now }
-    ensures room { IsTrue result → (header_of code0.now).table_offset + (header_of code0.now).table_len < 2 ^ 32 }
-{
-    let (above, len, offset) = (long_at(code0, 0), long_at(code0, 8), long_at(code0, 12));
-    0 < len
-        && len % 8 == 0
-        && 16 + len as u64 <= code0.len() as u64
-        && offset as u64 + len as u64 <= above as u64
 }

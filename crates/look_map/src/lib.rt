@@ -14,6 +14,7 @@ mod refusal;
 mod sections;
 mod segments;
 mod start;
+mod unmade;
 
 pub use mapped::{Mapped, map_program};
 pub use refusal::refusal_text;

@@ -4,10 +4,10 @@ ghost use Rattle.mix_load.specs.Load.{AreLoadable, IsSmall};
 ghost use Rattle.look_map.specs.Maps.{container_file_text, files_text, flat_line, flat_text, fork_file_end, fork_file_text, ram_line};
 
 use crate::container::add_container;
-use crate::fork::{PROGRAM_START, add_fork};
+use crate::fork::add_fork;
 use look_text::{Piece, add_line};
 use mix_bits::NoMemory;
-use mix_load::{FileBytes, Files};
+use mix_load::{FileBytes, Files, PROGRAM_START};
 use std::alloc::Global;
 
 /// The lines of files, with the CODEs below a count of ids, in `len` bytes of RAM.
@@ -81,7 +81,7 @@ fn add_fork_file(
 {
     match file {
         Some(file) => add_fork(alloc, text, file.bytes(), ids),
-        None => Ok(PROGRAM_START),
+        None => Ok(u64::from(PROGRAM_START)),
     }
 }
 

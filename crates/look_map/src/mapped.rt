@@ -8,12 +8,9 @@ ghost use Rattle.look_map.specs.Maps.{IsMapped, start_text};
 use crate::listing::listing;
 use crate::start::add_start;
 use mix_bits::{Isa, NoMemory};
-use mix_load::{Files, LoadError, load};
+use mix_load::{Files, ID_COUNT, LoadError, load};
 use std::alloc::Global;
 use switch_frame::Program;
-
-/// How many ids are not negative.
-const ID_COUNT: u16 = 32768;
 
 /// Where the pieces of a program lie.
 #[derive(Drop)]

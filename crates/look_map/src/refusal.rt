@@ -2,12 +2,14 @@
 ghost use Rattle.std.specs.Prelude.{◌≡◌, ◌^◌, ◌≤◌, length};
 ghost use Rattle.mix_load.specs.Load.{IsSmall};
 
+use crate::unmade::unmade_section;
 use look_text::{Piece, add_line};
 use mix_bits::NoMemory;
 use mix_load::{File, FileBytes, Files, LoadError};
 use pef_head::{Import, Pef};
+use pef_reloc::RelocError;
 use rsrc_fork::RsrcError;
-use std::alloc::Global;
+use std::alloc::{AllocError, Global};
 
 /// How many bytes of a name are told.
 const NAME_BYTES: usize = 255;
@@ -24,6 +26,7 @@ pub fn refusal_text(alloc: Global, files: &Files, error: LoadError) -> Result<Ve
             resource(alloc, kind, id, " is compressed")
         }
         LoadError::Unresolved(i) => unresolved(alloc, &files.pef, i),
+        LoadError::Reloc(e) => unmade(alloc, &files.pef, e),
         _ => plain(alloc, error),
     }
 }
@@ -87,41 +90,66 @@ fn named(alloc: Global, i: u32, import: Import) -> Result<Vec<u8>, NoMemory> {
     Ok(text)
 }
 
+/// The sentence about a section that is not made.
+fn unmade(alloc: Global, file: &Option<FileBytes>, error: RelocError) -> Result<Vec<u8>, NoMemory>
+    requires { IsSmall file.now }
+{
+    let sentence = match unmade_in(alloc, file, error)? {
+        Some(k) => format!(in alloc; "section {k} is not made: {error}")?,
+        None => format!(in alloc; "a section is not made: {error}")?,
+    };
+    told(alloc, sentence.as_str())
+}
+
+/// The number of that section.
+fn unmade_in(
+    alloc: Global,
+    file: &Option<FileBytes>,
+    error: RelocError,
+) -> Result<Option<u32>, NoMemory>
+    requires { IsSmall file.now }
+{
+    if let Some(file) = file {
+        if let Ok(pef) = Pef::read(file.bytes()) {
+            return unmade_section(alloc, &pef, error);
+        }
+    }
+    Ok(None)
+}
+
 /// A sentence that needs nothing of the files.
 fn plain(alloc: Global, error: LoadError) -> Result<Vec<u8>, NoMemory> {
     let sentence = sentence(alloc, error)?;
+    told(alloc, sentence.as_str())
+}
+
+fn told(alloc: Global, sentence: &str) -> Result<Vec<u8>, NoMemory> {
     let mut text = Vec::new(alloc);
-    add_line(&mut text, &[Piece::Text(sentence.as_str())])?;
+    add_line(&mut text, &[Piece::Text(sentence)])?;
     Ok(text)
 }
 
-fn sentence(alloc: Global, error: LoadError) -> Result<String, NoMemory> {
-    let text = match error {
-        LoadError::Empty(File::Flat) => format!(in alloc; "the flat file has no byte")?,
-        LoadError::Empty(File::Rsrc) => format!(in alloc; "the fork's file has no byte")?,
-        LoadError::Empty(File::Pef) => format!(in alloc; "the container's file has no byte")?,
-        LoadError::NoCode(1) => format!(in alloc; "the fork has no CODE above 0")?,
-        LoadError::NoCode(id) => format!(in alloc; "the fork has no CODE {id}")?,
+fn sentence(alloc: Global, error: LoadError) -> Result<String, AllocError> {
+    match error {
+        LoadError::Empty(File::Flat) => format!(in alloc; "the flat file has no byte"),
+        LoadError::Empty(File::Rsrc) => format!(in alloc; "the fork's file has no byte"),
+        LoadError::Empty(File::Pef) => format!(in alloc; "the container's file has no byte"),
+        LoadError::NoCode(1) => format!(in alloc; "the fork has no CODE above 0"),
+        LoadError::NoCode(id) => format!(in alloc; "the fork has no CODE {id}"),
         LoadError::Far(id) => {
-            format!(in alloc; "CODE {id} is of the far model, which is not loaded")?
+            format!(in alloc; "CODE {id} is of the far model, which is not loaded")
         }
-        LoadError::JumpTable(0) => {
-            format!(in alloc;
-                "CODE 0 has no jump table above A5, or a CODE has fewer than 4 bytes"
-            )?
-        }
+        LoadError::JumpTable(0) => format!(in alloc;
+            "CODE 0 has no jump table above A5, or a CODE has fewer than 4 bytes"
+        ),
         LoadError::JumpTable(at) => {
-            format!(in alloc; "the jump table's entry at {at} in CODE 0 names no place in a CODE")?
+            format!(in alloc; "the jump table's entry at {at} in CODE 0 names no place in a CODE")
         }
-        LoadError::TooLarge(end) => {
-            format!(in alloc;
-                "the program would end at ${end:08X}, in the quarter of RAM that is the stack's"
-            )?
-        }
-        LoadError::Rsrc(e) => format!(in alloc; "the fork is none: {e}")?,
-        LoadError::Pef(e) => format!(in alloc; "the container is none: {e}")?,
-        LoadError::Reloc(e) => format!(in alloc; "a section is not made: {e}")?,
-        _ => format!(in alloc; "{error}")?,
-    };
-    Ok(text)
+        LoadError::TooLarge(end) => format!(in alloc;
+            "the program would end at ${end:08X}, in the quarter of RAM that is the stack's"
+        ),
+        LoadError::Rsrc(e) => format!(in alloc; "the fork is none: {e}"),
+        LoadError::Pef(e) => format!(in alloc; "the container is none: {e}"),
+        _ => format!(in alloc; "{error}"),
+    }
 }

@@ -6,11 +6,9 @@ ghost use Rattle.mix_load.specs.Sections.{base_behind as base_of};
 ghost use Rattle.look_map.specs.Containers.{kind_name as name_of_kind, section_line, section_text, sections_text};
 
 use look_text::{Piece, add_line};
-use mix_bits::{NoMemory, round_up};
+use mix_bits::NoMemory;
+use mix_load::base_behind;
 use pef_head::{Pef, Section};
-
-/// The least unit of a section's address.
-const LEAST_ALIGNMENT: u32 = 16;
 
 /// Appends the lines of the first sections, which begin behind `start`.
 #[tactic(auto, using(crate::proofs::Appends::two))]
@@ -39,18 +37,6 @@ fn add_section(text: &mut Vec<u8>, k: u32, section: Section, end: u64) -> Result
     let base = base_behind(section, end);
     add_place(text, k, section.kind, base, section.total)?;
     Ok(base + u64::from(section.total))
-}
-
-/// Where a section stands that follows an end.
-fn base_behind(section: Section, end: u64) -> u64
-    requires near { end ≤ 2 ^ 60 }
-    requires aligned { section.align ≤ 4096 }
-    ensures is { result ≡ base_of (parts section.entry) end }
-    ensures least { end ≤ result }
-    ensures most { result ≤ end + 4095 }
-{
-    let unit = section.align.max(LEAST_ALIGNMENT) as u64;
-    round_up(end, unit)
 }
 
 fn add_place(text: &mut Vec<u8>, k: u32, kind: u8, base: u64, size: u32) -> Result<(), NoMemory>

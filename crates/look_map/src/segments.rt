@@ -1,41 +1,19 @@
 // The segments of a fork: its CODEs above 0.
 ghost use Rattle.std.specs.Prelude.{◌≡◌, ◌+◌, ◌^◌, ◌<◌, ◌≤◌, ◌++◌, [], IfOk, IfSome, OnOk, length, option_map};
 ghost use Rattle.mix_bits.specs.Multiples.{rounded_up};
-ghost use Rattle.mix_load.specs.Segments.{code_at as code_of, segment_at as segment_of, segment_places, segments_end, with_segment};
+ghost use Rattle.mix_load.specs.Segments.{segment_places, segments_end, with_segment};
 ghost use Rattle.look_map.specs.Forks.{code_line, segment_line, segments_text};
 
 use look_text::{Piece, add_line};
 use mix_bits::{NoMemory, round_up};
+use mix_load::segment_at;
 use rsrc_fork::Fork;
-
-/// 'CODE'.
-const CODE: u32 = 0x434F_4445;
 
 /// Where the segments stand, by their ids, and where they end.
 #[derive(Drop)]
 pub struct Segments {
     pub places: Vec<u64>,
     pub end: u64,
-}
-
-/// The CODE with this id.
-pub fn code_at<'a>(fork: &Fork<'a>, id: u16) -> Option<&'a [u8]>
-    requires { id < 32768 }
-    ensures is { option_map (λ code. code.now) result ≡ code_of fork.now id }
-    ensures small { IfSome result (λ code. length code.now ≤ 2 ^ 24) }
-{
-    fork.get(CODE, id as i16)
-}
-
-/// The segment with this number, a word that is read as a signed id.
-pub fn segment_at<'a>(fork: &Fork<'a>, id: u16) -> Option<&'a [u8]>
-    ensures is { option_map (λ code. code.now) result ≡ segment_of fork.now id }
-    ensures small { IfSome result (λ code. length code.now ≤ 2 ^ 24) }
-{
-    if id == 0 || 32768 <= id {
-        return None;
-    }
-    code_at(fork, id)
 }
 
 /// Appends the lines of the segments below a count of ids, which begin behind `start`, and says where they stand.

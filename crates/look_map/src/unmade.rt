@@ -1,0 +1,143 @@
+// The section of a container that was refused while it was made.
+ghost use Rattle.std.specs.Prelude.{◌≡◌, ℕ, ◌^◌, ◌%◌, ◌<◌, ◌≤◌, None, IfOk, IfSome, is_some, length, slice_index_or};
+ghost use Rattle.file_fields.specs.Search.{least};
+ghost use Rattle.pef_head.specs.Container.{instantiated_count};
+ghost use Rattle.pef_head.specs.Parts.{IsLoadable, parts, reloc_header_of};
+ghost use Rattle.mix_load.specs.Sections.{pattern_refusal};
+ghost use Rattle.look_map.specs.Containers.{is_badly_packed as is_packed_badly};
+
+use big_memory::Ram;
+use mix_bits::NoMemory;
+use pef_head::{Pef, Section};
+use pef_reloc::{RelocError, relocate, unpack};
+use std::alloc::Global;
+
+/// As many bytes as RAM has at most.
+const MOST: u32 = 16_777_216;
+
+/// Sections of these sizes at these addresses, and the addresses of imports.
+#[derive(Drop)]
+struct Sections {
+    bases: Vec<u32>,
+    totals: Vec<u32>,
+    imports: Vec<u32>,
+}
+
+/// The number of the first section that is refused in this way, if there is one.
+pub fn unmade_section(alloc: Global, pef: &Pef, error: RelocError) -> Result<Option<u32>, NoMemory>
+    ensures { IfOk result (λ section. IfSome section (λ k. k < instantiated_count pef.now)) }
+{
+    match error {
+        RelocError::Pattern(_) => badly_packed(alloc, pef, pef.sections()),
+        _ => badly_relocated(alloc, pef, MOST),
+    }
+}
+
+/// The first section whose pattern data is refused.
+#[tactic(auto, using(file_fields::proofs::Searches::least_at))]
+fn badly_packed(alloc: Global, pef: &Pef, count: u32) -> Result<Option<u32>, NoMemory>
+    requires { count ≤ instantiated_count pef.now }
+    ensures is { IfOk result (λ section. section ≡ least (is_packed_badly pef.now) count) }
+    ensures below { IfOk result (λ section. IfSome section (λ k. k < count)) }
+{
+    for k in 0..count {
+        if is_badly_packed(alloc, pef.section(k))? {
+            return Ok(Some(k));
+        }
+    }
+    Ok(None)
+}
+
+/// Whether the pattern data of a section is refused.
+fn is_badly_packed(alloc: Global, section: Section) -> Result<bool, NoMemory>
+    requires { IsLoadable (parts section) }
+    ensures { IfOk result (λ bad. bad ≡ is_some (pattern_refusal (parts section.entry))) }
+{
+    if !section.is_pattern() {
+        return Ok(false);
+    }
+    let mut room = vec![in alloc; 0; section.unpacked as usize]?;
+    Ok(unpack(section.bytes, &mut room).is_err())
+}
+
+/// The first section whose relocations are refused. Where sections stand and what they hold makes no difference to that,
+/// so each is taken for zeros at the address 0.
+fn badly_relocated(alloc: Global, pef: &Pef, ram: u32) -> Result<Option<u32>, NoMemory>
+    requires least { 131072 ≤ ram }
+    requires most { ram ≤ 16777216 }
+    requires whole { ram % 1024 ≡ 0 }
+    ensures { IfOk result (λ section. IfSome section (λ k. k < instantiated_count pef.now)) }
+{
+    let count = pef.sections();
+    let headers = pef.reloc_headers(alloc)?;
+    let sections = Sections {
+        bases: vec![in alloc; 0; count as usize]?,
+        totals: totals(alloc, pef, count)?,
+        imports: vec![in alloc; 0; pef.imports() as usize]?,
+    };
+    let mut ram = Ram::new(alloc, ram)?;
+    Ok(first_refused(&mut ram, pef, &headers, &sections, count))
+}
+
+/// The sizes of the first sections.
+fn totals(alloc: Global, pef: &Pef, count: u32) -> Result<Vec<u32>, NoMemory>
+    requires { count ≤ instantiated_count pef.now }
+    ensures { IfOk result (λ totals. length totals.items ≡ count) }
+{
+    let mut totals = Vec::new(alloc);
+    for k in 0..count {
+        totals.push(pef.section(k).total)?;
+    }
+    Ok(totals)
+}
+
+/// The first of the first sections whose relocations are refused.
+fn first_refused(
+    ram: &mut Ram,
+    pef: &Pef,
+    headers: &[Option<u32>],
+    sections: &Sections,
+    count: u32,
+) -> Option<u32>
+    requires below { count ≤ instantiated_count pef.now }
+    requires headers { (k : ℕ) → k < instantiated_count pef.now → slice_index_or headers.now k None ≡ reloc_header_of pef.now k }
+    requires noted { length headers.now ≡ instantiated_count pef.now }
+    requires bases { length sections.now.bases.items ≡ instantiated_count pef.now }
+    requires totals { length sections.now.totals.items ≡ instantiated_count pef.now }
+    requires few { length sections.now.imports.items < 2 ^ 32 }
+    ensures { IfSome result (λ k. k < count) }
+{
+    for k in 0..count {
+        let words = pef.relocs_by(k, headers[k as usize]);
+        if is_refused(
+            ram,
+            k,
+            words,
+            &sections.bases,
+            &sections.totals,
+            &sections.imports,
+        ) {
+            return Some(k);
+        }
+    }
+    None
+}
+
+/// Whether the relocations of a section that lies in memory are refused.
+fn is_refused(
+    ram: &mut Ram,
+    k: u32,
+    words: &[u8],
+    bases: &[u32],
+    totals: &[u32],
+    imports: &[u32],
+) -> bool
+    requires small { length words.now ≤ 2 ^ 24 }
+    requires even { length words.now % 2 ≡ 0 }
+    requires below { k < length bases.now }
+    requires paired { length bases.now ≡ length totals.now }
+    requires few { length imports.now < 2 ^ 32 }
+{
+    let end = u64::from(bases[k as usize]) + u64::from(totals[k as usize]);
+    end <= u64::from(ram.len()) && relocate(ram, k, words, bases, totals, imports).is_err()
+}
