@@ -2,8 +2,8 @@
 use crate::error::LookError;
 use crate::names::Names;
 use indexmap::IndexMap;
-use look_text::{add, add_bytes, add_dec};
-use mix_bits::Isa;
+use look_text::{Piece, add_line};
+use mix_bits::{Isa, NoMemory};
 use std::alloc::Global;
 use trace_lines::Crossing;
 
@@ -80,20 +80,44 @@ fn add_route(
     route: &Route,
     count: u32,
 ) -> Result<(), LookError> {
-    add_dec(text, count)?;
-    add(text, " ")?;
-    add(text, set_name(route.from))?;
-    add(text, " ")?;
-    match route.caller {
-        Some(caller) => add_bytes(text, &names.name(alloc, caller)?)?,
-        None => add(text, "the program")?,
-    }
-    add(text, " to ")?;
-    add(text, set_name(route.to))?;
-    add(text, " ")?;
-    add_bytes(text, &names.name(alloc, route.target)?)?;
-    add(text, "\n")?;
+    let caller = caller_name(alloc, names, route.caller)?;
+    let target = names.name(alloc, route.target)?;
+    let (from, to) = (set_name(route.from), set_name(route.to));
+    add_parts(text, count, from, &caller, to, &target)?;
     Ok(())
+}
+
+fn add_parts<'a>(
+    text: &mut Vec<u8>,
+    count: u32,
+    from: &'a str,
+    caller: &'a [u8],
+    to: &'a str,
+    target: &'a [u8],
+) -> Result<(), NoMemory> {
+    add_line(
+        text,
+        &[
+            Piece::Number(count),
+            Piece::Text(" "),
+            Piece::Text(from),
+            Piece::Text(" "),
+            Piece::Bytes(caller),
+            Piece::Text(" to "),
+            Piece::Text(to),
+            Piece::Text(" "),
+            Piece::Bytes(target),
+            Piece::Text("\n"),
+        ],
+    )
+}
+
+/// The name of a routine that calls, or of the program.
+fn caller_name(alloc: Global, names: &Names, caller: Option<u32>) -> Result<Vec<u8>, LookError> {
+    match caller {
+        Some(caller) => names.name(alloc, caller),
+        None => Ok(b"the program".to_vec(alloc)?),
+    }
 }
 
 fn set_of(set: Isa) -> Set {

@@ -5,8 +5,8 @@ use crate::error::LookError;
 use crate::names::Names;
 use crate::reading::Reading;
 use crate::tree::{name_of, write};
-use look_text::{add, add_dec, tree_line};
-use mix_bits::Isa;
+use look_text::{Piece, add, add_bytes, add_line, tree_line};
+use mix_bits::{Isa, NoMemory};
 use std::alloc::Global;
 use std::io::{BufRead, Write};
 use trace_lines::{Crossing, Event};
@@ -44,6 +44,14 @@ const LETTER: u32 = 8;
 /// How wide a picture is at least.
 const NARROWEST: u32 = 1400;
 
+/// What stands behind the size of a picture.
+const STYLE: &str = "\" font-family=\"monospace\" font-size=\"12\">
+<style>svg { background: #fff } rect { fill: #48c; stroke: #fff }
+text { paint-order: stroke; stroke: #fff; stroke-width: 3px }</style>
+<text x=\"20\" y=\"20\" font-weight=\"bold\">68K</text>
+<text x=\"720\" y=\"20\" font-weight=\"bold\">PowerPC</text>
+";
+
 /// A picture in the making. Texts stand before bars, so that a long one can be read where it meets one.
 #[derive(Drop)]
 struct Picture {
@@ -64,6 +72,15 @@ pub fn write_picture<R: BufRead + Drop, W: Write>(
     names: &Names,
     out: &mut W,
 ) -> Result<(), LookError> {
+    let picture = draw(alloc, trace, names)?;
+    write(out, &picture.head()?)?;
+    write(out, &picture.bars)?;
+    write(out, &picture.texts)?;
+    write(out, b"</svg>\n")
+}
+
+/// The picture of a trace.
+fn draw<R: BufRead + Drop>(alloc: Global, trace: R, names: &Names) -> Result<Picture, LookError> {
     let mut reading = Reading::new(alloc, trace);
     let mut picture = Picture::new(alloc);
     for _ in 0..u64::MAX {
@@ -73,10 +90,7 @@ pub fn write_picture<R: BufRead + Drop, W: Write>(
         picture.add_event(reading.text(), &event, names)?;
     }
     picture.finish()?;
-    write(out, &picture.head()?)?;
-    write(out, &picture.bars)?;
-    write(out, &picture.texts)?;
-    write(out, b"</svg>\n")
+    Ok(picture)
 }
 
 impl Picture {
@@ -144,10 +158,7 @@ impl Picture {
             }
         }
         if self.calls > MOST {
-            let mut note = Vec::new(self.alloc);
-            add(&mut note, "the first 1000 of ")?;
-            add_dec(&mut note, self.calls)?;
-            add(&mut note, " calls\n")?;
+            let note = note(self.alloc, self.calls)?;
             self.add_label(LEFT, &note)?;
             self.row = self.row.saturating_add(1);
         }
@@ -156,75 +167,98 @@ impl Picture {
 
     /// A bar from its first row to this one.
     fn add_bar(&mut self, bar: Bar) -> Result<(), LookError> {
-        let height = self.row.saturating_sub(bar.row).saturating_mul(ROW);
-        add(&mut self.bars, "<rect")?;
-        add_number(&mut self.bars, " x=\"", bar.x)?;
-        add_number(&mut self.bars, " y=\"", height_of(bar.row))?;
-        add_number(
-            &mut self.bars,
-            " width=\"8\" height=\"",
-            height.saturating_add(ROW - 2),
-        )?;
-        add(&mut self.bars, "/>\n")?;
+        let rows = self.row.saturating_sub(bar.row);
+        add_rectangle(&mut self.bars, bar, rows)?;
         Ok(())
     }
 
     /// A text in this row, up to its line feed.
     fn add_label(&mut self, x: u32, text: &[u8]) -> Result<(), LookError> {
-        add(&mut self.texts, "<text")?;
-        add_number(&mut self.texts, " x=\"", x)?;
-        add_number(
-            &mut self.texts,
-            " y=\"",
-            height_of(self.row).saturating_add(12),
-        )?;
-        add(&mut self.texts, ">")?;
-        for byte in text {
-            self.add_letter(*byte)?;
-        }
-        add(&mut self.texts, "</text>\n")?;
+        add_text(&mut self.texts, x, self.row, text)?;
         self.right = self.right.max(end_of(x, text.len()));
         Ok(())
     }
 
-    /// A byte of a text, as XML writes it.
-    fn add_letter(&mut self, byte: u8) -> Result<(), LookError> {
-        match byte {
-            b'&' => add(&mut self.texts, "&amp;")?,
-            b'<' => add(&mut self.texts, "&lt;")?,
-            b'>' => add(&mut self.texts, "&gt;")?,
-            0..=31 => {}
-            _ => self.texts.push(byte)?,
-        }
-        Ok(())
-    }
-
     /// The front of the file, which has its size.
-    fn head(&self) -> Result<Vec<u8>, LookError> {
-        let mut text = Vec::new(self.alloc);
-        add(&mut text, "<svg xmlns=\"http://www.w3.org/2000/svg\"")?;
-        add_number(&mut text, " width=\"", self.right)?;
-        add_number(
-            &mut text,
-            " height=\"",
-            height_of(self.row).saturating_add(TOP),
-        )?;
-        add(&mut text, " font-family=\"monospace\" font-size=\"12\">\n")?;
-        add(
-            &mut text,
-            "<style>svg { background: #fff } rect { fill: #48c; stroke: #fff }\n\
-text { paint-order: stroke; stroke: #fff; stroke-width: 3px }</style>\n",
-        )?;
-        add(
-            &mut text,
-            "<text x=\"20\" y=\"20\" font-weight=\"bold\">68K</text>\n",
-        )?;
-        add(
-            &mut text,
-            "<text x=\"720\" y=\"20\" font-weight=\"bold\">PowerPC</text>\n",
-        )?;
-        Ok(text)
+    fn head(&self) -> Result<Vec<u8>, NoMemory> {
+        front(self.alloc, self.right, height_of(self.row).saturating_add(TOP))
     }
+}
+
+/// What is said of calls that are not drawn.
+fn note(alloc: Global, calls: u32) -> Result<Vec<u8>, NoMemory> {
+    let mut text = Vec::new(alloc);
+    add_line(
+        &mut text,
+        &[
+            Piece::Text("the first 1000 of "),
+            Piece::Number(calls),
+            Piece::Text(" calls\n"),
+        ],
+    )?;
+    Ok(text)
+}
+
+/// A bar that ends so many rows below its first one.
+fn add_rectangle(bars: &mut Vec<u8>, bar: Bar, rows: u32) -> Result<(), NoMemory> {
+    let height = rows.saturating_mul(ROW).saturating_add(ROW - 2);
+    add_line(
+        bars,
+        &[
+            Piece::Text("<rect x=\""),
+            Piece::Number(bar.x),
+            Piece::Text("\" y=\""),
+            Piece::Number(height_of(bar.row)),
+            Piece::Text("\" width=\"8\" height=\""),
+            Piece::Number(height),
+            Piece::Text("\"/>\n"),
+        ],
+    )
+}
+
+/// A text in a row.
+fn add_text(texts: &mut Vec<u8>, x: u32, row: u32, text: &[u8]) -> Result<(), NoMemory> {
+    add_line(
+        texts,
+        &[
+            Piece::Text("<text x=\""),
+            Piece::Number(x),
+            Piece::Text("\" y=\""),
+            Piece::Number(height_of(row).saturating_add(12)),
+            Piece::Text("\">"),
+        ],
+    )?;
+    for byte in text {
+        add_letter(texts, *byte)?;
+    }
+    add(texts, "</text>\n")
+}
+
+/// A byte of a text, as XML writes it.
+fn add_letter(texts: &mut Vec<u8>, byte: u8) -> Result<(), NoMemory> {
+    match byte {
+        b'&' => add(texts, "&amp;"),
+        b'<' => add(texts, "&lt;"),
+        b'>' => add(texts, "&gt;"),
+        0..=31 => Ok(()),
+        _ => add_bytes(texts, &[byte]),
+    }
+}
+
+/// The front of a file of this size.
+fn front(alloc: Global, width: u32, height: u32) -> Result<Vec<u8>, NoMemory> {
+    let mut text = Vec::new(alloc);
+    add_line(
+        &mut text,
+        &[
+            Piece::Text("<svg xmlns=\"http://www.w3.org/2000/svg\" width=\""),
+            Piece::Number(width),
+            Piece::Text("\" height=\""),
+            Piece::Number(height),
+            Piece::Text(STYLE),
+        ],
+    )?;
+    Ok(text)
 }
 
 /// Where the column of a set begins.
@@ -241,14 +275,6 @@ fn column(set: Isa) -> u32
 fn end_of(x: u32, letters: usize) -> u32 {
     let letters = u32::try_from(letters).unwrap_or(u32::MAX);
     letters.saturating_mul(LETTER).saturating_add(x)
-}
-
-/// An attribute's number, behind its name.
-fn add_number(text: &mut Vec<u8>, front: &str, value: u32) -> Result<(), LookError> {
-    add(text, front)?;
-    add_dec(text, value)?;
-    add(text, "\"")?;
-    Ok(())
 }
 
 /// How far down a row begins.
