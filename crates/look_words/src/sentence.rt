@@ -3,35 +3,41 @@ use crate::label::Label;
 use crate::look::{Key, Refusal};
 use crate::why::Why;
 use mix_bits::NoMemory;
-use std::alloc::Global;
+use std::alloc::{AllocError, Global};
 
 /// Why mixedlook refuses words, in a sentence.
 pub fn refusal_text(alloc: Global, words: &[String], refusal: Refusal) -> Result<String, NoMemory> {
-    Ok(match refusal {
-        Refusal::Empty => String::from_str(alloc, "a command is missing")?,
+    Ok(refusal_sentence(alloc, words, refusal)?)
+}
+
+fn refusal_sentence(
+    alloc: Global,
+    words: &[String],
+    refusal: Refusal,
+) -> Result<String, AllocError> {
+    match refusal {
+        Refusal::Empty => String::from_str(alloc, "a command is missing"),
         Refusal::Command => {
             let word = word_at(words, 0);
-            format!(in alloc; "{word} is no command")?
+            format!(in alloc; "{word} is no command")
         }
         Refusal::Unknown(place) => {
             let word = word_at(words, place);
-            format!(in alloc; "{word} is no KEY=VALUE of this command")?
+            format!(in alloc; "{word} is no KEY=VALUE of this command")
         }
         Refusal::Twice(place) => {
             let word = word_at(words, place);
-            format!(in alloc; "{word}: the key stands twice")?
+            format!(in alloc; "{word}: the key stands twice")
         }
         Refusal::Value(place, key) => {
-            let word = word_at(words, place);
-            let wants = key_wants(key);
-            format!(in alloc; "{word}: wants {wants}")?
+            let (word, wants) = (word_at(words, place), key_wants(key));
+            format!(in alloc; "{word}: wants {wants}")
         }
         Refusal::Missing(key) => {
-            let text = key.text();
-            let wants = key_wants(key);
-            format!(in alloc; "{text}= is missing, {wants}")?
+            let (text, wants) = (key.text(), key_wants(key));
+            format!(in alloc; "{text}= is missing, {wants}")
         }
-    })
+    }
 }
 
 /// What a key of mixedlook wants.
@@ -47,47 +53,48 @@ fn key_wants(key: Key) -> &'static str {
 
 /// Why mixedrun refuses words, in a sentence.
 pub fn why_text(alloc: Global, words: &[String], why: Why) -> Result<String, NoMemory> {
-    Ok(match why {
-        Why::Taken => String::from_str(alloc, "mixedrun takes these words")?,
+    Ok(why_sentence(alloc, words, why)?)
+}
+
+fn why_sentence(alloc: Global, words: &[String], why: Why) -> Result<String, AllocError> {
+    match why {
+        Why::Taken => String::from_str(alloc, "mixedrun takes these words"),
         Why::Empty => String::from_str(
             alloc,
             "no word: the first one is a command, run, continue, list, sample, assemble or debug",
-        )?,
+        ),
         Why::Command => {
             let word = word_at(words, 0);
             format!(in alloc;
                 "word 0, {word}, is no command: run, continue, list, sample, assemble or debug"
-            )?
+            )
         }
         Why::Missing => {
             let command = word_at(words, 0);
             let needs = needs(command);
-            format!(in alloc; "a word is missing: {command} needs {needs}")?
+            format!(in alloc; "a word is missing: {command} needs {needs}")
         }
         Why::Keyless(place) => {
             let word = word_at(words, place as usize);
             format!(in alloc;
                 "word {place}, {word}, has no key of mixedrun and an equals sign in front"
-            )?
+            )
         }
         Why::Key(place, label) => {
-            let word = word_at(words, place as usize);
-            let command = word_at(words, 0);
+            let (word, command) = (word_at(words, place as usize), word_at(words, 0));
             let key = label.text();
-            format!(in alloc; "word {place}, {word}: {command} has no key {key}")?
+            format!(in alloc; "word {place}, {word}: {command} has no key {key}")
         }
         Why::Value(place, label) => {
             let word = word_at(words, place as usize);
-            let key = label.text();
-            let wants = label.wants();
-            format!(in alloc; "word {place}, {word}: {key} wants {wants}")?
+            let (key, wants) = (label.text(), label.wants());
+            format!(in alloc; "word {place}, {word}: {key} wants {wants}")
         }
         Why::Again(place, label) => {
-            let word = word_at(words, place as usize);
-            let before = before(label);
-            format!(in alloc; "word {place}, {word}: {before}")?
+            let (word, before) = (word_at(words, place as usize), before(label));
+            format!(in alloc; "word {place}, {word}: {before}")
         }
-    })
+    }
 }
 
 /// What stands before a word that is good alone.
