@@ -33,7 +33,12 @@ pub fn told(rt: &HostRuntime, job: &str) -> io::Result<String> {
     let alloc = rt.alloc();
     let machine = start(rt, job)?;
     let mut outside = surroundings(alloc, job)?;
-    let report = run(alloc, machine, &mut outside, number_or(job, "steps", 1_000_000)?)?;
+    let report = run(
+        alloc,
+        machine,
+        &mut outside,
+        number_or(job, "steps", 1_000_000)?,
+    )?;
     let out = hexadecimal(alloc, outside.out.held())?;
     let trace = text_of(alloc, outside.trace.held())?;
     Ok(format!(in alloc; "output {out}{trace}{report}")?)
@@ -67,16 +72,16 @@ fn sink(alloc: Global, fails: Vec<u32>) -> io::Result<MemSink> {
 
 /// The bytes of the input, which is a text.
 fn input(alloc: Global, job: &str) -> io::Result<Vec<u8>> {
-    Ok(value_of(job, "input").unwrap_or("").as_bytes().to_vec(alloc)?)
+    Ok(
+        value_of(job, "input")
+            .unwrap_or("")
+            .as_bytes()
+            .to_vec(alloc)?,
+    )
 }
 
 /// Runs a machine, with a counter in slot 0 and a tape in slot 1, and reports how it ended.
-fn run(
-    alloc: Global,
-    mut machine: Machine,
-    outside: &mut Outside,
-    steps: u32,
-) -> io::Result<String>
+fn run(alloc: Global, mut machine: Machine, outside: &mut Outside, steps: u32) -> io::Result<String>
     requires { IsWhole machine.body (isa_of machine.active) }
 {
     let counter: Box<dyn Device> = Box::new(alloc, Counter::new(alloc).map_err(no_memory)?)?;
@@ -91,6 +96,11 @@ fn run(
         &mut rack,
         steps,
     );
-    let told = report(alloc, &machine, Some(ending), outside.kept.make_contiguous());
+    let told = report(
+        alloc,
+        &machine,
+        Some(ending),
+        outside.kept.make_contiguous(),
+    );
     text_of(alloc, &told.map_err(no_memory)?)
 }

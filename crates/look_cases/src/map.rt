@@ -23,6 +23,9 @@ pub fn refused(alloc: Global, text: &[u8], files: &Files, error: LoadError) -> i
     requires { IsSmall files.now.pef }
 {
     let text = text_of(alloc, text)?;
-    let sentence = text_of(alloc, &refusal_text(alloc, files, error).map_err(no_memory)?)?;
+    let sentence = text_of(
+        alloc,
+        &refusal_text(alloc, files, error).map_err(no_memory)?,
+    )?;
     Ok(format!(in alloc; "{text}{sentence}\n")?)
 }
