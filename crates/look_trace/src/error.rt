@@ -11,6 +11,8 @@ pub enum LookError {
     Line(u64),
     #[error("a file could not be read to its end")]
     Read,
+    #[error("the names are no text: names= wants what nm writes")]
+    Names,
     #[error("the output failed")]
     Write,
     #[error("out of memory")]
@@ -18,10 +20,11 @@ pub enum LookError {
 }
 
 impl LookError {
-    /// A failure to read, where it is not for want of memory.
+    /// A failure to read, where it is not for want of memory, or for bytes that are no text: a trace is read as bytes.
     pub(crate) fn of_read(error: io::Error) -> LookError {
         match error.kind() {
             io::ErrorKind::OutOfMemory => LookError::NoMemory,
+            io::ErrorKind::InvalidData => LookError::Names,
             _ => LookError::Read,
         }
     }

@@ -181,7 +181,11 @@ impl Picture {
 
     /// The front of the file, which has its size.
     fn head(&self) -> Result<Vec<u8>, NoMemory> {
-        front(self.alloc, self.right, height_of(self.row).saturating_add(TOP))
+        front(
+            self.alloc,
+            self.right,
+            height_of(self.row).saturating_add(TOP),
+        )
     }
 }
 

@@ -18,7 +18,7 @@ use look_run::{Ending, run_keeping};
 use mix_bits::NoMemory;
 use mix_engine::{Machine, Stop};
 use mix_image::restore;
-use mix_io::{Counter, Device, StdSink, StdSource, Tape};
+use mix_io::{Counter, Device, Failed, Sink, StdSink, StdSource, Tape};
 use mix_load::{Files, LoadError, load};
 use std::io::BufReader;
 
@@ -33,8 +33,9 @@ pub fn map(rt: &HostRuntime, words: &[String]) -> Result<u8, u8> {
     match map_program(rt.alloc(), &files, job.main, job.kib) {
         Ok(Mapped::Loaded(text)) => Ok(print(rt, &text)),
         Ok(Mapped::Refused(text, error)) => {
-            let _status = print(rt, &text);
-            Ok(refuse(rt, &files, error))
+            let printed = print(rt, &text);
+            let refused = refuse(rt, &files, error);
+            Ok(if printed == SUCCESS { refused } else { printed })
         }
         Err(NoMemory) => Err(NO_MEMORY),
     }
@@ -104,32 +105,30 @@ fn run(rt: &HostRuntime, mut machine: Machine, steps: u32, last: u32) -> Result<
         &mut rack,
         steps,
     );
-    tell_end(rt, &machine, ending.stop);
-    tell(
-        rt,
-        &report(alloc, &machine, Some(ending), kept.make_contiguous())?,
-    );
-    Ok(status(ending))
+    let ended = put_last_line(&mut trace, &machine, ending.stop);
+    let text = report(alloc, &machine, Some(ending), kept.make_contiguous())?;
+    let reported = trace.put(&text);
+    Ok(status(ending, ended.is_ok() && reported.is_ok()))
 }
 
-/// Puts the last line of a trace.
-fn tell_end(rt: &HostRuntime, machine: &Machine, stop: Stop) {
+/// Puts the last line of a trace, if the run came to one.
+fn put_last_line<T: Sink>(trace: &mut T, machine: &Machine, stop: Stop) -> Result<(), Failed> {
     let end = match stop {
         Stop::Exit(code) => End::Exit(code),
         Stop::Fault(fault) => End::Fault(machine.active.isa(), fault),
         Stop::Limit => End::Limit,
-        _ => return,
+        _ => return Ok(()),
     };
-    let _done = put_end(&mut StdSink::new(rt.stderr()), &end);
+    put_end(trace, &end)
 }
 
-/// The status of a run that was reported: only what the outside refused counts.
-fn status(ending: Ending) -> u8 {
+/// The status of a run that was reported, or was not: only what the outside refused counts.
+fn status(ending: Ending, reported: bool) -> u8 {
     match ending.stop {
         Stop::ReadFault => INPUT_FAILED,
         Stop::OutFault => OUTPUT_FAILED,
         Stop::TraceFault => TRACE_FAILED,
-        _ => SUCCESS,
+        _ => if reported { SUCCESS } else { TRACE_FAILED },
     }
 }
 

@@ -203,7 +203,7 @@ fn stopped(rt: &HostRuntime, error: LookError) -> u8 {
     let alloc = rt.alloc();
     say(rt, format!(in alloc; "{error}").ok());
     match error {
-        LookError::Line(_) => REFUSED,
+        LookError::Line(_) | LookError::Names => REFUSED,
         LookError::Read => NO_FILE,
         LookError::Write => OUTPUT_FAILED,
         LookError::NoMemory => NO_MEMORY,
