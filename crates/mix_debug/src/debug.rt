@@ -20,7 +20,7 @@ ghost use Rattle.mix_debug.specs.Trails.{Keeps, TakesBack, Trail, is_done as is_
 
 use crate::crawl::put_crawl;
 use crate::history::History;
-use crate::step::{Step, step_of, was_done};
+use crate::step::{Step, is_done, step_of};
 use arrayvec::ArrayVec;
 use dev_rack::Devices;
 use mix_bits::NoMemory;
@@ -284,9 +284,12 @@ fn advance_by<'i, 'o, 't, 'd, I: Source, O: Sink, T: Sink, D: Devices>(
     let top = machine.body.top;
     history.prepare(&machine.active);
     let on = step_beside(machine, outside, stop);
-    if !was_done(on, stop) {
-        return on;
+    if on {
+        history.keep(machine, top, next);
+        return true;
     }
-    history.keep(machine, top, next);
-    on
+    if is_done(*stop) {
+        history.keep(machine, top, next);
+    }
+    false
 }

@@ -1,5 +1,4 @@
 ghost use Rattle.std.specs.Prelude.{◌≡◌};
-ghost use Rattle.mix_engine.specs.Ends.{goes_on};
 ghost use Rattle.mix_debug.specs.Trails.{is_done as is_done_by, step_of as step_by, stop_of};
 
 use mixed_machine::Stop;
@@ -32,13 +31,4 @@ pub(crate) fn is_done(stop: Stop) -> bool
         Stop::Limit | Stop::TraceFault => true,
         _ => false,
     }
-}
-
-/// The same of a step of which it is known whether the program goes on.
-#[inline(always)]
-pub(crate) fn was_done(on: bool, stop: &Stop) -> bool
-    requires { on ≡ goes_on stop.now }
-    ensures { result ≡ is_done_by stop.now }
-{
-    if on { true } else { is_done(*stop) }
 }

@@ -11,6 +11,9 @@ use big_memory::Ram;
 use circular_buffer::HeapCircularBuffer;
 use host_heap::Heap;
 
+/// How many bytes most steps store: so many are copied at once.
+const WORD: usize = 4;
+
 /// Takes the first runs out of the rings, and writes them to both memories.
 pub fn undo_runs(
     spans: &mut HeapCircularBuffer<Span>,
@@ -59,7 +62,22 @@ fn undo_run(olds: &mut HeapCircularBuffer<u8>, span: Span, ram: &mut Ram)
 }
 
 /// Makes the bytes of [`low`, `high`) those of another memory.
+#[inline(always)]
 pub fn copy_range(copy: &mut [u8], bytes: &[u8], low: usize, high: usize)
+    requires order { low ≤ high }
+    requires copy_long { high ≤ length copy.old }
+    requires bytes_long { high ≤ length bytes.now }
+    ensures { copy.new ≡ put low (part low (high - low) bytes.now) copy.old }
+{
+    if high - low == WORD {
+        copy[low..low + WORD].copy_from_slice(&bytes[low..low + WORD]);
+    } else {
+        copy_any(copy, bytes, low, high);
+    }
+}
+
+/// The same of a range of any length.
+fn copy_any(copy: &mut [u8], bytes: &[u8], low: usize, high: usize)
     requires order { low ≤ high }
     requires copy_long { high ≤ length copy.old }
     requires bytes_long { high ≤ length bytes.now }

@@ -1,35 +1,34 @@
-use Rattle.std.proofs.Common.{◌≡◌, ◌∙◌, ◌∷◌, Bool, ap, sym, subst, refl}
+use Rattle.std.proofs.Common.{◌≡◌, ◌∙◌, ◌∷◌, Bool, true, false, ap, sym, subst, refl}
 use Rattle.switch_frame.specs.Records.{isa_of}
 use Rattle.switch_frame.specs.declared.active.Active.{Active}
+use Rattle.mixed_machine.specs.declared.stop.Stop.{Stop}
+use Rattle.mixed_machine.specs.declared.stop.Stop.TheVariants.{Exit, Fault, Limit, ReadFault, OutFault, TraceFault}
+use Rattle.mix_engine.specs.Ends.{goes_on}
 use Rattle.mix_debug.specs.Entries.{within}
 use Rattle.mix_debug.specs.Histories.{IsHistory, KeepsBeside, entry_of}
 use Rattle.mix_debug.specs.Machines.{cost_between, earlier, fitting}
 use Rattle.mix_debug.specs.Pasts.{entries_in}
+use Rattle.mix_debug.specs.Trails.{is_done}
 use Rattle.mix_debug.proofs.Keeping.{KeptStep, kept-step, long-kept, prepared, same-history}
 use Rattle.mix_debug.proofs.Guarding.{top-small}
 use Rattle.mix_debug.proofs.Reached.{same-kept, stored-by_run, stored-kept}
 use Rattle.mix_debug.proofs.Stepping.{followed, still}
 use Rattle.mix_debug.proofs.debug.advance_by.Goals as goal
 
-pub returns-then-not-was_done-clause-history : goal.returns-then-not-was_done-clause-history
-returns-then-not-was_done-clause-history g c =
-    let ready : IsHistory c.args.machine.now c.prepare.new.self =
-    prepared c.args.machine.now c.args.history.now c.prepare.new.self c.requires.history c.prepare.ensures.beside c.prepare.ensures.past c.prepare.ensures.entries in
-    let same : c.step_beside-on.new.m ≡ c.args.machine.now =
-    still c.args.machine.now c.step_beside-on.new.m _ _ c.step_beside-on.new.stop refl refl refl refl (sym c.was_done.ensures ∙ c.if-not-was_done.true) c.requires.history.whole c.step_beside-on.ensures.whole c.step_beside-on.ensures.run in
-    same-history c.args.machine.now c.step_beside-on.new.m c.prepare.new.self same ready
-
-pub returns-then-not-was_done-clause-keeps : goal.returns-then-not-was_done-clause-keeps
-returns-then-not-was_done-clause-keeps g c =
-    let same : c.step_beside-on.new.m ≡ c.args.machine.now =
-    still c.args.machine.now c.step_beside-on.new.m _ _ c.step_beside-on.new.stop refl refl refl refl (sym c.was_done.ensures ∙ c.if-not-was_done.true) c.requires.history.whole c.step_beside-on.ensures.whole c.step_beside-on.ensures.run in
-    subst (λ (b : Bool). KeepsBeside b c.args.machine.now c.step_beside-on.new.m c.args.history.now c.prepare.new.self) (sym c.if-not-was_done.true ∙ c.was_done.ensures) (same, c.prepare.ensures.entries)
+-- a step behind which the program goes on is done
+on-done : (stop : Stop) → goes_on stop ≡ true → is_done stop ≡ true
+on-done Limit on = refl
+on-done (Exit code) on = absurd (let e : false ≡ true = on in cc)
+on-done (Fault fault) on = absurd (let e : false ≡ true = on in cc)
+on-done ReadFault on = absurd (let e : false ≡ true = on in cc)
+on-done OutFault on = absurd (let e : false ≡ true = on in cc)
+on-done TraceFault on = absurd (let e : false ≡ true = on in cc)
 
 pub keep-requires-clause-copied : goal.keep-requires-clause-copied
 keep-requires-clause-copied g c =
     let ready : IsHistory c.args.machine.now c.prepare.new.self =
     prepared c.args.machine.now c.args.history.now c.prepare.new.self c.requires.history c.prepare.ensures.beside c.prepare.ensures.past c.prepare.ensures.entries in
-    long-kept c.args.machine.now c.step_beside-on.new.m c.prepare.new.self ready c.step_beside-on.ensures.whole (followed _ _ c.step_beside-on.new.stop (sym c.was_done.ensures ∙ c.if-not-was_done.false) c.step_beside-on.ensures.run)
+    long-kept c.args.machine.now c.step_beside-on.new.m c.prepare.new.self ready c.step_beside-on.ensures.whole (followed _ _ c.step_beside-on.new.stop (on-done c.step_beside-on.new.stop (sym c.step_beside-on.ensures.answer ∙ c.if-on.true)) c.step_beside-on.ensures.run)
 
 pub keep-requires-clause-stored : goal.keep-requires-clause-stored
 keep-requires-clause-stored g c =
@@ -37,14 +36,14 @@ keep-requires-clause-stored g c =
     prepared c.args.machine.now c.args.history.now c.prepare.new.self c.requires.history c.prepare.ensures.beside c.prepare.ensures.past c.prepare.ensures.entries in
     stored-kept c.args.machine.now.body c.step_beside-on.new.m.body c.args.machine.now.active c.step_beside-on.new.m.active c.args.next.now c.prepare.new.self.blocks.items c.prepare.new.self.copy.items
     ready.copied ready.blocks ready.heap c.requires.told
-    (stored-by_run _ _ c.step_beside-on.new.stop (sym c.was_done.ensures ∙ c.if-not-was_done.false) c.requires.history.whole c.step_beside-on.ensures.whole c.step_beside-on.ensures.run)
+    (stored-by_run _ _ c.step_beside-on.new.stop (on-done c.step_beside-on.new.stop (sym c.step_beside-on.ensures.answer ∙ c.if-on.true)) c.requires.history.whole c.step_beside-on.ensures.whole c.step_beside-on.ensures.run)
 
 pub keep-requires-clause-same_blocks : goal.keep-requires-clause-same_blocks
 keep-requires-clause-same_blocks g c =
     let ready : IsHistory c.args.machine.now c.prepare.new.self =
     prepared c.args.machine.now c.args.history.now c.prepare.new.self c.requires.history c.prepare.ensures.beside c.prepare.ensures.past c.prepare.ensures.entries in
     same-kept c.args.machine.now.body.heap c.step_beside-on.new.m.body.heap c.prepare.new.self.blocks.items c.requires.history.heap ready.blocks
-    (followed _ _ c.step_beside-on.new.stop (sym c.was_done.ensures ∙ c.if-not-was_done.false) c.step_beside-on.ensures.run).heap
+    (followed _ _ c.step_beside-on.new.stop (on-done c.step_beside-on.new.stop (sym c.step_beside-on.ensures.answer ∙ c.if-on.true)) c.step_beside-on.ensures.run).heap
 
 pub keep-requires-clause-room : goal.keep-requires-clause-room
 keep-requires-clause-room g c =
@@ -56,25 +55,93 @@ keep-requires-clause-old_small g c = top-small c.args.machine.now.body (isa_of c
 pub keep-requires-clause-new_small : goal.keep-requires-clause-new_small
 keep-requires-clause-new_small g c = top-small c.step_beside-on.new.m.body (isa_of c.step_beside-on.new.m.active) c.step_beside-on.ensures.whole
 
-pub returns-clause-history : goal.returns-clause-history
-returns-clause-history g c =
+pub returns-then-on-clause-history : goal.returns-then-on-clause-history
+returns-then-on-clause-history g c =
     let ready : IsHistory c.args.machine.now c.prepare.new.self =
     prepared c.args.machine.now c.args.history.now c.prepare.new.self c.requires.history c.prepare.ensures.beside c.prepare.ensures.past c.prepare.ensures.entries in
     let kept : KeptStep c.args.machine.now c.step_beside-on.new.m c.prepare.new.self c.keep.new.self =
     kept-step c.args.machine.now c.step_beside-on.new.m c.prepare.new.self c.keep.new.self ready c.step_beside-on.ensures.whole
-    (followed _ _ c.step_beside-on.new.stop (sym c.was_done.ensures ∙ c.if-not-was_done.false) c.step_beside-on.ensures.run)
+    (followed _ _ c.step_beside-on.new.stop (on-done c.step_beside-on.new.stop (sym c.step_beside-on.ensures.answer ∙ c.if-on.true)) c.step_beside-on.ensures.run)
     c.keep.ensures.copied c.keep.ensures.blocks c.keep.ensures.heap c.keep.ensures.room c.keep.ensures.past
     (c.keep.ensures.entries ∙ ap (λ (f : Active). within 1048576 (entry_of f c.args.machine.now.body.top c.prepare.new.self.copy.items c.prepare.new.self.blocks.items c.step_beside-on.new.m ∷ entries_in c.prepare.new.self.past)) c.prepare.ensures.ready) in
     kept.history
 
-pub returns-clause-keeps : goal.returns-clause-keeps
-returns-clause-keeps g c =
+pub returns-then-on-clause-keeps : goal.returns-then-on-clause-keeps
+returns-then-on-clause-keeps g c =
     let ready : IsHistory c.args.machine.now c.prepare.new.self =
     prepared c.args.machine.now c.args.history.now c.prepare.new.self c.requires.history c.prepare.ensures.beside c.prepare.ensures.past c.prepare.ensures.entries in
     let kept : KeptStep c.args.machine.now c.step_beside-on.new.m c.prepare.new.self c.keep.new.self =
     kept-step c.args.machine.now c.step_beside-on.new.m c.prepare.new.self c.keep.new.self ready c.step_beside-on.ensures.whole
-    (followed _ _ c.step_beside-on.new.stop (sym c.was_done.ensures ∙ c.if-not-was_done.false) c.step_beside-on.ensures.run)
+    (followed _ _ c.step_beside-on.new.stop (on-done c.step_beside-on.new.stop (sym c.step_beside-on.ensures.answer ∙ c.if-on.true)) c.step_beside-on.ensures.run)
     c.keep.ensures.copied c.keep.ensures.blocks c.keep.ensures.heap c.keep.ensures.room c.keep.ensures.past
     (c.keep.ensures.entries ∙ ap (λ (f : Active). within 1048576 (entry_of f c.args.machine.now.body.top c.prepare.new.self.copy.items c.prepare.new.self.blocks.items c.step_beside-on.new.m ∷ entries_in c.prepare.new.self.past)) c.prepare.ensures.ready) in
-    subst (λ (b : Bool). KeepsBeside b c.args.machine.now c.step_beside-on.new.m c.args.history.now c.keep.new.self) (sym c.if-not-was_done.false ∙ c.was_done.ensures)
+    subst (λ (b : Bool). KeepsBeside b c.args.machine.now c.step_beside-on.new.m c.args.history.now c.keep.new.self) (sym (on-done c.step_beside-on.new.stop (sym c.step_beside-on.ensures.answer ∙ c.if-on.true)))
     (kept.kept ∙ ap (λ es. fitting 1048576 (record { machine = c.args.machine.now; cost = cost_between c.args.machine.now c.step_beside-on.new.m } ∷ earlier c.args.machine.now es)) c.prepare.ensures.entries)
+
+pub keep-requires-then-is_done-clause-copied : goal.keep-requires-then-is_done-clause-copied
+keep-requires-then-is_done-clause-copied g c =
+    let ready : IsHistory c.args.machine.now c.prepare.new.self =
+    prepared c.args.machine.now c.args.history.now c.prepare.new.self c.requires.history c.prepare.ensures.beside c.prepare.ensures.past c.prepare.ensures.entries in
+    long-kept c.args.machine.now c.step_beside-on.new.m c.prepare.new.self ready c.step_beside-on.ensures.whole (followed _ _ c.step_beside-on.new.stop (sym c.is_done.ensures ∙ c.if-is_done.true) c.step_beside-on.ensures.run)
+
+pub keep-requires-then-is_done-clause-stored : goal.keep-requires-then-is_done-clause-stored
+keep-requires-then-is_done-clause-stored g c =
+    let ready : IsHistory c.args.machine.now c.prepare.new.self =
+    prepared c.args.machine.now c.args.history.now c.prepare.new.self c.requires.history c.prepare.ensures.beside c.prepare.ensures.past c.prepare.ensures.entries in
+    stored-kept c.args.machine.now.body c.step_beside-on.new.m.body c.args.machine.now.active c.step_beside-on.new.m.active c.args.next.now c.prepare.new.self.blocks.items c.prepare.new.self.copy.items
+    ready.copied ready.blocks ready.heap c.requires.told
+    (stored-by_run _ _ c.step_beside-on.new.stop (sym c.is_done.ensures ∙ c.if-is_done.true) c.requires.history.whole c.step_beside-on.ensures.whole c.step_beside-on.ensures.run)
+
+pub keep-requires-then-is_done-clause-same_blocks : goal.keep-requires-then-is_done-clause-same_blocks
+keep-requires-then-is_done-clause-same_blocks g c =
+    let ready : IsHistory c.args.machine.now c.prepare.new.self =
+    prepared c.args.machine.now c.args.history.now c.prepare.new.self c.requires.history c.prepare.ensures.beside c.prepare.ensures.past c.prepare.ensures.entries in
+    same-kept c.args.machine.now.body.heap c.step_beside-on.new.m.body.heap c.prepare.new.self.blocks.items c.requires.history.heap ready.blocks
+    (followed _ _ c.step_beside-on.new.stop (sym c.is_done.ensures ∙ c.if-is_done.true) c.step_beside-on.ensures.run).heap
+
+pub keep-requires-then-is_done-clause-room : goal.keep-requires-then-is_done-clause-room
+keep-requires-then-is_done-clause-room g c =
+    (prepared c.args.machine.now c.args.history.now c.prepare.new.self c.requires.history c.prepare.ensures.beside c.prepare.ensures.past c.prepare.ensures.entries).room
+
+pub keep-requires-then-is_done-clause-old_small : goal.keep-requires-then-is_done-clause-old_small
+keep-requires-then-is_done-clause-old_small g c = top-small c.args.machine.now.body (isa_of c.args.machine.now.active) c.requires.history.whole
+
+pub keep-requires-then-is_done-clause-new_small : goal.keep-requires-then-is_done-clause-new_small
+keep-requires-then-is_done-clause-new_small g c = top-small c.step_beside-on.new.m.body (isa_of c.step_beside-on.new.m.active) c.step_beside-on.ensures.whole
+
+pub returns-then-is_done-clause-history : goal.returns-then-is_done-clause-history
+returns-then-is_done-clause-history g c =
+    let ready : IsHistory c.args.machine.now c.prepare.new.self =
+    prepared c.args.machine.now c.args.history.now c.prepare.new.self c.requires.history c.prepare.ensures.beside c.prepare.ensures.past c.prepare.ensures.entries in
+    let kept : KeptStep c.args.machine.now c.step_beside-on.new.m c.prepare.new.self c.keep-then-is_done.new.self =
+    kept-step c.args.machine.now c.step_beside-on.new.m c.prepare.new.self c.keep-then-is_done.new.self ready c.step_beside-on.ensures.whole
+    (followed _ _ c.step_beside-on.new.stop (sym c.is_done.ensures ∙ c.if-is_done.true) c.step_beside-on.ensures.run)
+    c.keep-then-is_done.ensures.copied c.keep-then-is_done.ensures.blocks c.keep-then-is_done.ensures.heap c.keep-then-is_done.ensures.room c.keep-then-is_done.ensures.past
+    (c.keep-then-is_done.ensures.entries ∙ ap (λ (f : Active). within 1048576 (entry_of f c.args.machine.now.body.top c.prepare.new.self.copy.items c.prepare.new.self.blocks.items c.step_beside-on.new.m ∷ entries_in c.prepare.new.self.past)) c.prepare.ensures.ready) in
+    kept.history
+
+pub returns-then-is_done-clause-keeps : goal.returns-then-is_done-clause-keeps
+returns-then-is_done-clause-keeps g c =
+    let ready : IsHistory c.args.machine.now c.prepare.new.self =
+    prepared c.args.machine.now c.args.history.now c.prepare.new.self c.requires.history c.prepare.ensures.beside c.prepare.ensures.past c.prepare.ensures.entries in
+    let kept : KeptStep c.args.machine.now c.step_beside-on.new.m c.prepare.new.self c.keep-then-is_done.new.self =
+    kept-step c.args.machine.now c.step_beside-on.new.m c.prepare.new.self c.keep-then-is_done.new.self ready c.step_beside-on.ensures.whole
+    (followed _ _ c.step_beside-on.new.stop (sym c.is_done.ensures ∙ c.if-is_done.true) c.step_beside-on.ensures.run)
+    c.keep-then-is_done.ensures.copied c.keep-then-is_done.ensures.blocks c.keep-then-is_done.ensures.heap c.keep-then-is_done.ensures.room c.keep-then-is_done.ensures.past
+    (c.keep-then-is_done.ensures.entries ∙ ap (λ (f : Active). within 1048576 (entry_of f c.args.machine.now.body.top c.prepare.new.self.copy.items c.prepare.new.self.blocks.items c.step_beside-on.new.m ∷ entries_in c.prepare.new.self.past)) c.prepare.ensures.ready) in
+    subst (λ (b : Bool). KeepsBeside b c.args.machine.now c.step_beside-on.new.m c.args.history.now c.keep-then-is_done.new.self) (sym (sym c.is_done.ensures ∙ c.if-is_done.true))
+    (kept.kept ∙ ap (λ es. fitting 1048576 (record { machine = c.args.machine.now; cost = cost_between c.args.machine.now c.step_beside-on.new.m } ∷ earlier c.args.machine.now es)) c.prepare.ensures.entries)
+
+pub returns-else-is_done-clause-history : goal.returns-else-is_done-clause-history
+returns-else-is_done-clause-history g c =
+    let ready : IsHistory c.args.machine.now c.prepare.new.self =
+    prepared c.args.machine.now c.args.history.now c.prepare.new.self c.requires.history c.prepare.ensures.beside c.prepare.ensures.past c.prepare.ensures.entries in
+    let same : c.step_beside-on.new.m ≡ c.args.machine.now =
+    still c.args.machine.now c.step_beside-on.new.m _ _ c.step_beside-on.new.stop refl refl refl refl (sym c.is_done.ensures ∙ c.if-is_done.false) c.requires.history.whole c.step_beside-on.ensures.whole c.step_beside-on.ensures.run in
+    same-history c.args.machine.now c.step_beside-on.new.m c.prepare.new.self same ready
+
+pub returns-else-is_done-clause-keeps : goal.returns-else-is_done-clause-keeps
+returns-else-is_done-clause-keeps g c =
+    let same : c.step_beside-on.new.m ≡ c.args.machine.now =
+    still c.args.machine.now c.step_beside-on.new.m _ _ c.step_beside-on.new.stop refl refl refl refl (sym c.is_done.ensures ∙ c.if-is_done.false) c.requires.history.whole c.step_beside-on.ensures.whole c.step_beside-on.ensures.run in
+    subst (λ (b : Bool). KeepsBeside b c.args.machine.now c.step_beside-on.new.m c.args.history.now c.prepare.new.self) (sym (sym c.is_done.ensures ∙ c.if-is_done.false)) (same, c.prepare.ensures.entries)
