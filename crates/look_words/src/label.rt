@@ -20,7 +20,7 @@ pub enum Label {
 
 impl Label {
     ghost use Rattle.std.specs.Prelude.{◌≡◌};
-    ghost use Rattle.look_words.specs.Labels.{example as example_of};
+    ghost use Rattle.look_words.specs.Labels.{example as example_of, text_of};
 
     pub const ALL: [Label; 15] = [
         Label::Flat,
@@ -41,7 +41,9 @@ impl Label {
     ];
 
     /// The text before the equals sign.
-    pub fn text(self) -> &'static str {
+    pub fn text(self) -> &'static str
+        ensures { result.now ≡ text_of self }
+    {
         match self {
             Label::Flat => "flat",
             Label::Rsrc => "rsrc",
