@@ -21,6 +21,7 @@ pub enum Label {
 impl Label {
     ghost use Rattle.std.specs.Prelude.{◌≡◌};
     ghost use Rattle.look_words.specs.Labels.{example as example_of, text_of};
+    ghost use Rattle.look_words.specs.Wants.{TakesKind, wants_text};
 
     pub const ALL: [Label; 15] = [
         Label::Flat,
@@ -86,8 +87,12 @@ impl Label {
         }
     }
 
-    /// What the key wants.
-    pub fn wants(self) -> &'static str {
+    /// What the key wants: the kind of the values that job_words takes for it.
+    #[tactic(auto, using(crate::proofs::Ranges::written))]
+    pub fn wants(self) -> &'static str
+        ensures text { result.now ≡ wants_text self }
+        ensures values { TakesKind self }
+    {
         match self {
             Label::Main | Label::CodeSet => "68k or ppc",
             Label::Ram => "a number of KiB from 128 to 16384, in decimal without a leading zero",
