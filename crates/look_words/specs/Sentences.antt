@@ -2,8 +2,8 @@
 use Rattle.std.specs.Prelude.{ℕ, ◌++◌, List, codes, decimal, if◌then◌else◌}
 use Rattle.std.specs.Str.{bytes_eq}
 use Rattle.look_words.specs.Labels.{text_of}
-use Rattle.look_words.specs.Looks.{key_text}
-use Rattle.look_words.specs.Wants.{wants_text}
+use Rattle.look_words.specs.Looks.{key_text, most_told}
+use Rattle.look_words.specs.Wants.{range_text, wants_text}
 use Rattle.look_words.specs.Whys.{at_place}
 use Rattle.look_words.specs.declared.label.Label.{Label}
 use Rattle.look_words.specs.declared.label.Label.TheVariants.{Flat, Rsrc, Pef}
@@ -20,7 +20,7 @@ key_wants Word = codes "eight upper-case hexadecimal digits"
 key_wants File = codes "the name of a file"
 key_wants Names = codes "the name of a file with the output of nm"
 key_wants Image = codes "the name of a file that mixedrun kept"
-key_wants Last = codes "a number from 0 to 1000, in decimal without a leading zero"
+key_wants Last = codes "a number from " ++ range_text 0 most_told
 
 -- why mixedlook refuses words
 abbrev pub refusal_text : List (List ℕ) → Refusal → List ℕ

@@ -46,6 +46,7 @@ fn refusal_sentence(alloc: Global, words: &[String], refusal: Refusal) -> Result
 }
 
 /// What a key of mixedlook wants.
+#[tactic(auto, using(crate::proofs::Ranges::written))]
 fn key_wants(key: Key) -> &'static str
     ensures { result.now ≡ key_wants_text key }
 {
