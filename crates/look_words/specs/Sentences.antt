@@ -48,6 +48,10 @@ before_text Rsrc = codes "rsrc or flat stands before it, and flat stands alone"
 before_text Pef = codes "pef or flat stands before it, and flat stands alone"
 before_text label = codes "its key stands before it"
 
+-- that a command needs a word more
+abbrev pub missing_text : List ℕ → List ℕ
+missing_text command = codes "a word is missing: " ++ (command ++ (codes " needs " ++ needs_of command))
+
 -- a word after its place, and what is said of it
 abbrev pub of_word : ℕ → List ℕ → List ℕ → List ℕ
 of_word place word more = codes "word " ++ (decimal place ++ (codes ", " ++ (word ++ more)))
@@ -61,7 +65,7 @@ abbrev pub why_text : List (List ℕ) → Why → List ℕ
 why_text words Taken = codes "mixedrun takes these words"
 why_text words Empty = codes "no word: the first one is a command, run, continue, list, sample, assemble or debug"
 why_text words Command = codes "word 0, " ++ (at_place words 0 ++ codes ", is no command: run, continue, list, sample, assemble or debug")
-why_text words Missing = codes "a word is missing: " ++ (at_place words 0 ++ (codes " needs " ++ needs_of (at_place words 0)))
+why_text words Missing = missing_text (at_place words 0)
 why_text words (Keyless place) = of_word place (at_place words place) (codes ", has no key of mixedrun and an equals sign in front")
 why_text words (no_key place label) = of_word place (at_place words place) (unknown_text (at_place words 0) label)
 why_text words (Value place label) = of_word place (at_place words place) (codes ": " ++ (text_of label ++ (codes " wants " ++ wants_text label)))

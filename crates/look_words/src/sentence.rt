@@ -1,7 +1,7 @@
 // Sentences about words.
 ghost use Rattle.std.specs.Prelude.{◌≡◌, IfOk, map};
 ghost use Rattle.std.specs.String.{string_bytes};
-ghost use Rattle.look_words.specs.Sentences.{before_text, key_wants as key_wants_text, needs_of, of_word, unknown_text, refusal_text as refusal_of, why_text as why_of};
+ghost use Rattle.look_words.specs.Sentences.{before_text, key_wants as key_wants_text, missing_text, needs_of, of_word, refusal_text as refusal_of, unknown_text, why_text as why_of};
 ghost use Rattle.look_words.specs.Whys.{at_place};
 
 use crate::label::Label;
@@ -81,11 +81,7 @@ fn why_sentence(alloc: Global, words: &[String], why: Why) -> Result<String, All
                 "word 0, {word}, is no command: run, continue, list, sample, assemble or debug"
             )
         }
-        Why::Missing => {
-            let command = word_at(words, 0);
-            let needs = needs(command);
-            format!(in alloc; "a word is missing: {command} needs {needs}")
-        }
+        Why::Missing => missing_sentence(alloc, word_at(words, 0)),
         Why::Keyless(place) => {
             let word = word_at(words, place as usize);
             format!(in alloc;
@@ -106,6 +102,14 @@ fn why_sentence(alloc: Global, words: &[String], why: Why) -> Result<String, All
             format!(in alloc; "word {place}, {word}: {before}")
         }
     }
+}
+
+/// That a command needs a word more.
+fn missing_sentence(alloc: Global, command: &str) -> Result<String, AllocError>
+    ensures { IfOk result (λ text. string_bytes text ≡ missing_text command.now) }
+{
+    let needs = needs(command);
+    format!(in alloc; "a word is missing: {command} needs {needs}")
 }
 
 /// That a command does not know the key of the word at a place.
