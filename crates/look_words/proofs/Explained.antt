@@ -12,13 +12,13 @@ lifted words place Empty refused is = absurd is
 lifted words place Command refused is = absurd is
 lifted words place Missing refused is = absurd is
 lifted words place (Keyless at) refused is =
-    subst (λ p. IsAt words p (Keyless p)) (sym is) (record { refused = refused; reason = refl })
+    subst (λ p. IsAt words p (Keyless p)) (sym is.0) (record { refused = refused; reason = (refl, is.1) })
 lifted words place (Key at label) refused is =
-    subst (λ p. IsAt words p (Key p label)) (sym is.0) (record { refused = refused; reason = (refl, is.1) })
+    subst (λ p. IsAt words p (Key p label)) (sym is.0) (record { refused = refused; reason = (refl, is.1, is.2) })
 lifted words place (Value at label) refused is =
-    subst (λ p. IsAt words p (Value p label)) (sym is.0) (record { refused = refused; reason = (refl, is.1, is.2) })
+    subst (λ p. IsAt words p (Value p label)) (sym is.0) (record { refused = refused; reason = (refl, is.1, is.2, is.3) })
 lifted words place (Again at label) refused is =
-    subst (λ p. IsAt words p (Again p label)) (sym is.0) (record { refused = refused; reason = (refl, is.1) })
+    subst (λ p. IsAt words p (Again p label)) (sym is.0) (record { refused = refused; reason = (refl, is.1, is.2) })
 
 pub explained : {E : Type 0} (result : Result Why E) (words : List (List ℕ)) (command word : List ℕ) (place : ℕ)
     → IfOk result (ExplainsWord command word place) → command_of words ≡ Err (bad_at place)

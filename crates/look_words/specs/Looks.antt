@@ -130,9 +130,12 @@ abbrev pub map_of : ℕ → List (List ℕ) → Result Look Refusal
 map_of place [] = Ok Map
 map_of place (word ∷ words) = if is_unmapped word then Err (Unknown place) else map_of (place + 1) words
 
--- how many of the last steps are told
+-- how many of the last steps are told, and how many can be
+abbrev pub most_told : ℕ
+most_told = 1000
+
 abbrev pub last_in : ℕ → Option ℕ → Result ℕ Refusal
-last_in place (Some count) = if nat_le count 1000 then Ok count else Err (Value place Last)
+last_in place (Some count) = if nat_le count most_told then Ok count else Err (Value place Last)
 last_in place None = Err (Value place Last)
 
 abbrev pub last_given : ℕ → List ℕ → Option ℕ → Result ℕ Refusal

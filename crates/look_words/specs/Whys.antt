@@ -1,18 +1,19 @@
 -- What is true of the words where mixedrun refuses them for a reason.
-use Rattle.std.specs.Prelude.{ℕ, ◌≡◌, ◌≤◌, true, false, List, [], length, slice_index_or, IsOk, Err}
+use Rattle.std.specs.Prelude.{ℕ, ◌≡◌, ◌≤◌, true, false, List, [], length, slice_index_or, Some, None, IsOk, Err}
 use Rattle.job_words.specs.Words.{bad_at, command_of}
-use Rattle.look_words.specs.Labels.{example}
+use Rattle.look_words.specs.Labels.{example, label_of}
 use Rattle.look_words.specs.Reasons.{is_refused}
 use Rattle.look_words.specs.declared.why.Why.{Why}
 use Rattle.look_words.specs.declared.why.Why.TheVariants.{Taken, Empty, Command, Missing, Keyless, Key, Value, Again}
 
--- a word behind a command: at a bad value the word is refused alone, too; at an unknown key so is one that sets it as it
--- may be set; a word that is refused for the words before it is not refused alone
+-- a word behind a command: it has none of mixedrun's keys; or it has this one, and at a bad value the word is refused
+-- alone, too; at an unknown key so is one that sets it as it may be set; a word that is refused for the words before it is
+-- not refused alone
 abbrev pub ExplainsWord : List ℕ → List ℕ → ℕ → Why → Type 0
-ExplainsWord command word place (Keyless at) = at ≡ place
-ExplainsWord command word place (Key at label) = (at ≡ place) × (is_refused command (example label) ≡ true)
-ExplainsWord command word place (Value at label) = (at ≡ place) × (is_refused command (example label) ≡ false) × (is_refused command word ≡ true)
-ExplainsWord command word place (Again at label) = (at ≡ place) × (is_refused command word ≡ false)
+ExplainsWord command word place (Keyless at) = (at ≡ place) × (label_of word ≡ None)
+ExplainsWord command word place (Key at label) = (at ≡ place) × (label_of word ≡ Some label) × (is_refused command (example label) ≡ true)
+ExplainsWord command word place (Value at label) = (at ≡ place) × (label_of word ≡ Some label) × (is_refused command (example label) ≡ false) × (is_refused command word ≡ true)
+ExplainsWord command word place (Again at label) = (at ≡ place) × (label_of word ≡ Some label) × (is_refused command word ≡ false)
 ExplainsWord command word place why = ⊥
 
 abbrev pub at_place : List (List ℕ) → ℕ → List ℕ

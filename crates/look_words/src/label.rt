@@ -20,7 +20,8 @@ pub enum Label {
 
 impl Label {
     ghost use Rattle.std.specs.Prelude.{◌≡◌};
-    ghost use Rattle.look_words.specs.Labels.{example as example_of};
+    ghost use Rattle.look_words.specs.Labels.{example as example_of, text_of};
+    ghost use Rattle.look_words.specs.Wants.{TakesKind, wants_text};
 
     pub const ALL: [Label; 15] = [
         Label::Flat,
@@ -41,7 +42,9 @@ impl Label {
     ];
 
     /// The text before the equals sign.
-    pub fn text(self) -> &'static str {
+    pub fn text(self) -> &'static str
+        ensures { result.now ≡ text_of self }
+    {
         match self {
             Label::Flat => "flat",
             Label::Rsrc => "rsrc",
@@ -84,8 +87,12 @@ impl Label {
         }
     }
 
-    /// What the key wants.
-    pub fn wants(self) -> &'static str {
+    /// What the key wants: the kind of the values that job_words takes for it.
+    #[tactic(auto, using(crate::proofs::Ranges::written))]
+    pub fn wants(self) -> &'static str
+        ensures text { result.now ≡ wants_text self }
+        ensures values { TakesKind self }
+    {
         match self {
             Label::Main | Label::CodeSet => "68k or ppc",
             Label::Ram => "a number of KiB from 128 to 16384, in decimal without a leading zero",

@@ -1,4 +1,9 @@
 // Sentences about words.
+ghost use Rattle.std.specs.Prelude.{◌≡◌, IfOk, map};
+ghost use Rattle.std.specs.String.{string_bytes};
+ghost use Rattle.look_words.specs.Sentences.{before_text, key_wants as key_wants_text, missing_text, needs_of, of_word, refusal_text as refusal_of, unknown_text, why_text as why_of};
+ghost use Rattle.look_words.specs.Whys.{at_place};
+
 use crate::label::Label;
 use crate::look::{Key, Refusal};
 use crate::why::Why;
@@ -6,15 +11,15 @@ use mix_bits::NoMemory;
 use std::alloc::{AllocError, Global};
 
 /// Why mixedlook refuses words, in a sentence.
-pub fn refusal_text(alloc: Global, words: &[String], refusal: Refusal) -> Result<String, NoMemory> {
+pub fn refusal_text(alloc: Global, words: &[String], refusal: Refusal) -> Result<String, NoMemory>
+    ensures { IfOk result (λ text. string_bytes text ≡ refusal_of (map string_bytes words.now) refusal) }
+{
     Ok(refusal_sentence(alloc, words, refusal)?)
 }
 
-fn refusal_sentence(
-    alloc: Global,
-    words: &[String],
-    refusal: Refusal,
-) -> Result<String, AllocError> {
+fn refusal_sentence(alloc: Global, words: &[String], refusal: Refusal) -> Result<String, AllocError>
+    ensures { IfOk result (λ text. string_bytes text ≡ refusal_of (map string_bytes words.now) refusal) }
+{
     match refusal {
         Refusal::Empty => String::from_str(alloc, "a command is missing"),
         Refusal::Command => {
@@ -41,7 +46,10 @@ fn refusal_sentence(
 }
 
 /// What a key of mixedlook wants.
-fn key_wants(key: Key) -> &'static str {
+#[tactic(auto, using(crate::proofs::Ranges::written))]
+fn key_wants(key: Key) -> &'static str
+    ensures { result.now ≡ key_wants_text key }
+{
     match key {
         Key::Word => "eight upper-case hexadecimal digits",
         Key::File => "the name of a file",
@@ -52,11 +60,15 @@ fn key_wants(key: Key) -> &'static str {
 }
 
 /// Why mixedrun refuses words, in a sentence.
-pub fn why_text(alloc: Global, words: &[String], why: Why) -> Result<String, NoMemory> {
+pub fn why_text(alloc: Global, words: &[String], why: Why) -> Result<String, NoMemory>
+    ensures { IfOk result (λ text. string_bytes text ≡ why_of (map string_bytes words.now) why) }
+{
     Ok(why_sentence(alloc, words, why)?)
 }
 
-fn why_sentence(alloc: Global, words: &[String], why: Why) -> Result<String, AllocError> {
+fn why_sentence(alloc: Global, words: &[String], why: Why) -> Result<String, AllocError>
+    ensures { IfOk result (λ text. string_bytes text ≡ why_of (map string_bytes words.now) why) }
+{
     match why {
         Why::Taken => String::from_str(alloc, "mixedrun takes these words"),
         Why::Empty => String::from_str(
@@ -69,11 +81,7 @@ fn why_sentence(alloc: Global, words: &[String], why: Why) -> Result<String, All
                 "word 0, {word}, is no command: run, continue, list, sample, assemble or debug"
             )
         }
-        Why::Missing => {
-            let command = word_at(words, 0);
-            let needs = needs(command);
-            format!(in alloc; "a word is missing: {command} needs {needs}")
-        }
+        Why::Missing => missing_sentence(alloc, word_at(words, 0)),
         Why::Keyless(place) => {
             let word = word_at(words, place as usize);
             format!(in alloc;
@@ -81,9 +89,8 @@ fn why_sentence(alloc: Global, words: &[String], why: Why) -> Result<String, All
             )
         }
         Why::Key(place, label) => {
-            let (word, command) = (word_at(words, place as usize), word_at(words, 0));
-            let key = label.text();
-            format!(in alloc; "word {place}, {word}: {command} has no key {key}")
+            let word = word_at(words, place as usize);
+            key_sentence(alloc, place, word, word_at(words, 0), label)
         }
         Why::Value(place, label) => {
             let word = word_at(words, place as usize);
@@ -97,8 +104,32 @@ fn why_sentence(alloc: Global, words: &[String], why: Why) -> Result<String, All
     }
 }
 
+/// That a command needs a word more.
+fn missing_sentence(alloc: Global, command: &str) -> Result<String, AllocError>
+    ensures { IfOk result (λ text. string_bytes text ≡ missing_text command.now) }
+{
+    let needs = needs(command);
+    format!(in alloc; "a word is missing: {command} needs {needs}")
+}
+
+/// That a command does not know the key of the word at a place.
+fn key_sentence(
+    alloc: Global,
+    place: u32,
+    word: &str,
+    command: &str,
+    label: Label,
+) -> Result<String, AllocError>
+    ensures { IfOk result (λ text. string_bytes text ≡ of_word place word.now (unknown_text command.now label)) }
+{
+    let key = label.text();
+    format!(in alloc; "word {place}, {word}: {command} has no key {key}")
+}
+
 /// What stands before a word that is good alone.
-fn before(label: Label) -> &'static str {
+fn before(label: Label) -> &'static str
+    ensures { result.now ≡ before_text label }
+{
     match label {
         Label::Flat => "flat, rsrc or pef stands before it, and flat stands alone",
         Label::Rsrc => "rsrc or flat stands before it, and flat stands alone",
@@ -108,7 +139,9 @@ fn before(label: Label) -> &'static str {
 }
 
 /// What a command of mixedrun needs.
-fn needs(command: &str) -> &'static str {
+fn needs(command: &str) -> &'static str
+    ensures { result.now ≡ needs_of command.now }
+{
     if command == "sample" {
         "n=N and depth=D"
     } else if command == "assemble" {
@@ -125,7 +158,9 @@ fn needs(command: &str) -> &'static str {
 }
 
 /// The word at a place, or nothing behind the last one.
-fn word_at(words: &[String], place: usize) -> &str {
+fn word_at(words: &[String], place: usize) -> &str
+    ensures { result.now ≡ at_place (map string_bytes words.now) place }
+{
     match words.get(place) {
         Some(word) => word.as_str(),
         None => "",

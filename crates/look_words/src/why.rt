@@ -1,6 +1,7 @@
 ghost use Rattle.std.specs.Prelude.{◌≡◌, ◌<◌, IfOk, length, map};
 ghost use Rattle.std.specs.String.{string_bytes};
 ghost use Rattle.job_words.specs.Words.{bad_at, command_of};
+ghost use Rattle.look_words.specs.Labels.{label_in, label_of as label_of_word};
 ghost use Rattle.look_words.specs.Whys.{Explains, ExplainsWord, at_place};
 
 use crate::ask::is_refused;
@@ -83,8 +84,25 @@ fn word_reason(alloc: Global, command: &str, word: &str, place: u32) -> Result<W
     }
 }
 
-/// The key before the equals sign.
-fn label_of(word: &str) -> Option<Label> {
-    let (key, _value) = word.split_once('=')?;
-    Label::ALL.iter().copied().find(|label| label.text() == key)
+/// The key of mixedrun's before a word's equals sign.
+#[tactic(auto, unfolding(crate::specs::Labels::label_of))]
+fn label_of(word: &str) -> Option<Label>
+    ensures { result ≡ label_of_word word.now }
+{
+    match word.split_once('=') {
+        Some((key, _)) => find(&Label::ALL, key),
+        None => None,
+    }
+}
+
+/// The first of these keys that has a text.
+fn find(labels: &[Label], text: &str) -> Option<Label>
+    ensures { result ≡ label_in labels.now text.now }
+{
+    for label in labels {
+        if text == label.text() {
+            return Some(*label);
+        }
+    }
+    None
 }
