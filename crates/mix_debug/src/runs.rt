@@ -44,7 +44,7 @@ pub fn push_in(
 }
 
 /// Puts the changed bytes of [`low`, `high`) in front of those that are kept, the lowest run first.
-#[inline(never)]
+#[inline(always)]
 fn push_changes(
     spans: &mut HeapCircularBuffer<Span>,
     olds: &mut HeapCircularBuffer<u8>,
