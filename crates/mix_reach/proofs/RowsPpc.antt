@@ -14,12 +14,13 @@ use Rattle.ppc_isa.specs.declared.registers.RegsPpc.{RegsPpc}
 use Rattle.ppc_isa.specs.declared.instruction.InstrPpc.{InstrPpc}
 use Rattle.ppc_isa.specs.declared.instruction.InstrPpc.TheVariants.{TrapWordImmediate, MultiplyLowImmediate, SubtractFromImmediateCarrying, CompareImmediate, AddImmediateCarrying, AddImmediate, BranchConditional, Branch, RotateLeftImmediate, RotateLeft, LogicalImmediate, Load, Store, LoadMultiple, StoreMultiple, MoveConditionField, BranchConditionalToRegister, ConditionLogical, InstructionSynchronize, Add, AddExtended, SubtractFrom, SubtractFromExtended, Negate, MultiplyLow, MultiplyHigh, Divide, Logical, Unary, Shift, ShiftRightAlgebraicImmediate, Compare, TrapWord, LoadIndexed, StoreIndexed, LoadReversed, StoreReversed, LoadStringImmediate, StoreStringImmediate, LoadStringIndexed, StoreStringIndexed, MoveFromConditionRegister, MoveToConditionFields, MoveXerToConditionField, MoveFromSpecial, MoveToSpecial, Synchronize}
 use Rattle.ppc_alu.specs.Traps.{traps_on}
+use Rattle.ppc_isa.specs.Valid.{string_length}
 use Rattle.ppc_alu.specs.Xer.{string_length_of}
 use Rattle.ppc_effects.specs.Arithmetic.{immediate_of}
 use Rattle.ppc_effects.specs.Effects.{runs, trap_word}
 use Rattle.ppc_effects.specs.File.{base_of, gpr_of}
 use Rattle.ppc_effects.specs.Storage.{after_load, index_address, load_size, offset_address, reversed_size, store_size}
-use Rattle.ppc_effects.specs.Strings.{fills, in_order, length_of, load_byte, load_word, store_byte, string_byte}
+use Rattle.ppc_effects.specs.Strings.{fills, in_order, load_byte, load_word, store_byte, string_byte}
 use Rattle.mix_reach.specs.declared.reach.Reach.{Reach}
 use Rattle.mix_reach.specs.Ranges.{Beside, nothing, range}
 use Rattle.mix_reach.specs.RowsPpc.{stores, string_at}
@@ -160,8 +161,8 @@ rows r m word (StoreMultiple s a offset) short =
     stored-after (range (offset_address r a offset) (4 * length r.gpr)) m r.pc _ (stored_longs m (offset_address r a offset) (drop s r.gpr))
     (longs-wider m (offset_address r a offset) (drop s r.gpr) (length r.gpr) (stored_longs m (offset_address r a offset) (drop s r.gpr)) (length-behind s r.gpr)
     (longs-leave m (offset_address r a offset) (drop s r.gpr) short))
-rows r m word (LoadStringImmediate d a nb) short = loads nothing m r.pc _ (in_order (load_byte m (base_of r a) d) r.gpr (length_of nb)) (λ v. goes nothing m _)
-rows r m word (StoreStringImmediate s a nb) short = stored-string r m s (base_of r a) (length_of nb) r.pc _ short
+rows r m word (LoadStringImmediate d a nb) short = loads nothing m r.pc _ (in_order (load_byte m (base_of r a) d) r.gpr (string_length nb)) (λ v. goes nothing m _)
+rows r m word (StoreStringImmediate s a nb) short = stored-string r m s (base_of r a) (string_length nb) r.pc _ short
 rows r m word (LoadStringIndexed d a b) short =
     either nothing m (fills a d (string_length_of r.xer) || fills b d (string_length_of r.xer)) _ _ (stops nothing m _)
     (loads nothing m r.pc _ (in_order (load_byte m (index_address r a b) d) r.gpr (string_length_of r.xer)) (λ v. goes nothing m _))

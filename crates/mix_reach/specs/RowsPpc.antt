@@ -4,10 +4,10 @@ use Rattle.mix_bits.specs.Addresses.{onward}
 use Rattle.ppc_isa.specs.declared.registers.RegsPpc.{RegsPpc}
 use Rattle.ppc_isa.specs.declared.instruction.InstrPpc.{InstrPpc}
 use Rattle.ppc_isa.specs.declared.instruction.InstrPpc.TheVariants.{Store, StoreIndexed, StoreMultiple, StoreReversed, StoreStringImmediate, StoreStringIndexed}
+use Rattle.ppc_isa.specs.Valid.{string_length}
 use Rattle.ppc_alu.specs.Xer.{string_length_of}
 use Rattle.ppc_effects.specs.File.{base_of}
 use Rattle.ppc_effects.specs.Storage.{index_address, offset_address}
-use Rattle.ppc_effects.specs.Strings.{length_of}
 use Rattle.mix_reach.specs.declared.reach.Reach.{Reach}
 use Rattle.mix_reach.specs.Ranges.{nothing, range}
 
@@ -20,6 +20,6 @@ stores r (Store kind update s a offset) = range (offset_address r a offset) 4
 stores r (StoreIndexed kind update s a b) = range (index_address r a b) 4
 stores r (StoreReversed kind s a b) = range (index_address r a b) 4
 stores r (StoreMultiple s a offset) = range (offset_address r a offset) (4 * length r.gpr)
-stores r (StoreStringImmediate s a nb) = string_at (base_of r a) (length_of nb)
+stores r (StoreStringImmediate s a nb) = string_at (base_of r a) (string_length nb)
 stores r (StoreStringIndexed s a b) = string_at (index_address r a b) (string_length_of r.xer)
 stores r instruction = nothing

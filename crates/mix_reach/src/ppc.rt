@@ -3,7 +3,6 @@ ghost use Rattle.std.specs.Prelude.{◌≡◌, ◌<◌, false};
 ghost use Rattle.ppc_isa.specs.Fields.{fields_of};
 ghost use Rattle.ppc_isa.specs.Rows.{decoded};
 ghost use Rattle.ppc_effects.specs.Storage.{index_address as index_address_of, offset_address as offset_address_of};
-ghost use Rattle.ppc_effects.specs.Strings.{length_of as length_of_field};
 ghost use Rattle.mix_reach.specs.Ranges.{nothing as nothing_of, plain, range as range_of};
 ghost use Rattle.mix_reach.specs.RowsPpc.{string_at as string_at_of};
 ghost use Rattle.mix_reach.specs.Steps.{word_decoded};
@@ -12,7 +11,7 @@ use crate::reach::{Reach, nothing, range};
 use mix_bits::onward;
 use ppc_alu::xer_string_length;
 use ppc_effects::base;
-use ppc_isa::{OpPpc, RegsPpc, a_of, b_of, offset_of, op_of, shift_of};
+use ppc_isa::{OpPpc, RegsPpc, a_of, b_of, offset_of, op_of, shift_of, string_length};
 
 /// Where the instruction of a word stores, if it is done.
 #[inline(always)]
@@ -35,7 +34,7 @@ pub fn stores(regs: &RegsPpc, word: u32) -> Reach
         OpPpc::Sthux => at_index(regs, word),
         OpPpc::Stwbrx => at_index(regs, word),
         OpPpc::Sthbrx => at_index(regs, word),
-        OpPpc::Stswi => string_at(base(regs, a_of(word)), length_of(shift_of(word))),
+        OpPpc::Stswi => string_at(base(regs, a_of(word)), string_length(shift_of(word))),
         OpPpc::Stswx => string_at(index_address(regs, word), xer_string_length(regs.xer)),
         _ => nothing(),
     }
@@ -98,12 +97,4 @@ fn string_at(at: u32, n: u32) -> Reach
     ensures { result ≡ string_at_of at n }
 {
     range(onward(at, 0), n)
-}
-
-/// How many bytes a string has by its field, where 0 stands for 32.
-#[inline(always)]
-fn length_of(field: u32) -> u32
-    ensures { result ≡ length_of_field field }
-{
-    if field == 0 { 32 } else { field }
 }
