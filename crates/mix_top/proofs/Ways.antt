@@ -34,7 +34,7 @@ use Rattle.std.specs.Option.{option_and_then, option_map}
 use Rattle.std.specs.Result.{result_ok}
 use Rattle.job_words.specs.declared.job.Job.{Job}
 use Rattle.job_words.specs.declared.job.Key.{Key}
-use Rattle.job_words.specs.declared.job.Key.TheVariants.{Program, Image, Text, Script}
+use Rattle.job_words.specs.declared.job.Key.TheVariants.{Program as OfProgram, Image, Text, Script}
 use Rattle.mix_load.specs.Load.{AreLoadable, HasMain, IsAlone, IsSmall, load_of}
 use Rattle.mix_load.specs.Outcome.{Gives}
 use Rattle.mix_load.specs.declared.files.Files.{Files}
@@ -360,12 +360,12 @@ named-alone words contents limit main (Some place) r p None files alone own name
 named-alone words contents limit main (Some place) r p (Some flat) files alone own named rsrc pef =
     (named-no words contents limit r files.rsrc alone.0 rsrc, named-no words contents limit p files.pef alone.1 pef)
 
-job-loadable : (words : List (List ℕ)) (contents : Contents) (command : Command) (job : Job) (files : Fetched) → place_in command (Program Flat) ≡ job.flat → place_in command (Program Rsrc) ≡ job.rsrc → place_in command (Program Pef) ≡ job.pef → IsProperJob job
+job-loadable : (words : List (List ℕ)) (contents : Contents) (command : Command) (job : Job) (files : Fetched) → place_in command (OfProgram Flat) ≡ job.flat → place_in command (OfProgram Rsrc) ≡ job.rsrc → place_in command (OfProgram Pef) ≡ job.pef → IsProperJob job
     → AreFiles words contents command files → AreLoadable files.program job.main
 job-loadable words contents command job files flat_is rsrc_is pef_is proper are =
-    let flat : IsNamed contents 16777216 (option_map (name_at words) job.flat) files.program.flat = subst (λ o. IsNamed contents 16777216 (option_map (name_at words) o) files.program.flat) flat_is (are (Program Flat)) in
-    let rsrc : IsNamed contents 16777216 (option_map (name_at words) job.rsrc) files.program.rsrc = subst (λ o. IsNamed contents 16777216 (option_map (name_at words) o) files.program.rsrc) rsrc_is (are (Program Rsrc)) in
-    let pef : IsNamed contents 16777216 (option_map (name_at words) job.pef) files.program.pef = subst (λ o. IsNamed contents 16777216 (option_map (name_at words) o) files.program.pef) pef_is (are (Program Pef)) in
+    let flat : IsNamed contents 16777216 (option_map (name_at words) job.flat) files.program.flat = subst (λ o. IsNamed contents 16777216 (option_map (name_at words) o) files.program.flat) flat_is (are (OfProgram Flat)) in
+    let rsrc : IsNamed contents 16777216 (option_map (name_at words) job.rsrc) files.program.rsrc = subst (λ o. IsNamed contents 16777216 (option_map (name_at words) o) files.program.rsrc) rsrc_is (are (OfProgram Rsrc)) in
+    let pef : IsNamed contents 16777216 (option_map (name_at words) job.pef) files.program.pef = subst (λ o. IsNamed contents 16777216 (option_map (name_at words) o) files.program.pef) pef_is (are (OfProgram Pef)) in
     record {
       named = named-alone words contents 16777216 job.main job.flat job.rsrc job.pef files.program.flat files.program proper.alone proper.own flat rsrc pef;
       flat = named-small contents (option_map (name_at words) job.flat) files.program.flat flat;
