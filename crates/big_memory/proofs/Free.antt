@@ -8,7 +8,7 @@ use Rattle.big_memory.specs.declared.refusals.Access.{Access}
 use Rattle.big_memory.specs.Lists.{part}
 use Rattle.big_memory.specs.Memory.{Memory, IsRam, IsDoneUnless, copied, copy_refusal, in_memory, refusal, with_bytes}
 use Rattle.big_memory.specs.Stores.{OnlyFree}
-use Rattle.big_memory.specs.Laws.{CopiesAreFree, DoneIsFree, FreeJoins, FreeKeepsPage, FreeKeepsRam, FreeKeepsRefusals, NothingIsFree, StoresAreFree}
+use Rattle.big_memory.specs.Laws.{CopiesAreFree, DoneIsFree, FreeJoins, FreeKeepsPage, FreeKeepsRam, FreeKeepsRefusals, NothingIsFree, SamePart, StoresAreFree}
 use Rattle.big_memory.proofs.Lists.{length-put, put-nil, get_or-put_outside}
 use Rattle.big_memory.proofs.Guarded.{Passes, passes, passes_within}
 
@@ -93,7 +93,7 @@ pub copies_free : CopiesAreFree
 copies_free m new from to n result ram all = unless_free (copy_refusal m from to n) m (copied m from to n) new result (copied_free (in_memory m from n) m from to n refl ram) all
 
 -- lists that agree on a part
-pub same_part : (at n : ℕ) (xs ys : List ℕ) → length xs ≡ length ys → at + n ≤ length ys → ((k : ℕ) → at ≤ k → k < at + n → get_or xs k 0 ≡ get_or ys k 0) → part at n xs ≡ part at n ys
+pub same_part : SamePart
 same_part at n xs ys same within each = same_number_lists _ _ (grind (arith, places)) (λ k w. grind (arith, places, each (at + k)))
 
 -- a store into the gate page is refused

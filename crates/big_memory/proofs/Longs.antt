@@ -9,14 +9,14 @@ use Rattle.mix_bits.specs.Addresses.{onward}
 use Rattle.mix_bits.specs.Results.{◌>>=◌}
 use Rattle.byteorder.specs.Endian.{big_bytes}
 use Rattle.big_memory.specs.declared.refusals.Access.{Access}
-use Rattle.big_memory.specs.Laws.{StoredLoads}
+use Rattle.big_memory.specs.Laws.{BytesOfSize, OpenInMemory, ProbePasses, ProbeRefuses, StoredLoads}
 use Rattle.big_memory.specs.Memory.{Memory, IsRam, IsDoneUnless, IsDoneUnlessRefused, in_memory, refusal, stored}
 use Rattle.big_memory.specs.Stores.{OnlyFree, Stores, first_refusal, longs_refusal, stored_longs, stored_unless, stored_value, with_longs}
 use Rattle.big_memory.proofs.Lists.{length-put}
 use Rattle.big_memory.proofs.Guarded.{Passes, loads_back, passes, passes_within}
 use Rattle.big_memory.proofs.Free.{nothing_free, free_joins, free_ram, stores_free}
 
-pub size-bytes : (s : Size) (v : ℕ) → length (big_bytes (bytes_of s) v) ≡ bytes_of s
+pub size-bytes : BytesOfSize
 size-bytes Zero v = refl
 size-bytes One v = refl
 size-bytes Two v = refl
@@ -41,7 +41,7 @@ done-is (Some e) m n is = absurd (cc)
 there : (m : Memory) (a n : ℕ) → 0 < n → refusal m a n ≡ None → in_memory m a n ≡ true
 there m a n some none = let within : a + n ≤ length m.bytes = (passes m a n some none).within in grind (arith, nat_tests, within)
 
-pub size-there : (m : Memory) (a : ℕ) (s : Size) → refusal m a (bytes_of s) ≡ None → in_memory m a (bytes_of s) ≡ true
+pub size-there : OpenInMemory
 size-there m a Zero none = refl
 size-there m a One none = there m a 1 (omega arith) none
 size-there m a Two none = there m a 2 (omega arith) none
@@ -156,11 +156,11 @@ pub range_open : (m : Memory) (a count : ℕ) → IsRam m → refusal m a (4 * c
 range_open m a count ram none = longs-in m a a (4 * count) count ram none (omega arith) (omega arith)
 
 -- what a probe answers
-pub probe-err : (reason : Option Access) (result : Result (Unit {0}) Access) (e : Access) → MatchOption reason (result ≡ Ok (record {})) (λ e. result ≡ Err e) → result ≡ Err e → reason ≡ Some e
+pub probe-err : ProbeRefuses
 probe-err None result e all is = absurd (let done = sym all ∙ is in cc)
 probe-err (Some f) result e all is = let refused = sym all ∙ is in cc
 
-pub probe-ok : (reason : Option Access) (result : Result (Unit {0}) Access) → MatchOption reason (result ≡ Ok (record {})) (λ e. result ≡ Err e) → result ≡ Ok (record {}) → reason ≡ None
+pub probe-ok : ProbePasses
 probe-ok None result all is = refl
 probe-ok (Some f) result all is = absurd (let refused = sym all ∙ is in cc)
 

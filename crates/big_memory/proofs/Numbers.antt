@@ -10,11 +10,11 @@ use Rattle.mix_bits.specs.declared.size.Size.TheVariants.{Four}
 use Rattle.big_memory.specs.Lists.{part, put}
 use Rattle.big_memory.specs.Memory.{in_memory}
 use Rattle.big_memory.specs.Numbers.{AreBytes, AreLongs, bytes_of_longs, long_at, longs_at}
-use Rattle.big_memory.specs.NumberLaws.{BytesJoin, LengthOfBytes, LengthOfLongs, LoadsLong, LoadsNumber, LongInPart, LongOfLongs, LongOfPart, LongReadsBack, LongsAgain, LongsFit, LongsOfPart, NumberInPart, WritesJoin}
+use Rattle.big_memory.specs.NumberLaws.{BytesJoin, FourLongs, LengthOfBytes, LengthOfLongs, LoadsLong, LoadsNumber, LongFits, LongInPart, LongOfLongs, LongOfPart, LongReadsBack, LongsAgain, LongsFit, LongsOfPart, LongsSplit, NumberInPart, SameNumber, WritesJoin}
 use Rattle.big_memory.proofs.Lists.{drop-put, put-append}
 
 -- numbers in lists that are the same so far
-pub same_from : (n i : ℕ) (xs ys : List ℕ) → ((j : ℕ) → j < i + n → get_or xs j 0 ≡ get_or ys j 0) → big_from i n xs ≡ big_from i n ys
+pub same_from : SameNumber
 same_from zero i xs ys same = refl
 same_from (suc n) i xs ys same =
     let head : get_or xs i 0 ≡ get_or ys i 0 = same i (omega arith) in
@@ -117,7 +117,7 @@ pub no-longs : (a : ℕ) (bytes : List ℕ) → longs_at 0 a bytes ≡ []
 unfolding longs_at
 no-longs a bytes = refl
 
-pub longs-split : (m n a b : ℕ) (bytes : List ℕ) → b ≡ a + 4 * m → longs_at (m + n) a bytes ≡ longs_at m a bytes ++ longs_at n b bytes
+pub longs-split : LongsSplit
 unfolding longs_at
 longs-split zero n a b bytes place =
     let count : zero + n ≡ n = omega arith in
@@ -127,7 +127,7 @@ longs-split (suc m) n a b bytes place =
     let count : suc m + n ≡ suc (m + n) = omega arith in
     ap (λ k. longs_at k a bytes) count ∙ ap (λ xs. long_at a bytes ∷ xs) (longs-split m n (a + 4) b bytes (omega arith))
 
-pub four-longs : (a b c d : ℕ) (bytes : List ℕ) → b ≡ a + 4 → c ≡ a + 8 → d ≡ a + 12 → longs_at 4 a bytes ≡ long_at a bytes ∷ long_at b bytes ∷ long_at c bytes ∷ long_at d bytes ∷ []
+pub four-longs : FourLongs
 four-longs a b c d bytes b_is c_is d_is =
     cons-long 3 a b bytes b_is
     ∙ ap (λ xs. long_at a bytes ∷ xs) (cons-long 2 b c bytes (omega arith)
@@ -147,7 +147,7 @@ longs-read a n bytes span xs size piece read =
 dropped : (a : ℕ) (bytes : List ℕ) → AreBytes bytes → AreBytes (drop a bytes)
 dropped a bytes fit k = let here : get_or (drop a bytes) k 0 ≡ get_or bytes (a + k) 0 = grind (arith, places) in rw here (fit (a + k))
 
-pub long_fits : (a : ℕ) (bytes : List ℕ) → AreBytes bytes → long_at a bytes < 2 ^ 32
+pub long_fits : LongFits
 unfolding long_at
 long_fits a bytes fit = big_from-lt 0 4 (drop a bytes) (dropped a bytes fit)
 

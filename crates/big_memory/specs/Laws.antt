@@ -1,6 +1,6 @@
 -- Laws of memory.
-use Rattle.std.specs.Prelude.{◌≡◌, ℕ, ◌+◌, ◌*◌, ◌<◌, ◌≤◌, nat_le, nat_lt, Bool, ◌&&◌, if◌then◌else◌, List, length, replicate, slice_index_or, None, Result, Ok, true, false}
-use Rattle.byteorder.specs.Endian.{big_number}
+use Rattle.std.specs.Prelude.{◌≡◌, ℕ, ◌+◌, ◌*◌, ◌<◌, ◌≤◌, nat_le, nat_lt, Bool, ◌&&◌, if◌then◌else◌, List, length, get_or, replicate, slice_index_or, Option, None, Some, MatchOption, Result, Ok, Err, true, false}
+use Rattle.byteorder.specs.Endian.{big_bytes, big_number}
 use Rattle.mix_bits.specs.declared.size.Size.{Size}
 use Rattle.mix_bits.specs.Sizes.{bytes_of, truncated}
 use Rattle.big_memory.specs.declared.refusals.Access.{Access}
@@ -100,6 +100,25 @@ FreeKeepsPage = (m n : Memory) → IsRam m → OnlyFree m n → part 0x1000 0x10
 abbrev pub BytesStayBeside : Type 0
 BytesStayBeside =
     (m : Memory) (low high : ℕ) (ys : List ℕ) → low + length ys ≡ high → high ≤ length m.bytes → IsSameBeside low high m (with_bytes low ys m)
+
+-- the bytes of a value are as many as its size has, and a store of that size that is not refused lies in memory
+abbrev pub BytesOfSize : Type 0
+BytesOfSize = (s : Size) (v : ℕ) → length (big_bytes (bytes_of s) v) ≡ bytes_of s
+
+abbrev pub OpenInMemory : Type 0
+OpenInMemory = (m : Memory) (a : ℕ) (s : Size) → refusal m a (bytes_of s) ≡ None → in_memory m a (bytes_of s) ≡ true
+
+-- what a probe answers tells whether there is a refusal, and which
+abbrev pub ProbePasses : Type 0
+ProbePasses = (reason : Option Access) (result : Result (Unit {0}) Access) → MatchOption reason (result ≡ Ok (record {})) (λ e. result ≡ Err e) → result ≡ Ok (record {}) → reason ≡ None
+
+abbrev pub ProbeRefuses : Type 0
+ProbeRefuses =
+    (reason : Option Access) (result : Result (Unit {0}) Access) (e : Access) → MatchOption reason (result ≡ Ok (record {})) (λ e. result ≡ Err e) → result ≡ Err e → reason ≡ Some e
+
+-- memories as long as each other that agree on a range have the same bytes there
+abbrev pub SamePart : Type 0
+SamePart = (at n : ℕ) (xs ys : List ℕ) → length xs ≡ length ys → at + n ≤ length ys → ((k : ℕ) → at ≤ k → k < at + n → get_or xs k 0 ≡ get_or ys k 0) → part at n xs ≡ part at n ys
 
 -- a load behind a store of the same size gives what was stored
 abbrev pub StoredLoads : Type 0

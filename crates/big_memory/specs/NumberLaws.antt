@@ -1,6 +1,6 @@
 -- Laws of numbers in bytes.
-use Rattle.std.specs.Prelude.{◌≡◌, ℕ, ◌+◌, ◌*◌, ◌%◌, ◌^◌, ◌<◌, ◌≤◌, List, ◌++◌, length, get_or, Ok}
-use Rattle.byteorder.specs.Endian.{big_bytes}
+use Rattle.std.specs.Prelude.{◌≡◌, ℕ, ◌+◌, ◌*◌, ◌%◌, ◌^◌, ◌<◌, ◌≤◌, List, [], ◌∷◌, ◌++◌, length, get_or, Ok}
+use Rattle.byteorder.specs.Endian.{big_bytes, big_from}
 use Rattle.mix_bits.specs.declared.size.Size.{Size}
 use Rattle.mix_bits.specs.declared.size.Size.TheVariants.{Four}
 use Rattle.mix_bits.specs.Sizes.{bytes_of}
@@ -22,6 +22,10 @@ LoadsNumber = (m : Memory) (a : ℕ) (s : Size) → a + bytes_of s ≤ length m.
 abbrev pub LoadsLong : Type 0
 LoadsLong = (m : Memory) (a : ℕ) → a + 4 ≤ length m.bytes → loaded m a Four ≡ Ok (long_at a m.bytes)
 
+-- bytes that are the same from a place on give the same number there
+abbrev pub SameNumber : Type 0
+SameNumber = (n i : ℕ) (xs ys : List ℕ) → ((j : ℕ) → j < i + n → get_or xs j 0 ≡ get_or ys j 0) → big_from i n xs ≡ big_from i n ys
+
 -- a long is read where it was put
 abbrev pub LongReadsBack : Type 0
 LongReadsBack = (a v : ℕ) (bytes : List ℕ) → a + 4 ≤ length bytes → long_at a (put a (big_bytes 4 v) bytes) ≡ v % 2 ^ 32
@@ -32,6 +36,13 @@ LongOfLongs = (n a : ℕ) (bytes : List ℕ) (k : ℕ) → k < n → get_or (lon
 
 abbrev pub LengthOfLongs : Type 0
 LengthOfLongs = (n a : ℕ) (bytes : List ℕ) → length (longs_at n a bytes) ≡ n
+
+-- so many longs, and as many more behind them; and four of them one by one
+abbrev pub LongsSplit : Type 0
+LongsSplit = (m n a b : ℕ) (bytes : List ℕ) → b ≡ a + 4 * m → longs_at (m + n) a bytes ≡ longs_at m a bytes ++ longs_at n b bytes
+
+abbrev pub FourLongs : Type 0
+FourLongs = (a b c d : ℕ) (bytes : List ℕ) → b ≡ a + 4 → c ≡ a + 8 → d ≡ a + 12 → longs_at 4 a bytes ≡ long_at a bytes ∷ long_at b bytes ∷ long_at c bytes ∷ long_at d bytes ∷ []
 
 -- a long is four bytes, and longs behind others have their bytes behind the others'
 abbrev pub LengthOfBytes : Type 0
@@ -56,6 +67,9 @@ WritesJoin =
     → with_bytes to (bytes_of_longs ys) (with_bytes at (bytes_of_longs xs) m) ≡ with_bytes at (bytes_of_longs (xs ++ ys)) m
 
 -- numbers in bytes fit in as many bytes
+abbrev pub LongFits : Type 0
+LongFits = (a : ℕ) (bytes : List ℕ) → AreBytes bytes → long_at a bytes < 2 ^ 32
+
 abbrev pub LongsFit : Type 0
 LongsFit = (n a : ℕ) (bytes : List ℕ) → AreBytes bytes → AreLongs n (longs_at n a bytes)
 

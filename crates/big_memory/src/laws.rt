@@ -1,5 +1,5 @@
-ghost use Rattle.big_memory.specs.Laws.{BytesKeepRam, BytesStayBeside, CopiesAreFree, DoneIsFree, FreeJoins, FreeKeepsPage, FreeKeepsRam, FreeKeepsRefusals, FreeTests, InMemoryWithin, KeepsRefusals, LoadsBack, LoadsPart, MarksKeepRam, MarksOfRange, NothingIsFree, OpenBelowFloor, OpenPasses, PassesOpen, PassesWithin, StoredLoads, StoresAreFree, TestsFree};
-ghost use Rattle.big_memory.specs.NumberLaws.{BytesJoin, LengthOfBytes, LengthOfLongs, LoadsLong, LoadsNumber, LongInPart, LongOfLongs, LongOfPart, LongReadsBack, LongsAgain, LongsFit, LongsOfPart, NumberInPart, WritesJoin};
+ghost use Rattle.big_memory.specs.Laws.{BytesKeepRam, BytesOfSize, BytesStayBeside, CopiesAreFree, DoneIsFree, FreeJoins, FreeKeepsPage, FreeKeepsRam, FreeKeepsRefusals, FreeTests, InMemoryWithin, KeepsRefusals, LoadsBack, LoadsPart, MarksKeepRam, MarksOfRange, NothingIsFree, OpenBelowFloor, OpenInMemory, OpenPasses, PassesOpen, PassesWithin, ProbePasses, ProbeRefuses, SamePart, StoredLoads, StoresAreFree, TestsFree};
+ghost use Rattle.big_memory.specs.NumberLaws.{BytesJoin, FourLongs, LengthOfBytes, LengthOfLongs, LoadsLong, LoadsNumber, LongFits, LongInPart, LongOfLongs, LongOfPart, LongReadsBack, LongsAgain, LongsFit, LongsOfPart, LongsSplit, NumberInPart, SameNumber, WritesJoin};
 ghost use Rattle.big_memory.specs.PutLaws.{PutApart, PutFrom, PutHoldsInside, PutInside, PutJoins, PutKeepsBeside, PutKeepsLength, PutNothing, PutOver, PutReadsBack, PutReadsBeside, PutReadsInside, PutRun, PutSame};
 
 /// What follows from the definitions of memory. It does nothing: the clauses are its point.
@@ -27,6 +27,11 @@ pub fn memory_laws()
     ensures page { FreeKeepsPage }
     ensures beside { BytesStayBeside }
     ensures stored { StoredLoads }
+    ensures size { BytesOfSize }
+    ensures there { OpenInMemory }
+    ensures probe_passes { ProbePasses }
+    ensures probe_refuses { ProbeRefuses }
+    ensures same { SamePart }
 {}
 
 /// What follows from the definition of bytes with a piece replaced. It does nothing: the clauses are
@@ -62,6 +67,10 @@ pub fn number_laws()
     ensures one { LongOfPart }
     ensures several { LongsOfPart }
     ensures writes { WritesJoin }
+    ensures fits { LongFits }
     ensures fit { LongsFit }
     ensures again { LongsAgain }
+    ensures splits { LongsSplit }
+    ensures four { FourLongs }
+    ensures same { SameNumber }
 {}

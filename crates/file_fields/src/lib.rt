@@ -4,9 +4,11 @@
 
 ghost use Rattle.std.specs.Prelude.{◌≡◌, ◌+◌, ◌≤◌, length};
 ghost use Rattle.file_fields.specs.Fields.{long_at, three_at, word_at};
-ghost use Rattle.file_fields.specs.SearchLaws.{FailsBelow, FirstIsLeast, LeastOfFailing, NoneIsCounted, NoneIsLeast};
+
+mod laws;
 
 use byteorder::{BigEndian, ByteOrder};
+pub use laws::search_laws;
 
 /// The number in two bytes.
 pub fn word_at(bytes: &[u8], place: u32) -> u16
@@ -34,12 +36,3 @@ pub fn long_at(bytes: &[u8], place: u32) -> u32
     let start = place as usize;
     BigEndian::read_u32(&bytes[start..start + 4])
 }
-
-/// What follows from the definitions of searches. It does nothing: the clauses are its point.
-pub fn search_laws()
-    ensures first { FirstIsLeast }
-    ensures none { NoneIsLeast }
-    ensures behind { LeastOfFailing }
-    ensures fails { FailsBelow }
-    ensures counted { NoneIsCounted }
-{}

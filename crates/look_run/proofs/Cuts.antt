@@ -21,9 +21,7 @@ use Rattle.mixed_machine.specs.Counts.{Blames, counts_of}
 use Rattle.mixed_machine.specs.Events.{StopsAt}
 use Rattle.mixed_machine.specs.Outside.{At, state_of}
 use Rattle.mixed_machine.specs.Runs.{OutBroke, Ran, ReadBroke, Runs, Sinks, SinksTook, Stops, TraceBroke, sinks_of}
-use Rattle.mixed_machine.proofs.Events.{cut-stops}
-use Rattle.mixed_machine.proofs.Machines.{begins-at, limit-at}
-use Rattle.mixed_machine.proofs.Over.{over-more, over-same}
+use Rattle.mixed_machine.proofs.Machines.{begins-at, cut-goes-on, limit-at, stops-imply}
 use Rattle.mixed_machine.proofs.Runs.{exec-stays, limits-last}
 use Rattle.look_run.specs.Counted.{RanSteps, ends, is_done}
 
@@ -146,18 +144,13 @@ cut-begins a whole =
 
 -- two runs, the second of which stopped
 join : (n m left : ℕ) (a b c : At) (stop : Stop) → Cut n a b → Accounts b.outside.rack c.outside.rack → StopsAt 0 m left b c stop → StopsAt 0 (n + m) left a c stop
-join n m left a b c stop cut noted then =
-    over-more (λ s t. Stops 0 n 0 s t (sinks_of a) (sinks_of b) Limit) (λ s t. Stops 0 m left s t (sinks_of b) (sinks_of c) stop)
-    (λ s t. Stops 0 (n + m) left s t (sinks_of a) (sinks_of c) stop) a b c cut.devices noted
-    (λ s t input answers first next. cut-stops n m 0 left s t (state_of c input answers) (sinks_of a) (sinks_of b) (sinks_of c) stop first next)
-    cut.run then
+join n m left a b c stop cut noted then = cut-goes-on n m 0 left a b c stop cut.devices noted cut.run then
 
 -- the same of one step, with what it has left
 one : (b c : At) (stop : Stop) → Runs 1 b c stop → StopsAt 0 1 (1 - from_bool (is_done stop)) b c stop
 one b c stop runs =
-    over-same (λ s t. Stops 0 1 runs.left s t (sinks_of b) (sinks_of c) stop) (λ s t. Stops 0 1 (1 - from_bool (is_done stop)) s t (sinks_of b) (sinks_of c) stop) b c
-    (λ s input answers stops.
-    subst (λ l. Stops 0 1 l s (state_of c input answers) (sinks_of b) (sinks_of c) stop) (one-left runs.left s (state_of c input answers) (sinks_of b) (sinks_of c) stop stops) stops)
+    stops-imply 0 1 runs.left 0 1 (1 - from_bool (is_done stop)) b c stop
+    (λ s t stops. subst (λ l. Stops 0 1 l s t (sinks_of b) (sinks_of c) stop) (one-left runs.left s t (sinks_of b) (sinks_of c) stop stops) stops)
     runs.run
 
 -- one step more
@@ -182,10 +175,8 @@ few-are false n i done fewer is = omega (arith, fewer, is)
 -- the step at which the run stopped, where more steps are allowed
 more : (m : ℕ) (b c : At) (stop : Stop) → stop ≢ Limit → StopsAt 0 1 (1 - from_bool (is_done stop)) b c stop → StopsAt 0 (1 + m) ((1 - from_bool (is_done stop)) + m) b c stop
 more m b c stop ended stops =
-    over-same (λ s t. Stops 0 1 (1 - from_bool (is_done stop)) s t (sinks_of b) (sinks_of c) stop)
-    (λ s t. Stops 0 (1 + m) ((1 - from_bool (is_done stop)) + m) s t (sinks_of b) (sinks_of c) stop) b c
-    (λ s input answers it. stops-more m (1 - from_bool (is_done stop)) s (state_of c input answers) (sinks_of b) (sinks_of c) stop ended it)
-    stops
+    stops-imply 0 1 (1 - from_bool (is_done stop)) 0 (1 + m) ((1 - from_bool (is_done stop)) + m) b c stop
+    (λ s t it. stops-more m (1 - from_bool (is_done stop)) s t (sinks_of b) (sinks_of c) stop ended it) stops
 
 cut-stops_at : (n i done : ℕ) (a b c : At) (stop : Stop) → i < n → done ≡ i + from_bool (is_done stop) → stop ≢ Limit → Cut i a b → Runs 1 b c stop
     → Accounts b.outside.rack c.outside.rack → RanSteps n done a c stop
@@ -225,9 +216,3 @@ stopped n i done a b c stop told fewer done_is same is cut runs noted =
 pub went-on : (n : ℕ) (a b c : At) (stop : Stop) → false ≡ ends stop → Cut n a b → IsWhole c.body (isa_of c.active) → Runs 1 b c stop → Blames stop (counts_of b) (counts_of c)
     → Accounts b.outside.rack c.outside.rack → Cut (n + 1) a c
 went-on n a b c stop is cut whole runs blames noted = cut-goes n a b c stop (limit-is stop is) cut whole runs blames noted
-
--- all steps are done
-pub cut-ends : (n : ℕ) (a b : At) → Cut n a b → RanSteps n n a b Limit
-cut-ends n a b cut =
-    let none : 0 ≡ n - n = omega arith in
-    record { few = omega arith; run = subst (λ l. StopsAt 0 n l a b Limit) none cut.run }

@@ -1,4 +1,5 @@
 ghost use Rattle.m68_isa.specs.Laws.{TableLaws};
+ghost use Rattle.m68_isa.specs.Longs.{LongLaws};
 ghost use Rattle.m68_isa.specs.Needs.{IsKept, OpLaws};
 
 /// What holds of the table of instructions as a whole. It does nothing: the clause is its point.
@@ -14,4 +15,9 @@ pub fn op_laws()
 /// That the reading of an instruction depends on no word behind its own. The clause is its point.
 pub fn reading_law(word: u32)
     ensures { IsKept word }
+{}
+
+/// That a register file and its longs give each other back. It does nothing: the clause is its point.
+pub fn long_laws()
+    ensures { LongLaws }
 {}

@@ -1,6 +1,6 @@
 // A register file as longs, in the order in which frames and checkpoints hold it.
 ghost use Rattle.std.specs.Prelude.{◌≡◌, ◌<◌, length, slice_index};
-ghost use Rattle.m68_isa.specs.Longs.{LongLaws, file_of, longs_of};
+ghost use Rattle.m68_isa.specs.Longs.{file_of, longs_of};
 
 use super::registers::{Ccr, Regs68};
 
@@ -39,8 +39,3 @@ impl Regs68 {
         }
     }
 }
-
-/// That a register file and its longs give each other back. It does nothing: the clause is its point.
-pub fn long_laws()
-    ensures { LongLaws }
-{}

@@ -21,8 +21,7 @@ use Rattle.asm_m68.specs.Assembly.{count_of}
 use Rattle.asm_m68.proofs.Prefix.{none_missing}
 use Rattle.asm_m68.proofs.TakenBack.{first_given}
 use Rattle.ppc_text.specs.Text.{word_text}
-use Rattle.mix_list.specs.Listing.{Listed, bytes_68k, instruction, listed_ppc}
-use Rattle.mix_list.proofs.Words.{listed_as}
+use Rattle.mix_list.specs.Listing.{Listed, bytes_68k, instruction, listed_ppc, listed_as}
 use Rattle.mix_assemble.specs.Assembling.{IsInstruction}
 use Rattle.mix_assemble.proofs.Bytes.{AreBytesOf, IsLong, is_long, words_are, words_back}
 use Rattle.mix_assemble.proofs.OneLines.{OneLine, text_line_68k, word_line}

@@ -167,6 +167,10 @@ putting-ends old mid new set at text next rest held putting none grows =
     = putting.split ∙ ap (λ xs. (putting.done ++ held) ++ xs) (nothing-left set putting.number next rest putting.later (no-bytes rest none) putting.left) ∙ append-nil (putting.done ++ held) in
     record { bytes = putting.bytes; is = putting.is; puts = subst (Grows old new) (sym whole) (grows-more old mid new putting.done held putting.grows grows) }
 
+pub err-from : {V E P : Type 0} (r : Result V E) → P → OnErr r P
+err-from (Ok v) p = tt
+err-from (Err e) p = p
+
 pub err-of : {V E P : Type 0} (r : Result V E) (Q : Type 0) → (Q → P) → OnErr r Q → OnErr r P
 err-of {V} {E} {P} (Ok v) Q f q = tt
 err-of {V} {E} {P} (Err e) Q f q = f q

@@ -1,6 +1,7 @@
 -- Tests one after the other.
-use Rattle.std.proofs.Common.{◌≡◌, Bool, true, false, if◌then◌else◌, refl}
+use Rattle.std.proofs.Common.{true, false, refl}
+use Rattle.mix_bits.specs.Laws.{BothHold}
 
-pub both : (b c : Bool) → (if b then c else false) ≡ true → (b ≡ true) × (c ≡ true)
+pub both : BothHold
 both true c h = (refl, h)
 both false c h = cc

@@ -4,11 +4,7 @@ use Rattle.std.proofs.Math.Nat.{pow-suc}
 use Rattle.std.proofs.lemmas.Bool.{cases_lt}
 use Rattle.mix_bits.specs.Ranges.{every}
 use Rattle.mix_bits.specs.Laws.{HoldsByQuarters, HoldsOfEach}
-
--- both tests hold where the first one, and then the second one, does
-both : (a b : Bool) → (if a then b else false) ≡ true → (a ≡ true) × (b ≡ true)
-both true b holds = (refl, holds)
-both false b holds = cc
+use Rattle.mix_bits.proofs.Conditions.{both}
 
 -- twice as many numbers: those of the lower half and those of the upper half
 halves : (m base n : ℕ) (P : Type 0) → (m * (base * 2) ≤ n → n < m * (base * 2 + 1) → P) → (m * (base * 2 + 1) ≤ n → n < m * (base * 2 + 2) → P) → m * 2 * base ≤ n → n < m * 2 * (base + 1) → P

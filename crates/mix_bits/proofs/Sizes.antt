@@ -1,10 +1,9 @@
 -- How many bytes a value has.
 use Rattle.std.proofs.Common.{◌≤◌, arith}
-use Rattle.mix_bits.specs.declared.size.Size.{Size}
 use Rattle.mix_bits.specs.declared.size.Size.TheVariants.{Zero, One, Two, Four}
-use Rattle.mix_bits.specs.Sizes.{bytes_of}
+use Rattle.mix_bits.specs.Laws.{FewBytes}
 
-pub bytes-few : (s : Size) → bytes_of s ≤ 4
+pub bytes-few : FewBytes
 bytes-few Zero = omega arith
 bytes-few One = omega arith
 bytes-few Two = omega arith

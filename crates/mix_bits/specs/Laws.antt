@@ -1,8 +1,10 @@
--- Laws of digits, of tests of ranges and of names.
-use Rattle.std.specs.Prelude.{◌≡◌, ◌⊎◌, ℕ, suc, ◌+◌, ◌^◌, ◌<◌, ◌≤◌, List, ◌++◌, drop, Bool, true}
+-- Laws of digits, of tests, of sizes and of names.
+use Rattle.std.specs.Prelude.{◌≡◌, ◌⊎◌, ℕ, suc, ◌+◌, ◌^◌, ◌<◌, ◌≤◌, List, ◌++◌, drop, Bool, true, false, if◌then◌else◌}
+use Rattle.mix_bits.specs.declared.size.Size.{Size}
 use Rattle.mix_bits.specs.Digits.{digit_of, digit_replaced}
 use Rattle.mix_bits.specs.Names.{ends_name, name_of, no_space, rest_of}
 use Rattle.mix_bits.specs.Ranges.{every}
+use Rattle.mix_bits.specs.Sizes.{bytes_of}
 
 -- a digit that was replaced reads back
 abbrev pub ReadsReplaced : Type 0
@@ -22,6 +24,14 @@ HoldsOfEach = (k : ℕ) (p : ℕ → Bool) (n : ℕ) → every k 0 p ≡ true �
 abbrev pub HoldsByQuarters : Type 0
 HoldsByQuarters =
     (k : ℕ) (p : ℕ → Bool) → every k 0 p ≡ true → every k 1 p ≡ true → every k 2 p ≡ true → every k 3 p ≡ true → every (suc (suc k)) 0 p ≡ true
+
+-- of two tests that are made one after the other, both hold where the whole does
+abbrev pub BothHold : Type 0
+BothHold = (b c : Bool) → (if b then c else false) ≡ true → (b ≡ true) × (c ≡ true)
+
+-- no size has more than four bytes
+abbrev pub FewBytes : Type 0
+FewBytes = (s : Size) → bytes_of s ≤ 4
 
 -- a name without a space, and what follows on it, are read back from their line
 abbrev pub NamesReadBack : Type 0

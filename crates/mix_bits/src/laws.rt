@@ -1,4 +1,4 @@
-ghost use Rattle.mix_bits.specs.Laws.{HoldsByQuarters, HoldsOfEach, NamesReadBack, ReadsReplaced, OthersStay};
+ghost use Rattle.mix_bits.specs.Laws.{BothHold, FewBytes, HoldsByQuarters, HoldsOfEach, NamesReadBack, ReadsReplaced, OthersStay};
 ghost use Rattle.mix_bits.specs.Numbers.{ReadsDecimals, ReadsHexadecimals};
 
 /// What follows from the definition of a replaced digit. It does nothing: the clauses are its point.
@@ -7,10 +7,16 @@ pub fn digit_laws()
     ensures stays { OthersStay }
 {}
 
-/// What follows from a test of all numbers of a range. It does nothing, either.
-pub fn range_laws()
+/// What follows from tests one after the other, and from a test of all numbers of a range. It does nothing, either.
+pub fn test_laws()
+    ensures both { BothHold }
     ensures each { HoldsOfEach }
     ensures quarters { HoldsByQuarters }
+{}
+
+/// What follows from the sizes of values. It does nothing, either.
+pub fn size_laws()
+    ensures few { FewBytes }
 {}
 
 /// How reading and writing numbers undo each other. It does nothing, either.

@@ -24,7 +24,7 @@ pub use digits::{digit, power, with_digit};
 pub use fault::{Fault, FaultKind};
 pub use file::File;
 pub use isa::{Isa, is_isa};
-pub use laws::{digit_laws, name_laws, number_laws, range_laws};
+pub use laws::{digit_laws, name_laws, number_laws, size_laws, test_laws};
 pub use line::Line;
 pub use multiples::round_up;
 pub use names::split_name;

@@ -1,10 +1,7 @@
 -- What was written of an instruction.
 use Rattle.std.proofs.Common.{◌≡◌, ℕ, List, Option, Some, None, sym, ap, ◌∙◌, refl}
-use Rattle.mix_list.specs.Listing.{Listed}
+use Rattle.mix_list.specs.Listing.{Listed, listed_as}
 use Rattle.mix_list.specs.Parts.{Writes}
-
-abbrev pub listed_as : List ℕ → ℕ → Listed
-listed_as text bytes = record { text = text; bytes = bytes }
 
 -- what was written is the instruction's text; or it does not lie whole in memory
 pub written : (o : Option Listed) (bytes : ℕ) (text : List ℕ) → Writes o (Some bytes) text → o ≡ Some (listed_as text bytes)

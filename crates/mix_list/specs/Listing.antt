@@ -20,6 +20,9 @@ pub record Listed : Type 0 where
   pub text : List ℕ
   pub bytes : ℕ
 
+abbrev pub listed_as : List ℕ → ℕ → Listed
+listed_as text bytes = record { text = text; bytes = bytes }
+
 -- how many bytes a 68K instruction has, of which no word is missing; a word that is no instruction of a program stands
 -- alone
 abbrev pub bytes_68k : Decoded68 → Option ℕ
@@ -31,11 +34,11 @@ bytes_68k Illegal = Some 2
 bytes_68k Short = None
 
 abbrev pub listed_68k : List ℕ → ℕ → Option Listed
-listed_68k ws at = option_map (λ bytes. record { text = text_of (decoded ws) ws at; bytes = bytes }) (bytes_68k (decoded ws))
+listed_68k ws at = option_map (listed_as (text_of (decoded ws) ws at)) (bytes_68k (decoded ws))
 
 -- PowerPC code: a word each
 abbrev pub listed_ppc : Result ℕ Access → ℕ → Option Listed
-listed_ppc (Ok word) at = Some (record { text = word_text word at; bytes = 4 })
+listed_ppc (Ok word) at = Some (listed_as (word_text word at) 4)
 listed_ppc (Err e) at = None
 
 -- the instruction of a set at an address, if it lies whole in memory

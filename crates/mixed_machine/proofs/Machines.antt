@@ -13,7 +13,7 @@ use Rattle.mixed_machine.specs.Machine.{callers_of}
 use Rattle.mixed_machine.specs.Outside.{state_of}
 use Rattle.mixed_machine.specs.Acts.{BothGrow, Done}
 use Rattle.mixed_machine.specs.Runs.{CameBack, Going, Sinks, Stops, sinks_of}
-use Rattle.mixed_machine.specs.Events.{BeginsAt, CalleeCameBack, CalleeStopped, ComesBackAt, ExitsAt, FaultsAt, GoesOnAt, IsDone, LimitAt, OutBreaksAt, ReadBreaksAt, TraceBreaksAt}
+use Rattle.mixed_machine.specs.Events.{BeginsAt, CalleeCameBack, CalleeStopped, ComesBackAt, CutGoesOn, ExitsAt, FaultsAt, GoesOnAt, IsDone, LimitAt, OutBreaksAt, ReadBreaksAt, StopsImply, TraceBreaksAt}
 use Rattle.mixed_machine.specs.Laws.{CutsContinue}
 use Rattle.mixed_machine.proofs.Events.{going-none, going-more, back-now, limited-now, exits-now, faults-now, read-broke-now, out-broke-now, trace-broke-now, nested-back, nested-stops, cut-stops}
 use Rattle.mixed_machine.proofs.Over.{over-none, over-same, over-more}
@@ -121,13 +121,22 @@ callee-stopped e d n left l a b c stop deeper noted then_noted going stops =
     (λ s t input answers so_far ended. nested-stops e d n left l s t (state_of c input answers) (sinks_of a) (sinks_of b) (sinks_of c) stop deeper so_far ended)
     going stops
 
+pub cut-goes-on : CutGoesOn
+cut-goes-on n m left l a b c stop noted then_noted first then =
+    over-more (λ s t. Stops 0 n left s t (sinks_of a) (sinks_of b) Limit) (λ s t. Stops 0 m l s t (sinks_of b) (sinks_of c) stop)
+    (λ s t. Stops 0 (n + m) l s t (sinks_of a) (sinks_of c) stop) a b c noted then_noted
+    (λ s t input answers cut ended. cut-stops n m left l s t (state_of c input answers) (sinks_of a) (sinks_of b) (sinks_of c) stop cut ended)
+    first then
+
+pub stops-imply : StopsImply
+stops-imply d n left e m l a b stop implies stops =
+    over-same (λ s t. Stops d n left s t (sinks_of a) (sinks_of b) stop) (λ s t. Stops e m l s t (sinks_of a) (sinks_of b) stop) a b
+    (λ s input answers it. implies s (state_of b input answers) it) stops
+
 pub cuts-continue : CutsContinue
 cuts-continue n m a b c stop noted then_noted first then =
     record {
       left = then.left;
       fewer = let less : then.left ≤ m = then.fewer in omega (arith, less);
-      run = over-more (λ s t. Stops 0 n first.left s t (sinks_of a) (sinks_of b) Limit) (λ s t. Stops 0 m then.left s t (sinks_of b) (sinks_of c) stop)
-          (λ s t. Stops 0 (n + m) then.left s t (sinks_of a) (sinks_of c) stop) a b c noted then_noted
-          (λ s t input answers cut ended. cut-stops n m first.left then.left s t (state_of c input answers) (sinks_of a) (sinks_of b) (sinks_of c) stop cut ended)
-          first.run then.run;
+      run = cut-goes-on n m first.left then.left a b c stop noted then_noted first.run then.run;
     }

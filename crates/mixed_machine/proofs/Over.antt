@@ -8,7 +8,7 @@ use Rattle.dev_rack.specs.Accounts.{Accounts}
 use Rattle.toolbox.specs.Calls.{Taken, answers_since}
 use Rattle.mixed_machine.specs.State.{State}
 use Rattle.mixed_machine.specs.Laws.{AnswersJoin, NoAnswers, ToldJoins, ToldNothing, TookSplits}
-use Rattle.mixed_machine.specs.Outside.{At, Over, TookAll, ToldAll, answers_between, state_of}
+use Rattle.mixed_machine.specs.Outside.{At, Over, TookAll, answers_between, state_of}
 
 -- what was taken by calls, and by more of them
 pub took-append : TookSplits

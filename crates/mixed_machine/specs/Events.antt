@@ -1,11 +1,12 @@
 -- Laws of a run of a machine in memory, one event at a time.
-use Rattle.std.specs.Prelude.{ℕ, ◌-◌, ◌<◌, ◌≤◌, length}
+use Rattle.std.specs.Prelude.{ℕ, ◌+◌, ◌-◌, ◌<◌, ◌≤◌, length}
 use Rattle.mix_bits.specs.declared.fault.Fault.{Fault as AFault}
 use Rattle.dev_rack.specs.Accounts.{Accounts}
 use Rattle.mixed_machine.specs.declared.did.Did.{Did}
 use Rattle.mixed_machine.specs.declared.did.Did.TheVariants.{Next as IsNext, Call, Return, Exit, Fault, ReadFault, OutFault, TraceFault}
 use Rattle.mixed_machine.specs.declared.stop.Stop.{Stop}
 use Rattle.mixed_machine.specs.declared.stop.Stop.TheVariants.{Exit as ExitStop, Fault as FaultStop, Limit, ReadFault as ReadStop, OutFault as OutStop, TraceFault as TraceStop}
+use Rattle.mixed_machine.specs.State.{State}
 use Rattle.mixed_machine.specs.Step.{step}
 use Rattle.mixed_machine.specs.Machine.{callers_of}
 use Rattle.mixed_machine.specs.Outside.{At, Over}
@@ -88,3 +89,15 @@ abbrev pub CalleeStopped : Type 0
 CalleeStopped =
     (e d n left l : ℕ) (a b c : At) (stop : Stop) → d ≤ e → Accounts a.outside.rack b.outside.rack → Accounts b.outside.rack c.outside.rack
     → GoingAt d n left a b → StopsAt e left l b c stop → StopsAt d n l a c stop
+
+-- a run that was cut at its step limit, and continued
+abbrev pub CutGoesOn : Type 0
+CutGoesOn =
+    (n m left l : ℕ) (a b c : At) (stop : Stop) → Accounts a.outside.rack b.outside.rack → Accounts b.outside.rack c.outside.rack
+    → StopsAt 0 n left a b Limit → StopsAt 0 m l b c stop → StopsAt 0 (n + m) l a c stop
+
+-- what a stop is in each state that the machine stands for, it is of the machine
+abbrev pub StopsImply : Type 0
+StopsImply =
+    (d n left e m l : ℕ) (a b : At) (stop : Stop) → ((s t : State) → Stops d n left s t (sinks_of a) (sinks_of b) stop → Stops e m l s t (sinks_of a) (sinks_of b) stop)
+    → StopsAt d n left a b stop → StopsAt e m l a b stop

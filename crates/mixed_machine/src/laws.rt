@@ -1,5 +1,5 @@
 ghost use Rattle.mixed_machine.specs.CrossingLaws.{CountBegins, CountExits, CountFaults, CountGoesOn, CountLimit};
-ghost use Rattle.mixed_machine.specs.Events.{BeginsAt, CalleeCameBack, CalleeStopped, ComesBackAt, ExitsAt, FaultsAt, GoesOnAt, LimitAt, OutBreaksAt, ReadBreaksAt, TraceBreaksAt};
+ghost use Rattle.mixed_machine.specs.Events.{BeginsAt, CalleeCameBack, CalleeStopped, ComesBackAt, CutGoesOn, ExitsAt, FaultsAt, GoesOnAt, LimitAt, OutBreaksAt, ReadBreaksAt, StopsImply, TraceBreaksAt};
 ghost use Rattle.mixed_machine.specs.StepLaws.{StepsAreKinds, TrapsNeverCross};
 ghost use Rattle.mixed_machine.specs.Laws.{AnswersJoin, BacksContinue, BacksStay, CutsContinue, EndsReach, EndsStay, LimitsAreLast, LogsContinue, NeverBack, NoAnswers, NoStepsStay, RunsContinue, ToldJoins, ToldNothing, TookSplits};
 
@@ -47,7 +47,8 @@ pub fn outside_laws()
 /// Laws of a run of a machine in memory, one event at a time. It does nothing: the clauses are its point.
 ///
 /// A run begins, goes on by a step, comes back, ends at the step limit, by an exit, a fault or a failure of
-/// the outside; and it goes on, or stops, as a callee's run did that was part of it.
+/// the outside; and it goes on, or stops, as a callee's run did that was part of it, or as one did that
+/// continued it where it was cut.
 pub fn event_laws()
     ensures begins { BeginsAt }
     ensures goes_on { GoesOnAt }
@@ -60,6 +61,8 @@ pub fn event_laws()
     ensures trace_breaks { TraceBreaksAt }
     ensures callee_back { CalleeCameBack }
     ensures callee_stopped { CalleeStopped }
+    ensures cut { CutGoesOn }
+    ensures implied { StopsImply }
 {}
 
 /// Laws of a run that is done a step at a time, with the frames that its steps make and give up. It does

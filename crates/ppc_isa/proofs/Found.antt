@@ -14,7 +14,7 @@ use Rattle.ppc_isa.specs.Laws.{DecodedStands}
 use Rattle.ppc_isa.specs.Made.{made}
 use Rattle.ppc_isa.specs.Rows.{Row, decoded, found, is_allowed, is_in, operation, operation_in, rows_19, rows_31, rows_to_18, rows_to_29, rows_to_47, table}
 use Rattle.ppc_isa.proofs.Forms.{read, whole}
-use Rattle.ppc_isa.proofs.Laws.{decoded_word}
+use Rattle.ppc_isa.proofs.ReadBack.{decoded_word}
 
 -- what is read, if anything, stands for the word
 abbrev Reads : ℕ → Option InstrPpc → Type 0

@@ -2,5 +2,5 @@ pub mod Apart
 pub mod Filled
 pub mod Forms
 pub mod Found
-pub mod Laws
+pub mod ReadBack
 pub mod Longs

@@ -1,5 +1,4 @@
 ghost use Rattle.std.specs.Prelude.{◌≡◌, ◌↔◌, IfSome};
-ghost use Rattle.ppc_isa.specs.Laws.{DecodedStands, RowsAreApart};
 ghost use Rattle.ppc_isa.specs.Rows.{decoded};
 ghost use Rattle.ppc_isa.specs.Valid.{InRange, Stands};
 ghost use Rattle.ppc_isa.specs.declared.instruction.InstrPpc.{InstrPpc};
@@ -17,9 +16,3 @@ pub fn decode_ppc(word: u32) -> Option<InstrPpc>
 {
     instruction_of(op_of(word), word)
 }
-
-/// What holds of the words of instructions. It does nothing: the clauses are its point.
-pub fn word_laws()
-    ensures stands { DecodedStands }
-    ensures apart { RowsAreApart }
-{}

@@ -5,6 +5,7 @@
 mod decode;
 mod fields;
 mod instruction;
+mod laws;
 mod made;
 mod op;
 mod operation;
@@ -15,14 +16,14 @@ mod strings;
 mod target;
 mod word;
 
-pub use decode::{decode_ppc, word_laws};
+pub use decode::decode_ppc;
 pub use instruction::{
     BranchRegister, CarryUse, ExtendedOperand, ImmediateOp, InstrPpc, LoadKind, LogicalOp, MaskUse,
     ReversedKind, ShiftOp, SpecialRegister, StoreKind, UnaryOp,
 };
+pub use laws::{long_laws, word_laws};
 pub use op::OpPpc;
 pub use operation::op_of;
-pub use register_longs::long_laws;
 pub use registers::RegsPpc;
 pub use strings::{is_filled, string_length};
 pub use target::branch_target;

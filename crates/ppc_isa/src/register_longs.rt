@@ -1,6 +1,6 @@
 // A register file as longs, in the order in which frames and checkpoints hold it.
 ghost use Rattle.std.specs.Prelude.{◌≡◌, length};
-ghost use Rattle.ppc_isa.specs.Longs.{LongLaws, file_of, longs_of};
+ghost use Rattle.ppc_isa.specs.Longs.{file_of, longs_of};
 
 use super::registers::RegsPpc;
 
@@ -36,8 +36,3 @@ impl RegsPpc {
         }
     }
 }
-
-/// That a register file and its longs give each other back. It does nothing: the clause is its point.
-pub fn long_laws()
-    ensures { LongLaws }
-{}

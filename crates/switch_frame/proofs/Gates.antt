@@ -10,7 +10,7 @@ use Rattle.big_memory.proofs.Lists.{get_or-put_inside, get_or-put_outside, lengt
 use Rattle.big_memory.specs.Numbers.{AreBytes, bytes_of_longs, long_at, longs_at}
 use Rattle.switch_frame.specs.Pieces.{puts}
 use Rattle.switch_frame.specs.Program.{Stands, blank, gate_long, gate_longs, page_bytes, told, vector_long, vectors}
-use Rattle.switch_frame.specs.GateLaws.{LongsArePage, PageByBytes, PageHasLongs}
+use Rattle.switch_frame.specs.GateLaws.{LengthOfBlank, LongsArePage, PageByBytes, PageHasLongs}
 use Rattle.big_memory.proofs.Numbers.{length_of_longs, long_in_part, long_of_longs, long_reads_back, longs_again, longs_fit}
 
 -- a long put at an address, read there
@@ -45,7 +45,7 @@ blank-long : (a n : ℕ) → long_at a (blank n) ≡ 0
 unfolding long_at blank
 blank-long a n = rw (blank-byte a 0 n, blank-byte a 1 n, blank-byte a 2 n, blank-byte a 3 n) refl
 
-pub length-blank : (n : ℕ) → length (blank n) ≡ n
+pub length-blank : LengthOfBlank
 unfolding blank
 length-blank n = grind (arith, places)
 

@@ -2,7 +2,7 @@
 use Rattle.std.specs.Prelude.{◌≡◌, ℕ, ◌^◌, ◌<◌, ◌≤◌, List, length}
 use Rattle.big_memory.specs.Lists.{part}
 use Rattle.big_memory.specs.Numbers.{AreBytes, long_at}
-use Rattle.switch_frame.specs.Program.{HasGatePage, page_bytes}
+use Rattle.switch_frame.specs.Program.{HasGatePage, blank, page_bytes}
 
 -- memory in which the page's pieces were put has its longs
 abbrev pub PageHasLongs : Type 0
@@ -19,3 +19,7 @@ LongsArePage =
 abbrev pub PageByBytes : Type 0
 PageByBytes =
     (a5 : ℕ) (old new : List ℕ) → part 0x1000 0x1000 new ≡ part 0x1000 0x1000 old → length new ≡ length old → HasGatePage a5 old → HasGatePage a5 new
+
+-- how many bytes memory has in which nothing was put
+abbrev pub LengthOfBlank : Type 0
+LengthOfBlank = (n : ℕ) → length (blank n) ≡ n

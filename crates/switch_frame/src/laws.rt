@@ -1,5 +1,5 @@
 ghost use Rattle.switch_frame.specs.FrameLaws.{BelowInnermost, FirstIsHeld, FramesAbove, LengthBytes, LengthZeros, MeetsNone, PlaceByLength, RoomByLength, RoomIsPlace, StoredApart, TopIsZero, ZerosBeside};
-ghost use Rattle.switch_frame.specs.GateLaws.{LongsArePage, PageByBytes, PageHasLongs};
+ghost use Rattle.switch_frame.specs.GateLaws.{LengthOfBlank, LongsArePage, PageByBytes, PageHasLongs};
 ghost use Rattle.switch_frame.specs.RangeLaws.{FitsIsRange, MarkAt, MarksKept, MarksSame, RangeMoves, TopTells};
 ghost use Rattle.switch_frame.specs.Laws.{BeginsEmpty, FreeKeepsChain, GuardIsFrames, KeepsLength, LowIsMemory, PlacesAreFree, PlacesAreGiven, ReadsBack, ReadsOuter, RefusalsAreRanges, SeenIsMemory, StoresBeside, TopIsLong, ViewIsMemory, WholeChainsPass};
 
@@ -53,4 +53,5 @@ pub fn gate_laws()
     ensures longs { PageHasLongs }
     ensures page { LongsArePage }
     ensures bytes { PageByBytes }
+    ensures blank { LengthOfBlank }
 {}

@@ -1,7 +1,7 @@
 use Rattle.big_memory.proofs.Guarded.{passes_within, keeps_refusals, loads_back, passes, refusal-none, free_from_test, test_from_free}
 use Rattle.big_memory.proofs.Rams.{loads_part, in_memory_within, bytes_keep_ram, marks_keep_ram, marks_of_range, open_below_floor, stay_beside}
-use Rattle.big_memory.proofs.Free.{nothing_free, free_joins, stores_free, done_free, copies_free, free_ram, free_refusals, free_page}
-use Rattle.big_memory.proofs.Longs.{stored_loads}
+use Rattle.big_memory.proofs.Free.{nothing_free, free_joins, stores_free, done_free, copies_free, free_ram, free_refusals, free_page, same_part}
+use Rattle.big_memory.proofs.Longs.{probe-err, probe-ok, size-bytes, size-there, stored_loads}
 use Rattle.big_memory.proofs.laws.memory_laws.Goals as goal
 
 pub returns : goal.returns
@@ -29,4 +29,9 @@ returns c = record {
   page = free_page;
   beside = stay_beside;
   stored = stored_loads;
+  size = size-bytes;
+  there = size-there;
+  probe_passes = probe-ok;
+  probe_refuses = probe-err;
+  same = same_part;
 }

@@ -1,4 +1,4 @@
-use Rattle.big_memory.proofs.Numbers.{bytes_join, length_of_bytes, length_of_longs, loads_long, loads_number, long_in_part, long_of_longs, long_of_part, long_reads_back, longs_again, longs_fit, longs_of_part, number_in_part, writes_join}
+use Rattle.big_memory.proofs.Numbers.{bytes_join, four-longs, length_of_bytes, length_of_longs, loads_long, loads_number, long_fits, long_in_part, long_of_longs, long_of_part, long_reads_back, longs_again, longs_fit, longs_of_part, longs-split, number_in_part, same_from, writes_join}
 use Rattle.big_memory.proofs.laws.number_laws.Goals as goal
 
 pub returns : goal.returns
@@ -15,6 +15,10 @@ returns c = record {
   one = long_of_part;
   several = longs_of_part;
   writes = writes_join;
+  fits = long_fits;
   fit = longs_fit;
   again = longs_again;
+  splits = longs-split;
+  four = four-longs;
+  same = same_from;
 }

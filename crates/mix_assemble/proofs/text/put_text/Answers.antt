@@ -3,9 +3,8 @@ use Rattle.std.proofs.Common.{◌≡◌, ◌<◌, [], length, rules, ap, ◌∙�
 use Rattle.mix_bits.specs.Addresses.{onward}
 use Rattle.mix_io.specs.Streams.{Breaks, Grows, output}
 use Rattle.mix_assemble.specs.Parts.{Adds}
-use Rattle.mix_assemble.proofs.Walks.{Takes, err-of, ok-of, putting-ends, putting-begins, putting-breaks, putting-known, putting-on}
+use Rattle.mix_assemble.proofs.Walks.{Takes, err-from, err-of, ok-of, putting-ends, putting-begins, putting-breaks, putting-known, putting-on}
 use Rattle.mix_assemble.proofs.text.put_text.Goals as goal
-use Rattle.mix_list.proofs.Lines.{on-err}
 
 pub lines-init : goal.lines-init
 lines-init g c = putting-begins _ c.args.set c.args.at c.args.text.now _ c.ranges.at.fits c.requires c.new-piece.ensures
@@ -30,7 +29,7 @@ lines-preserved g c =
 
 pub returns-in_err-add_bytes-clause-part : goal.returns-in_err-add_bytes-clause-part
 returns-in_err-add_bytes-clause-part g c =
-    on-err c.from_residual.result
+    err-from c.from_residual.result
     (putting-breaks _ _ _ c.args.set c.args.at c.args.text.now c.lines.next c.lines.rest.now c.lines.piece.items c.lines.invariant c.in_err-add_bytes.ensures.part)
 
 pub returns-clause-part : goal.returns-clause-part

@@ -1,7 +1,8 @@
 -- One line after the other.
 use Rattle.std.proofs.Common.{◌+◌, ◌-◌, arith}
+use Rattle.mix_list.specs.Listing.{listed_as}
 use Rattle.mix_list.proofs.Lines.{listing-none, listing-zero, on-err, way-breaks, way-ends, way-on}
-use Rattle.mix_list.proofs.Words.{listed_as, not-written, written}
+use Rattle.mix_list.proofs.Words.{not-written, written}
 use Rattle.mix_list.proofs.listing.list.Goals as goal
 
 pub returns-in_err-put_line-in-Some-clause-part : goal.returns-in_err-put_line-in-Some-clause-part

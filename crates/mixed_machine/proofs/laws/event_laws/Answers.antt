@@ -1,4 +1,4 @@
-use Rattle.mixed_machine.proofs.Machines.{begins-at, goes-on-at, comes-back-at, limit-at, exits-at, faults-at, read-breaks-at, out-breaks-at, trace-breaks-at, callee-back, callee-stopped}
+use Rattle.mixed_machine.proofs.Machines.{begins-at, goes-on-at, comes-back-at, limit-at, exits-at, faults-at, read-breaks-at, out-breaks-at, trace-breaks-at, callee-back, callee-stopped, cut-goes-on, stops-imply}
 use Rattle.mixed_machine.proofs.laws.event_laws.Goals as goal
 
 pub returns : goal.returns
@@ -15,4 +15,6 @@ returns c =
       trace_breaks = trace-breaks-at;
       callee_back = callee-back;
       callee_stopped = callee-stopped;
+      cut = cut-goes-on;
+      implied = stops-imply;
     }

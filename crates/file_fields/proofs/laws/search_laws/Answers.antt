@@ -1,5 +1,5 @@
 use Rattle.file_fields.proofs.Searches.{fails_below, least_at, least_first, least_none, none_counted}
-use Rattle.file_fields.proofs.search_laws.Goals as goal
+use Rattle.file_fields.proofs.laws.search_laws.Goals as goal
 
 pub returns : goal.returns
 returns c = record {
