@@ -1,12 +1,13 @@
 ghost use Rattle.std.specs.Prelude.{◌≡◌, false};
-ghost use Rattle.big_memory.specs.Map.{host_code as host_code_of, is_gate};
-ghost use Rattle.big_memory.specs.Memory.{Memory};
+ghost use Rattle.big_memory.specs.Map.{is_gate};
 ghost use Rattle.big_memory.specs.Steps.{Does};
-ghost use Rattle.ppc_effects.specs.Effects.{at_gate_page as at_gate_page_of, stepped};
+ghost use Rattle.ppc_effects.specs.Effects.{stepped};
+ghost use Rattle.ppc_core.specs.Fetch.{places_of};
 ghost use Rattle.ppc_core.specs.Steps.{Steps};
 
+use super::fetch::{fetch, is_plain, places, plain_word};
 use super::run_word::run_word;
-use big_memory::{Did, Ram, host_code, in_gate_page, leave, refuse, stop};
+use big_memory::{Did, Ram};
 use mix_bits::{Fault, FaultKind};
 use ppc_isa::RegsPpc;
 
@@ -27,42 +28,30 @@ pub fn step_ppc(regs: &mut RegsPpc, ram: &mut Ram) -> OutPpc
     ensures { Steps (stepped regs.old ram.old) result regs.old regs.new ram.old ram.new }
 {
     let mut fault = Fault::at(0, FaultKind::BadInstr, 0);
-    match run(regs, ram, &mut fault) {
+    let places = places(ram);
+    match run(regs, ram, &mut fault, places) {
         Did::Next => OutPpc::Next,
         Did::Leave => OutPpc::Host(fault.detail),
         Did::Stop => OutPpc::Stop(fault),
     }
 }
 
-/// The same with the answer beside a cell: on Stop the cell is the fault, and on Leave its detail is the
-/// number of the host function. For loops over many steps.
+/// The same with the answer beside a cell, also at a gate, where it stops: on Stop the cell is the fault, and on
+/// Leave its detail is the number of the host function. For loops over many steps, which take the places of
+/// memory once.
 #[inline(always)]
-#[tactic(auto, unfolding(ppc_effects::specs::Effects::stepped))]
-pub fn run(regs: &mut RegsPpc, ram: &mut Ram, fault: &mut Fault) -> Did
-    requires { is_gate regs.old.pc ≡ false }
-    ensures { Does (stepped regs.old ram.old) result fault.new regs.old regs.new ram.old ram.new }
+pub fn run(regs: &mut RegsPpc, ram: &mut Ram, fault: &mut Fault, places: u32) -> Did
+    requires { places ≡ places_of ram.old }
+    ensures does { Does (stepped regs.old ram.old) result fault.new regs.old regs.new ram.old ram.new }
+    ensures places { places_of ram.new ≡ places_of ram.old }
 {
-    let pc = regs.pc;
-    if pc % 4 != 0 {
-        stop::<RegsPpc>(fault, FaultKind::Odd, pc, pc)
-    } else if in_gate_page(pc) {
-        leave_or_stop(regs, fault)
+    let word = if is_plain(regs.pc, ram, places) {
+        plain_word(regs, ram)
     } else {
-        match ram.load_long(pc) {
-            Ok(word) => run_word(regs, ram, fault, word),
-            Err(access) => refuse::<RegsPpc>(fault, pc, access),
+        match fetch(regs.pc, ram, fault) {
+            Did::Next => fault.detail,
+            did => return did,
         }
-    }
-}
-
-/// Leaves for the host at the code address of one of its functions, or stops, where pc is in the gate
-/// page.
-#[cold]
-fn leave_or_stop(regs: &RegsPpc, fault: &mut Fault) -> Did
-    ensures { (m : Memory) → Does (at_gate_page_of regs.now (host_code_of regs.now.pc)) result fault.new regs.now regs.now m m }
-{
-    match host_code(regs.pc) {
-        Some(k) => leave::<RegsPpc>(fault, k),
-        None => stop::<RegsPpc>(fault, FaultKind::GateFetch, regs.pc, regs.pc),
-    }
+    };
+    run_word(regs, ram, fault, word)
 }

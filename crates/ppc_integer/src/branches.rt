@@ -1,9 +1,11 @@
 // Branches.
-ghost use Rattle.std.specs.Prelude.{◌≡◌, ◌+◌, ◌*◌, ◌/◌, ◌%◌, ◌^◌, ◌<◌, ◌==◌};
+ghost use Rattle.std.specs.Prelude.{◌≡◌, ◌+◌, ◌*◌, ◌/◌, ◌%◌, ◌^◌, ◌<◌, ◌==◌, true};
+ghost use Rattle.mix_bits.specs.Digits.{digit_of};
 ghost use Rattle.ppc_isa.specs.Fields.{fields_of};
 ghost use Rattle.ppc_isa.specs.Made.{displacement_of};
 ghost use Rattle.ppc_isa.specs.declared.instruction.InstrPpc.TheVariants.{Branch, BranchConditional, BranchConditionalToRegister};
-ghost use Rattle.ppc_effects.specs.Branches.{branch_where, condition_allows as condition_allows_of, count_allows, counted};
+ghost use Rattle.ppc_alu.specs.Condition.{bit_of};
+ghost use Rattle.ppc_effects.specs.Branches.{branch_where, condition_allows as condition_allows_of, count_allows, counted, is_same, leaves_count as leaves_count_of};
 ghost use Rattle.ppc_integer.specs.Alone.{Runs};
 
 use big_memory::Did;
@@ -39,6 +41,9 @@ pub fn branch(regs: &mut RegsPpc, word: u32) -> Did
 pub fn branch_conditional(regs: &mut RegsPpc, word: u32) -> Did
     ensures { let f = fields_of word in Runs (BranchConditional f.d f.a (displacement_of 16 (f.low / 4 * 4)) ((f.low / 2 % 2) == 1) f.last) word result regs.old regs.new }
 {
+    if leaves_count(word) {
+        return branch_by_condition(regs, word);
+    }
     if is_absolute(word) || is_last(word) {
         return branch_apart(regs, word);
     }
@@ -47,7 +52,50 @@ pub fn branch_conditional(regs: &mut RegsPpc, word: u32) -> Did
     Did::Next
 }
 
-/// The same in a place of its own, for the forms that programs use less.
+/// The same where BO leaves the count register as it is.
+#[inline(always)]
+#[tactic(auto, using(big_memory::proofs::Free::nothing_free))]
+fn branch_by_condition(regs: &mut RegsPpc, word: u32) -> Did
+    requires { leaves_count_of (fields_of word).d ≡ true }
+    ensures { let f = fields_of word in Runs (BranchConditional f.d f.a (displacement_of 16 (f.low / 4 * 4)) ((f.low / 2 % 2) == 1) f.last) word result regs.old regs.new }
+{
+    if ignores_condition(word) || is_absolute(word) || is_last(word) {
+        return branch_apart(regs, word);
+    }
+    let distance = if is_condition_met(word, regs.cr) {
+        near_displacement_of(word)
+    } else {
+        4
+    };
+    regs.pc = onward(regs.pc, distance);
+    Did::Next
+}
+
+/// Whether BO leaves the count register as it is.
+#[inline(always)]
+fn leaves_count(word: u32) -> bool
+    ensures { result ≡ leaves_count_of (fields_of word).d }
+{
+    d_of(word) / 4 % 2 == 1
+}
+
+/// Whether BO lets any condition pass.
+#[inline(always)]
+fn ignores_condition(word: u32) -> bool
+    ensures { result ≡ (digit_of (fields_of word).d 4 1 == 1) }
+{
+    d_of(word) / 16 % 2 == 1
+}
+
+/// Whether the condition at BI has the value that BO names.
+#[inline(always)]
+fn is_condition_met(word: u32, cr: u32) -> bool
+    ensures { let f = fields_of word in result ≡ is_same (digit_of f.d 3 1 == 1) (bit_of cr f.a) }
+{
+    (d_of(word) as u32 / 8 % 2 == 1) == cr_bit(cr, a_of(word) as u32)
+}
+
+/// bc in a place of its own, for the forms that programs use less.
 #[inline(never)]
 #[tactic(auto, using(big_memory::proofs::Free::nothing_free))]
 fn branch_apart(regs: &mut RegsPpc, word: u32) -> Did

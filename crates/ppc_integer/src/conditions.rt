@@ -1,14 +1,15 @@
 // Comparisons and the condition register.
-ghost use Rattle.std.specs.Prelude.{◌≡◌, ◌/◌, ◌+◌, ◌*◌};
+ghost use Rattle.std.specs.Prelude.{◌≡◌, ◌/◌, ◌+◌, ◌*◌, ◌<◌};
 ghost use Rattle.ppc_isa.specs.Fields.{fields_of};
 ghost use Rattle.ppc_isa.specs.declared.instruction.InstrPpc.TheVariants.{Compare, CompareImmediate, ConditionLogical, MoveConditionField, MoveFromConditionRegister, MoveToConditionFields, MoveXerToConditionField};
-ghost use Rattle.ppc_integer.specs.Alone.{Runs};
+ghost use Rattle.ppc_alu.specs.Condition.{with_field};
+ghost use Rattle.ppc_integer.specs.Alone.{Ends, Runs};
 
 use super::ending::finish;
 use big_memory::Did;
 use ppc_alu::{
-    compare, cr_bit, cr_field, cr_logic, field_mask, insert, with_cr_bit, with_cr_field, xer_so,
-    xer_top, xer_without_top,
+    compare, cr_bit, cr_field, cr_logic, field_mask, insert, with_cr_bit, with_cr_field, with_cr0,
+    xer_so, xer_top, xer_without_top,
 };
 use ppc_isa::{
     LogicalOp, RegsPpc, a_of, b_of, d_of, field_of, from_field_of, low_of, mask_of, offset_of,
@@ -25,8 +26,7 @@ pub fn compare_registers(regs: &mut RegsPpc, word: u32, signed: bool) -> Did
         regs.gpr[b_of(word)],
         xer_so(regs.xer),
     );
-    regs.cr = with_cr_field(regs.cr, field_of(word), bits);
-    finish(regs)
+    compared(regs, word, bits)
 }
 
 /// cmpi and cmpli.
@@ -40,7 +40,21 @@ pub fn compare_immediate(regs: &mut RegsPpc, word: u32, signed: bool) -> Did
         low_of(word)
     };
     let bits = compare(signed, regs.gpr[a_of(word)], immediate, xer_so(regs.xer));
-    regs.cr = with_cr_field(regs.cr, field_of(word), bits);
+    compared(regs, word, bits)
+}
+
+/// Ends a comparison: its bits go to a field, most often the first.
+#[inline(always)]
+fn compared(regs: &mut RegsPpc, word: u32, bits: u32) -> Did
+    requires { bits < 16 }
+    ensures { Ends (record regs.old { cr = with_field regs.old.cr ((fields_of word).d / 4) bits }) result regs.new }
+{
+    let field = field_of(word);
+    regs.cr = if field == 0 {
+        with_cr0(regs.cr, bits)
+    } else {
+        with_cr_field(regs.cr, field, bits)
+    };
     finish(regs)
 }
 

@@ -25,11 +25,7 @@ pub fn store(
     ensures { let f = fields_of word in Does (runs regs.old ram.old word (Store kind update f.d f.a f.low)) result fault.new regs.old regs.new ram.old ram.new }
 {
     let at = offset_address(regs, word);
-    if update {
-        store_apart(regs, ram, fault, word, kind, update, at)
-    } else {
-        store_at(regs, ram, fault, word, kind, update, at)
-    }
+    store_at(regs, ram, fault, word, kind, update, at)
 }
 
 /// stwx, stbx and sthx, and with `update` stwux, stbux and sthux.
@@ -45,7 +41,11 @@ pub fn store_indexed(
     ensures { let f = fields_of word in Does (runs regs.old ram.old word (StoreIndexed kind update f.d f.a f.b)) result fault.new regs.old regs.new ram.old ram.new }
 {
     let at = index_address(regs, word);
-    store_apart(regs, ram, fault, word, kind, update, at)
+    if update {
+        store_apart(regs, ram, fault, word, kind, update, at)
+    } else {
+        store_at(regs, ram, fault, word, kind, update, at)
+    }
 }
 
 /// Stores the low bytes of register S at an address.
@@ -61,13 +61,14 @@ fn store_at(
 ) -> Did
     ensures { Does (store_of regs.old ram.old kind update (fields_of word).d (fields_of word).a at) result fault.new regs.old regs.new ram.old ram.new }
 {
-    match ram.store_value(at, store_size(kind), regs.gpr[d_of(word)]) {
-        Ok(()) => stored(regs, word, update, at),
-        Err(access) => refuse::<RegsPpc>(fault, regs.pc, access),
+    if ram.store_if_open(at, store_size(kind), regs.gpr[d_of(word)]) {
+        stored(regs, word, update, at)
+    } else {
+        store_apart(regs, ram, fault, word, kind, update, at)
     }
 }
 
-/// The same in a place of its own, for the forms that programs use less.
+/// The same in a place of its own, at any address and for the forms that programs use less.
 #[inline(never)]
 fn store_apart(
     regs: &mut RegsPpc,
@@ -80,7 +81,10 @@ fn store_apart(
 ) -> Did
     ensures { Does (store_of regs.old ram.old kind update (fields_of word).d (fields_of word).a at) result fault.new regs.old regs.new ram.old ram.new }
 {
-    store_at(regs, ram, fault, word, kind, update, at)
+    match ram.store_value(at, store_size(kind), regs.gpr[d_of(word)]) {
+        Ok(()) => stored(regs, word, update, at),
+        Err(access) => refuse::<RegsPpc>(fault, regs.pc, access),
+    }
 }
 
 /// How many bytes a store takes.
