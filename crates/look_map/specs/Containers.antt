@@ -1,11 +1,14 @@
 -- The sections and imports of a container, line by line.
-use Rattle.std.specs.Prelude.{ℕ, zero, suc, ◌==◌, List, [], ◌∷◌, ◌++◌, codes, decimal, if◌then◌else◌, Bool, true, false, Option, Some, None, is_some}
+use Rattle.std.specs.Prelude.{◌≡◌, ℕ, zero, suc, ◌==◌, List, [], ◌∷◌, ◌++◌, codes, decimal, if◌then◌else◌, Bool, true, false, Option, Some, None, is_some}
+use Rattle.file_fields.specs.Search.{least}
 use Rattle.mix_bits.specs.Text.{hexadecimal}
 use Rattle.big_memory.specs.Map.{host_vector_at}
 use Rattle.pef_head.specs.declared.error.PefError.{PefError}
 use Rattle.pef_head.specs.Container.{instantiated_count}
 use Rattle.pef_head.specs.Parts.{ImportParts, SectionParts, cut, import_count, import_of, section_at}
 use Rattle.pef_head.specs.Refusals.{refusal_of}
+use Rattle.pef_reloc.specs.declared.error.RelocError.{RelocError}
+use Rattle.pef_reloc.specs.declared.error.RelocError.TheVariants.{Pattern, Short, Unsupported, OutsideSection, ImportIndex, SectionIndex, RepeatFront, Work}
 use Rattle.toolbox.specs.Names.{import_index}
 use Rattle.mix_load.specs.Sections.{patterns_refusal, section_base}
 use Rattle.look_text.specs.Pieces.{address_text, joined}
@@ -64,3 +67,14 @@ container_text bytes start = container_by (refusal_of bytes) bytes start
 -- whether the pattern data of a section is refused
 abbrev pub is_badly_packed : List ℕ → ℕ → Bool
 is_badly_packed bytes k = is_some (patterns_refusal bytes k)
+
+-- the first section whose pattern data is refused, where that is what was refused; of relocations nothing is said
+abbrev pub IsUnmade : List ℕ → RelocError → Option ℕ → Type 0
+IsUnmade bytes (Pattern at) section = section ≡ least (is_badly_packed bytes) (instantiated_count bytes)
+IsUnmade bytes (Short at) section = Unit {0}
+IsUnmade bytes (Unsupported word) section = Unit {0}
+IsUnmade bytes (OutsideSection at) section = Unit {0}
+IsUnmade bytes (ImportIndex i) section = Unit {0}
+IsUnmade bytes (SectionIndex k) section = Unit {0}
+IsUnmade bytes (RepeatFront at) section = Unit {0}
+IsUnmade bytes Work section = Unit {0}

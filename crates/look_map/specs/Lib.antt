@@ -1,3 +1,4 @@
 pub mod Forks
 pub mod Containers
 pub mod Maps
+pub mod Sentences

@@ -15,7 +15,6 @@ use toolbox::import_index;
 const NAME_BYTES: usize = 255;
 
 /// Appends the lines of the container in a file's bytes, whose sections begin behind `start`.
-#[tactic(auto, using(crate::proofs::Appends::none))]
 pub fn add_container(
     alloc: Global,
     text: &mut Vec<u8>,
@@ -32,7 +31,7 @@ pub fn add_container(
     }
 }
 
-#[tactic(auto, using(crate::proofs::Appends::two))]
+#[tactic(auto, using(std::proofs::Common::append_assoc))]
 fn add_parts(alloc: Global, text: &mut Vec<u8>, pef: &Pef, start: u64) -> Result<(), NoMemory>
     requires { start ≤ 2 ^ 43 }
     ensures { OnOk result (text.new.items ≡ text.old.items ++ parts_text pef.now start) }
@@ -43,7 +42,7 @@ fn add_parts(alloc: Global, text: &mut Vec<u8>, pef: &Pef, start: u64) -> Result
 }
 
 /// Appends the lines of the first imports, by the numbers of their libraries.
-#[tactic(auto, using(crate::proofs::Appends::two))]
+#[tactic(auto, using(std::proofs::Common::append_assoc))]
 fn add_imports(text: &mut Vec<u8>, pef: &Pef, owners: &[u32], count: u32) -> Result<(), NoMemory>
     requires below { count ≤ import_count pef.now }
     requires owners { (i : ℕ) → i < import_count pef.now → slice_index owners.now i ≡ library_of pef.now i }
@@ -61,7 +60,7 @@ fn add_imports(text: &mut Vec<u8>, pef: &Pef, owners: &[u32], count: u32) -> Res
 }
 
 /// Appends the line of an import.
-#[tactic(auto, using(crate::proofs::Appends::two), unfolding(crate::specs::Containers::import_line))]
+#[tactic(auto, using(std::proofs::Common::append_assoc), unfolding(crate::specs::Containers::import_line))]
 fn add_import(text: &mut Vec<u8>, i: u32, import: Import) -> Result<(), NoMemory>
     ensures { OnOk result (text.new.items ≡ text.old.items ++ import_line i (names import.entry)) }
 {

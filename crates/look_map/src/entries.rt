@@ -9,7 +9,7 @@ use mix_load::{a5_of, is_bad_entry, offset_in, read_header, segment_in};
 use rsrc_fork::Fork;
 
 /// Appends the lines of the first entries, whose segments stand at these places.
-#[tactic(auto, using(crate::proofs::Appends::two))]
+#[tactic(auto, using(std::proofs::Common::append_assoc))]
 pub fn add_entries(
     text: &mut Vec<u8>,
     fork: &Fork,
@@ -30,7 +30,7 @@ pub fn add_entries(
 }
 
 /// Appends the line of an entry.
-#[tactic(auto, using(crate::proofs::Appends::two))]
+#[tactic(auto, using(std::proofs::Common::append_assoc))]
 fn add_entry(
     text: &mut Vec<u8>,
     fork: &Fork,

@@ -85,7 +85,7 @@ fn add_bare(alloc: Global, text: &mut Vec<u8>, fork: &Fork, ids: u16) -> Result<
 }
 
 /// Appends the lines of the world of A5, and of the segments.
-#[tactic(auto, using(crate::proofs::Appends::three))]
+#[tactic(auto, using(std::proofs::Common::append_assoc))]
 fn add_world(
     alloc: Global,
     text: &mut Vec<u8>,
@@ -116,7 +116,6 @@ fn add_a5(text: &mut Vec<u8>, a5: u64) -> Result<(), NoMemory>
 }
 
 /// Appends the lines of the jump table, if there is one.
-#[tactic(auto, using(crate::proofs::Appends::none))]
 fn add_table(text: &mut Vec<u8>, fork: &Fork, code0: &[u8], places: &[u64]) -> Result<(), NoMemory>
     requires longs { 16 ≤ length code0.now }
     requires small { length code0.now ≤ 2 ^ 24 }
@@ -130,7 +129,7 @@ fn add_table(text: &mut Vec<u8>, fork: &Fork, code0: &[u8], places: &[u64]) -> R
 }
 
 /// Appends the lines of a jump table that there is.
-#[tactic(auto, using(crate::proofs::Appends::two))]
+#[tactic(auto, using(std::proofs::Common::append_assoc))]
 fn add_whole_table(
     text: &mut Vec<u8>,
     fork: &Fork,

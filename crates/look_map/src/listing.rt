@@ -11,7 +11,7 @@ use mix_load::{FileBytes, Files, PROGRAM_START};
 use std::alloc::Global;
 
 /// The lines of files, with the CODEs below a count of ids, in `len` bytes of RAM.
-#[tactic(auto, using(crate::proofs::Appends::three))]
+#[tactic(auto, using(std::proofs::Common::append_assoc))]
 pub fn listing(alloc: Global, files: &Files, len: u32, ids: u16) -> Result<Vec<u8>, NoMemory>
     requires flat { IsSmall files.now.flat }
     requires rsrc { IsSmall files.now.rsrc }
@@ -41,7 +41,6 @@ fn add_ram(text: &mut Vec<u8>, len: u32) -> Result<(), NoMemory>
 }
 
 /// Appends the line of a flat file, if there is one.
-#[tactic(auto, using(crate::proofs::Appends::none))]
 fn add_flat(text: &mut Vec<u8>, file: &Option<FileBytes>) -> Result<(), NoMemory>
     requires { IsSmall file.now }
     ensures { OnOk result (text.new.items ≡ text.old.items ++ flat_text file.now) }
@@ -66,7 +65,6 @@ fn add_flat_line(text: &mut Vec<u8>, size: u32) -> Result<(), NoMemory>
 }
 
 /// Appends the lines of a fork's file, if there is one, and says where its CODEs end.
-#[tactic(auto, using(crate::proofs::Appends::none))]
 fn add_fork_file(
     alloc: Global,
     text: &mut Vec<u8>,
@@ -86,7 +84,6 @@ fn add_fork_file(
 }
 
 /// Appends the lines of a container's file, if there is one.
-#[tactic(auto, using(crate::proofs::Appends::none))]
 fn add_container_file(
     alloc: Global,
     text: &mut Vec<u8>,

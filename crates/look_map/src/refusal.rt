@@ -1,9 +1,13 @@
 // Why a program is not loaded, in a sentence.
-ghost use Rattle.std.specs.Prelude.{◌≡◌, ◌^◌, ◌≤◌, length};
+ghost use Rattle.std.specs.Prelude.{◌≡◌, ◌^◌, ◌≤◌, None, IfOk, IfSome, length, map};
 ghost use Rattle.mix_load.specs.Load.{IsSmall};
+ghost use Rattle.pef_head.specs.Parts.{names};
+ghost use Rattle.pef_head.specs.Refusals.{refusal_of};
+ghost use Rattle.look_text.specs.Pieces.{joined, piece_text};
+ghost use Rattle.look_map.specs.Sentences.{empty_text as empty_sentence, far_text, fork_refusal_text, lacking_by, lacking_in, lacking_text, large_by, large_text, no_code_text, resource_text, sentence_of, table_refusal_text};
 
 use crate::unmade::unmade_section;
-use look_text::{Piece, add_line};
+use look_text::{Piece, add, add_line};
 use mix_bits::NoMemory;
 use mix_load::{File, FileBytes, Files, LoadError};
 use pef_head::{Import, Pef};
@@ -17,27 +21,54 @@ const NAME_BYTES: usize = 255;
 /// The rule that files break, in a sentence without a line feed.
 pub fn refusal_text(alloc: Global, files: &Files, error: LoadError) -> Result<Vec<u8>, NoMemory>
     requires { IsSmall files.now.pef }
+    ensures { IfOk result (λ text. IfSome (sentence_of files.now.pef error) (λ sentence. text.items ≡ sentence)) }
 {
     match error {
-        LoadError::Rsrc(RsrcError::Twice(kind, id)) => {
-            resource(alloc, kind, id, " stands twice in the fork")
-        }
-        LoadError::Rsrc(RsrcError::Compressed(kind, id)) => {
-            resource(alloc, kind, id, " is compressed")
-        }
-        LoadError::Unresolved(i) => unresolved(alloc, &files.pef, i),
+        LoadError::NoMemory => plain(alloc, error),
+        LoadError::Empty(file) => told(alloc, empty_text(file)),
+        LoadError::Rsrc(e) => fork_refusal(alloc, e),
+        LoadError::NoCode(id) => no_code(alloc, id),
+        LoadError::Far(id) => far(alloc, id),
+        LoadError::JumpTable(at) => jump_table(alloc, at),
+        LoadError::Pef(_) => plain(alloc, error),
+        LoadError::TooLarge(end) => too_large(alloc, end),
         LoadError::Reloc(e) => unmade(alloc, &files.pef, e),
-        _ => plain(alloc, error),
+        LoadError::Unresolved(i) => unresolved(alloc, &files.pef, i),
+        LoadError::NoMain => plain(alloc, error),
+    }
+}
+
+fn empty_text(file: File) -> &'static str
+    ensures { result.now ≡ empty_sentence file }
+{
+    match file {
+        File::Flat => "the flat file has no byte",
+        File::Rsrc => "the fork's file has no byte",
+        File::Pef => "the container's file has no byte",
+    }
+}
+
+fn fork_refusal(alloc: Global, error: RsrcError) -> Result<Vec<u8>, NoMemory>
+    ensures { IfOk result (λ text. IfSome (fork_refusal_text error) (λ sentence. text.items ≡ sentence)) }
+{
+    match error {
+        RsrcError::Twice(kind, id) => resource(alloc, kind, id, " stands twice in the fork"),
+        RsrcError::Compressed(kind, id) => resource(alloc, kind, id, " is compressed"),
+        RsrcError::NoMemory => plain(alloc, LoadError::Rsrc(error)),
+        RsrcError::Short(_) => plain(alloc, LoadError::Rsrc(error)),
+        RsrcError::Overlap => plain(alloc, LoadError::Rsrc(error)),
+        RsrcError::BadOffset(_) => plain(alloc, LoadError::Rsrc(error)),
     }
 }
 
 /// A sentence about a resource.
-fn resource(alloc: Global, kind: u32, id: i16, rest: &str) -> Result<Vec<u8>, NoMemory> {
+fn resource(alloc: Global, kind: u32, id: i16, rest: &str) -> Result<Vec<u8>, NoMemory>
+    ensures { IfOk result (λ text. text.items ≡ resource_text kind id rest.now) }
+{
     let kind = kind.to_be_bytes();
     let id = format!(in alloc; "{id}")?;
-    let mut text = Vec::new(alloc);
-    add_line(
-        &mut text,
+    line(
+        alloc,
         &[
             Piece::Text("the resource "),
             Piece::Bytes(&kind),
@@ -45,23 +76,110 @@ fn resource(alloc: Global, kind: u32, id: i16, rest: &str) -> Result<Vec<u8>, No
             Piece::Text(id.as_str()),
             Piece::Text(rest),
         ],
-    )?;
-    Ok(text)
+    )
+}
+
+/// A sentence about a CODE that is missing.
+fn no_code(alloc: Global, id: i16) -> Result<Vec<u8>, NoMemory>
+    ensures { IfOk result (λ text. text.items ≡ no_code_text id) }
+{
+    if id == 1 {
+        return told(alloc, "the fork has no CODE above 0");
+    }
+    let id = format!(in alloc; "{id}")?;
+    line(
+        alloc,
+        &[
+            Piece::Text("the fork has no CODE "),
+            Piece::Text(id.as_str()),
+        ],
+    )
+}
+
+/// A sentence about a CODE of the far model.
+fn far(alloc: Global, id: i16) -> Result<Vec<u8>, NoMemory>
+    ensures { IfOk result (λ text. text.items ≡ far_text id) }
+{
+    let id = format!(in alloc; "{id}")?;
+    line(
+        alloc,
+        &[
+            Piece::Text("CODE "),
+            Piece::Text(id.as_str()),
+            Piece::Text(" is of the far model, which is not loaded"),
+        ],
+    )
+}
+
+/// A sentence about the jump table.
+fn jump_table(alloc: Global, at: u32) -> Result<Vec<u8>, NoMemory>
+    ensures { IfOk result (λ text. text.items ≡ table_refusal_text at) }
+{
+    if at == 0 {
+        told(
+            alloc,
+            "CODE 0 has no jump table above A5, or a CODE has fewer than 4 bytes",
+        )
+    } else {
+        line(
+            alloc,
+            &[
+                Piece::Text("the jump table's entry at "),
+                Piece::Number(at),
+                Piece::Text(" in CODE 0 names no place in a CODE"),
+            ],
+        )
+    }
+}
+
+/// A sentence about a program that would reach the stack.
+fn too_large(alloc: Global, end: u64) -> Result<Vec<u8>, NoMemory>
+    ensures { IfOk result (λ text. IfSome (large_by end) (λ sentence. text.items ≡ sentence)) }
+{
+    if end < 0x1_0000_0000 {
+        large(alloc, end as u32)
+    } else {
+        plain(alloc, LoadError::TooLarge(end))
+    }
+}
+
+fn large(alloc: Global, end: u32) -> Result<Vec<u8>, NoMemory>
+    ensures { IfOk result (λ text. text.items ≡ large_text end) }
+{
+    line(
+        alloc,
+        &[
+            Piece::Text("the program would end at $"),
+            Piece::Long(end),
+            Piece::Text(", in the quarter of RAM that is the stack's"),
+        ],
+    )
 }
 
 /// The sentence about an import that the host lacks.
 fn unresolved(alloc: Global, file: &Option<FileBytes>, i: u32) -> Result<Vec<u8>, NoMemory>
     requires { IsSmall file.now }
+    ensures { IfOk result (λ text. IfSome (lacking_by file.now i) (λ sentence. text.items ≡ sentence)) }
 {
-    if let Some(file) = file {
-        if let Ok(pef) = Pef::read(file.bytes()) {
-            return unresolved_in(alloc, &pef, i);
-        }
+    match file {
+        Some(file) => unresolved_by(alloc, file.bytes(), i),
+        None => plain(alloc, LoadError::Unresolved(i)),
     }
-    plain(alloc, LoadError::Unresolved(i))
 }
 
-fn unresolved_in(alloc: Global, pef: &Pef, i: u32) -> Result<Vec<u8>, NoMemory> {
+fn unresolved_by(alloc: Global, bytes: &[u8], i: u32) -> Result<Vec<u8>, NoMemory>
+    requires { length bytes.now ≤ 2 ^ 24 }
+    ensures { IfOk result (λ text. IfSome (lacking_in (refusal_of bytes.now) bytes.now i) (λ sentence. text.items ≡ sentence)) }
+{
+    match Pef::read(bytes) {
+        Ok(pef) => unresolved_in(alloc, &pef, i),
+        Err(_) => plain(alloc, LoadError::Unresolved(i)),
+    }
+}
+
+fn unresolved_in(alloc: Global, pef: &Pef, i: u32) -> Result<Vec<u8>, NoMemory>
+    ensures { IfOk result (λ text. IfSome (lacking_in None pef.now i) (λ sentence. text.items ≡ sentence)) }
+{
     if pef.imports() <= i {
         return plain(alloc, LoadError::Unresolved(i));
     }
@@ -73,10 +191,12 @@ fn unresolved_in(alloc: Global, pef: &Pef, i: u32) -> Result<Vec<u8>, NoMemory> 
     )
 }
 
-fn named(alloc: Global, i: u32, import: Import) -> Result<Vec<u8>, NoMemory> {
-    let mut text = Vec::new(alloc);
-    add_line(
-        &mut text,
+#[tactic(auto, unfolding(crate::specs::Sentences::lacking_text))]
+fn named(alloc: Global, i: u32, import: Import) -> Result<Vec<u8>, NoMemory>
+    ensures { IfOk result (λ text. text.items ≡ lacking_text i (names import.entry)) }
+{
+    line(
+        alloc,
         &[
             Piece::Text("the host has no "),
             Piece::Bytes(import.name),
@@ -86,8 +206,7 @@ fn named(alloc: Global, i: u32, import: Import) -> Result<Vec<u8>, NoMemory> {
             Piece::Number(i),
             Piece::Text(" of the container"),
         ],
-    )?;
-    Ok(text)
+    )
 }
 
 /// The sentence about a section that is not made.
@@ -117,34 +236,31 @@ fn unmade_in(
     Ok(None)
 }
 
-/// A sentence that needs nothing of the files.
+/// A sentence that ends in the text of an error.
 fn plain(alloc: Global, error: LoadError) -> Result<Vec<u8>, NoMemory> {
     let sentence = sentence(alloc, error)?;
     told(alloc, sentence.as_str())
 }
 
-fn told(alloc: Global, sentence: &str) -> Result<Vec<u8>, NoMemory> {
+fn told(alloc: Global, sentence: &str) -> Result<Vec<u8>, NoMemory>
+    ensures { IfOk result (λ text. text.items ≡ sentence.now) }
+{
     let mut text = Vec::new(alloc);
-    add_line(&mut text, &[Piece::Text(sentence)])?;
+    add(&mut text, sentence)?;
+    Ok(text)
+}
+
+/// A text of pieces.
+fn line(alloc: Global, pieces: &[Piece]) -> Result<Vec<u8>, NoMemory>
+    ensures { IfOk result (λ text. text.items ≡ joined (map piece_text pieces.now)) }
+{
+    let mut text = Vec::new(alloc);
+    add_line(&mut text, pieces)?;
     Ok(text)
 }
 
 fn sentence(alloc: Global, error: LoadError) -> Result<String, AllocError> {
     match error {
-        LoadError::Empty(File::Flat) => format!(in alloc; "the flat file has no byte"),
-        LoadError::Empty(File::Rsrc) => format!(in alloc; "the fork's file has no byte"),
-        LoadError::Empty(File::Pef) => format!(in alloc; "the container's file has no byte"),
-        LoadError::NoCode(1) => format!(in alloc; "the fork has no CODE above 0"),
-        LoadError::NoCode(id) => format!(in alloc; "the fork has no CODE {id}"),
-        LoadError::Far(id) => {
-            format!(in alloc; "CODE {id} is of the far model, which is not loaded")
-        }
-        LoadError::JumpTable(0) => format!(in alloc;
-            "CODE 0 has no jump table above A5, or a CODE has fewer than 4 bytes"
-        ),
-        LoadError::JumpTable(at) => {
-            format!(in alloc; "the jump table's entry at {at} in CODE 0 names no place in a CODE")
-        }
         LoadError::TooLarge(end) => format!(in alloc;
             "the program would end at ${end:08X}, in the quarter of RAM that is the stack's"
         ),

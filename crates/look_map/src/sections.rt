@@ -11,7 +11,7 @@ use mix_load::base_behind;
 use pef_head::{Pef, Section};
 
 /// Appends the lines of the first sections, which begin behind `start`.
-#[tactic(auto, using(crate::proofs::Appends::two))]
+#[tactic(auto, using(std::proofs::Common::append_assoc))]
 pub fn add_sections(text: &mut Vec<u8>, pef: &Pef, start: u64, count: u32) -> Result<(), NoMemory>
     requires below { count ≤ instantiated_count pef.now }
     requires many { count ≤ 65535 }

@@ -13,7 +13,7 @@ use switch_frame::{Active, Program};
 const MAIN_VECTOR: u32 = 0x1024;
 
 /// Appends where a program starts, and what its heap and its stack are.
-#[tactic(auto, using(crate::proofs::Appends::two))]
+#[tactic(auto, using(std::proofs::Common::append_assoc))]
 pub fn add_start(text: &mut Vec<u8>, program: &Program) -> Result<(), NoMemory>
     requires { IsProgram program.now }
     ensures { OnOk result (text.new.items ≡ text.old.items ++ start_text program.now) }
@@ -24,7 +24,7 @@ pub fn add_start(text: &mut Vec<u8>, program: &Program) -> Result<(), NoMemory>
     add_room(text, program.heap_lo, program.heap_hi, len)
 }
 
-#[tactic(auto, using(crate::proofs::Appends::two), unfolding(crate::specs::Maps::begun_text))]
+#[tactic(auto, using(std::proofs::Common::append_assoc), unfolding(crate::specs::Maps::begun_text))]
 fn add_begun(text: &mut Vec<u8>, vector: u32, file: &Active) -> Result<(), NoMemory>
     ensures { OnOk result (text.new.items ≡ text.old.items ++ begun_text vector file.now) }
 {
@@ -32,7 +32,7 @@ fn add_begun(text: &mut Vec<u8>, vector: u32, file: &Active) -> Result<(), NoMem
     add_file(text, file)
 }
 
-#[tactic(auto, using(crate::proofs::Appends::two), unfolding(crate::specs::Maps::room_text))]
+#[tactic(auto, using(std::proofs::Common::append_assoc), unfolding(crate::specs::Maps::room_text))]
 fn add_room(text: &mut Vec<u8>, low: u32, high: u32, end: u32) -> Result<(), NoMemory>
     ensures { OnOk result (text.new.items ≡ text.old.items ++ room_text low high end) }
 {
@@ -40,7 +40,7 @@ fn add_room(text: &mut Vec<u8>, low: u32, high: u32, end: u32) -> Result<(), NoM
     add_range(text, "stack: from ", high, end)
 }
 
-#[tactic(auto, using(crate::proofs::Appends::none), unfolding(crate::specs::Maps::vector_text))]
+#[tactic(auto, unfolding(crate::specs::Maps::vector_text))]
 fn add_vector(text: &mut Vec<u8>, vector: u32) -> Result<(), NoMemory>
     ensures { OnOk result (text.new.items ≡ text.old.items ++ vector_text vector) }
 {

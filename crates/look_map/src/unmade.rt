@@ -4,7 +4,7 @@ ghost use Rattle.file_fields.specs.Search.{least};
 ghost use Rattle.pef_head.specs.Container.{instantiated_count};
 ghost use Rattle.pef_head.specs.Parts.{IsLoadable, parts, reloc_header_of};
 ghost use Rattle.mix_load.specs.Sections.{pattern_refusal};
-ghost use Rattle.look_map.specs.Containers.{is_badly_packed as is_packed_badly};
+ghost use Rattle.look_map.specs.Containers.{IsUnmade, is_badly_packed as is_packed_badly};
 
 use big_memory::Ram;
 use mix_bits::NoMemory;
@@ -25,11 +25,18 @@ struct Sections {
 
 /// The number of the first section that is refused in this way, if there is one.
 pub fn unmade_section(alloc: Global, pef: &Pef, error: RelocError) -> Result<Option<u32>, NoMemory>
-    ensures { IfOk result (λ section. IfSome section (λ k. k < instantiated_count pef.now)) }
+    ensures is { IfOk result (λ section. IsUnmade pef.now error section) }
+    ensures below { IfOk result (λ section. IfSome section (λ k. k < instantiated_count pef.now)) }
 {
     match error {
         RelocError::Pattern(_) => badly_packed(alloc, pef, pef.sections()),
-        _ => badly_relocated(alloc, pef, MOST),
+        RelocError::Short(_) => badly_relocated(alloc, pef, MOST),
+        RelocError::Unsupported(_) => badly_relocated(alloc, pef, MOST),
+        RelocError::OutsideSection(_) => badly_relocated(alloc, pef, MOST),
+        RelocError::ImportIndex(_) => badly_relocated(alloc, pef, MOST),
+        RelocError::SectionIndex(_) => badly_relocated(alloc, pef, MOST),
+        RelocError::RepeatFront(_) => badly_relocated(alloc, pef, MOST),
+        RelocError::Work => badly_relocated(alloc, pef, MOST),
     }
 }
 

@@ -65,7 +65,7 @@ fn add_result(text: &mut Vec<u8>, sig: &Sig) -> Result<(), NoMemory>
 }
 
 /// Appends where a result of some size is, behind the front of its line.
-#[tactic(auto, using(crate::proofs::Appends::three))]
+#[tactic(auto, using(std::proofs::Common::append_assoc))]
 fn add_sized_result(text: &mut Vec<u8>, front: &str, sig: &Sig) -> Result<(), NoMemory>
     ensures { OnOk result (text.new.items ≡ text.old.items ++ (front.now ++ place_text (result_place (route_of sig.now.conv) sig.now.place) ++ codes " behind the return, PowerPC r3\n")) }
 {
@@ -86,7 +86,7 @@ fn add_selector(text: &mut Vec<u8>, sig: &Sig) -> Result<(), NoMemory>
     }
 }
 
-#[tactic(auto, using(crate::proofs::Appends::three))]
+#[tactic(auto, using(std::proofs::Common::append_assoc))]
 fn add_sized_selector(text: &mut Vec<u8>, front: &str, conv: Conv) -> Result<(), NoMemory>
     ensures { OnOk result (text.new.items ≡ text.old.items ++ (front.now ++ place_text (selector_place conv) ++ ppc_text 0)) }
 {
@@ -105,7 +105,7 @@ fn add_ppc(text: &mut Vec<u8>, word: u32) -> Result<(), NoMemory>
     add(text, "\n")
 }
 
-#[tactic(auto, using(crate::proofs::Appends::two), unfolding(crate::specs::Info::marked_place))]
+#[tactic(auto, using(std::proofs::Common::append_assoc), unfolding(crate::specs::Info::marked_place))]
 fn add_marked_place(text: &mut Vec<u8>, mark: &str, word: u32) -> Result<(), NoMemory>
     requires { word ≤ 100 }
     ensures { OnOk result (text.new.items ≡ text.old.items ++ marked_place mark.now word) }
@@ -115,7 +115,7 @@ fn add_marked_place(text: &mut Vec<u8>, mark: &str, word: u32) -> Result<(), NoM
 }
 
 /// Appends the parameters from number `k` on, counted from 0.
-#[tactic(auto, using(crate::proofs::Appends::two, crate::proofs::Appends::none))]
+#[tactic(auto, using(std::proofs::Common::append_assoc))]
 fn add_params(
     text: &mut Vec<u8>,
     conv: Conv,
@@ -136,7 +136,7 @@ fn add_params(
     }
 }
 
-#[tactic(auto, using(crate::proofs::Appends::seven))]
+#[tactic(auto, using(std::proofs::Common::append_assoc))]
 fn add_param(
     text: &mut Vec<u8>,
     conv: Conv,

@@ -53,7 +53,7 @@ fn add_event(text: &mut Vec<u8>, name: &[u8], line: &[u8], event: &Event) -> Res
 }
 
 /// `FROM to TO NAME: SIZE VALUE, ..`
-#[tactic(auto, using(crate::proofs::Appends::six))]
+#[tactic(auto, using(std::proofs::Common::append_assoc))]
 fn add_call(text: &mut Vec<u8>, name: &[u8], call: &Crossing) -> Result<(), NoMemory>
     ensures { OnOk result (text.new.items ≡ text.old.items ++ called_text name.now call.now) }
 {
@@ -97,7 +97,7 @@ fn args(call: &Crossing) -> &[u32]
 }
 
 /// Appends arguments with their sizes.
-#[tactic(auto, using(crate::proofs::Appends::three, crate::proofs::Appends::none))]
+#[tactic(auto, using(std::proofs::Common::append_assoc))]
 fn add_args(text: &mut Vec<u8>, mark: &str, params: &[Param], args: &[u32]) -> Result<(), NoMemory>
     ensures { OnOk result (text.new.items ≡ text.old.items ++ args_text mark.now params.now args.now) }
 {
@@ -126,7 +126,7 @@ fn add_sized(text: &mut Vec<u8>, size: Size, value: u32) -> Result<(), NoMemory>
     }
 }
 
-#[tactic(auto, using(crate::proofs::Appends::two))]
+#[tactic(auto, using(std::proofs::Common::append_assoc))]
 fn add_value(text: &mut Vec<u8>, mark: &str, value: u32, digits: u32) -> Result<(), NoMemory>
     requires { (digits ≡ 2) ⊎ (digits ≡ 4) ⊎ (digits ≡ 8) }
     ensures { OnOk result (text.new.items ≡ text.old.items ++ (mark.now ++ hexadecimal digits value)) }
@@ -136,7 +136,7 @@ fn add_value(text: &mut Vec<u8>, mark: &str, value: u32, digits: u32) -> Result<
 }
 
 /// `gave SIZE VALUE`
-#[tactic(auto, using(crate::proofs::Appends::two))]
+#[tactic(auto, using(std::proofs::Common::append_assoc))]
 fn add_result(text: &mut Vec<u8>, size: Size, value: u32) -> Result<(), NoMemory>
     ensures { OnOk result (text.new.items ≡ text.old.items ++ result_text size value) }
 {

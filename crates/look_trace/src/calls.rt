@@ -8,14 +8,14 @@ use std::alloc::Global;
 use trace_lines::Crossing;
 
 /// A set of instructions.
-#[derive(Clone, Copy, Debug, PartialEq, Eq, Hash)]
+#[derive(Clone, Copy, PartialEq, Eq, Hash)]
 enum Set {
     M68,
     Ppc,
 }
 
 /// A routine and who calls it.
-#[derive(Clone, Copy, Debug, PartialEq, Eq, Hash)]
+#[derive(Clone, Copy, PartialEq, Eq, Hash)]
 struct Route {
     /// The innermost routine that was open, or none in the program itself.
     caller: Option<u32>,

@@ -39,7 +39,10 @@ impl<R: BufRead + Drop> Reading<R> {
     }
 
     fn event(&self) -> Result<Event, LookError> {
-        read_event(&self.line).ok_or(LookError::Line(self.number))
+        match read_event(&self.line) {
+            Some(event) => Ok(event),
+            None => Err(LookError::Line(self.number)),
+        }
     }
 
     /// The text of the line that was read last.

@@ -17,12 +17,34 @@ pub fn write_tree<R: BufRead + Drop, W: Write>(
 ) -> Result<(), LookError> {
     let mut reading = Reading::new(alloc, trace);
     let mut calls = Calls::new(alloc);
+    write_events(alloc, &mut reading, names, &mut calls, out)?;
+    write_table(alloc, &mut calls, names, out)
+}
+
+/// Writes the line of each event.
+fn write_events<R: BufRead + Drop, W: Write>(
+    alloc: Global,
+    reading: &mut Reading<R>,
+    names: &Names,
+    calls: &mut Calls,
+    out: &mut W,
+) -> Result<(), LookError> {
     for _ in 0..u64::MAX {
         let Some(event) = reading.next()? else {
             break;
         };
-        write_event(alloc, reading.text(), &event, names, &mut calls, out)?;
+        write_event(alloc, reading.text(), &event, names, calls, out)?;
     }
+    Ok(())
+}
+
+/// Writes the lines of the routes behind their heading, if there are any.
+fn write_table<W: Write>(
+    alloc: Global,
+    calls: &mut Calls,
+    names: &Names,
+    out: &mut W,
+) -> Result<(), LookError> {
     let table = calls.table(alloc, names)?;
     if table.is_empty() {
         return Ok(());
@@ -60,5 +82,8 @@ pub fn name_of(alloc: Global, event: &Event, names: &Names) -> Result<Vec<u8>, L
 }
 
 pub fn write<W: Write>(out: &mut W, piece: &[u8]) -> Result<(), LookError> {
-    out.write_all(piece).map_err(LookError::of_write)
+    match out.write_all(piece) {
+        Ok(()) => Ok(()),
+        Err(error) => Err(LookError::of_write(error)),
+    }
 }

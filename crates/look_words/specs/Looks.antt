@@ -15,16 +15,26 @@ use Rattle.look_words.specs.declared.look.Refusal.TheVariants.{Empty, Command, U
 use Rattle.look_words.specs.declared.look.Verb.{Verb}
 use Rattle.look_words.specs.declared.look.Verb.TheVariants.{ToInfo, ToTrace, ToPicture, ToFork, ToMap, ToEnd, ToImage, ToWords}
 
+abbrev pub verb_text : Verb → List ℕ
+verb_text ToInfo = codes "info"
+verb_text ToTrace = codes "trace"
+verb_text ToPicture = codes "picture"
+verb_text ToFork = codes "fork"
+verb_text ToMap = codes "map"
+verb_text ToEnd = codes "end"
+verb_text ToImage = codes "image"
+verb_text ToWords = codes "words"
+
+abbrev pub all_verbs : List Verb
+all_verbs = ToInfo ∷ (ToTrace ∷ (ToPicture ∷ (ToFork ∷ (ToMap ∷ (ToEnd ∷ (ToImage ∷ (ToWords ∷ [])))))))
+
+-- the first of some commands with this word
+abbrev pub verb_in : List Verb → List ℕ → Option Verb
+verb_in [] word = None
+verb_in (verb ∷ verbs) word = if bytes_eq word (verb_text verb) then Some verb else verb_in verbs word
+
 abbrev pub verb_for : List ℕ → Option Verb
-verb_for word =
-    if bytes_eq word (codes "info") then Some ToInfo
-    else (if bytes_eq word (codes "trace") then Some ToTrace
-    else (if bytes_eq word (codes "picture") then Some ToPicture
-    else (if bytes_eq word (codes "fork") then Some ToFork
-    else (if bytes_eq word (codes "map") then Some ToMap
-    else (if bytes_eq word (codes "end") then Some ToEnd
-    else (if bytes_eq word (codes "image") then Some ToImage
-    else (if bytes_eq word (codes "words") then Some ToWords else None)))))))
+verb_for word = verb_in all_verbs word
 
 -- the keys that each command knows
 abbrev pub keys_of : Verb → List Key

@@ -31,15 +31,19 @@ refusal_text words (Twice place) = at_place words place ++ codes ": the key stan
 refusal_text words (bad_value place key) = at_place words place ++ (codes ": wants " ++ key_wants key)
 refusal_text words (missing_key key) = key_text key ++ (codes "= is missing, " ++ key_wants key)
 
+-- what a command needs that loads a program
+abbrev pub program_needs_of : List ℕ → List ℕ
+program_needs_of command =
+    if bytes_eq command (codes "list") then codes "at=ADDRESS, count=N, and the file of the main set: flat=FILE, rsrc=FILE, or pef=FILE for main=ppc"
+    else (if bytes_eq command (codes "debug") then codes "script=FILE, and the file of the main set: flat=FILE, rsrc=FILE, or pef=FILE for main=ppc"
+    else codes "the file of the main set: flat=FILE, rsrc=FILE, or pef=FILE for main=ppc")
+
 -- what a command of mixedrun needs
 abbrev pub needs_of : List ℕ → List ℕ
 needs_of command =
     if bytes_eq command (codes "sample") then codes "n=N and depth=D"
     else (if bytes_eq command (codes "assemble") then codes "set=SET, text=FILE and at=ADDRESS"
-    else (if bytes_eq command (codes "continue") then codes "image=FILE"
-    else (if bytes_eq command (codes "list") then codes "at=ADDRESS, count=N, and the file of the main set: flat=FILE, rsrc=FILE, or pef=FILE for main=ppc"
-    else (if bytes_eq command (codes "debug") then codes "script=FILE, and the file of the main set: flat=FILE, rsrc=FILE, or pef=FILE for main=ppc"
-    else codes "the file of the main set: flat=FILE, rsrc=FILE, or pef=FILE for main=ppc"))))
+    else (if bytes_eq command (codes "continue") then codes "image=FILE" else program_needs_of command))
 
 -- what stands before a word that is good alone
 abbrev pub before_text : Label → List ℕ
@@ -60,6 +64,10 @@ of_word place word more = codes "word " ++ (decimal place ++ (codes ", " ++ (wor
 abbrev pub unknown_text : List ℕ → Label → List ℕ
 unknown_text command label = codes ": " ++ (command ++ (codes " has no key " ++ text_of label))
 
+-- that a value is none of its key's
+abbrev pub value_text : Label → List ℕ
+value_text label = codes ": " ++ (text_of label ++ (codes " wants " ++ wants_text label))
+
 -- why mixedrun refuses words
 abbrev pub why_text : List (List ℕ) → Why → List ℕ
 why_text words Taken = codes "mixedrun takes these words"
@@ -68,5 +76,5 @@ why_text words Command = codes "word 0, " ++ (at_place words 0 ++ codes ", is no
 why_text words Missing = missing_text (at_place words 0)
 why_text words (Keyless place) = of_word place (at_place words place) (codes ", has no key of mixedrun and an equals sign in front")
 why_text words (no_key place label) = of_word place (at_place words place) (unknown_text (at_place words 0) label)
-why_text words (Value place label) = of_word place (at_place words place) (codes ": " ++ (text_of label ++ (codes " wants " ++ wants_text label)))
+why_text words (Value place label) = of_word place (at_place words place) (value_text label)
 why_text words (Again place label) = of_word place (at_place words place) (codes ": " ++ before_text label)

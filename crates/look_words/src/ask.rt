@@ -10,10 +10,9 @@ use std::alloc::Global;
 pub fn is_refused(alloc: Global, command: &str, word: &str) -> Result<bool, NoMemory>
     ensures { IfOk result (λ refused. refused ≡ is_refused command.now word.now) }
 {
-    let words = vec![in alloc;
-        String::from_str(alloc, command)?,
-        String::from_str(alloc, word)?,
-    ]?;
+    let mut words = Vec::new(alloc);
+    words.push(String::from_str(alloc, command)?)?;
+    words.push(String::from_str(alloc, word)?)?;
     Ok(match read_words(&words) {
         Ok(_) => false,
         Err(bad) => bad.place == 1,

@@ -1,5 +1,5 @@
 /// A key of mixedrun's words.
-#[derive(Clone, Copy, Debug, PartialEq, Eq)]
+#[derive(Clone, Copy)]
 pub enum Label {
     Flat,
     Rsrc,

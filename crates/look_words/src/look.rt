@@ -2,13 +2,13 @@
 ghost use Rattle.std.specs.Prelude.{◌≡◌, ◌+◌, ◌^◌, ◌<◌, length, map};
 ghost use Rattle.std.specs.Option.{ok_or};
 ghost use Rattle.std.specs.String.{string_bytes};
-ghost use Rattle.look_words.specs.Looks.{command_by, draft_of, is_given as is_given_in, key_for, key_text, keys_of, look_of, made, verb_for, with_file as draft_file, with_image as draft_image, with_names as draft_names, with_value as draft_with, with_word, with_number as draft_word};
+ghost use Rattle.look_words.specs.Looks.{command_by, draft_of, is_given as is_given_in, key_for, key_text, keys_of, look_of, made, verb_for, verb_in, verb_text, with_file as draft_file, with_image as draft_image, with_names as draft_names, with_value as draft_with, with_word, with_number as draft_word};
 
 use super::program::{read_end, read_map};
 use mix_bits::read_hexadecimal;
 
 /// What the words ask for. A file is named by the place of its word.
-#[derive(Clone, Copy, Debug, PartialEq, Eq)]
+#[derive(Clone, Copy)]
 pub enum Look {
     /// What a procInfo word says.
     Info(u32),
@@ -29,7 +29,7 @@ pub enum Look {
 }
 
 /// Why words ask for nothing.
-#[derive(Clone, Copy, Debug, PartialEq, Eq)]
+#[derive(Clone, Copy)]
 pub enum Refusal {
     /// There is no word.
     Empty,
@@ -46,7 +46,7 @@ pub enum Refusal {
 }
 
 /// What stands before the equals sign of a word.
-#[derive(Clone, Copy, Debug, PartialEq, Eq)]
+#[derive(Clone, Copy)]
 pub enum Key {
     Word,
     File,
@@ -66,6 +66,35 @@ pub enum Verb {
     ToEnd,
     ToImage,
     ToWords,
+}
+
+impl Verb {
+    const ALL: [Verb; 8] = [
+        Verb::ToInfo,
+        Verb::ToTrace,
+        Verb::ToPicture,
+        Verb::ToFork,
+        Verb::ToMap,
+        Verb::ToEnd,
+        Verb::ToImage,
+        Verb::ToWords,
+    ];
+
+    /// The word for the command.
+    fn text(self) -> &'static str
+        ensures { result.now ≡ verb_text self }
+    {
+        match self {
+            Verb::ToInfo => "info",
+            Verb::ToTrace => "trace",
+            Verb::ToPicture => "picture",
+            Verb::ToFork => "fork",
+            Verb::ToMap => "map",
+            Verb::ToEnd => "end",
+            Verb::ToImage => "image",
+            Verb::ToWords => "words",
+        }
+    }
 }
 
 /// What the words so far have given: a procInfo word, and the places of words that name files.
@@ -107,25 +136,19 @@ pub fn read_look(words: &[String]) -> Result<Look, Refusal>
 fn verb_named(word: &str) -> Option<Verb>
     ensures { result ≡ verb_for word.now }
 {
-    if word == "info" {
-        Some(Verb::ToInfo)
-    } else if word == "trace" {
-        Some(Verb::ToTrace)
-    } else if word == "picture" {
-        Some(Verb::ToPicture)
-    } else if word == "fork" {
-        Some(Verb::ToFork)
-    } else if word == "map" {
-        Some(Verb::ToMap)
-    } else if word == "end" {
-        Some(Verb::ToEnd)
-    } else if word == "image" {
-        Some(Verb::ToImage)
-    } else if word == "words" {
-        Some(Verb::ToWords)
-    } else {
-        None
+    find_verb(&Verb::ALL, word)
+}
+
+/// The first of these commands that has a word.
+fn find_verb(verbs: &[Verb], word: &str) -> Option<Verb>
+    ensures { result ≡ verb_in verbs.now word.now }
+{
+    for verb in verbs {
+        if word == verb.text() {
+            return Some(*verb);
+        }
     }
+    None
 }
 
 /// Reads the words behind a command.
@@ -304,5 +327,8 @@ fn make(verb: Verb, draft: Draft) -> Result<Look, Refusal>
 fn needed(value: Option<usize>, key: Key) -> Result<usize, Refusal>
     ensures { result ≡ ok_or value (Refusal.Missing key) }
 {
-    value.ok_or(Refusal::Missing(key))
+    match value {
+        Some(place) => Ok(place),
+        None => Err(Refusal::Missing(key)),
+    }
 }

@@ -106,14 +106,8 @@ fn kept_last(place: usize, count: Option<u32>) -> Result<u32, Refusal>
     ensures { result ≡ last_in place count }
 {
     match count {
-        Some(count) => {
-            if count <= MOST {
-                Ok(count)
-            } else {
-                Err(Refusal::Value(place, Key::Last))
-            }
-        }
-        None => Err(Refusal::Value(place, Key::Last)),
+        Some(count) if count <= MOST => Ok(count),
+        _ => Err(Refusal::Value(place, Key::Last)),
     }
 }
 

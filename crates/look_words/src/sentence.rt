@@ -1,12 +1,12 @@
 // Sentences about words.
-ghost use Rattle.std.specs.Prelude.{◌≡◌, IfOk, map};
+ghost use Rattle.std.specs.Prelude.{◌≡◌, ◌++◌, IfOk, codes, map};
 ghost use Rattle.std.specs.String.{string_bytes};
-ghost use Rattle.look_words.specs.Sentences.{before_text, key_wants as key_wants_text, missing_text, needs_of, of_word, refusal_text as refusal_of, unknown_text, why_text as why_of};
+ghost use Rattle.look_words.specs.Sentences.{before_text, key_wants as key_wants_text, missing_text, needs_of, of_word, program_needs_of, refusal_text as refusal_of, unknown_text, value_text, why_text as why_of};
 ghost use Rattle.look_words.specs.Whys.{at_place};
 
 use crate::label::Label;
 use crate::look::{Key, Refusal};
-use crate::why::Why;
+use crate::why::{Why, word_in};
 use mix_bits::NoMemory;
 use std::alloc::{AllocError, Global};
 
@@ -69,39 +69,58 @@ pub fn why_text(alloc: Global, words: &[String], why: Why) -> Result<String, NoM
 fn why_sentence(alloc: Global, words: &[String], why: Why) -> Result<String, AllocError>
     ensures { IfOk result (λ text. string_bytes text ≡ why_of (map string_bytes words.now) why) }
 {
+    let command = word_at(words, 0);
     match why {
         Why::Taken => String::from_str(alloc, "mixedrun takes these words"),
         Why::Empty => String::from_str(
             alloc,
             "no word: the first one is a command, run, continue, list, sample, assemble or debug",
         ),
-        Why::Command => {
-            let word = word_at(words, 0);
-            format!(in alloc;
-                "word 0, {word}, is no command: run, continue, list, sample, assemble or debug"
-            )
-        }
-        Why::Missing => missing_sentence(alloc, word_at(words, 0)),
-        Why::Keyless(place) => {
-            let word = word_at(words, place as usize);
-            format!(in alloc;
-                "word {place}, {word}, has no key of mixedrun and an equals sign in front"
-            )
-        }
+        Why::Command => command_sentence(alloc, command),
+        Why::Missing => missing_sentence(alloc, command),
+        Why::Keyless(place) => keyless_sentence(alloc, place, word_at(words, place as usize)),
         Why::Key(place, label) => {
-            let word = word_at(words, place as usize);
-            key_sentence(alloc, place, word, word_at(words, 0), label)
+            key_sentence(alloc, place, word_at(words, place as usize), command, label)
         }
         Why::Value(place, label) => {
-            let word = word_at(words, place as usize);
-            let (key, wants) = (label.text(), label.wants());
-            format!(in alloc; "word {place}, {word}: {key} wants {wants}")
+            value_sentence(alloc, place, word_at(words, place as usize), label)
         }
         Why::Again(place, label) => {
-            let (word, before) = (word_at(words, place as usize), before(label));
-            format!(in alloc; "word {place}, {word}: {before}")
+            again_sentence(alloc, place, word_at(words, place as usize), label)
         }
     }
+}
+
+/// That the first word is no command.
+fn command_sentence(alloc: Global, word: &str) -> Result<String, AllocError>
+    ensures { IfOk result (λ text. string_bytes text ≡ codes "word 0, " ++ (word.now ++ codes ", is no command: run, continue, list, sample, assemble or debug")) }
+{
+    format!(in alloc;
+        "word 0, {word}, is no command: run, continue, list, sample, assemble or debug"
+    )
+}
+
+/// That the word at a place has no key.
+fn keyless_sentence(alloc: Global, place: u32, word: &str) -> Result<String, AllocError>
+    ensures { IfOk result (λ text. string_bytes text ≡ of_word place word.now (codes ", has no key of mixedrun and an equals sign in front")) }
+{
+    format!(in alloc; "word {place}, {word}, has no key of mixedrun and an equals sign in front")
+}
+
+/// That the word at a place has a value that is none of its key's.
+fn value_sentence(alloc: Global, place: u32, word: &str, label: Label) -> Result<String, AllocError>
+    ensures { IfOk result (λ text. string_bytes text ≡ of_word place word.now (value_text label)) }
+{
+    let (key, wants) = (label.text(), label.wants());
+    format!(in alloc; "word {place}, {word}: {key} wants {wants}")
+}
+
+/// That the word at a place cannot stand behind those before.
+fn again_sentence(alloc: Global, place: u32, word: &str, label: Label) -> Result<String, AllocError>
+    ensures { IfOk result (λ text. string_bytes text ≡ of_word place word.now (codes ": " ++ before_text label)) }
+{
+    let before = before(label);
+    format!(in alloc; "word {place}, {word}: {before}")
 }
 
 /// That a command needs a word more.
@@ -148,7 +167,16 @@ fn needs(command: &str) -> &'static str
         "set=SET, text=FILE and at=ADDRESS"
     } else if command == "continue" {
         "image=FILE"
-    } else if command == "list" {
+    } else {
+        program_needs(command)
+    }
+}
+
+/// What a command needs that loads a program.
+fn program_needs(command: &str) -> &'static str
+    ensures { result.now ≡ program_needs_of command.now }
+{
+    if command == "list" {
         "at=ADDRESS, count=N, and the file of the main set: flat=FILE, rsrc=FILE, or pef=FILE for main=ppc"
     } else if command == "debug" {
         "script=FILE, and the file of the main set: flat=FILE, rsrc=FILE, or pef=FILE for main=ppc"
@@ -161,8 +189,9 @@ fn needs(command: &str) -> &'static str
 fn word_at(words: &[String], place: usize) -> &str
     ensures { result.now ≡ at_place (map string_bytes words.now) place }
 {
-    match words.get(place) {
-        Some(word) => word.as_str(),
-        None => "",
+    if place < words.len() {
+        word_in(words, place)
+    } else {
+        ""
     }
 }

@@ -11,7 +11,7 @@ use mix_bits::NoMemory;
 use std::alloc::Global;
 
 /// Why mixedrun refuses words. A place is that of the word, counted from 0.
-#[derive(Clone, Copy, Debug, PartialEq, Eq)]
+#[derive(Clone, Copy)]
 pub enum Why {
     /// It does not refuse them.
     Taken,
@@ -56,14 +56,16 @@ fn reason(alloc: Global, words: &[String], place: u32) -> Result<Why, NoMemory>
     if words.len() <= place as usize {
         return Ok(Why::Missing);
     }
-    word_reason(alloc, word_at(words, 0), word_at(words, place), place)
+    let word = word_in(words, place as usize);
+    word_reason(alloc, word_in(words, 0), word, place)
 }
 
-fn word_at(words: &[String], place: u32) -> &str
+/// The word at a place.
+pub fn word_in(words: &[String], place: usize) -> &str
     requires { place < length words.now }
     ensures { result.now ≡ at_place (map string_bytes words.now) place }
 {
-    words[place as usize].as_str()
+    words[place].as_str()
 }
 
 /// Why a word behind a command is refused.

@@ -1,8 +1,13 @@
 -- Two places and a line feed are appended.
-use Rattle.std.specs.Prelude.{codes, ◌+◌}
+use Rattle.std.proofs.Common.{◌≡◌, List, ℕ, ◌+◌, ◌++◌, Result, Ok, Err, append_assoc, ap, codes, ◌∙◌}
+use Rattle.std.specs.Prelude.{OnOk}
 use Rattle.look_text.specs.Info.{marked_place}
-use Rattle.look_text.proofs.Appends.{ended}
 use Rattle.look_text.proofs.info.add_ppc.Goals as goal
+
+-- three pieces, where the last one is appended or refused
+ended : {T E : Type 0} (r : Result T E) (old one next new a b c : List ℕ) → one ≡ old ++ a → next ≡ one ++ b → OnOk r (new ≡ next ++ c) → OnOk r (new ≡ old ++ ((a ++ b) ++ c))
+ended (Ok done) old one next new a b c first second last = last ∙ ap (λ t. t ++ c) (second ∙ ap (λ t. t ++ b) first) ∙ simp append_assoc
+ended (Err e) old one next new a b c first second last = tt
 
 pub returns : goal.returns
 returns c =
