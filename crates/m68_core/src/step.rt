@@ -2,15 +2,18 @@ ghost use Rattle.std.specs.Prelude.{◌≡◌, ◌%◌, ◌<◌, ◌^◌};
 ghost use Rattle.big_memory.specs.Steps.{Does};
 ghost use Rattle.m68_ea.specs.Words.{words_at};
 ghost use Rattle.m68_effects.specs.Step.{stepped};
+ghost use Rattle.m68_isa.specs.Decode.{operation};
+ghost use Rattle.m68_isa.specs.First.{first_of};
+ghost use Rattle.m68_isa.specs.Fits.{Fits};
 ghost use Rattle.m68_core.specs.Edge.{IsFirst, IsThere};
 ghost use Rattle.m68_core.specs.Steps.{Steps};
 
 use super::dispatch::run_op;
 use super::laws::step_law;
-use super::words::{has_five, is_short};
+use super::words::is_short;
 use big_memory::{Did, Ram, stop};
-use m68_ea::{read_words, word_at};
-use m68_isa::{Regs68, op_of};
+use m68_ea::{has_five, read_words, word_at};
+use m68_isa::{Op68, Operations, Regs68, op_of};
 use mix_bits::{Fault, FaultKind, onward};
 
 /// What a step of 68K code did.
@@ -30,60 +33,62 @@ pub fn step68(regs: &mut Regs68, ram: &mut Ram) -> Out68
     ensures { Steps (stepped regs.old ram.old) result regs.old regs.new ram.old ram.new }
 {
     let mut fault = Fault::at(0, FaultKind::Illegal, 0);
-    match run(regs, ram, &mut fault) {
+    match run_slowly(regs, ram, &mut fault) {
         Did::Next => Out68::Next,
         Did::Leave => Out68::Line(fault.detail as u16),
         Did::Stop => Out68::Stop(fault),
     }
 }
 
-/// The same, with the fault, or the word of line A as its detail, in a cell beside the answer. The cell
-/// tells nothing where the step is done.
+/// The same by the table of operations, with the fault, or the word of line A as its detail, in a cell beside the
+/// answer. The cell tells nothing where the step is done.
 #[inline(always)]
-pub fn run(regs: &mut Regs68, ram: &mut Ram, fault: &mut Fault) -> Did
+pub fn run(regs: &mut Regs68, ram: &mut Ram, operations: &Operations, fault: &mut Fault) -> Did
+    ensures does { Does (stepped regs.old ram.old) result fault.new regs.old regs.new ram.old ram.new }
+    ensures line { result ≡ Did.Leave → fault.new.detail < 2 ^ 16 }
+{
+    let pc = regs.pc;
+    if pc % 2 == 0 && has_five(ram, pc) {
+        let word = word_at(ram, pc, 0);
+        run_word(regs, ram, fault, word, operations.of(word))
+    } else {
+        run_slowly(regs, ram, fault)
+    }
+}
+
+/// An instruction none of whose words is missing, by its first word and the operation of that.
+#[inline(always)]
+fn run_word(regs: &mut Regs68, ram: &mut Ram, fault: &mut Fault, word: u32, op: Op68) -> Did
+    requires even { regs.old.pc % 2 ≡ 0 }
+    requires first { IsFirst word (words_at ram.old regs.old.pc) }
+    requires there { IsThere (words_at ram.old regs.old.pc) }
+    requires below { word < 2 ^ 16 }
+    requires operation { op ≡ operation (first_of word) }
+    requires fits { Fits op word }
+    ensures does { Does (stepped regs.old ram.old) result fault.new regs.old regs.new ram.old ram.new }
+    ensures line { result ≡ Did.Leave → fault.new.detail < 2 ^ 16 }
+{
+    step_law(regs, ram, word, op);
+    run_op(regs, ram, fault, word, op)
+}
+
+/// Any instruction, which may stand at an odd address or end behind memory: its words are read one by one, and its
+/// operation is found anew.
+#[cold]
+#[inline(never)]
+fn run_slowly(regs: &mut Regs68, ram: &mut Ram, fault: &mut Fault) -> Did
     ensures does { Does (stepped regs.old ram.old) result fault.new regs.old regs.new ram.old ram.new }
     ensures line { result ≡ Did.Leave → fault.new.detail < 2 ^ 16 }
 {
     let pc = regs.pc;
     if pc % 2 == 1 {
-        stop::<Regs68>(fault, FaultKind::Odd, pc, pc)
-    } else if has_five(ram, pc) {
-        let word = word_at(ram, pc, 0);
-        run_word(regs, ram, fault, word)
-    } else {
-        run_edge(regs, ram, fault)
+        return stop::<Regs68>(fault, FaultKind::Odd, pc, pc);
     }
-}
-
-/// An instruction none of whose words is missing, by its first word.
-#[inline(always)]
-fn run_word(regs: &mut Regs68, ram: &mut Ram, fault: &mut Fault, word: u32) -> Did
-    requires even { regs.old.pc % 2 ≡ 0 }
-    requires first { IsFirst word (words_at ram.old regs.old.pc) }
-    requires there { IsThere (words_at ram.old regs.old.pc) }
-    requires below { word < 2 ^ 16 }
-    ensures does { Does (stepped regs.old ram.old) result fault.new regs.old regs.new ram.old ram.new }
-    ensures line { result ≡ Did.Leave → fault.new.detail < 2 ^ 16 }
-{
-    let op = op_of(word);
-    step_law(regs, ram, word, op);
-    run_op(regs, ram, fault, word, op)
-}
-
-/// An instruction that may end behind memory.
-#[cold]
-#[inline(never)]
-fn run_edge(regs: &mut Regs68, ram: &mut Ram, fault: &mut Fault) -> Did
-    requires { regs.old.pc % 2 ≡ 0 }
-    ensures does { Does (stepped regs.old ram.old) result fault.new regs.old regs.new ram.old ram.new }
-    ensures line { result ≡ Did.Leave → fault.new.detail < 2 ^ 16 }
-{
-    let pc = regs.pc;
     let mut words = [0; 5];
     let count = read_words(ram, pc, &mut words);
     if is_short(&words[..count]) {
         return stop::<Regs68>(fault, FaultKind::Outside, pc, onward(pc, 2 * count as u32));
     }
     let word = u32::from(words[0]);
-    run_word(regs, ram, fault, word)
+    run_word(regs, ram, fault, word, op_of(word))
 }

@@ -2,3 +2,4 @@ pub mod Fetch
 pub mod Back
 pub mod Tried
 pub mod Reading
+pub mod Five

@@ -20,4 +20,6 @@ pub use operands::{Target, control, data_address, find, put, source, value};
 pub use places::{Place68, backward, place};
 pub use stack::{pop, push, push_if_open};
 pub use usual::{Usual, find_usual, put_usual, usual_or_immediate, usual_source, usual_write};
-pub use words::{extended_word, go_on, immediate_at, is_second_good, long_at, read_words, word_at};
+pub use words::{
+    extended_word, go_on, has_five, immediate_at, is_second_good, long_at, read_words, word_at,
+};

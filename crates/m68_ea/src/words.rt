@@ -1,4 +1,4 @@
-ghost use Rattle.std.specs.Prelude.{◌≡◌, ℕ, ◌+◌, ◌-◌, ◌*◌, ◌<◌, ◌≤◌, ◌^◌, List, length, drop, take, slice_index};
+ghost use Rattle.std.specs.Prelude.{◌≡◌, ℕ, ◌+◌, ◌-◌, ◌*◌, ◌<◌, ◌≤◌, ◌^◌, List, length, drop, take, slice_index, IsTrue, false};
 ghost use Rattle.byteorder.specs.Endian.{big_number};
 ghost use Rattle.mix_bits.specs.Sizes.{sign_extended};
 ghost use Rattle.mix_bits.specs.declared.size.Size.TheVariants.{One, Two};
@@ -45,6 +45,16 @@ pub fn read_words(ram: &Ram, a: u32, words: &mut [u16]) -> usize
         }
         Err(_) => 0,
     }
+}
+
+/// Whether five words lie in memory at `pc`, which is as many as an instruction can have.
+#[inline(always)]
+pub fn has_five(ram: &Ram, pc: u32) -> bool
+    ensures five { IsTrue result → 5 ≤ length (words_at ram.now pc) }
+    ensures fewer { result ≡ false → length (words_at ram.now pc) < 5 }
+{
+    ram.meets_invariant();
+    ram.has(pc, 10)
 }
 
 /// The last word of some bytes.

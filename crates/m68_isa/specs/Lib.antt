@@ -22,3 +22,4 @@ pub mod Modes
 pub mod Widths
 pub mod Laws
 pub mod Needs
+pub mod Operations

@@ -20,6 +20,7 @@ mod miscellaneous;
 mod moves;
 mod op;
 mod operand;
+mod operations;
 mod places;
 mod read;
 mod register_longs;
@@ -38,11 +39,11 @@ pub use fields::{
 pub use instructions::{
     BitOp, Decoded68, Exchange, ImmediateOp, Instr68, LogicOp, ShiftCount, ShiftOp,
 };
-pub use laws::{op_laws, reading_law, table_laws};
+pub use laws::{long_laws, op_laws, reading_law, table_laws};
 pub use op::Op68;
 pub use operand::immediate_words;
+pub use operations::Operations;
 pub use read::op_of;
-pub use register_longs::long_laws;
 pub use register_word::{high_of, is_register_word, is_signed, is_wide, low_of};
 pub use registers::{Ccr, Regs68};
 pub use target::branch_target;

@@ -250,7 +250,7 @@ newest-frame old new h es rest all is are =
 
 -- the machine before it
 abbrev returned : Machine → Head → Memory → Space → Machine
-returned m h ram heap = record { active = h.file; body = record { ram = ram; heap = heap; top = h.top; a5 = m.body.a5; main = m.body.main; start_sp = m.body.start_sp } }
+returned m h ram heap = record { active = h.file; body = record { ram = ram; heap = heap; top = h.top; a5 = m.body.a5; main = m.body.main; start_sp = m.body.start_sp; operations = record {} } }
 
 pub undone-machine : (m : Machine) (h : Head) (rs : List Run) (first last : Memory) (heap : Space) → first ≡ record { bytes = undone rs m.body.ram.bytes; marks = m.body.ram.marks }
     → last ≡ record { bytes = first.bytes; marks = marks_before h.frame first.marks } → heap ≡ heap_before h.block m.body.heap

@@ -1,7 +1,7 @@
 -- Ranges outside which no byte has changed.
 use Rattle.std.proofs.Common.{◌≡◌, ℕ, zero, suc, ◌+◌, ◌-◌, ◌<◌, ◌≤◌, ◌==◌, List, [], ◌∷◌, ◌++◌, length, take, drop, get_or, arith, ap, sym, subst, ◌∙◌, refl, add-zero, add-suc}
 use Rattle.std.proofs.lemmas.Bool.{eq-eqb}
-use Rattle.std.proofs.lemmas.List.{length-append, length-take, length-take-le, length-drop, take-append-drop, take-take, drop-drop, drop-take, append_assoc, places, same_lists}
+use Rattle.std.proofs.lemmas.List.{length-take-le, length-drop, take-append-drop, take-take, drop-drop, drop-take, append_assoc}
 use Rattle.big_memory.specs.Lists.{part, put}
 use Rattle.mix_debug.specs.Runs.{Covers, runs_from, runs_in}
 
@@ -64,17 +64,6 @@ range-copied low high old new same covers =
     ∙ sym (append_assoc (take low (take high new)) (drop low (take high new)) (drop high new))
     ∙ ap (λ zs. zs ++ drop high new) (take-append-drop low (take high new))
     ∙ take-append-drop high new
-
--- all bytes are such a range
-pub covers-all : (old new : List ℕ) → length old ≡ length new → Covers 0 (length new) old new
-covers-all old new same =
-    record {
-      below = refl;
-      above = Rattle.std.proofs.lemmas.List.drop_all (length new) old (omega (arith, same)) ∙ sym (Rattle.std.proofs.lemmas.List.drop_all (length new) new (omega arith));
-      order = omega arith;
-      old_long = omega (arith, same);
-      new_long = omega arith;
-    }
 
 take-nil : (m : ℕ) → take {A = ℕ} m [] ≡ []
 take-nil zero = refl

@@ -1,8 +1,6 @@
 -- What a step changed lies where it stored.
-use Rattle.std.proofs.Common.{◌≡◌, ◌⊎◌, ℕ, ◌+◌, ◌<◌, ◌≤◌, ◌==◌, nat_lt, min, Bool, true, false, not, if◌then◌else◌, List, [], ◌++◌, length, take, drop, get_or, Option, Some, None, arith, ap, sym, subst, ◌∙◌, refl, inl, inr}
+use Rattle.std.proofs.Common.{◌≡◌, ◌⊎◌, ℕ, ◌≤◌, ◌==◌, nat_lt, Bool, true, false, not, if◌then◌else◌, List, [], ◌++◌, length, Option, Some, None, arith, ap, sym, subst, ◌∙◌, refl, inl, inr}
 use Rattle.std.proofs.lemmas.Bool.{le-ltb}
-use Rattle.std.proofs.lemmas.Grind.{same_number_lists}
-use Rattle.std.proofs.lemmas.List.{get_or-drop, get_or-take, length-drop, length-take-le}
 use Rattle.std.proofs.lemmas.List.Filters.{length-filter_both}
 use Rattle.host_heap.specs.declared.block.Block.{Block}
 use Rattle.host_heap.specs.Space.{Space, rounded}
@@ -26,41 +24,9 @@ use Rattle.mix_debug.specs.declared.head.BlockChange.{BlockChange}
 use Rattle.mix_debug.specs.declared.head.BlockChange.TheVariants.{Stays, Made}
 use Rattle.mix_debug.specs.Entries.{block_between, first_other, freed_of, made_of}
 use Rattle.mix_debug.specs.Reaches.{SameBlocks, stored_in}
-use Rattle.mix_debug.specs.Runs.{Covers}
 use Rattle.mix_debug.specs.Trails.{is_done}
 use Rattle.mix_debug.proofs.Blocks.{block-made, blocks-same}
 use Rattle.mix_debug.proofs.Stepping.{somewhere, step-goes}
-
--- the part of a reach that lies in memory covers all changes
-taken-same : (n : ℕ) (xs ys : List ℕ) → length xs ≡ length ys → n ≤ length xs → ((k : ℕ) → k < n → get_or xs k 0 ≡ get_or ys k 0) → take n xs ≡ take n ys
-taken-same n xs ys long few same =
-    let first : length (take n xs) ≡ n = length-take-le n xs few in
-    same_number_lists (take n xs) (take n ys) (first ∙ sym (length-take-le n ys (omega (arith, long, few))))
-    (λ k below. let inside : k < n = omega (arith, below, first) in get_or-take n xs k 0 inside ∙ same k inside ∙ sym (get_or-take n ys k 0 inside))
-
-dropped-same : (n : ℕ) (xs ys : List ℕ) → length xs ≡ length ys → ((k : ℕ) → n ≤ k → k < length xs → get_or xs k 0 ≡ get_or ys k 0) → drop n xs ≡ drop n ys
-dropped-same n xs ys long same =
-    let first = length-drop n xs in
-    let second = length-drop n ys in
-    same_number_lists (drop n xs) (drop n ys) (omega (arith, first, second, long))
-    (λ k below. get_or-drop n xs k 0 ∙ same (n + k) (omega arith) (omega (arith, below, first)) ∙ sym (get_or-drop n ys k 0))
-
-end-low : (low high len k : ℕ) → k < min low (min high len) → k < low
-end-low low high len k below = omega (arith, below)
-
-end-high : (high len k : ℕ) → min high len ≤ k → k < len → high ≤ k
-end-high high len k above below = omega (arith, above, below)
-
-pub covers-within : (w : Reach) (old new : List ℕ) (low high : ℕ) → high ≡ min w.high (length new) → low ≡ min w.low high → Beside w old new → Covers low high old new
-covers-within w old new low high end start beside =
-    let long = beside.long in
-    record {
-      below = taken-same low old new (sym long) (omega (arith, end, start, long)) (λ k inside. sym (beside.same k (inl (end-low w.low w.high (length new) k (omega (arith, inside, start, end))))));
-      above = dropped-same high old new (sym long) (λ k from to. sym (beside.same k (inr (end-high w.high (length new) k (omega (arith, from, end)) (omega (arith, to, long))))));
-      order = omega (arith, start);
-      old_long = omega (arith, end, long);
-      new_long = omega (arith, end);
-    }
 
 -- a step that makes no block is told by its reach
 not-made : (x : Option Block) (next : Stores) (old new : ℕ) (active : Active) → stored_in (freed_of x) next old new active ≡ reach next old new active

@@ -35,7 +35,7 @@ use Rattle.mix_debug.specs.Trails.{is_done}
 -- a machine out of its parts
 abbrev made : Active → List ℕ → List Bool → Space → ℕ → ℕ → Isa → ℕ → Machine
 made file bytes marks heap top a5 main start =
-    record { active = file; body = record { ram = record { bytes = bytes; marks = marks }; heap = heap; top = top; a5 = a5; main = main; start_sp = start } }
+    record { active = file; body = record { ram = record { bytes = bytes; marks = marks }; heap = heap; top = top; a5 = a5; main = main; start_sp = start; operations = record {} } }
 
 -- machines with the same parts are the same
 pub same-machine : (m n : Machine) → n.active ≡ m.active → n.body.ram.bytes ≡ m.body.ram.bytes → n.body.ram.marks ≡ m.body.ram.marks → n.body.heap ≡ m.body.heap → n.body.top ≡ m.body.top

@@ -1,5 +1,5 @@
 -- Runs written back one after another.
-use Rattle.std.proofs.Common.{◌≡◌, ℕ, zero, suc, ◌+◌, ◌-◌, ◌<◌, ◌≤◌, List, [], ◌∷◌, length, take, drop, get_or, Some, None, arith, ap, sym, subst, ◌∙◌, refl}
+use Rattle.std.proofs.Common.{◌≡◌, ℕ, zero, suc, ◌+◌, ◌-◌, ◌<◌, ◌≤◌, List, [], ◌∷◌, length, take, drop, get_or, Some, None, arith, ap, sym, subst, ◌∙◌}
 use Rattle.std.specs.Prelude.{All}
 use Rattle.std.proofs.lemmas.List.{places, same_lists, length-drop, drop-drop}
 use Rattle.std.proofs.lemmas.List.Elements.{All-head, All-tail}
@@ -23,12 +23,6 @@ pub record Undoing (left : ℕ) (spans end : List Span) (olds last : List ℕ) (
   pub olds_rest : drop (count_of (take left spans)) olds ≡ last
   pub undoes : undone (runs_of (take left spans) olds) bytes ≡ goal
   pub long : length bytes ≡ len
-
-pub undoing-all : (left : ℕ) (spans : List Span) (olds bytes : List ℕ) (len : ℕ) → left ≤ length spans → count_of (take left spans) ≤ length olds
-    → All (IsInside len) (runs_of (take left spans) olds) → length bytes ≡ len
-    → Undoing left spans (drop left spans) olds (drop (count_of (take left spans)) olds) bytes (undone (runs_of (take left spans) olds) bytes) len
-undoing-all left spans olds bytes len few whole inside long =
-    record { few = few; whole = whole; inside = inside; rest = refl; olds_rest = refl; undoes = refl; long = long }
 
 -- the first of them
 pub record First (left : ℕ) (s : Span) (spans : List Span) (olds : List ℕ) (len : ℕ) : Type 0 where

@@ -5,12 +5,20 @@ use Rattle.switch_frame.specs.Records.{isa_of}
 use Rattle.host_heap.specs.Space.{block_limit}
 use Rattle.host_heap.specs.declared.block.Block.{Block}
 use Rattle.host_heap.specs.Sound.{IsSound as IsSoundHeap}
+use Rattle.dev_rack.specs.Accounts.{Accounts}
+use Rattle.toolbox.specs.Calls.{counts_beside}
+use Rattle.mixed_machine.specs.declared.stop.Stop.{Stop}
+use Rattle.mixed_machine.specs.Counts.{Blames}
+use Rattle.mixed_machine.specs.Machine.{IsWhole}
+use Rattle.mixed_machine.specs.Outside.{At}
+use Rattle.mixed_machine.specs.Runs.{Runs}
 use Rattle.mix_engine.specs.declared.machine.Machine.{Machine}
 use Rattle.mix_debug.specs.declared.history.History.{History}
 use Rattle.mix_debug.specs.Runs.{olds_of, runs_from}
 use Rattle.mix_debug.specs.Entries.{Entry, IsEntry, block_between, frame_between}
 use Rattle.mix_debug.specs.Pasts.{IsPast, entries_in}
 use Rattle.mix_debug.specs.Machines.{IsSound, cost_between, earlier, fitting}
+use Rattle.mix_debug.specs.Trails.{is_done}
 
 -- what is kept of a step that led from registers, frames, bytes and blocks to a machine
 unfoldable pub entry_of : Active → ℕ → List ℕ → List Block → Machine → Entry
@@ -44,3 +52,12 @@ abbrev pub KeepsBeside : Bool → Machine → Machine → History → History �
 KeepsBeside true old new before after =
     earlier new (entries_in after.past) ≡ fitting 1048576 (record { machine = old; cost = cost_between old new } ∷ earlier old (entries_in before.past))
 KeepsBeside false old new before after = (new ≡ old) × (entries_in after.past ≡ entries_in before.past)
+
+-- a step of a machine, with what is kept beside it; how it stopped, and what the outside tells before and after
+pub record Advances (old new : Machine) (before after : History) (from to : At) (stop : Stop) : Type 0 where
+  pub whole : IsWhole new.body (isa_of new.active)
+  pub history : IsHistory new after
+  pub run : Runs 1 from to stop
+  pub blames : Blames stop (counts_beside from.outside from.trace) (counts_beside to.outside to.trace)
+  pub devices : Accounts from.outside.rack to.outside.rack
+  pub keeps : KeepsBeside (is_done stop) old new before after

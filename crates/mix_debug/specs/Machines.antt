@@ -37,6 +37,7 @@ before e m =
         a5 = m.body.a5;
         main = m.body.main;
         start_sp = m.body.start_sp;
+        operations = record {};
       };
     }
 

@@ -15,7 +15,7 @@ ghost use Rattle.mix_steps.specs.Beside.{AreSame, machine_beside, outside_lent, 
 ghost use Rattle.mix_engine.specs.Ends.{goes_on};
 ghost use Rattle.mix_reach.specs.Steps.{next_stores as next_stores_of};
 ghost use Rattle.mix_debug.specs.Crawl.{crawl_of};
-ghost use Rattle.mix_debug.specs.Histories.{IsHistory, KeepsBeside};
+ghost use Rattle.mix_debug.specs.Histories.{Advances, IsHistory};
 ghost use Rattle.mix_debug.specs.Trails.{Keeps, TakesBack, Trail, is_done as is_done_by, step_of as step_by, stop_of};
 
 use crate::crawl::put_crawl;
@@ -210,19 +210,13 @@ fn advance<'i, 'o, 't, 'd, I: Source, O: Sink, T: Sink, D: Devices>(
     requires history { IsHistory machine.old history.old }
     requires cell { stop.old ≡ Stop.Limit }
     ensures answer { result ≡ goes_on stop.new }
-    ensures whole { IsWhole machine.new.body (isa_of machine.new.active) }
-    ensures history { IsHistory machine.new history.new }
-    ensures run { Runs 1
+    ensures step { Advances machine.old machine.new history.old history.new
         (machine_beside I.left I.faults O.held O.faults T.held T.faults D.state machine.old.body machine.old.active outside.old)
         (machine_beside I.left I.faults O.held O.faults T.held T.faults D.state machine.new.body machine.new.active outside.new) stop.new }
-    ensures blames { Blames stop.new
-        (counts_beside (outside_lent I.left I.faults O.held O.faults D.state outside.old) (trace_lent T.held T.faults outside.old))
-        (counts_beside (outside_lent I.left I.faults O.held O.faults D.state outside.new) (trace_lent T.held T.faults outside.new)) }
-    ensures devices { Accounts (D.state outside.old.rack.now) (D.state outside.new.rack.now) }
-    ensures keeps { KeepsBeside (is_done_by stop.new) machine.old machine.new history.old history.new }
     ensures same { AreSame outside.old outside.new }
 {
-    if is_still(&machine.body.ram, &machine.active) {
+    let body = &machine.body;
+    if is_still(&body.ram, &body.operations, &machine.active) {
         advance_by(machine, history, outside, stop, &no_stores())
     } else {
         advance_storing(machine, history, outside, stop)
@@ -240,19 +234,13 @@ fn advance_storing<'i, 'o, 't, 'd, I: Source, O: Sink, T: Sink, D: Devices>(
     requires history { IsHistory machine.old history.old }
     requires cell { stop.old ≡ Stop.Limit }
     ensures answer { result ≡ goes_on stop.new }
-    ensures whole { IsWhole machine.new.body (isa_of machine.new.active) }
-    ensures history { IsHistory machine.new history.new }
-    ensures run { Runs 1
+    ensures step { Advances machine.old machine.new history.old history.new
         (machine_beside I.left I.faults O.held O.faults T.held T.faults D.state machine.old.body machine.old.active outside.old)
         (machine_beside I.left I.faults O.held O.faults T.held T.faults D.state machine.new.body machine.new.active outside.new) stop.new }
-    ensures blames { Blames stop.new
-        (counts_beside (outside_lent I.left I.faults O.held O.faults D.state outside.old) (trace_lent T.held T.faults outside.old))
-        (counts_beside (outside_lent I.left I.faults O.held O.faults D.state outside.new) (trace_lent T.held T.faults outside.new)) }
-    ensures devices { Accounts (D.state outside.old.rack.now) (D.state outside.new.rack.now) }
-    ensures keeps { KeepsBeside (is_done_by stop.new) machine.old machine.new history.old history.new }
     ensures same { AreSame outside.old outside.new }
 {
-    let next = next_stores(&machine.body.ram, &machine.active);
+    let body = &machine.body;
+    let next = next_stores(&body.ram, &body.operations, &machine.active);
     advance_by(machine, history, outside, stop, &next)
 }
 
@@ -269,16 +257,9 @@ fn advance_by<'i, 'o, 't, 'd, I: Source, O: Sink, T: Sink, D: Devices>(
     requires cell { stop.old ≡ Stop.Limit }
     requires told { next.now ≡ next_stores_of machine.old.body.ram machine.old.active }
     ensures answer { result ≡ goes_on stop.new }
-    ensures whole { IsWhole machine.new.body (isa_of machine.new.active) }
-    ensures history { IsHistory machine.new history.new }
-    ensures run { Runs 1
+    ensures step { Advances machine.old machine.new history.old history.new
         (machine_beside I.left I.faults O.held O.faults T.held T.faults D.state machine.old.body machine.old.active outside.old)
         (machine_beside I.left I.faults O.held O.faults T.held T.faults D.state machine.new.body machine.new.active outside.new) stop.new }
-    ensures blames { Blames stop.new
-        (counts_beside (outside_lent I.left I.faults O.held O.faults D.state outside.old) (trace_lent T.held T.faults outside.old))
-        (counts_beside (outside_lent I.left I.faults O.held O.faults D.state outside.new) (trace_lent T.held T.faults outside.new)) }
-    ensures devices { Accounts (D.state outside.old.rack.now) (D.state outside.new.rack.now) }
-    ensures keeps { KeepsBeside (is_done_by stop.new) machine.old machine.new history.old history.new }
     ensures same { AreSame outside.old outside.new }
 {
     let top = machine.body.top;

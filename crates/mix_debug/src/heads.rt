@@ -24,13 +24,13 @@ pub struct Heads {
 }
 
 impl Heads {
-    /// No step. All slots are taken here.
-    pub fn new(alloc: Global) -> Result<Heads, AllocError>
+    /// No step. All slots are taken here, each with room for a register file of the set of this one.
+    pub fn new(alloc: Global, file: &Active) -> Result<Heads, AllocError>
         ensures row { IfOk result IsRow }
         ensures empty { IfOk result (λ h. heads_in h ≡ []) }
     {
         let none = Head {
-            file: Active::M68(Regs68::cleared()),
+            file: *file,
             top: 0,
             frame: FrameChange::Stays,
             block: BlockChange::Stays,
@@ -172,7 +172,7 @@ fn put_68k(to: &mut Active, regs: &Regs68)
 {
     match to {
         Active::M68(file) => *file = *regs,
-        Active::Ppc(_) => *to = Active::M68(*regs),
+        Active::Ppc(_) => put_other_68k(to, regs),
     }
 }
 
@@ -191,6 +191,23 @@ fn put_ppc(to: &mut Active, regs: &RegsPpc)
             file.xer = xer;
             file.pc = pc;
         }
-        Active::M68(_) => *to = Active::Ppc(*regs),
+        Active::M68(_) => put_other_ppc(to, regs),
     }
+}
+
+/// Writes a register file where one of the other set stood.
+#[cold]
+#[inline(never)]
+fn put_other_68k(to: &mut Active, regs: &Regs68)
+    ensures { to.new ≡ Active.M68 regs.now }
+{
+    *to = Active::M68(*regs);
+}
+
+#[cold]
+#[inline(never)]
+fn put_other_ppc(to: &mut Active, regs: &RegsPpc)
+    ensures { to.new ≡ Active.Ppc regs.now }
+{
+    *to = Active::Ppc(*regs);
 }

@@ -44,7 +44,7 @@ impl History {
         Ok(History {
             copy: Vec::from_slice(alloc, machine.body.ram.bytes())?,
             blocks,
-            past: Past::new(alloc)?,
+            past: Past::new(alloc, &machine.active)?,
         })
     }
 

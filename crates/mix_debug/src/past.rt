@@ -42,13 +42,13 @@ struct Counts {
 }
 
 impl Past {
-    /// No step. All room that the steps will take is taken here.
-    pub fn new(alloc: Global) -> Result<Past, NoMemory>
+    /// No step. All room that the steps will take is taken here, ready for register files of the set of this one.
+    pub fn new(alloc: Global, file: &Active) -> Result<Past, NoMemory>
         ensures past { IfOk result IsPast }
         ensures empty { IfOk result (λ p. entries_in p ≡ []) }
     {
         Ok(Past {
-            heads: Heads::new(alloc)?,
+            heads: Heads::new(alloc, file)?,
             spans: HeapCircularBuffer::with_capacity(alloc, MOST_SPANS)?,
             olds: HeapCircularBuffer::with_capacity(alloc, ROOM as usize)?,
             trimmed: true,

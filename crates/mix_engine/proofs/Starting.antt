@@ -14,7 +14,7 @@ use Rattle.mixed_machine.specs.State.{State}
 use Rattle.mix_engine.specs.Start.{start_of}
 
 abbrev pub body_of : Program → Space → Body
-body_of p heap = record { ram = p.ram; heap = heap; top = 0; a5 = p.a5; main = p.main; start_sp = p.start_sp }
+body_of p heap = record { ram = p.ram; heap = heap; top = 0; a5 = p.a5; main = p.main; start_sp = p.start_sp; operations = record {} }
 
 abbrev pub empty_heap : Program → Space
 empty_heap p = record { low = p.heap_lo; high = p.heap_hi; blocks = [] }

@@ -18,6 +18,7 @@ use crate::runs::run_turns;
 use crate::turn::TurnEnd;
 use dev_rack::Devices;
 use host_heap::Heap;
+use m68_isa::Operations;
 use mix_bits::NoMemory;
 use mix_io::{Sink, Source};
 use mix_steps::Outside;
@@ -42,13 +43,15 @@ pub struct Machine {
 impl Machine {
     /// The machine at the start of a program, without a suspended caller and with an empty heap.
     ///
-    /// The heap takes the room for its list of blocks here; what runs the machine is passed no allocator.
+    /// The heap takes the room for its list of blocks here, and the operations of 68K code are found; what runs the
+    /// machine is passed no allocator.
     pub fn start(alloc: Global, program: Program) -> Result<Machine, NoMemory>
         requires { IsProgram program }
         ensures whole { IfOk result (λ m. IsWhole m.body (isa_of m.active)) }
         ensures state { IfOk result (λ m. (around : Around) → flat m.body m.active around ≡ start_of program around) }
     {
         let heap = Heap::new(alloc, program.heap_lo, program.heap_hi)?;
+        let operations = Operations::new(alloc)?;
         Ok(Machine {
             active: program.active,
             body: Body {
@@ -58,6 +61,7 @@ impl Machine {
                 a5: program.a5,
                 main: program.main,
                 start_sp: program.start_sp,
+                operations,
             },
         })
     }

@@ -81,7 +81,7 @@ whole-part n bytes there = same_number_lists _ _ (grind (arith, places)) (λ k w
 
 -- the machine of a head, a heap, a top, registers and memory
 abbrev machine_of : Head → Space → ℕ → Active → Memory → Machine
-machine_of head heap top active ram = record { active = active; body = record { ram = ram; heap = heap; top = top; a5 = head.a5; main = head.main; start_sp = head.start_sp } }
+machine_of head heap top active ram = record { active = active; body = record { ram = ram; heap = heap; top = top; a5 = head.a5; main = head.main; start_sp = head.start_sp; operations = record {} } }
 
 spelled-of : (bytes : List ℕ) (head : Head) (heap : Space) (top : ℕ) (active : Active) (ram : Memory) → AreBytes bytes → IsHeadAt bytes head → IsPlaced bytes head.low head.high head.count heap
     → long_at (36 + 8 * head.count) bytes ≡ top → long_at (40 + 8 * head.count) bytes ≡ set_number (isa_of active) → IsFileAt bytes (44 + 8 * head.count) active

@@ -141,7 +141,8 @@ bare bytes = record { bytes = bytes; marks = replicate (length bytes / 16) false
 unfoldable pub memory_from : List ℕ → ℕ → ℕ → Result Memory ImageError
 memory_from bytes at kib = pages_from bytes at kib >>= λ pages. only_if (nat_le (length bytes) pages.end) (Extra pages.end) (bare pages.bytes)
 
--- the machine whose fields the image holds, with nothing guarded
+-- the machine whose fields the image holds, with nothing guarded; a table of operations stands for nothing, as one is like
+-- another
 unfoldable pub fields_of : List ℕ → Result Machine ImageError
 fields_of bytes =
     head_of bytes >>= λ head.
@@ -149,4 +150,4 @@ fields_of bytes =
     long_from bytes (36 + 8 * head.count) >>= λ top.
     active_from bytes (40 + 8 * head.count) >>= λ active.
     memory_from bytes (44 + 8 * head.count + file_size (isa_of active)) head.kib >>= λ ram.
-    Ok (record { active = active; body = record { ram = ram; heap = heap; top = top; a5 = head.a5; main = head.main; start_sp = head.start_sp } })
+    Ok (record { active = active; body = record { ram = ram; heap = heap; top = top; a5 = head.a5; main = head.main; start_sp = head.start_sp; operations = record {} } })

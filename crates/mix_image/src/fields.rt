@@ -10,6 +10,7 @@ use crate::head::read_head;
 use crate::longs::long;
 use crate::memory::{read_memory, test_memory};
 use crate::registers::{file_size, read_active};
+use m68_isa::Operations;
 use mix_engine::{Body, Machine};
 use std::alloc::Global;
 
@@ -48,6 +49,7 @@ pub fn read_fields(alloc: Global, bytes: &[u8]) -> Result<Machine, ImageError>
             a5: head.a5,
             main: head.main,
             start_sp: head.start_sp,
+            operations: Operations::new(alloc)?,
         },
     })
 }

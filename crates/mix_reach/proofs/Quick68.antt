@@ -220,10 +220,6 @@ saved_told r ws f w few told =
     ap (λ (e : Operand). decoded_stores r (ended (taken (Instr.MovemToMemory size (slice_index ws 1) e.ea) e) (length ws))) (pre-operand ws size f.mode f.lower told.0)
     ∙ ended-told r (Instr.MovemToMemory size (slice_index ws 1) (Pre f.lower)) 2 (length ws) true w (omega (arith, few)) refl (sym told.1)
 
--- bsr with its displacement in so many words
-pub called_told : (r : Regs68) (disp used count : ℕ) → used ≤ count → decoded_stores r (ended (Made (Bcc 1 disp) used true) count) ≡ plain (pushes r)
-called_told r disp used count few = ended-told r (Bcc 1 disp) used count true (pushes r) few refl refl
-
 -- link
 pub linked_told : (r : Regs68) (register disp count : ℕ) → 2 ≤ count → decoded_stores r (ended (Made (Instr.Link Two register disp) 2 true) count) ≡ plain (links r)
 linked_told r register disp count few = ended-told r (Instr.Link Two register disp) 2 count true (links r) few refl refl

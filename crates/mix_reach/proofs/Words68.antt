@@ -20,18 +20,3 @@ pub next-word : (n : ℕ) (m : Memory) (a b w : ℕ) (ws : List ℕ) → Ok w �
 unfolding words_from
 next-word n m a b w ws here next rest =
     ap (λ x. word_and x (words_from n m (onward a 2))) (sym here) ∙ ap (λ xs. w ∷ xs) (ap (words_from n m) (sym next) ∙ rest)
-
--- as many words as lie in memory, which ends far below the last address
-loaded-in : (m : Memory) (a : ℕ) → a + 2 ≤ length m.bytes → loaded m a Two ≡ Ok (big_number 2 (drop a m.bytes))
-loaded-in m a h = grind (arith, nat_tests)
-
-onward-two : (a : ℕ) → a + 2 ≤ 16777216 → onward a 2 ≡ a + 2
-onward-two a h = omega arith
-
-words-whole : (n a : ℕ) (m : Memory) → length m.bytes ≤ 16777216 → a + 2 * n ≤ length m.bytes → length (words_from n m a) ≡ n
-unfolding words_from
-words-whole zero a m small within = refl
-words-whole (suc n) a m small within = rw (loaded-in m a (omega arith), onward-two a (omega arith)) (ap suc (words-whole n (a + 2) m small (omega arith)))
-
-pub five_words : (pc : ℕ) (m : Memory) → length m.bytes ≤ 16777216 → pc + 10 ≤ length m.bytes → 5 ≤ length (words_at m pc)
-five_words pc m small within = let whole = words-whole 5 pc m small (omega arith) in omega arith

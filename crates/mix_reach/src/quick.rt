@@ -1,5 +1,5 @@
 // Where an instruction of 68K code stores, as its first word and the modes of its operands tell, without decoding it.
-ghost use Rattle.std.specs.Prelude.{◌≡◌, ◌+◌, ◌<◌, ◌≤◌, ◌==◌, IfSome, IsTrue, length, true};
+ghost use Rattle.std.specs.Prelude.{◌≡◌, ◌+◌, ◌<◌, ◌≤◌, ◌==◌, IfSome, length, true};
 ghost use Rattle.m68_isa.specs.Decode.{decoded};
 ghost use Rattle.m68_isa.specs.Moves.{move_mode};
 ghost use Rattle.m68_isa.specs.Operands.{immediate_words};
@@ -14,18 +14,9 @@ use crate::reach::{Reach, nothing};
 use big_memory::Ram;
 use m68_ea::{backward, find, word_at};
 use m68_isa::{
-    Op68, Regs68, lower_of, mode_of, move_mode_of, op_of, size_of, transfer_size_of, upper_of,
+    Op68, Operations, Regs68, lower_of, mode_of, move_mode_of, size_of, transfer_size_of, upper_of,
 };
 use mix_bits::{Fault, FaultKind, Size};
-
-/// Whether five words lie in memory at `pc`, which is as many as an instruction can have.
-#[inline(always)]
-pub fn has_five(ram: &Ram, pc: u32) -> bool
-    ensures { IsTrue result → 5 ≤ length (words_at ram.now pc) }
-{
-    ram.meets_invariant();
-    ram.has(pc, 10)
-}
 
 /// Whether an operation leaves memory as it is, as the first word tells: it changes a data register, or stores nowhere.
 #[inline(always)]
@@ -96,22 +87,22 @@ fn moves_to_data(word: u32) -> bool
 
 /// Whether an instruction none of whose words is missing leaves memory as it is, as its first word tells.
 #[inline(always)]
-pub fn is_still(ram: &Ram, regs: &Regs68) -> bool
+pub fn is_still(ram: &Ram, operations: &Operations, regs: &Regs68) -> bool
     requires { 5 ≤ length (words_at ram.now regs.now.pc) }
     ensures { result ≡ true → decoded_stores regs.now (decoded (words_at ram.now regs.now.pc)) ≡ plain_of nothing_of }
 {
     let word = word_at(ram, regs.pc, 0);
-    keeps_memory(op_of(word), word)
+    keeps_memory(operations.of(word), word)
 }
 
 /// Where an instruction stores none of whose words is missing; None where it has to be decoded.
 #[inline(always)]
-pub fn quick_stores(ram: &Ram, regs: &Regs68) -> Option<Reach>
+pub fn quick_stores(ram: &Ram, operations: &Operations, regs: &Regs68) -> Option<Reach>
     requires { 5 ≤ length (words_at ram.now regs.now.pc) }
     ensures { IfSome result (Tells regs.now (words_at ram.now regs.now.pc)) }
 {
     let word = word_at(ram, regs.pc, 0);
-    let op = op_of(word);
+    let op = operations.of(word);
     if keeps_memory(op, word) {
         Some(nothing())
     } else {

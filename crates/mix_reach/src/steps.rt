@@ -12,11 +12,12 @@ ghost use Rattle.m68_ea.specs.Words.{words_at};
 ghost use Rattle.mix_bits.specs.declared.size.Size.TheVariants.{Four};
 ghost use Rattle.switch_frame.specs.declared.active.Active.TheVariants.{M68, Ppc};
 
-use crate::quick::{has_five, quick_stores};
+use crate::quick::quick_stores;
 use crate::reach::{Reach, Stores, filling, nothing, plain, range};
 use crate::{m68, ppc, quick};
 use big_memory::{Ram, host_code, in_gate_page};
-use m68_isa::{Decoded68, Regs68};
+use m68_ea::has_five;
+use m68_isa::{Decoded68, Operations, Regs68};
 use mix_bits::onward;
 use ppc_isa::RegsPpc;
 use switch_frame::Active;
@@ -36,11 +37,11 @@ const MOST_FRAME: usize = 192;
 
 /// Where the next step of code stores, unless it makes or gives up a frame.
 #[inline(always)]
-pub fn next_stores(ram: &Ram, active: &Active) -> Stores
+pub fn next_stores(ram: &Ram, operations: &Operations, active: &Active) -> Stores
     ensures { result ≡ next_stores_of ram.now active.now }
 {
     match active {
-        Active::M68(regs) => code_stores(ram, regs, active),
+        Active::M68(regs) => code_stores(ram, operations, regs, active),
         Active::Ppc(regs) => {
             if in_gate_page(regs.pc) {
                 host_stores(host_code(regs.pc), active)
@@ -53,22 +54,22 @@ pub fn next_stores(ram: &Ram, active: &Active) -> Stores
 
 /// Whether the next step of code stores nowhere and makes no block, as its first word tells. Where it is false, it may.
 #[inline(always)]
-pub fn is_still(ram: &Ram, active: &Active) -> bool
+pub fn is_still(ram: &Ram, operations: &Operations, active: &Active) -> bool
     ensures { result ≡ true → next_stores_of ram.now active.now ≡ plain_of nothing_of }
 {
     match active {
-        Active::M68(regs) => is_still_68k(ram, regs),
+        Active::M68(regs) => is_still_68k(ram, operations, regs),
         Active::Ppc(regs) => is_still_ppc(ram, regs),
     }
 }
 
 /// The same for 68K code.
 #[inline(always)]
-fn is_still_68k(ram: &Ram, regs: &Regs68) -> bool
+fn is_still_68k(ram: &Ram, operations: &Operations, regs: &Regs68) -> bool
     ensures { result ≡ true → decoded_stores_of regs.now (decoded (words_at ram.now regs.now.pc)) ≡ plain_of nothing_of }
 {
     if has_five(ram, regs.pc) {
-        quick::is_still(ram, regs)
+        quick::is_still(ram, operations, regs)
     } else {
         false
     }
@@ -99,14 +100,14 @@ fn is_still_word(ram: &Ram, regs: &RegsPpc) -> bool
 
 /// The same for 68K code: its first word and its operands tell, or it is decoded.
 #[inline(always)]
-fn code_stores(ram: &Ram, regs: &Regs68, active: &Active) -> Stores
+fn code_stores(ram: &Ram, operations: &Operations, regs: &Regs68, active: &Active) -> Stores
     requires { active.now ≡ M68 regs.now }
     ensures { result ≡ decoded_stores_of regs.now (decoded (words_at ram.now regs.now.pc)) }
 {
     if !has_five(ram, regs.pc) {
         return instruction_stores(ram, regs, active);
     }
-    match quick_stores(ram, regs) {
+    match quick_stores(ram, operations, regs) {
         Some(reach) => plain(reach),
         None => instruction_stores(ram, regs, active),
     }

@@ -1,7 +1,7 @@
 // The words are those that GNU as gives.
 use crate::{is_still, next_stores, step_reach};
 use big_memory::Ram;
-use m68_isa::{Ccr, Regs68};
+use m68_isa::{Ccr, Operations, Regs68};
 use ppc_isa::RegsPpc;
 use std::process::Abort;
 use std::test::Fail;
@@ -59,11 +59,11 @@ fn ppc() -> Active {
 }
 
 /// Whether each instruction stores where it is to.
-fn stores_there(ram: &mut Ram, active: &Active, rows: &[Case]) -> bool {
+fn stores_there(ram: &mut Ram, operations: &Operations, active: &Active, rows: &[Case]) -> bool {
     for row in rows {
         let written = ram.store_word(CODE, row.words[0]).is_ok()
             && ram.store_word(CODE + 2, row.words[1]).is_ok();
-        let reach = next_stores(ram, active).reach;
+        let reach = next_stores(ram, operations, active).reach;
         if !written || reach.low != row.low || reach.high != row.high {
             return false;
         }
@@ -74,6 +74,7 @@ fn stores_there(ram: &mut Ram, active: &Active, rows: &[Case]) -> bool {
 #[test]
 fn instructions_of_68k_code(rt: HostRuntime) -> Result<(), Fail> {
     let mut ram = Ram::new(rt.alloc(), 131_072)?;
+    let operations = Operations::new(rt.alloc())?;
     let rows = [
         // move.l d0,(a0); move.b d0,-(sp); add.w d1,4(a0)
         row(0x2080, 0, 0x1_1000, 0x1_1004),
@@ -89,13 +90,14 @@ fn instructions_of_68k_code(rt: HostRuntime) -> Result<(), Fail> {
         // the trap BlockMove
         row(0xA02E, 0, 0x1_2000, 0x1_2040),
     ];
-    assert!(rt; stores_there(&mut ram, &m68(), &rows));
+    assert!(rt; stores_there(&mut ram, &operations, &m68(), &rows));
     Ok(())
 }
 
 #[test]
 fn instructions_of_powerpc_code(rt: HostRuntime) -> Result<(), Fail> {
     let mut ram = Ram::new(rt.alloc(), 131_072)?;
+    let operations = Operations::new(rt.alloc())?;
     let rows = [
         // stw r0,4(r3); stwx r7,r3,r4; stmw r26,16(r3); addi r7,r7,-1
         row(0x9003, 4, 0x1_1004, 0x1_1008),
@@ -103,38 +105,46 @@ fn instructions_of_powerpc_code(rt: HostRuntime) -> Result<(), Fail> {
         row(0xBF43, 0x10, 0x1_1010, 0x1_1090),
         row(0x38E7, 0xFFFF, 0, 0),
     ];
-    assert!(rt; stores_there(&mut ram, &ppc(), &rows));
+    assert!(rt; stores_there(&mut ram, &operations, &ppc(), &rows));
     Ok(())
 }
 
 /// Whether the instruction of two words is told to store nowhere.
-fn still_there(ram: &mut Ram, active: &Active, first: u32, second: u32) -> bool {
+fn still_there(
+    ram: &mut Ram,
+    operations: &Operations,
+    active: &Active,
+    first: u32,
+    second: u32,
+) -> bool {
     ram.store_word(CODE, first).is_ok()
         && ram.store_word(CODE + 2, second).is_ok()
-        && is_still(ram, active)
+        && is_still(ram, operations, active)
 }
 
 #[test]
 fn instructions_that_store_nowhere(rt: HostRuntime) -> Result<(), Fail> {
     let mut ram = Ram::new(rt.alloc(), 131_072)?;
+    let operations = Operations::new(rt.alloc())?;
     // move.l (a0),d0; addi.w #16,d1; addq.l #1,d2; clr.l d3; tst.w (a0)
-    assert!(rt; still_there(&mut ram, &m68(), 0x2010, 0));
-    assert!(rt; still_there(&mut ram, &m68(), 0x0641, 0x10));
-    assert!(rt; still_there(&mut ram, &m68(), 0x5282, 0));
-    assert!(rt; still_there(&mut ram, &m68(), 0x4283, 0));
-    assert!(rt; still_there(&mut ram, &m68(), 0x4A50, 0));
+    assert!(rt; still_there(&mut ram, &operations, &m68(), 0x2010, 0));
+    assert!(rt; still_there(&mut ram, &operations, &m68(), 0x0641, 0x10));
+    assert!(rt; still_there(&mut ram, &operations, &m68(), 0x5282, 0));
+    assert!(rt; still_there(&mut ram, &operations, &m68(), 0x4283, 0));
+    assert!(rt; still_there(&mut ram, &operations, &m68(), 0x4A50, 0));
     // addq.l #1,(a0); link a6,#-8; addi r7,r7,-1; stw r0,4(r3)
-    assert!(rt; !still_there(&mut ram, &m68(), 0x5290, 0));
-    assert!(rt; !still_there(&mut ram, &m68(), 0x4E56, 0xFFF8));
-    assert!(rt; still_there(&mut ram, &ppc(), 0x38E7, 0xFFFF));
-    assert!(rt; !still_there(&mut ram, &ppc(), 0x9003, 4));
+    assert!(rt; !still_there(&mut ram, &operations, &m68(), 0x5290, 0));
+    assert!(rt; !still_there(&mut ram, &operations, &m68(), 0x4E56, 0xFFF8));
+    assert!(rt; still_there(&mut ram, &operations, &ppc(), 0x38E7, 0xFFFF));
+    assert!(rt; !still_there(&mut ram, &operations, &ppc(), 0x9003, 4));
     Ok(())
 }
 
 #[test]
 fn frames(rt: HostRuntime) -> Result<(), Fail> {
     let ram = Ram::new(rt.alloc(), 131_072)?;
-    let next = next_stores(&ram, &m68());
+    let operations = Operations::new(rt.alloc())?;
+    let next = next_stores(&ram, &operations, &m68());
     let same = step_reach(next, 0x1_D000, 0x1_D000, &m68());
     let made = step_reach(next, 0x1_D000, 0x1_C100, &m68());
     let given_up = step_reach(next, 0x1_B000, 0x1_D000, &m68());

@@ -1,5 +1,5 @@
 -- The tests of a step in the order of the definition, from a body that asks for the gate page first.
-use Rattle.std.proofs.Common.{◌≡◌, ℕ, ◌-◌, ◌/◌, ◌%◌, ◌<◌, ◌^◌, ◌==◌, ◌&&◌, nat_le, nat_lt, Bool, true, false, if◌then◌else◌, Some, None, arith, refl, sym, ap, ◌∙◌, subst, eq-eqb}
+use Rattle.std.proofs.Common.{◌≡◌, ◌≢◌, ℕ, ◌-◌, ◌/◌, ◌%◌, ◌<◌, ◌^◌, ◌==◌, ◌&&◌, nat_le, nat_lt, Bool, true, false, if◌then◌else◌, Some, None, arith, refl, sym, ap, ◌∙◌, eq-eqb}
 use Rattle.std.proofs.lemmas.Bool.Decides.{nat_tests}
 use Rattle.mix_bits.specs.declared.isa.Isa.{Isa}
 use Rattle.mix_bits.specs.declared.isa.Isa.TheVariants.{M68 as set_m68, Ppc as set_ppc}
@@ -11,22 +11,25 @@ use Rattle.big_memory.specs.declared.steps.Did.{Did}
 use Rattle.big_memory.specs.declared.steps.Did.TheVariants.{Next as IsNext, Leave as IsLeave, Stop as IsStop}
 use Rattle.mix_bits.specs.Faults.{fault_at}
 use Rattle.big_memory.specs.Map.{is_gate, in_gate_page, host_code, host_code_at, host_functions}
+use Rattle.big_memory.specs.Memory.{Memory}
+use Rattle.big_memory.specs.Steps.{After}
+use Rattle.big_memory.specs.Steps.After.{Goes as GoesOn, Leaves, Stops}
 use Rattle.m68_effects.specs.Step.{stepped as stepped_68k}
-use Rattle.ppc_effects.specs.Effects.{at_gate_page, stepped as stepped_ppc}
+use Rattle.ppc_effects.specs.Effects.{stepped as stepped_ppc}
 use Rattle.switch_frame.specs.declared.active.Active.{Active}
 use Rattle.switch_frame.specs.declared.active.Active.TheVariants.{M68, Ppc}
 use Rattle.toolbox.specs.Effects.{Around}
 use Rattle.mixed_machine.specs.declared.body.Body.{Body}
 use Rattle.mixed_machine.specs.State.{with_seen, with_active}
 use Rattle.mixed_machine.specs.Next.{quiet}
-use Rattle.mixed_machine.specs.Next.Next.{Goes, Faults}
-use Rattle.mixed_machine.specs.Host.{hosts}
+use Rattle.mixed_machine.specs.Next.Next.{Goes}
+use Rattle.mixed_machine.specs.Leave.{at_gate}
 use Rattle.mixed_machine.specs.Step.{step, step_68k, step_ppc, after_68k, after_ppc}
 use Rattle.mixed_machine.specs.Machine.{flat, seen_of}
 use Rattle.mix_steps.specs.declared.code.Code.{Code}
 use Rattle.mix_steps.specs.declared.code.Code.TheVariants.{Next as Goes_on, Leave, Stop}
 use Rattle.mix_steps.specs.Changes.{IsChanged}
-use Rattle.mix_steps.specs.Cores.{CoreSteps, Codes}
+use Rattle.mix_steps.specs.Cores.{CoreSteps, Codes, stopped_at}
 
 -- outside the gate page there is no gate
 pub no-gate : (a : ℕ) → in_gate_page a ≡ false → is_gate a ≡ false
@@ -99,24 +102,34 @@ code-ppc IsLeave cell r next b new gate number does =
 code-ppc IsStop cell r next b new gate number does =
     (λ around. outside-ppc b r around gate ∙ ap (after_ppc (flat b (Ppc r) around) r) does.0, ap (λ x. Ppc x) does.1, does.2)
 
--- the gate page, where no gate is
-page-ppc : (r : RegsPpc) (b : Body) → in_gate_page r.pc ≡ true → r.pc % 4 ≡ 0 → stepped_ppc r (seen_of b) ≡ at_gate_page r (host_code r.pc)
+-- an instruction at a gate stops
+gate-stops : (r : RegsPpc) (m : Memory) → is_gate r.pc ≡ true → stepped_ppc r m ≡ Stops (fault_at r.pc GateFetch r.pc)
 unfolding stepped_ppc
-page-ppc r b page aligned = rw (eq-eqb (r.pc % 4) 0 aligned, page) refl
+gate-stops r m gate =
+    let aligned : r.pc % 4 ≡ 0 = grind (arith, nat_tests) in
+    let page : in_gate_page r.pc ≡ true = grind (arith, nat_tests) in
+    let below : nat_le (host_code_at 0) r.pc ≡ false = grind (arith, nat_tests) in
+    rw (eq-eqb (r.pc % 4) 0 aligned, page, below) refl
 
-pub fetch-ppc : (cell : Fault) (b : Body) (r : RegsPpc) → in_gate_page r.pc ≡ true → r.pc % 4 ≡ 0 → is_gate r.pc ≡ false → host_code r.pc ≡ None → cell ≡ fault_at r.pc GateFetch r.pc → Codes Stop cell (Ppc r) (Ppc r) b b
-fetch-ppc cell b r page aligned gate code is = (
-  λ around. outside-ppc b r around gate
-      ∙ (ap (after_ppc (flat b (Ppc r) around) r) (page-ppc r b page aligned ∙ ap (at_gate_page r) code) ∙ ap (λ f. Faults f) (sym is)),
-  refl,
-  refl,
-)
+no-gate-by : (gate : Bool) (r : RegsPpc) (m : Memory) (did : After RegsPpc) → is_gate r.pc ≡ gate → stepped_ppc r m ≡ did → ((f : Fault) → did ≢ Stops f) → gate ≡ false
+no-gate-by true r m did gate is other = absurd (other _ (sym is ∙ gate-stops r m gate))
+no-gate-by false r m did gate is other = refl
 
-pub host-ppc : (cell : Fault) (b : Body) (r : RegsPpc) (k : ℕ) → in_gate_page r.pc ≡ true → r.pc % 4 ≡ 0 → is_gate r.pc ≡ false → host_code r.pc ≡ Some k → cell.detail ≡ k → Codes Leave cell (Ppc r) (Ppc r) b b
-host-ppc cell b r k page aligned gate code is = (
-  λ around. outside-ppc b r around gate
-      ∙ (ap (after_ppc (flat b (Ppc r) around) r) (page-ppc r b page aligned ∙ ap (at_gate_page r) code) ∙ ap (hosts (flat b (Ppc r) around)) (sym is)),
-  subst (λ n. n < host_functions) (sym is) (host-number r.pc k code),
-  refl,
-  refl,
-)
+-- where one goes on, or leaves for the host, there is none
+pub no-gate-goes : (r next : RegsPpc) (m n : Memory) → stepped_ppc r m ≡ GoesOn next n → is_gate r.pc ≡ false
+no-gate-goes r next m n is = no-gate-by _ r m _ refl is (λ f same. cc)
+
+pub no-gate-leaves : (r : RegsPpc) (m : Memory) (k : ℕ) → stepped_ppc r m ≡ Leaves k → is_gate r.pc ≡ false
+no-gate-leaves r m k is = no-gate-by _ r m _ refl is (λ f same. cc)
+
+gate-by : (b : Body) (r : RegsPpc) (around : Around) → r.pc % 4 ≡ 0 → is_gate r.pc ≡ true → step (flat b (Ppc r) around) ≡ at_gate (flat b (Ppc r) around)
+unfolding step step_ppc
+gate-by b r around aligned gate = rw (eq-eqb (r.pc % 4) 0 aligned, gate) refl
+
+-- where one stopped
+pub stopped-ppc : (gate : Bool) (cell : Fault) (r next : RegsPpc) (b new : Body) → is_gate r.pc ≡ gate → CoreSteps (stepped_ppc r (seen_of b)) IsStop cell r next b new set_ppc
+    → Codes (stopped_at gate) cell (Ppc r) (Ppc next) b new
+stopped-ppc true cell r next b new gate does =
+    let aligned : r.pc % 4 ≡ 0 = grind (arith, nat_tests) in
+    (λ around. gate-by b r around aligned gate, ap (λ x. Ppc x) does.1, does.2)
+stopped-ppc false cell r next b new gate does = code-ppc IsStop cell r next b new gate (λ never. cc) does

@@ -1,5 +1,5 @@
 -- What code does by itself, without a gate or the host.
-use Rattle.std.specs.Prelude.{◌≡◌, ℕ, zero, suc, ◌<◌, ◌^◌}
+use Rattle.std.specs.Prelude.{◌≡◌, ℕ, zero, suc, ◌<◌, ◌^◌, Bool, true, false}
 use Rattle.mix_bits.specs.declared.isa.Isa.{Isa}
 use Rattle.mix_bits.specs.declared.fault.Fault.{Fault}
 use Rattle.big_memory.specs.declared.steps.Did.{Did}
@@ -43,6 +43,11 @@ IsNumber (Ppc r) number = number < host_functions
 abbrev pub IsOwn : Active → Active → Body → Body → Type 0
 IsOwn before after b new =
     ((around : Around) → step (flat b before around) ≡ Goes (flat new after around) quiet) × IsWhole new (isa_of after) × (callers_of new ≡ callers_of b)
+
+-- why code stopped, where a gate stands or not
+abbrev pub stopped_at : Bool → Code
+stopped_at true = Gate
+stopped_at false = Stop
 
 -- or one of the host or of a gate, before which nothing has changed
 abbrev pub Codes : Code → Fault → Active → Active → Body → Body → Type 0

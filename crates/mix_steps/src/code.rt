@@ -1,15 +1,16 @@
 // What code of the active set does by itself.
 ghost use Rattle.std.specs.Prelude.{◌≡◌, ◌<◌, ◌≤◌, ◌-◌, true};
 ghost use Rattle.mix_bits.specs.Faults.{fault_at};
-ghost use Rattle.big_memory.specs.Map.{in_gate_page as in_gate_page_of};
+ghost use Rattle.big_memory.specs.Map.{in_gate_page as in_gate_page_of, is_gate as is_gate_of};
 ghost use Rattle.mix_bits.specs.declared.isa.Isa.TheVariants.{M68 as set_m68, Ppc as set_ppc};
 ghost use Rattle.switch_frame.specs.declared.active.Active.TheVariants.{M68, Ppc};
 ghost use Rattle.switch_frame.specs.Records.{isa_of};
 ghost use Rattle.mixed_machine.specs.Machine.{IsWhole};
-ghost use Rattle.mix_steps.specs.Cores.{Codes, CodesAfter};
+ghost use Rattle.ppc_core.specs.Fetch.{places_of};
+ghost use Rattle.mix_steps.specs.Cores.{Codes, CodesAfter, stopped_at};
 
 use crate::cores::{core_68k, core_ppc};
-use big_memory::{Did, host_code, in_gate_page, is_gate};
+use big_memory::{Did, in_gate_page, is_gate};
 use m68_isa::Regs68;
 use mix_bits::{Fault, FaultKind};
 use mixed_machine::Body;
@@ -114,10 +115,11 @@ fn advance_ppc(body: &mut Body, regs: &mut RegsPpc, fault: &mut Fault, left: &mu
     ensures fewer { left.new ≤ left.old }
     ensures codes { CodesAfter (left.old - left.new) result fault.new (Ppc regs.old) (Ppc regs.new) body.old body.new }
 {
+    let places = ppc_core::places(&body.ram);
     let mut count = *left;
     *left = 1;
     'codes: loop {
-        match code_ppc(body, regs, fault) {
+        match code_ppc(body, regs, fault, places) {
             Code::Next => {
                 count -= 1;
                 if count == 0 {
@@ -177,40 +179,24 @@ fn refused(fault: &mut Fault, kind: FaultKind, pc: u32, detail: u32) -> Code
 }
 
 #[inline(always)]
-fn code_ppc(body: &mut Body, regs: &mut RegsPpc, fault: &mut Fault) -> Code
-    requires { IsWhole body.old set_ppc }
-    ensures { Codes result fault.new (Ppc regs.old) (Ppc regs.new) body.old body.new }
+fn code_ppc(body: &mut Body, regs: &mut RegsPpc, fault: &mut Fault, places: u32) -> Code
+    requires whole { IsWhole body.old set_ppc }
+    requires places { places ≡ places_of body.old.ram }
+    ensures codes { Codes result fault.new (Ppc regs.old) (Ppc regs.new) body.old body.new }
+    ensures places { places_of body.new.ram ≡ places_of body.old.ram }
 {
-    if in_gate_page(regs.pc) {
-        return page_ppc(body, regs, fault);
-    }
-    match core_ppc(body, regs, fault) {
+    match core_ppc(body, regs, fault, places) {
         Did::Next => Code::Next,
         Did::Leave => Code::Leave,
-        Did::Stop => Code::Stop,
+        Did::Stop => stopped(regs.pc),
     }
 }
 
-/// PowerPC code in the gate page, where no instruction is.
+/// What PowerPC code did that stopped at pc.
 #[cold]
 #[inline(never)]
-#[tactic(auto, unfolding(mixed_machine::specs::Step::step, mixed_machine::specs::Step::step_ppc))]
-fn page_ppc(body: &Body, regs: &RegsPpc, fault: &mut Fault) -> Code
-    requires { in_gate_page_of regs.now.pc ≡ true }
-    ensures { Codes result fault.new (Ppc regs.now) (Ppc regs.now) body.now body.now }
+fn stopped(pc: u32) -> Code
+    ensures { result ≡ stopped_at (is_gate_of pc) }
 {
-    let pc = regs.pc;
-    if pc % 4 != 0 {
-        return refused(fault, FaultKind::Odd, pc, pc);
-    }
-    if is_gate(pc) {
-        return Code::Gate;
-    }
-    match host_code(pc) {
-        Some(index) => {
-            fault.detail = index;
-            Code::Leave
-        }
-        None => refused(fault, FaultKind::GateFetch, pc, pc),
-    }
+    if is_gate(pc) { Code::Gate } else { Code::Stop }
 }

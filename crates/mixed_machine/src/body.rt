@@ -1,5 +1,6 @@
 use big_memory::Ram;
 use host_heap::Heap;
+use m68_isa::Operations;
 use mix_bits::Isa;
 
 /// What a machine keeps beside the registers of the active set. Its suspended callers stand in RAM.
@@ -16,4 +17,6 @@ pub struct Body {
     pub main: Isa,
     /// The stack pointer with which the main program is to reach its exit gate.
     pub start_sp: u32,
+    /// The operations of 68K first words, found once.
+    pub operations: Operations,
 }

@@ -55,29 +55,6 @@ keep-requires-clause-old_small g c = top-small c.args.machine.now.body (isa_of c
 pub keep-requires-clause-new_small : goal.keep-requires-clause-new_small
 keep-requires-clause-new_small g c = top-small c.step_beside-on.new.m.body (isa_of c.step_beside-on.new.m.active) c.step_beside-on.ensures.whole
 
-pub returns-then-on-clause-history : goal.returns-then-on-clause-history
-returns-then-on-clause-history g c =
-    let ready : IsHistory c.args.machine.now c.prepare.new.self =
-    prepared c.args.machine.now c.args.history.now c.prepare.new.self c.requires.history c.prepare.ensures.beside c.prepare.ensures.past c.prepare.ensures.entries in
-    let kept : KeptStep c.args.machine.now c.step_beside-on.new.m c.prepare.new.self c.keep.new.self =
-    kept-step c.args.machine.now c.step_beside-on.new.m c.prepare.new.self c.keep.new.self ready c.step_beside-on.ensures.whole
-    (followed _ _ c.step_beside-on.new.stop (on-done c.step_beside-on.new.stop (sym c.step_beside-on.ensures.answer ∙ c.if-on.true)) c.step_beside-on.ensures.run)
-    c.keep.ensures.copied c.keep.ensures.blocks c.keep.ensures.heap c.keep.ensures.room c.keep.ensures.past
-    (c.keep.ensures.entries ∙ ap (λ (f : Active). within 1048576 (entry_of f c.args.machine.now.body.top c.prepare.new.self.copy.items c.prepare.new.self.blocks.items c.step_beside-on.new.m ∷ entries_in c.prepare.new.self.past)) c.prepare.ensures.ready) in
-    kept.history
-
-pub returns-then-on-clause-keeps : goal.returns-then-on-clause-keeps
-returns-then-on-clause-keeps g c =
-    let ready : IsHistory c.args.machine.now c.prepare.new.self =
-    prepared c.args.machine.now c.args.history.now c.prepare.new.self c.requires.history c.prepare.ensures.beside c.prepare.ensures.past c.prepare.ensures.entries in
-    let kept : KeptStep c.args.machine.now c.step_beside-on.new.m c.prepare.new.self c.keep.new.self =
-    kept-step c.args.machine.now c.step_beside-on.new.m c.prepare.new.self c.keep.new.self ready c.step_beside-on.ensures.whole
-    (followed _ _ c.step_beside-on.new.stop (on-done c.step_beside-on.new.stop (sym c.step_beside-on.ensures.answer ∙ c.if-on.true)) c.step_beside-on.ensures.run)
-    c.keep.ensures.copied c.keep.ensures.blocks c.keep.ensures.heap c.keep.ensures.room c.keep.ensures.past
-    (c.keep.ensures.entries ∙ ap (λ (f : Active). within 1048576 (entry_of f c.args.machine.now.body.top c.prepare.new.self.copy.items c.prepare.new.self.blocks.items c.step_beside-on.new.m ∷ entries_in c.prepare.new.self.past)) c.prepare.ensures.ready) in
-    subst (λ (b : Bool). KeepsBeside b c.args.machine.now c.step_beside-on.new.m c.args.history.now c.keep.new.self) (sym (on-done c.step_beside-on.new.stop (sym c.step_beside-on.ensures.answer ∙ c.if-on.true)))
-    (kept.kept ∙ ap (λ es. fitting 1048576 (record { machine = c.args.machine.now; cost = cost_between c.args.machine.now c.step_beside-on.new.m } ∷ earlier c.args.machine.now es)) c.prepare.ensures.entries)
-
 pub keep-requires-then-is_done-clause-copied : goal.keep-requires-then-is_done-clause-copied
 keep-requires-then-is_done-clause-copied g c =
     let ready : IsHistory c.args.machine.now c.prepare.new.self =
@@ -109,8 +86,27 @@ keep-requires-then-is_done-clause-old_small g c = top-small c.args.machine.now.b
 pub keep-requires-then-is_done-clause-new_small : goal.keep-requires-then-is_done-clause-new_small
 keep-requires-then-is_done-clause-new_small g c = top-small c.step_beside-on.new.m.body (isa_of c.step_beside-on.new.m.active) c.step_beside-on.ensures.whole
 
-pub returns-then-is_done-clause-history : goal.returns-then-is_done-clause-history
-returns-then-is_done-clause-history g c =
+pub returns-then-on-clause-step : goal.returns-then-on-clause-step
+returns-then-on-clause-step g c =
+    let ready : IsHistory c.args.machine.now c.prepare.new.self =
+    prepared c.args.machine.now c.args.history.now c.prepare.new.self c.requires.history c.prepare.ensures.beside c.prepare.ensures.past c.prepare.ensures.entries in
+    let kept : KeptStep c.args.machine.now c.step_beside-on.new.m c.prepare.new.self c.keep.new.self =
+    kept-step c.args.machine.now c.step_beside-on.new.m c.prepare.new.self c.keep.new.self ready c.step_beside-on.ensures.whole
+    (followed _ _ c.step_beside-on.new.stop (on-done c.step_beside-on.new.stop (sym c.step_beside-on.ensures.answer ∙ c.if-on.true)) c.step_beside-on.ensures.run)
+    c.keep.ensures.copied c.keep.ensures.blocks c.keep.ensures.heap c.keep.ensures.room c.keep.ensures.past
+    (c.keep.ensures.entries ∙ ap (λ (f : Active). within 1048576 (entry_of f c.args.machine.now.body.top c.prepare.new.self.copy.items c.prepare.new.self.blocks.items c.step_beside-on.new.m ∷ entries_in c.prepare.new.self.past)) c.prepare.ensures.ready) in
+    record {
+      whole = c.step_beside-on.ensures.whole;
+      history = kept.history;
+      run = c.step_beside-on.ensures.run;
+      blames = c.step_beside-on.ensures.blames;
+      devices = c.step_beside-on.ensures.devices;
+      keeps = subst (λ (b : Bool). KeepsBeside b c.args.machine.now c.step_beside-on.new.m c.args.history.now c.keep.new.self) (sym (on-done c.step_beside-on.new.stop (sym c.step_beside-on.ensures.answer ∙ c.if-on.true)))
+          (kept.kept ∙ ap (λ es. fitting 1048576 (record { machine = c.args.machine.now; cost = cost_between c.args.machine.now c.step_beside-on.new.m } ∷ earlier c.args.machine.now es)) c.prepare.ensures.entries);
+    }
+
+pub returns-then-is_done-clause-step : goal.returns-then-is_done-clause-step
+returns-then-is_done-clause-step g c =
     let ready : IsHistory c.args.machine.now c.prepare.new.self =
     prepared c.args.machine.now c.args.history.now c.prepare.new.self c.requires.history c.prepare.ensures.beside c.prepare.ensures.past c.prepare.ensures.entries in
     let kept : KeptStep c.args.machine.now c.step_beside-on.new.m c.prepare.new.self c.keep-then-is_done.new.self =
@@ -118,30 +114,27 @@ returns-then-is_done-clause-history g c =
     (followed _ _ c.step_beside-on.new.stop (sym c.is_done.ensures ∙ c.if-is_done.true) c.step_beside-on.ensures.run)
     c.keep-then-is_done.ensures.copied c.keep-then-is_done.ensures.blocks c.keep-then-is_done.ensures.heap c.keep-then-is_done.ensures.room c.keep-then-is_done.ensures.past
     (c.keep-then-is_done.ensures.entries ∙ ap (λ (f : Active). within 1048576 (entry_of f c.args.machine.now.body.top c.prepare.new.self.copy.items c.prepare.new.self.blocks.items c.step_beside-on.new.m ∷ entries_in c.prepare.new.self.past)) c.prepare.ensures.ready) in
-    kept.history
+    record {
+      whole = c.step_beside-on.ensures.whole;
+      history = kept.history;
+      run = c.step_beside-on.ensures.run;
+      blames = c.step_beside-on.ensures.blames;
+      devices = c.step_beside-on.ensures.devices;
+      keeps = subst (λ (b : Bool). KeepsBeside b c.args.machine.now c.step_beside-on.new.m c.args.history.now c.keep-then-is_done.new.self) (sym (sym c.is_done.ensures ∙ c.if-is_done.true))
+          (kept.kept ∙ ap (λ es. fitting 1048576 (record { machine = c.args.machine.now; cost = cost_between c.args.machine.now c.step_beside-on.new.m } ∷ earlier c.args.machine.now es)) c.prepare.ensures.entries);
+    }
 
-pub returns-then-is_done-clause-keeps : goal.returns-then-is_done-clause-keeps
-returns-then-is_done-clause-keeps g c =
-    let ready : IsHistory c.args.machine.now c.prepare.new.self =
-    prepared c.args.machine.now c.args.history.now c.prepare.new.self c.requires.history c.prepare.ensures.beside c.prepare.ensures.past c.prepare.ensures.entries in
-    let kept : KeptStep c.args.machine.now c.step_beside-on.new.m c.prepare.new.self c.keep-then-is_done.new.self =
-    kept-step c.args.machine.now c.step_beside-on.new.m c.prepare.new.self c.keep-then-is_done.new.self ready c.step_beside-on.ensures.whole
-    (followed _ _ c.step_beside-on.new.stop (sym c.is_done.ensures ∙ c.if-is_done.true) c.step_beside-on.ensures.run)
-    c.keep-then-is_done.ensures.copied c.keep-then-is_done.ensures.blocks c.keep-then-is_done.ensures.heap c.keep-then-is_done.ensures.room c.keep-then-is_done.ensures.past
-    (c.keep-then-is_done.ensures.entries ∙ ap (λ (f : Active). within 1048576 (entry_of f c.args.machine.now.body.top c.prepare.new.self.copy.items c.prepare.new.self.blocks.items c.step_beside-on.new.m ∷ entries_in c.prepare.new.self.past)) c.prepare.ensures.ready) in
-    subst (λ (b : Bool). KeepsBeside b c.args.machine.now c.step_beside-on.new.m c.args.history.now c.keep-then-is_done.new.self) (sym (sym c.is_done.ensures ∙ c.if-is_done.true))
-    (kept.kept ∙ ap (λ es. fitting 1048576 (record { machine = c.args.machine.now; cost = cost_between c.args.machine.now c.step_beside-on.new.m } ∷ earlier c.args.machine.now es)) c.prepare.ensures.entries)
-
-pub returns-else-is_done-clause-history : goal.returns-else-is_done-clause-history
-returns-else-is_done-clause-history g c =
+pub returns-else-is_done-clause-step : goal.returns-else-is_done-clause-step
+returns-else-is_done-clause-step g c =
     let ready : IsHistory c.args.machine.now c.prepare.new.self =
     prepared c.args.machine.now c.args.history.now c.prepare.new.self c.requires.history c.prepare.ensures.beside c.prepare.ensures.past c.prepare.ensures.entries in
     let same : c.step_beside-on.new.m ≡ c.args.machine.now =
     still c.args.machine.now c.step_beside-on.new.m _ _ c.step_beside-on.new.stop refl refl refl refl (sym c.is_done.ensures ∙ c.if-is_done.false) c.requires.history.whole c.step_beside-on.ensures.whole c.step_beside-on.ensures.run in
-    same-history c.args.machine.now c.step_beside-on.new.m c.prepare.new.self same ready
-
-pub returns-else-is_done-clause-keeps : goal.returns-else-is_done-clause-keeps
-returns-else-is_done-clause-keeps g c =
-    let same : c.step_beside-on.new.m ≡ c.args.machine.now =
-    still c.args.machine.now c.step_beside-on.new.m _ _ c.step_beside-on.new.stop refl refl refl refl (sym c.is_done.ensures ∙ c.if-is_done.false) c.requires.history.whole c.step_beside-on.ensures.whole c.step_beside-on.ensures.run in
-    subst (λ (b : Bool). KeepsBeside b c.args.machine.now c.step_beside-on.new.m c.args.history.now c.prepare.new.self) (sym (sym c.is_done.ensures ∙ c.if-is_done.false)) (same, c.prepare.ensures.entries)
+    record {
+      whole = c.step_beside-on.ensures.whole;
+      history = same-history c.args.machine.now c.step_beside-on.new.m c.prepare.new.self same ready;
+      run = c.step_beside-on.ensures.run;
+      blames = c.step_beside-on.ensures.blames;
+      devices = c.step_beside-on.ensures.devices;
+      keeps = subst (λ (b : Bool). KeepsBeside b c.args.machine.now c.step_beside-on.new.m c.args.history.now c.prepare.new.self) (sym (sym c.is_done.ensures ∙ c.if-is_done.false)) (same, c.prepare.ensures.entries);
+    }

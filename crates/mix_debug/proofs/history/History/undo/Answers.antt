@@ -22,7 +22,7 @@ returns-clause-history c =
     let m : Machine = c.args.machine.now in
     let n : Machine = record {
       active = c.take-head.result.file;
-      body = record { ram = c.undo_frame.new.ram; heap = c.undo_blocks.new.heap; top = c.take-head.result.top; a5 = m.body.a5; main = m.body.main; start_sp = m.body.start_sp };
+      body = record { ram = c.undo_frame.new.ram; heap = c.undo_blocks.new.heap; top = c.take-head.result.top; a5 = m.body.a5; main = m.body.main; start_sp = m.body.start_sp; operations = record {} };
     } in
     let k : History = record { copy = with_items c.args.self.now.copy c.take-head.new.copy; blocks = c.undo_blocks.new.blocks; past = c.take-head.new.self } in
     let e : Entry = record { head = c.take-head.result; runs = newest (entries_in c.args.self.now.past) } in

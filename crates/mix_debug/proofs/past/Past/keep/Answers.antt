@@ -2,7 +2,7 @@ use Rattle.std.proofs.Common.{◌∷◌, false, ap, refl, ◌∙◌}
 use Rattle.mix_debug.specs.declared.head.Head.{Head}
 use Rattle.mix_debug.specs.declared.past.Past.{Past}
 use Rattle.mix_debug.specs.Runs.{runs_in}
-use Rattle.mix_debug.specs.Entries.{Entry, effect_of, head_with, within}
+use Rattle.mix_debug.specs.Entries.{effect_of, within}
 use Rattle.mix_debug.specs.Pasts.{entries_in}
 use Rattle.mix_debug.specs.Rows.{ready_in}
 use Rattle.mix_debug.proofs.Holding.{few-olds, few-spans, pushed}

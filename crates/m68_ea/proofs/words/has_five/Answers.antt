@@ -1,7 +1,7 @@
 use Rattle.std.proofs.Common.{◌<◌, ◌+◌, ◌≤◌, length, arith}
 use Rattle.std.proofs.lemmas.Bool.Decides.{nat_tests}
-use Rattle.m68_core.proofs.Whole.{five_words, fewer_words}
-use Rattle.m68_core.proofs.words.has_five.Goals as goal
+use Rattle.m68_ea.proofs.Five.{five_words, fewer_words}
+use Rattle.m68_ea.proofs.words.has_five.Goals as goal
 
 pub returns-clause-five : goal.returns-clause-five
 returns-clause-five c = λ tells.
