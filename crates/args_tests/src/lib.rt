@@ -1,7 +1,11 @@
-//! Tests of arguments and results in 68K and PowerPC code, over the crates that place them.
+//! Tests of procInfo words and routine descriptors, and of arguments and results in 68K and PowerPC code.
 #![tactic(auto)]
 
+#[cfg(test)]
+mod descriptors;
 #[cfg(test)]
 mod m68;
 #[cfg(test)]
 mod ppc;
+#[cfg(test)]
+mod signatures;

@@ -9,8 +9,6 @@ mod laws;
 mod layout;
 mod numbers;
 mod table;
-#[cfg(test)]
-mod tests;
 
 pub use assembler::{AsmError, assemble_ppc, known_ppc, reassembled};
 pub use laws::asm_laws;

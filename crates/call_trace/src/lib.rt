@@ -7,8 +7,6 @@ mod end;
 mod lines;
 mod names;
 mod puts;
-#[cfg(test)]
-mod tests;
 
 pub use end::End;
 pub use names::{fault_name, set_name};

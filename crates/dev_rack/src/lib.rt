@@ -7,8 +7,6 @@ mod devices;
 mod laws;
 mod rack;
 mod slots;
-#[cfg(test)]
-mod tests;
 
 pub use answers::{Answer, Asked};
 pub use devices::Devices;

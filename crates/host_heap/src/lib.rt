@@ -6,8 +6,6 @@ mod block;
 mod blocks;
 mod heap;
 mod laws;
-#[cfg(test)]
-mod tests;
 
 pub use block::Block;
 pub use blocks::may_follow;

@@ -8,8 +8,6 @@ mod info;
 mod line;
 mod pieces;
 mod place;
-#[cfg(test)]
-mod tests;
 mod tree;
 mod words;
 

@@ -9,8 +9,6 @@ mod error;
 mod names;
 mod picture;
 mod reading;
-#[cfg(test)]
-mod tests;
 mod tree;
 
 pub use error::LookError;

@@ -11,8 +11,6 @@ mod quotients;
 mod shifts;
 mod sizes;
 mod sums;
-#[cfg(test)]
-mod tests;
 
 pub use decimal::{abcd, sbcd};
 pub use laws::overflow_laws;

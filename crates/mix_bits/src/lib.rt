@@ -16,8 +16,6 @@ mod no_memory;
 mod number;
 mod pieces;
 mod size;
-#[cfg(test)]
-mod tests;
 
 pub use addresses::{aligned, backward, onward};
 pub use digits::{digit, power, with_digit};

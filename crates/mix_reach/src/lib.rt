@@ -10,8 +10,6 @@ mod ppc;
 mod quick;
 mod reach;
 mod steps;
-#[cfg(test)]
-mod tests;
 
 pub use laws::reach_laws;
 pub use reach::{Reach, Stores, no_stores};

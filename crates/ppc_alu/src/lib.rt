@@ -7,8 +7,6 @@ mod mask;
 mod quotients;
 mod shift;
 mod signed;
-#[cfg(test)]
-mod tests;
 mod xer;
 
 pub use arith::{Arith, add3, mul_high, mul_low};

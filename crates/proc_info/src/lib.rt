@@ -11,8 +11,6 @@ mod param;
 mod reader;
 mod sig;
 mod size;
-#[cfg(test)]
-mod tests;
 mod words;
 mod writer;
 

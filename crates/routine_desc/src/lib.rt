@@ -7,8 +7,6 @@ mod laws;
 mod making;
 mod read;
 mod record;
-#[cfg(test)]
-mod tests;
 
 pub use choice::{choose, choose_among};
 pub use flags::RoutineFlags;

@@ -9,3 +9,5 @@ mod listings;
 mod m68;
 #[cfg(test)]
 mod ppc;
+#[cfg(test)]
+mod words_ppc;

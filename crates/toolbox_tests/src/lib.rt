@@ -1,4 +1,4 @@
-//! Host calls one by one, for code of both sets, with all that each leaves.
+//! Host calls one by one, for code of both sets, with all that each leaves; and the heap that they stand on.
 #![tactic(auto)]
 
 #[cfg(test)]
@@ -9,6 +9,8 @@ mod blocks;
 mod case;
 #[cfg(test)]
 mod devices;
+#[cfg(test)]
+mod heap;
 #[cfg(test)]
 mod names;
 #[cfg(test)]

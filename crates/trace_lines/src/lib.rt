@@ -8,8 +8,6 @@ mod ends;
 mod event;
 mod pieces;
 mod read;
-#[cfg(test)]
-mod tests;
 
 pub use event::{Crossing, Event};
 pub use read::read_event;

@@ -1,5 +1,5 @@
 // Traces of the samples; the expected trees and tables were worked out by hand.
-use crate::{LookError, Names, write_picture, write_tree};
+use look_trace::{LookError, Names, write_picture, write_tree};
 use std::alloc::Global;
 use std::io::BufReader;
 use std::process::Abort;

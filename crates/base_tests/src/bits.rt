@@ -1,4 +1,4 @@
-use crate::{Line, Size, digit, sext, trunc, with_digit, with_low};
+use mix_bits::{Line, Size, digit, sext, trunc, with_digit, with_low};
 
 #[test]
 fn sizes_cut_and_extend(rt: HostRuntime) {

@@ -1,5 +1,5 @@
 // Words of each convention; a Python script by the tables of the documents gave the texts.
-use crate::info_text;
+use look_text::info_text;
 use std::test::Fail;
 
 #[test]

@@ -1,5 +1,5 @@
-use crate::{BadInfo, Conv, Param, read, write};
 use mix_bits::Size;
+use proc_info::{BadInfo, Conv, Param, read, write};
 use std::process::Abort;
 
 #[test]

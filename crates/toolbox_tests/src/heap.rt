@@ -1,5 +1,5 @@
-use crate::Heap;
 use Step::{Append, Free, Get, Place};
+use host_heap::Heap;
 use std::test::Fail;
 
 /// A call and what it is to answer: of `get` the size, of `free` the address, of `place` and `append` both.

@@ -1,4 +1,4 @@
-use crate::{
+use ppc_alu::{
     Arith, add3, compare, cr_bit, cr_field, cr_logic, divide, mul_high, mul_low, rotate_mask,
     shift_right, with_cr_bit, with_cr_field,
 };

@@ -1,5 +1,5 @@
 // Whole lines, from the descriptions of the machine; and that each is one put.
-use crate::{End, put_ask, put_call, put_end, put_ret};
+use call_trace::{End, put_ask, put_call, put_end, put_ret};
 use dev_rack::Answer;
 use m68_isa::Regs68;
 use mix_bits::{Fault, FaultKind, Isa};

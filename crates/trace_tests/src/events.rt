@@ -1,11 +1,11 @@
 // Lines of the documents, read; and texts that are no lines.
-use crate::{Crossing, Event, read_event};
 use call_trace::End;
 use dev_rack::Answer;
 use mix_bits::{FaultKind, Isa, Size};
 use std::process::Abort;
 use std::test::Fail;
 use switch_frame::Kind;
+use trace_lines::{Crossing, Event, read_event};
 
 fn call(text: &str) -> Option<Crossing> {
     match read_event(text.as_bytes()) {

@@ -1,7 +1,7 @@
 // What no clause says: that the calls succeed with ample memory, and that an ejected device is dropped.
 ghost use Rattle.std.specs.Prelude.{None};
 
-use super::{Answer, Asked, Devices, Rack};
+use dev_rack::{Answer, Asked, Devices, Rack};
 use mix_io::{Counter, Device, Failed, ScriptDevice};
 use std::cell::Cell;
 use std::process::Abort;

@@ -1,7 +1,7 @@
-use crate::{BadDesc, Desc, Rec, build, choose, read_desc};
 use big_memory::{Access, Ram};
 use mix_bits::{Isa, Size};
 use proc_info::{BadInfo, Sig, read};
+use routine_desc::{BadDesc, Desc, Rec, build, choose, read_desc};
 use std::test::Fail;
 
 /// Where the descriptors of these tests stand.

@@ -1,4 +1,4 @@
-use crate::{
+use m68_alu::{
     LogicOp, LongQuotient, Out, Quotient, ShiftOp, Wide, abcd, add, addx, cmp, div, div_long,
     logic, mul, mul_long, sbcd, shift, sub, subx,
 };

@@ -1,5 +1,5 @@
 // Lines and what they give. Words are worked out by hand from the formats of the manual.
-use super::{AsmError, asm_laws, assemble_ppc, reassembled};
+use asm_ppc::{AsmError, asm_laws, assemble_ppc, reassembled};
 use std::test::Fail;
 
 #[test]

@@ -1,7 +1,7 @@
 // The words are those that GNU as gives.
-use crate::{is_still, next_stores, step_reach};
 use big_memory::Ram;
 use m68_isa::{Ccr, Operations, Regs68};
+use mix_reach::{is_still, next_stores, step_reach};
 use ppc_isa::RegsPpc;
 use std::process::Abort;
 use std::test::Fail;
