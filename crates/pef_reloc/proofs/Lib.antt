@@ -9,5 +9,6 @@ mod Table
 mod Pieces
 mod Longs
 mod Alike
+mod Refusals
 mod Work
 mod Spans

@@ -133,6 +133,12 @@ pub record Plan (sources : Sources) (words : List ℕ) (total : ℕ) : Type 0 wh
 abbrev pub HasPlan : Type 0
 HasPlan = (sources : Sources) (words : List ℕ) (total : ℕ) → Plan sources words total
 
+-- whether relocations are refused, and why, depends on sizes alone: neither on where sections and imports stand nor on the section's bytes
+abbrev pub HasSameRefusal : Type 0
+HasSameRefusal = (one other : Sources) (words section later : List ℕ)
+    → length one.bases ≡ length other.bases → length one.imports ≡ length other.imports → length section ≡ length later
+    → (relocated one words section).refusal ≡ (relocated other words later).refusal
+
 -- a number for each instruction from a place on, at most n of them, in sum
 abbrev pub summed_by : ℕ → List ℕ → (ℕ → ℕ) → ℕ → ℕ
 summed_by zero words number place = 0

@@ -1,4 +1,4 @@
-ghost use Rattle.pef_reloc.specs.Laws.{AddsLongs, HasAllRows, HasOneRow, HasPlan, IsBeyondLimit, IsFilledSpan, IsSpelled, IsWithinLimit, UnpacksPieces};
+ghost use Rattle.pef_reloc.specs.Laws.{AddsLongs, HasAllRows, HasOneRow, HasPlan, HasSameRefusal, IsBeyondLimit, IsFilledSpan, IsSpelled, IsWithinLimit, UnpacksPieces};
 
 /// What holds of pattern data as a whole. It does nothing: the clause is its point.
 pub fn pattern_laws()
@@ -17,9 +17,10 @@ pub fn run_laws()
     ensures { AddsLongs }
 {}
 
-/// What the additions of a run depend on. It does nothing: the clause is its point.
+/// What the additions and the refusal of a run depend on. It does nothing: the clauses are its point.
 pub fn plan_laws()
-    ensures { HasPlan }
+    ensures plan { HasPlan }
+    ensures refusal { HasSameRefusal }
 {}
 
 /// How many instructions a run takes, and what a repeat goes back over. It does nothing: the clauses are

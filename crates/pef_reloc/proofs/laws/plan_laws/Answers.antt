@@ -1,5 +1,6 @@
 use Rattle.pef_reloc.proofs.Alike.{has_plan}
+use Rattle.pef_reloc.proofs.Refusals.{has_same_refusal}
 use Rattle.pef_reloc.proofs.laws.plan_laws.Goals as goal
 
 pub returns : goal.returns
-returns c = has_plan
+returns c = record { plan = has_plan; refusal = has_same_refusal }
