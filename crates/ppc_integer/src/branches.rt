@@ -1,5 +1,5 @@
 // Branches.
-ghost use Rattle.std.specs.Prelude.{◌≡◌, ◌+◌, ◌*◌, ◌/◌, ◌%◌, ◌^◌, ◌<◌, ◌==◌, true};
+ghost use Rattle.std.specs.Prelude.{◌≡◌, ◌+◌, ◌-◌, ◌*◌, ◌/◌, ◌%◌, ◌^◌, ◌<◌, ◌==◌, true};
 ghost use Rattle.mix_bits.specs.Digits.{digit_of};
 ghost use Rattle.ppc_isa.specs.Fields.{fields_of};
 ghost use Rattle.ppc_isa.specs.Made.{displacement_of};
@@ -71,12 +71,13 @@ fn branch_by_condition(regs: &mut RegsPpc, word: u32) -> Did
     Did::Next
 }
 
-/// Whether BO leaves the count register as it is.
+/// Whether BO leaves the count register as it is. Its bits are asked of the word itself, so that one test serves
+/// several of them, with AA and LK.
 #[inline(always)]
 fn leaves_count(word: u32) -> bool
     ensures { result ≡ leaves_count_of (fields_of word).d }
 {
-    d_of(word) / 4 % 2 == 1
+    word / 0x80_0000 % 2 == 1
 }
 
 /// Whether BO lets any condition pass.
@@ -84,7 +85,7 @@ fn leaves_count(word: u32) -> bool
 fn ignores_condition(word: u32) -> bool
     ensures { result ≡ (digit_of (fields_of word).d 4 1 == 1) }
 {
-    d_of(word) / 16 % 2 == 1
+    word / 0x200_0000 % 2 == 1
 }
 
 /// Whether the condition at BI has the value that BO names.
@@ -92,7 +93,16 @@ fn ignores_condition(word: u32) -> bool
 fn is_condition_met(word: u32, cr: u32) -> bool
     ensures { let f = fields_of word in result ≡ is_same (digit_of f.d 3 1 == 1) (bit_of cr f.a) }
 {
-    (d_of(word) as u32 / 8 % 2 == 1) == cr_bit(cr, a_of(word) as u32)
+    condition_at(cr, a_of(word) as u32) == word / 0x100_0000 % 2
+}
+
+/// A bit of the condition register as a number. It is shifted to the top and back, which takes least.
+#[inline(always)]
+fn condition_at(cr: u32, bit: u32) -> u32
+    requires { bit < 32 }
+    ensures { result ≡ digit_of cr (31 - bit) 1 }
+{
+    (cr << bit) / 0x8000_0000
 }
 
 /// bc in a place of its own, for the forms that programs use less.

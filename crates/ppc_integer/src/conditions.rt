@@ -1,5 +1,5 @@
 // Comparisons and the condition register.
-ghost use Rattle.std.specs.Prelude.{◌≡◌, ◌/◌, ◌+◌, ◌*◌, ◌<◌};
+ghost use Rattle.std.specs.Prelude.{◌≡◌, ◌/◌, ◌+◌, ◌*◌, ◌<◌, ◌==◌};
 ghost use Rattle.ppc_isa.specs.Fields.{fields_of};
 ghost use Rattle.ppc_isa.specs.declared.instruction.InstrPpc.TheVariants.{Compare, CompareImmediate, ConditionLogical, MoveConditionField, MoveFromConditionRegister, MoveToConditionFields, MoveXerToConditionField};
 ghost use Rattle.ppc_alu.specs.Condition.{with_field};
@@ -49,13 +49,20 @@ fn compared(regs: &mut RegsPpc, word: u32, bits: u32) -> Did
     requires { bits < 16 }
     ensures { Ends (record regs.old { cr = with_field regs.old.cr ((fields_of word).d / 4) bits }) result regs.new }
 {
-    let field = field_of(word);
-    regs.cr = if field == 0 {
+    regs.cr = if is_first_field(word) {
         with_cr0(regs.cr, bits)
     } else {
-        with_cr_field(regs.cr, field, bits)
+        with_cr_field(regs.cr, field_of(word), bits)
     };
     finish(regs)
+}
+
+/// Whether the field of the condition register in the place of D is the first, asked of the word itself.
+#[inline(always)]
+fn is_first_field(word: u32) -> bool
+    ensures { result ≡ ((fields_of word).d / 4 == 0) }
+{
+    word % 0x400_0000 < 0x80_0000
 }
 
 /// mcrf.
