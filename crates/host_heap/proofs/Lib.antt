@@ -1,5 +1,6 @@
 pub mod Fits
 pub mod Lowest
+pub mod Leaving
 pub mod Order
 pub mod Keeps
 pub mod Walk

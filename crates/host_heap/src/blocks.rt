@@ -1,6 +1,6 @@
 //! The steps of the heap on its list of blocks, which stands in order of address. Sums are 64 bits wide, so none wraps.
-ghost use Rattle.std.specs.Prelude.{◌≡◌, ◌≢◌, ◌+◌, ◌<◌, ◌≤◌, ◌^◌, IfSome, All, vec_len, vec_capacity};
-ghost use Rattle.std.specs.List.{list_all};
+ghost use Rattle.std.specs.Prelude.{◌≡◌, ◌≢◌, ◌==◌, ◌+◌, ◌<◌, ◌≤◌, ◌^◌, IfSome, All, AllPairs, vec_len, vec_capacity};
+ghost use Rattle.std.specs.List.{list_all, insert as inserted, position, remove as removed};
 ghost use Rattle.std.specs.List.Sorted.{IsNonDecreasingBy};
 ghost use Rattle.host_heap.specs.Space.{rounded};
 ghost use Rattle.host_heap.specs.Place.{can_append, can_place, fits, is_apart, last_end, lowest_fit, may_follow, with_block, begins_at, without};
@@ -114,20 +114,55 @@ pub fn add(blocks: &mut Vec<Block>, block: Block)
     ensures capacity { vec_capacity blocks.old ≤ vec_capacity blocks.new }
 {
     let index = blocks.partition_point(|b| b.address < block.address);
-    blocks.insert(index, block).unwrap();
+    put_in(blocks, index, block);
 }
 
-/// Whether a block begins at this address.
-pub fn begins_at(blocks: &[Block], address: u32) -> bool
-    ensures { result ≡ begins_at blocks.now address }
+/// Puts a block in at this number. Behind all others it moves none.
+fn put_in(blocks: &mut Vec<Block>, index: usize, block: Block)
+    requires room { vec_len blocks.old < vec_capacity blocks.old }
+    requires within { index ≤ vec_len blocks.old }
+    ensures items { blocks.new.items ≡ inserted blocks.old.items index block }
+    ensures capacity { vec_capacity blocks.old ≤ vec_capacity blocks.new }
 {
-    blocks.iter().any(|block| block.address == address)
+    if index == blocks.len() {
+        blocks.push_reserved(block);
+    } else {
+        blocks.insert(index, block).unwrap();
+    }
 }
 
-/// Leaves out the block that begins at this address.
-pub fn remove(blocks: &mut Vec<Block>, address: u32)
+/// Leaves out the block that begins at this address, and says whether there was one.
+pub fn remove(blocks: &mut Vec<Block>, address: u32) -> bool
+    requires distinct { AllPairs (λ a b. a.address ≢ b.address) blocks.old.items }
+    ensures found { result ≡ begins_at blocks.old.items address }
     ensures items { blocks.new.items ≡ without blocks.old.items address }
     ensures capacity { vec_capacity blocks.new ≡ vec_capacity blocks.old }
 {
-    blocks.retain(|block| block.address != address);
+    match number_of(blocks, address) {
+        Some(index) => {
+            take_out(blocks, index);
+            true
+        }
+        None => false,
+    }
+}
+
+/// The number of the first block that begins at this address.
+fn number_of(blocks: &[Block], address: u32) -> Option<usize>
+    ensures { result ≡ position (λ b. b.address == address) blocks.now }
+{
+    blocks.iter().position(|block| block.address == address)
+}
+
+/// Takes out the block with this number. The last one leaves no gap to close.
+fn take_out(blocks: &mut Vec<Block>, index: usize)
+    requires { index < vec_len blocks.old }
+    ensures items { blocks.new.items ≡ removed blocks.old.items index }
+    ensures capacity { vec_capacity blocks.new ≡ vec_capacity blocks.old }
+{
+    if index + 1 == blocks.len() {
+        let _last = blocks.pop();
+    } else {
+        let _gone = blocks.remove(index);
+    }
 }

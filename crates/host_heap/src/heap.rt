@@ -7,7 +7,7 @@ ghost use Rattle.host_heap.specs.Place.{IsPlace, place_for, can_append, can_plac
 ghost use Rattle.host_heap.specs.Sound.{IsSound};
 
 use crate::block::Block;
-use crate::blocks::{add, begins_at, can_append, can_place, lowest_fit, remove, rounded};
+use crate::blocks::{add, can_append, can_place, lowest_fit, remove, rounded};
 use std::alloc::{AllocError, Global};
 use std::marker::Model;
 
@@ -109,9 +109,7 @@ impl Heap {
         ensures after { self.new ≡ freed self.old address }
         ensures unchanged { OnFalse result (self.new ≡ self.old) }
     {
-        let found = begins_at(&self.blocks, address);
-        remove(&mut self.blocks, address);
-        found
+        remove(&mut self.blocks, address)
     }
 
     /// The heap's first address, and the one behind its last.

@@ -10,8 +10,7 @@ returns-clause-items c =
     let parted = IsPartitionedBy-ltb (λ (b : Block). b.address) _ c.args.block.address c.requires.order in
     let clause = rw c.deref.ensures.value at c.partition_point-index.ensures.partitioned in
     let point = IsPartitionPoint-from_clause (λ (b : Block). ltb b.address c.args.block.address) _ _ clause parted (λ a r q k. search rules) in
-    let placed = rw c.unwrap.ensures at c.insert.ensures.items in
-    placed ∙ insert-filters (λ (b : Block). ltb b.address c.args.block.address) (λ (b : Block). ltb c.args.block.address b.address)
+    c.put_in.ensures.items ∙ insert-filters (λ (b : Block). ltb b.address c.args.block.address) (λ (b : Block). ltb c.args.block.address b.address)
     (λ b e. let l = ltb-true b.address c.args.block.address e in le-ltb c.args.block.address b.address (omega arith))
     _ _ _
     (λ k d l e. let m = ltb-false _ c.args.block.address e in let n = c.requires.apart k d l in lt-ltb c.args.block.address _ (omega arith))

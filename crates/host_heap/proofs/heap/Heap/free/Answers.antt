@@ -14,4 +14,9 @@ returns-clause-after c = search rules
 
 pub returns-clause-unchanged : goal.returns-clause-unchanged
 returns-clause-unchanged c =
-    OnFalse_from c.begins_at-found.result _ (λ e. returns-clause-after c ∙ freed-none _ _ (sym (returns-clause-found c) ∙ e))
+    OnFalse_from c.remove.result _ (λ e. returns-clause-after c ∙ freed-none _ _ (sym (returns-clause-found c) ∙ e))
+
+pub remove-requires : goal.remove-requires
+remove-requires c = record {
+  distinct = λ i j d l k. let before = c.self.invariant.0.apart i j d l k in let whole = c.self.invariant.0.aligned i d (omega arith) in omega (arith, before, whole.2);
+}
