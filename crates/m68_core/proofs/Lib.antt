@@ -1,2 +1,3 @@
 pub mod ByOp
+pub mod Fetching
 pub mod Leaving

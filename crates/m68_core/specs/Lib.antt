@@ -1,2 +1,3 @@
 pub mod Edge
+pub mod Fetch
 pub mod Steps

@@ -7,10 +7,12 @@
 
 mod branches;
 mod dispatch;
+mod fetch;
 mod jumps;
 mod laws;
 mod step;
 mod traps;
 mod words;
 
+pub use fetch::{is_plain, places};
 pub use step::{Out68, run, step68};

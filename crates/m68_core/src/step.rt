@@ -6,13 +6,15 @@ ghost use Rattle.m68_isa.specs.Decode.{operation};
 ghost use Rattle.m68_isa.specs.First.{first_of};
 ghost use Rattle.m68_isa.specs.Fits.{Fits};
 ghost use Rattle.m68_core.specs.Edge.{IsFirst, IsThere};
+ghost use Rattle.m68_core.specs.Fetch.{places_of};
 ghost use Rattle.m68_core.specs.Steps.{Steps};
 
 use super::dispatch::run_op;
+use super::fetch::{is_plain, plain_word};
 use super::laws::step_law;
 use super::words::is_short;
 use big_memory::{Did, Ram, stop};
-use m68_ea::{has_five, read_words, word_at};
+use m68_ea::read_words;
 use m68_isa::{Op68, Operations, Regs68, op_of};
 use mix_bits::{Fault, FaultKind, onward};
 
@@ -41,15 +43,23 @@ pub fn step68(regs: &mut Regs68, ram: &mut Ram) -> Out68
 }
 
 /// The same by the table of operations, with the fault, or the word of line A as its detail, in a cell beside the
-/// answer. The cell tells nothing where the step is done.
+/// answer. The cell tells nothing where the step is done. For loops over many steps, which take the places of
+/// memory once.
 #[inline(always)]
-pub fn run(regs: &mut Regs68, ram: &mut Ram, operations: &Operations, fault: &mut Fault) -> Did
+pub fn run(
+    regs: &mut Regs68,
+    ram: &mut Ram,
+    operations: &Operations,
+    fault: &mut Fault,
+    places: u32,
+) -> Did
+    requires { places ≡ places_of ram.old }
     ensures does { Does (stepped regs.old ram.old) result fault.new regs.old regs.new ram.old ram.new }
     ensures line { result ≡ Did.Leave → fault.new.detail < 2 ^ 16 }
+    ensures places { places_of ram.new ≡ places_of ram.old }
 {
-    let pc = regs.pc;
-    if pc % 2 == 0 && has_five(ram, pc) {
-        let word = word_at(ram, pc, 0);
+    if is_plain(regs.pc, ram, places) {
+        let word = plain_word(regs.pc, ram);
         run_word(regs, ram, fault, word, operations.of(word))
     } else {
         run_slowly(regs, ram, fault)
