@@ -1,11 +1,10 @@
 -- From what a function does to memory, heap, input and output to what it performs.
-use Rattle.std.proofs.Common.{◌≡◌, ◌==◌, ℕ, Bool, ◌<◌, List, [], ◌∷◌, ◌++◌, length, map, true, Option, None, Some, Result, Ok, refl, sym, ap, subst, ◌∙◌, arith}
+use Rattle.std.proofs.Common.{◌≡◌, ◌==◌, ℕ, Bool, List, [], ◌∷◌, ◌++◌, length, map, true, Option, None, Some, Result, Ok, refl, sym, ap, subst, ◌∙◌, arith}
 use Rattle.std.proofs.Math.Seq.{drop-length}
 use Rattle.std.proofs.lemmas.Bool.{eqb-true}
-use Rattle.std.specs.Io.KnownBytes.{Consumes, IsAtEnd, Keeps}
+use Rattle.std.specs.Io.KnownBytes.{Consumes, IsAtEnd}
 use Rattle.std.proofs.KnownBytes.{Appends-nil}
-use Rattle.mix_io.specs.Counts.{Rose}
-use Rattle.mix_io.specs.Streams.{Output, Grows, Breaks}
+use Rattle.mix_io.specs.Streams.{Output, Grows}
 use Rattle.big_memory.specs.Memory.{Memory, IsRam, IsDoneUnless, copied, copy_refusal}
 use Rattle.big_memory.specs.declared.refusals.Access.{Access}
 use Rattle.big_memory.specs.Stores.{OnlyFree}
@@ -15,12 +14,12 @@ use Rattle.toolbox.specs.declared.values.Operands.{Operands}
 use Rattle.toolbox.specs.declared.values.Results.{Results}
 use Rattle.toolbox.specs.declared.function.Function.{Function}
 use Rattle.toolbox.specs.declared.function.Function.TheVariants.{BlockMove, GetByte}
-use Rattle.toolbox.specs.declared.outcome.Outcome.TheVariants.{Given, ReadFault, OutFault}
-use Rattle.toolbox.specs.Effects.{Around, Effects, effect, quiet, moved_unless, results, says, takes, error}
+use Rattle.toolbox.specs.declared.outcome.Outcome.TheVariants.{Given}
+use Rattle.toolbox.specs.Effects.{Around, Effects, effect, quiet, moved_unless, results, says, error}
 use Rattle.toolbox.specs.Effects.Effect.{Gives}
 use Rattle.toolbox.specs.Calls.{Input, KeepsBounds, Outside, place, with_input, answers_since, resources_at, IsLeft, Told}
 use Rattle.toolbox.specs.Calls.Taken.{Nothing, Byte, TheEnd}
-use Rattle.toolbox.specs.Performs.{AreLaws, Performs, Quietly, ReadsInput, resources}
+use Rattle.toolbox.specs.Performs.{AreLaws, Performs, Quietly, resources}
 
 -- a journal that stays has no new entries
 pub since-none : (s : State) → answers_since s s ≡ []

@@ -19,6 +19,7 @@ use dev_rack::Devices;
 use host_heap::Heap;
 use mix_io::{Sink, Source};
 
+#[inline(always)]
 pub fn perform<I: Source, O: Sink, D: Devices>(
     function: Function,
     operands: Operands,

@@ -11,6 +11,7 @@ use ppc_isa::RegsPpc;
 use switch_frame::Active;
 
 /// The operands of a call.
+#[inline(always)]
 pub fn operands_of(function: Function, active: &Active) -> Operands
     ensures { result ≡ operands_in function active.now }
 {
@@ -20,6 +21,7 @@ pub fn operands_of(function: Function, active: &Active) -> Operands
     }
 }
 
+#[inline(always)]
 fn operands_68k(function: Function, regs: &Regs68) -> Operands
     ensures { result ≡ operands_in function (Active.M68 regs.now) }
 {
@@ -130,6 +132,7 @@ fn codes_of(word: u32, ccr: Ccr) -> Ccr
     }
 }
 
+#[inline(always)]
 fn settle_ppc(function: Function, regs: &mut RegsPpc, results: Results)
     ensures { regs.new ≡ at_link (with_results function results regs.old) }
 {
