@@ -162,6 +162,7 @@ fn hold(body: &Body, active: &Active, call: &Call, range: (u32, u32), below: u32
 }
 
 /// Makes the frame and the callee's stack below it, and the callee's registers.
+#[inline(always)]
 fn start(
     body: &mut Body,
     active: &mut Active,

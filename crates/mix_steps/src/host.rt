@@ -64,7 +64,7 @@ pub fn leave_code<'i, 'o, 't, 'd, I: Source, O: Sink, T: Sink, D: Devices>(
                 trap(number, body, active, outside, fault)
             }
         }
-        Active::Ppc(_) => call_function(number, body, active, outside, fault),
+        Active::Ppc(_) => call_import(number, body, active, outside, fault),
     }
 }
 
@@ -85,7 +85,8 @@ fn cross_from_68k<T: Sink>(
     body_laws();
     match active {
         Active::M68(regs) => {
-            let wanted = wants_68k(&body.ram, regs);
+            let mut wanted = Wanted::Jumps(0);
+            wants_68k(&body.ram, regs, &mut wanted);
             cross(body, active, &wanted, trace, fault)
         }
         Active::Ppc(_) => unreachable!(),
@@ -93,6 +94,7 @@ fn cross_from_68k<T: Sink>(
 }
 
 /// The trap with this word.
+#[inline(never)]
 fn trap<'i, 'o, 't, 'd, I: Source, O: Sink, T: Sink, D: Devices>(
     word: u32,
     body: &mut Body,
@@ -125,7 +127,27 @@ fn no_trap(word: u32, active: &Active, fault: &mut Fault) -> Did
     Did::Fault
 }
 
+/// Calls a host function for PowerPC code. A trap has the call in it, where its number is known from the word.
+#[inline(never)]
+fn call_import<'i, 'o, 't, 'd, I: Source, O: Sink, T: Sink, D: Devices>(
+    index: u32,
+    body: &mut Body,
+    active: &mut Active,
+    outside: &mut Outside<'i, 'o, 't, 'd, I, O, T, D>,
+    fault: &mut Fault,
+) -> Did
+    requires whole { IsWhole body.old (isa_of active.old) }
+    requires index { index < 16 }
+    ensures does { Acts (λ s. hosts s index) result fault.new
+        (machine_beside I.left I.faults O.held O.faults T.held T.faults D.state body.old active.old outside.old)
+        (machine_beside I.left I.faults O.held O.faults T.held T.faults D.state body.new active.new outside.new) }
+    ensures same { AreSame outside.old outside.new }
+{
+    call_function(index, body, active, outside, fault)
+}
+
 /// Calls a host function, and goes on into other code where it asks for that.
+#[inline(always)]
 fn call_function<'i, 'o, 't, 'd, I: Source, O: Sink, T: Sink, D: Devices>(
     index: u32,
     body: &mut Body,
@@ -150,6 +172,7 @@ fn call_function<'i, 'o, 't, 'd, I: Source, O: Sink, T: Sink, D: Devices>(
 }
 
 /// Calls a host function.
+#[inline(always)]
 fn call<'i, 'o, 't, 'd, I: Source, O: Sink, T: Sink, D: Devices>(
     index: u32,
     body: &mut Body,
@@ -208,7 +231,8 @@ fn cross_at<T: Sink>(
     match active {
         Active::M68(_) => cross(body, active, &Wanted::Jumps(pointer), trace, fault),
         Active::Ppc(regs) => {
-            let wanted = wants_ppc(&body.ram, regs, pointer, info);
+            let mut wanted = Wanted::Jumps(0);
+            wants_ppc(&body.ram, regs, pointer, info, &mut wanted);
             cross(body, active, &wanted, trace, fault)
         }
     }

@@ -30,9 +30,8 @@ pub fn leave<T: Sink>(body: &mut Body, active: &mut Active, trace: &mut T, fault
     ensures { Does at_gate result fault.new body.old body.new active.old active.new
         (output (T.held trace.old) (T.faults trace.old)) (output (T.held trace.new) (T.faults trace.new)) }
 {
-    let mut innermost = top(&body.ram, body.top);
-    match &mut innermost {
-        Some(held) => leave_callee(body, active, held, trace, fault),
+    match top(&body.ram, body.top) {
+        Some(mut held) => leave_callee(body, active, &mut held, trace, fault),
         None => leave_program(body, active, fault),
     }
 }

@@ -16,15 +16,13 @@ use proc_info::Sig;
 use routine_desc::{Rec, choose_among};
 
 /// What 68K code wants at a routine descriptor at its pc, with the return address at A7. Refusals come in
-/// this order: the descriptor's, the selector's bytes, no record.
+/// this order: the descriptor's, the selector's bytes, no record. It is put in place, since a call is long to copy.
 #[inline(always)]
-pub fn wants_68k(ram: &Ram, regs: &Regs68) -> Wanted
-    ensures exact { wanted_of result ≡ wants_68k_lem ram.now regs.now }
-    ensures meant { Means Isa.M68 (wanted_of result) }
+pub fn wants_68k(ram: &Ram, regs: &Regs68, wanted: &mut Wanted)
+    ensures exact { wanted_of wanted.new ≡ wants_68k_lem ram.now regs.now }
+    ensures meant { Means Isa.M68 (wanted_of wanted.new) }
 {
-    let mut wanted = Wanted::Jumps(0);
-    wants_desc(ram, regs, regs.pc, &mut wanted);
-    wanted
+    wants_desc(ram, regs, regs.pc, wanted);
 }
 
 impl Asker for Regs68 {

@@ -20,15 +20,14 @@ use switch_frame::Kind;
 
 /// What PowerPC code wants by CallUniversalProc with a universal pointer and a procInfo. Refusals come in
 /// this order: the word at the pointer outside memory; then for 68K code there the procInfo without a
-/// signature, or for a descriptor there the descriptor's, no record, another procInfo than the record's.
+/// signature, or for a descriptor there the descriptor's, no record, another procInfo than the record's. It is put
+/// in place, since a call is long to copy.
 #[inline(always)]
-pub fn wants_ppc(ram: &Ram, regs: &RegsPpc, pointer: u32, info: u32) -> Wanted
-    ensures exact { wanted_of result ≡ wants_ppc_lem ram.now regs.now pointer info }
-    ensures meant { Means Isa.Ppc (wanted_of result) }
+pub fn wants_ppc(ram: &Ram, regs: &RegsPpc, pointer: u32, info: u32, wanted: &mut Wanted)
+    ensures exact { wanted_of wanted.new ≡ wants_ppc_lem ram.now regs.now pointer info }
+    ensures meant { Means Isa.Ppc (wanted_of wanted.new) }
 {
-    let mut wanted = Wanted::Jumps(0);
-    wants_word(ram, regs, pointer, info, &mut wanted);
-    wanted
+    wants_word(ram, regs, pointer, info, wanted);
 }
 
 /// What it wants by the word at the pointer, put in place.

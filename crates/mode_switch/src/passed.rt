@@ -34,6 +34,7 @@ pub struct Passed {
 /// What a caller passes to a call, or the first refusal: the return address of 68K code, the vector, and
 /// the arguments are loaded in this order. 68K code without a vector gets `a5`, the program's. The caller's
 /// registers get the pc behind the call; where the call is refused, they stay.
+#[inline(always)]
 pub fn pass(ram: &Ram, a5: u32, active: &mut Active, call: &Call) -> Result<Passed, Access>
     ensures exact { answered active.new result ≡ passed ram.now a5 active.old (crossing call.now) }
     ensures count { IfOk result (λ p. p.args.count ≡ call.now.sig.count) }

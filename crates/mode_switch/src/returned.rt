@@ -13,6 +13,7 @@ use switch_frame::Active;
 /// stack of 68K code the return address is removed, and in the Pascal conventions what was passed there. A
 /// Pascal result may be refused where it stands or
 /// where it goes; nothing is changed then.
+#[inline(always)]
 pub fn give_back(
     ram: &mut Ram,
     sig: &Sig,

@@ -13,8 +13,8 @@ cross-requires-in-Ppc-clause-whole g c = subst (λ w. IsWhole c.args.body.now (i
 
 pub returns-in-Ppc : goal.returns-in-Ppc
 returns-in-Ppc g c =
-    does-from (λ s. universal s s.active c.args.pointer c.args.info) (λ s. crosses s (wanted_of c.wants_ppc-wanted.result)) _ _ _ _ _ _ _ _ _ c.in-Ppc.is
-    (ppc-universal c.body_laws.ensures c.args.body.now c.args.active.now _ c.args.pointer c.args.info (wanted_of c.wants_ppc-wanted.result) c.requires.whole c.in-Ppc.is c.wants_ppc-wanted.ensures.exact)
+    does-from (λ s. universal s s.active c.args.pointer c.args.info) (λ s. crosses s (wanted_of c.wants_ppc.new.wanted)) _ _ _ _ _ _ _ _ _ c.in-Ppc.is
+    (ppc-universal c.body_laws.ensures c.args.body.now c.args.active.now _ c.args.pointer c.args.info (wanted_of c.wants_ppc.new.wanted) c.requires.whole c.in-Ppc.is c.wants_ppc.ensures.exact)
     c.cross-in-Ppc.ensures
 
 pub returns-in-M68 : goal.returns-in-M68

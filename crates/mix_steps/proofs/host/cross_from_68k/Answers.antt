@@ -12,6 +12,6 @@ cross-requires-clause-whole g c = subst (λ w. IsWhole c.args.body.now (isa_of w
 
 pub returns : goal.returns
 returns g c =
-    does-from (λ s. leaves_code c.args.active.now s c.args.fault.now.detail) (λ s. crosses s (wanted_of c.wants_68k-wanted.result)) _ _ _ _ _ _ _ _ _ c.in-M68.is
-    (m68-crosses c.body_laws.ensures c.args.body.now c.args.active.now _ c.args.fault.now.detail (wanted_of c.wants_68k-wanted.result) c.requires.whole c.in-M68.is c.requires.word c.wants_68k-wanted.ensures.exact)
+    does-from (λ s. leaves_code c.args.active.now s c.args.fault.now.detail) (λ s. crosses s (wanted_of c.wants_68k.new.wanted)) _ _ _ _ _ _ _ _ _ c.in-M68.is
+    (m68-crosses c.body_laws.ensures c.args.body.now c.args.active.now _ c.args.fault.now.detail (wanted_of c.wants_68k.new.wanted) c.requires.whole c.in-M68.is c.requires.word c.wants_68k.ensures.exact)
     c.cross.ensures

@@ -6,12 +6,12 @@ use Rattle.mix_steps.proofs.Framing.{callers-are, links-are}
 use Rattle.mix_steps.proofs.Returning.{first-is}
 use Rattle.mix_steps.proofs.leave.leave.Goals as goal
 
-pub top-innermost-requires : goal.top-innermost-requires
-top-innermost-requires g c = links-are c.args.body.now c.requires.chain
+pub top-requires : goal.top-requires
+top-requires g c = links-are c.args.body.now c.requires.chain
 
 pub leave_callee-requires-clause-first : goal.leave_callee-requires-clause-first
 leave_callee-requires-clause-first g c =
-    let body = c.args.body.now in first-is c.in-Some.held (callers_of body) (sym c.in-Some.is ∙ c.top-innermost.ensures.value ∙ ap innermost (sym (callers-are body)))
+    let body = c.args.body.now in first-is c.in-Some.held (callers_of body) (sym c.in-Some.is ∙ c.top.ensures.value ∙ ap innermost (sym (callers-are body)))
 
 pub returns-in-None : goal.returns-in-None
 returns-in-None g c = c.leave_program.ensures (output (g.T.Sink.held c.args.trace.now) (g.T.Sink.faults c.args.trace.now))
