@@ -6,11 +6,12 @@ ghost use Rattle.mix_bits.specs.declared.isa.Isa.TheVariants.{M68 as set_m68, Pp
 ghost use Rattle.switch_frame.specs.declared.active.Active.TheVariants.{M68, Ppc};
 ghost use Rattle.switch_frame.specs.Records.{isa_of};
 ghost use Rattle.mixed_machine.specs.Machine.{IsWhole};
+ghost use Rattle.m68_core.specs.Fetch.{places_of as places_68k};
 ghost use Rattle.ppc_core.specs.Fetch.{places_of};
 ghost use Rattle.mix_steps.specs.Cores.{Codes, CodesAfter, stopped_at};
 
 use crate::cores::{core_68k, core_ppc};
-use big_memory::{Did, in_gate_page, is_gate};
+use big_memory::{Did, Ram, in_gate_page, is_gate};
 use m68_isa::Regs68;
 use mix_bits::{Fault, FaultKind};
 use mixed_machine::Body;
@@ -67,7 +68,8 @@ fn once_68k(body: &mut Body, regs: &mut Regs68, fault: &mut Fault) -> Code
     requires { IsWhole body.old set_m68 }
     ensures { Codes result fault.new (M68 regs.old) (M68 regs.new) body.old body.new }
 {
-    code_68k(body, regs, fault)
+    let places = m68_core::places(&body.ram);
+    code_68k(body, regs, fault, places)
 }
 
 #[inline(always)]
@@ -88,10 +90,11 @@ fn advance_68k(body: &mut Body, regs: &mut Regs68, fault: &mut Fault, left: &mut
     ensures fewer { left.new ≤ left.old }
     ensures codes { CodesAfter (left.old - left.new) result fault.new (M68 regs.old) (M68 regs.new) body.old body.new }
 {
+    let places = m68_core::places(&body.ram);
     let mut count = *left;
     *left = 1;
     'codes: loop {
-        match code_68k(body, regs, fault) {
+        match code_68k(body, regs, fault, places) {
             Code::Next => {
                 count -= 1;
                 if count == 0 {
@@ -135,18 +138,29 @@ fn advance_ppc(body: &mut Body, regs: &mut RegsPpc, fault: &mut Fault, left: &mu
 }
 
 #[inline(always)]
-fn code_68k(body: &mut Body, regs: &mut Regs68, fault: &mut Fault) -> Code
-    requires { IsWhole body.old set_m68 }
-    ensures { Codes result fault.new (M68 regs.old) (M68 regs.new) body.old body.new }
+fn code_68k(body: &mut Body, regs: &mut Regs68, fault: &mut Fault, places: u32) -> Code
+    requires whole { IsWhole body.old set_m68 }
+    requires places { places ≡ places_68k body.old.ram }
+    ensures codes { Codes result fault.new (M68 regs.old) (M68 regs.new) body.old body.new }
+    ensures places { places_68k body.new.ram ≡ places_68k body.old.ram }
 {
-    if in_gate_page(regs.pc) {
+    if is_in_page(regs.pc, &body.ram, places) {
         return page_68k(body, regs, fault);
     }
-    match core_68k(body, regs, fault) {
+    match core_68k(body, regs, fault, places) {
         Did::Next => Code::Next,
         Did::Leave => Code::Leave,
         Did::Stop => Code::Stop,
     }
+}
+
+/// Whether 68K code stands in the gate page. Most often the comparison that its fetch needs tells that it doesn't.
+#[inline(always)]
+fn is_in_page(pc: u32, ram: &Ram, places: u32) -> bool
+    requires { places ≡ places_68k ram.now }
+    ensures { result ≡ in_gate_page_of pc }
+{
+    !m68_core::is_plain(pc, ram, places) && in_gate_page(pc)
 }
 
 /// 68K code in the gate page, where no instruction is.

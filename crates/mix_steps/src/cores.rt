@@ -4,6 +4,7 @@ ghost use Rattle.mix_bits.specs.declared.isa.Isa.TheVariants.{M68, Ppc};
 ghost use Rattle.big_memory.specs.Map.{host_functions};
 ghost use Rattle.m68_effects.specs.Step.{stepped as stepped_68k};
 ghost use Rattle.ppc_effects.specs.Effects.{stepped as stepped_ppc};
+ghost use Rattle.m68_core.specs.Fetch.{places_of as places_68k};
 ghost use Rattle.ppc_core.specs.Fetch.{places_of};
 ghost use Rattle.mixed_machine.specs.Machine.{IsWhole, seen_of};
 ghost use Rattle.mix_steps.specs.Cores.{CoreSteps};
@@ -18,13 +19,15 @@ use ppc_isa::RegsPpc;
 
 /// An instruction of 68K code.
 #[inline(always)]
-pub fn core_68k(body: &mut Body, regs: &mut Regs68, fault: &mut Fault) -> Did
-    requires { IsWhole body.old M68 }
+pub fn core_68k(body: &mut Body, regs: &mut Regs68, fault: &mut Fault, places: u32) -> Did
+    requires whole { IsWhole body.old M68 }
+    requires places { places ≡ places_68k body.old.ram }
     ensures does { CoreSteps (stepped_68k regs.old (seen_of body.old)) result fault.new regs.old regs.new body.old body.new M68 }
     ensures line { result ≡ Did.Leave → fault.new.detail < 2 ^ 16 }
+    ensures places { places_68k body.new.ram ≡ places_68k body.old.ram }
 {
     body_laws();
-    m68_core::run(regs, &mut body.ram, &body.operations, fault)
+    m68_core::run(regs, &mut body.ram, &body.operations, fault, places)
 }
 
 /// An instruction of PowerPC code; at a gate it stops.

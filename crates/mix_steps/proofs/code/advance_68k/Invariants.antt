@@ -3,6 +3,7 @@ use Rattle.std.proofs.Common.{◌≡◌, ◌-◌, ◌<◌, ◌≤◌}
 use Rattle.mix_bits.specs.declared.isa.Isa.TheVariants.{M68 as set_m68}
 use Rattle.switch_frame.specs.declared.active.Active.TheVariants.{M68}
 use Rattle.mixed_machine.specs.Machine.{IsWhole}
+use Rattle.m68_core.specs.Fetch.{places_of}
 use Rattle.mix_steps.specs.Cores.{AreOwn}
 use Rattle.mix_steps.proofs.code.advance_68k.Given as goal
 
@@ -16,5 +17,6 @@ invariant-codes l =
       some : 0 < l.count;
       fewer : l.count ≤ l.initial.count;
       rest : l.left ≡ 1;
+      places : l.places ≡ places_of l.body.ram;
       own : AreOwn (l.initial.count - l.count) (M68 l.initial.regs) (M68 l.regs) l.initial.body l.body;
     }

@@ -5,4 +5,4 @@ use Rattle.mix_steps.proofs.cores.core_68k.Goals as goal
 
 pub returns-clause-does : goal.returns-clause-does
 returns-clause-does c =
-    core-steps c.body_laws.ensures stepped c.run.result c.run.new.fault c.args.regs.now c.run.new.regs c.args.body.now c.run.new.ram M68 c.requires c.run.ensures.does
+    core-steps c.body_laws.ensures stepped c.run.result c.run.new.fault c.args.regs.now c.run.new.regs c.args.body.now c.run.new.ram M68 c.requires.whole c.run.ensures.does
