@@ -1,7 +1,7 @@
 // The words are those that GNU as gives.
 use big_memory::Ram;
 use m68_isa::{Ccr, Operations, Regs68};
-use mix_reach::{is_still, next_stores, step_reach};
+use mix_reach::{Told, next_stores, step_reach, told_68k, told_ppc};
 use ppc_isa::RegsPpc;
 use std::process::Abort;
 use std::test::Fail;
@@ -109,6 +109,14 @@ fn instructions_of_powerpc_code(rt: HostRuntime) -> Result<(), Fail> {
     Ok(())
 }
 
+/// What is told at once of where the next step stores.
+fn told(ram: &Ram, operations: &Operations, active: &Active) -> Told {
+    match active {
+        Active::M68(regs) => told_68k(ram, operations, regs),
+        Active::Ppc(regs) => told_ppc(ram, regs),
+    }
+}
+
 /// Whether the instruction of two words is told to store nowhere.
 fn still_there(
     ram: &mut Ram,
@@ -119,7 +127,7 @@ fn still_there(
 ) -> bool {
     ram.store_word(CODE, first).is_ok()
         && ram.store_word(CODE + 2, second).is_ok()
-        && is_still(ram, operations, active)
+        && matches!(told(ram, operations, active), Told::Nowhere)
 }
 
 #[test]

@@ -13,6 +13,8 @@ pub mod Undoing
 pub mod Telling
 pub mod Below
 pub mod Windows
+pub mod Turning
+pub mod Wholes
 pub mod Still
 pub mod Rooms
 pub mod Holding

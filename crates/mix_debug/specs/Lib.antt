@@ -1,6 +1,8 @@
 pub mod Runs
+pub mod Longs
 pub mod Entries
 pub mod Rows
+pub mod Olds
 pub mod Pasts
 pub mod Machines
 pub mod Reaches

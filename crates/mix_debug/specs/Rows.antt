@@ -32,4 +32,6 @@ ready_in h = file_in (slice_get h.slots.items (before h.first))
 pub record IsRow (h : Heads) : Type 0 where
   pub slots : length h.slots.items ≡ 10701
   pub first : h.first < 10701
+  pub next : h.next ≡ before h.first
+  pub inside : h.next < 10701
   pub count : h.count ≤ 10700

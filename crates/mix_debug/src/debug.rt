@@ -13,6 +13,7 @@ ghost use Rattle.mix_io.specs.Told.{Puts};
 ghost use Rattle.toolbox.specs.Blames.{counts};
 ghost use Rattle.mix_steps.specs.Beside.{AreSame, machine_beside, outside_lent, trace_lent};
 ghost use Rattle.mix_engine.specs.Ends.{goes_on};
+ghost use Rattle.mix_reach.specs.Ranges.{IsTold};
 ghost use Rattle.mix_reach.specs.Steps.{next_stores as next_stores_of};
 ghost use Rattle.mix_debug.specs.Crawl.{crawl_of};
 ghost use Rattle.mix_debug.specs.Histories.{Advances, IsHistory};
@@ -26,10 +27,11 @@ use dev_rack::Devices;
 use mix_bits::NoMemory;
 use mix_engine::{Machine, Stop, step_beside};
 use mix_io::{Failed, Sink, Source};
-use mix_reach::{Stores, is_still, next_stores, no_stores};
+use mix_reach::{Stores, Told, next_stores, no_stores, plain, told_68k, told_ppc};
 use mix_steps::Outside;
 use std::alloc::Global;
 use std::marker::Model;
+use switch_frame::Active;
 
 /// At most so many addresses are set to stop at.
 pub const MOST_BREAKS: usize = 64;
@@ -215,15 +217,44 @@ fn advance<'i, 'o, 't, 'd, I: Source, O: Sink, T: Sink, D: Devices>(
         (machine_beside I.left I.faults O.held O.faults T.held T.faults D.state machine.new.body machine.new.active outside.new) stop.new }
     ensures same { AreSame outside.old outside.new }
 {
-    let body = &machine.body;
-    if is_still(&body.ram, &body.operations, &machine.active) {
-        advance_by(machine, history, outside, stop, &no_stores())
-    } else {
-        advance_storing(machine, history, outside, stop)
+    match &machine.active {
+        Active::M68(regs) => {
+            let told = told_68k(&machine.body.ram, &machine.body.operations, regs);
+            advance_told(machine, history, outside, stop, told)
+        }
+        Active::Ppc(regs) => {
+            let told = told_ppc(&machine.body.ram, regs);
+            advance_told(machine, history, outside, stop, told)
+        }
     }
 }
 
-/// The same of a step that may store.
+/// The same of a step of which was told at once where it stores.
+#[inline(always)]
+fn advance_told<'i, 'o, 't, 'd, I: Source, O: Sink, T: Sink, D: Devices>(
+    machine: &mut Machine,
+    history: &mut History,
+    outside: &mut Outside<'i, 'o, 't, 'd, I, O, T, D>,
+    stop: &mut Stop,
+    told: Told,
+) -> bool
+    requires history { IsHistory machine.old history.old }
+    requires cell { stop.old ≡ Stop.Limit }
+    requires told { IsTold told (next_stores_of machine.old.body.ram machine.old.active) }
+    ensures answer { result ≡ goes_on stop.new }
+    ensures step { Advances machine.old machine.new history.old history.new
+        (machine_beside I.left I.faults O.held O.faults T.held T.faults D.state machine.old.body machine.old.active outside.old)
+        (machine_beside I.left I.faults O.held O.faults T.held T.faults D.state machine.new.body machine.new.active outside.new) stop.new }
+    ensures same { AreSame outside.old outside.new }
+{
+    match told {
+        Told::Nowhere => advance_by(machine, history, outside, stop, &no_stores()),
+        Told::There(reach) => advance_by(machine, history, outside, stop, &plain(reach)),
+        Told::Unknown => advance_storing(machine, history, outside, stop),
+    }
+}
+
+/// The same of a step that may store, as has to be looked at further.
 #[inline(never)]
 fn advance_storing<'i, 'o, 't, 'd, I: Source, O: Sink, T: Sink, D: Devices>(
     machine: &mut Machine,

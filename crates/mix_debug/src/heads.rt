@@ -20,6 +20,8 @@ const SLOTS: usize = MOST_HEADS + 1;
 pub struct Heads {
     slots: Vec<Head>,
     first: usize,
+    /// The slot before that one, where the next step is prepared.
+    next: usize,
     count: usize,
 }
 
@@ -40,6 +42,7 @@ impl Heads {
         Ok(Heads {
             slots: vec![in alloc; none; SLOTS]?,
             first: 0,
+            next: SLOTS - 1,
             count: 0,
         })
     }
@@ -61,8 +64,7 @@ impl Heads {
         ensures same { heads_in self.new ≡ heads_in self.old }
         ensures ready { ready_in self.new ≡ file.now }
     {
-        let next = before(self.first);
-        let head = &mut self.slots[next];
+        let head = &mut self.slots[self.next];
         put_file(&mut head.file, file);
     }
 
@@ -71,8 +73,7 @@ impl Heads {
         requires { IsRow self.now }
         ensures { result.now ≡ ready_in self.now }
     {
-        let next = before(self.first);
-        &self.slots[next].file
+        &self.slots[self.next].file
     }
 
     /// Puts a step in front whose register file was written before. Where as many are held as can be, the oldest is
@@ -83,14 +84,15 @@ impl Heads {
         ensures row { IsRow self.new }
         ensures pushed { heads_in self.new ≡ take MOST_HEADS (head_with (ready_in self.old) effect ∷ heads_in self.old) }
     {
-        let next = before(self.first);
-        let head = &mut self.slots[next];
+        let first = self.next;
+        let head = &mut self.slots[first];
         head.top = effect.top;
         head.frame = effect.frame;
         head.block = effect.block;
         head.runs = effect.runs;
         head.olds = effect.olds;
-        self.first = next;
+        self.first = first;
+        self.next = before(first);
         if self.count < MOST_HEADS {
             self.count += 1;
         }
@@ -130,6 +132,7 @@ impl Heads {
         ensures left { heads_in self.new ≡ drop 1 (heads_in self.old) }
     {
         let first = self.first;
+        self.next = first;
         self.first = after(first);
         self.count -= 1;
         self.slots[first]

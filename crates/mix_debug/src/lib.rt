@@ -12,6 +12,7 @@ mod head;
 mod heads;
 mod history;
 mod laws;
+mod olds;
 mod past;
 mod runs;
 mod step;

@@ -9,6 +9,7 @@ ghost use Rattle.mix_debug.specs.Pasts.{IsPast, entries_in};
 
 use crate::head::{BlockChange, Effect, FrameChange, Head, Span};
 use crate::heads::Heads;
+use crate::olds::Olds;
 use crate::runs::push_in;
 use crate::undo::undo_runs;
 use big_memory::Ram;
@@ -28,7 +29,7 @@ const MOST_SPANS: usize = 131_072;
 pub struct Past {
     heads: Heads,
     spans: HeapCircularBuffer<Span>,
-    olds: HeapCircularBuffer<u8>,
+    olds: Olds,
     /// Whether there is room for all steps that stand in the rings.
     trimmed: bool,
 }
@@ -50,7 +51,7 @@ impl Past {
         Ok(Past {
             heads: Heads::new(alloc, file)?,
             spans: HeapCircularBuffer::with_capacity(alloc, MOST_SPANS)?,
-            olds: HeapCircularBuffer::with_capacity(alloc, ROOM as usize)?,
+            olds: Olds::new(alloc)?,
             trimmed: true,
         })
     }

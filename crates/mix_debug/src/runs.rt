@@ -1,10 +1,16 @@
 // The runs of bytes that a step changed: put in front of those of earlier steps, and counted.
 ghost use Rattle.std.specs.Prelude.{◌≡◌, ◌+◌, ◌≤◌, ◌++◌, length, take};
+ghost use Rattle.std.specs.Bool.{OnTrue};
 ghost use Rattle.mix_debug.specs.Runs.{olds_of, runs_in};
+ghost use Rattle.mix_debug.specs.Longs.{AreOneRun, IsLong};
 ghost use Rattle.mix_debug.specs.Entries.{closed, spans_of, started};
 
 use crate::head::Span;
+use crate::olds::Olds;
 use circular_buffer::HeapCircularBuffer;
+
+/// How many bytes a long has.
+const LONG: usize = 4;
 
 /// How many runs of bytes changed, and how many bytes they have.
 #[derive(Clone, Copy)]
@@ -17,7 +23,7 @@ pub struct Changes {
 #[inline(always)]
 pub fn push_in(
     spans: &mut HeapCircularBuffer<Span>,
-    olds: &mut HeapCircularBuffer<u8>,
+    olds: &mut Olds,
     old: &[u8],
     new: &[u8],
     low: usize,
@@ -37,17 +43,53 @@ pub fn push_in(
     ensures old_room { olds.new.capacity ≡ olds.old.capacity }
 {
     if low == high {
-        Changes { runs: 0, bytes: 0 }
-    } else {
-        push_changes(spans, olds, old, new, low, high)
+        return Changes { runs: 0, bytes: 0 };
     }
+    if is_long(old, new, low, high) {
+        olds.push_long(&old[low..high]);
+        spans.push_front(Span {
+            at: low as u32,
+            count: LONG as u32,
+        });
+        return Changes {
+            runs: 1,
+            bytes: LONG as u32,
+        };
+    }
+    push_changes(spans, olds, old, new, low, high)
+}
+
+/// Whether [`low`, `high`) is a long all of whose bytes changed, as most have that are stored.
+#[inline(always)]
+fn is_long(old: &[u8], new: &[u8], low: usize, high: usize) -> bool
+    requires order { low ≤ high }
+    requires old_long { high ≤ length old.now }
+    requires new_long { high ≤ length new.now }
+    ensures { OnTrue result (IsLong low high old.now new.now) }
+{
+    high - low == LONG && all_other(&old[low..high], &new[low..high])
+}
+
+/// Whether the bytes of a long are others than those of another one.
+#[inline(always)]
+fn all_other(old: &[u8], new: &[u8]) -> bool
+    requires old_long { length old.now ≡ LONG }
+    requires new_long { length new.now ≡ LONG }
+    ensures { OnTrue result (AreOneRun old.now new.now) }
+{
+    'bytes: for k in 0..LONG {
+        if old[k] == new[k] {
+            return false;
+        }
+    }
+    true
 }
 
 /// Puts the changed bytes of [`low`, `high`) in front of those that are kept, the lowest run first.
 #[inline(always)]
 fn push_changes(
     spans: &mut HeapCircularBuffer<Span>,
-    olds: &mut HeapCircularBuffer<u8>,
+    olds: &mut Olds,
     old: &[u8],
     new: &[u8],
     low: usize,

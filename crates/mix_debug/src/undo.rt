@@ -7,6 +7,7 @@ ghost use Rattle.mix_debug.specs.Runs.{undone};
 ghost use Rattle.mix_debug.specs.Entries.{IsFrame, IsInside, count_of, heap_before, marks_before, runs_of};
 
 use crate::head::{BlockChange, FrameChange, Span};
+use crate::olds::Olds;
 use big_memory::Ram;
 use circular_buffer::HeapCircularBuffer;
 use host_heap::Heap;
@@ -17,7 +18,7 @@ const WORD: usize = 4;
 /// Takes the first runs out of the rings, and writes them to both memories.
 pub fn undo_runs(
     spans: &mut HeapCircularBuffer<Span>,
-    olds: &mut HeapCircularBuffer<u8>,
+    olds: &mut Olds,
     runs: u32,
     ram: &mut Ram,
     copy: &mut [u8],
@@ -46,7 +47,7 @@ pub fn undo_runs(
 }
 
 /// Takes the bytes of one run out of the ring, and writes them to memory.
-fn undo_run(olds: &mut HeapCircularBuffer<u8>, span: Span, ram: &mut Ram)
+fn undo_run(olds: &mut Olds, span: Span, ram: &mut Ram)
     requires whole { span.count ≤ length olds.old.items }
     requires inside { span.at + span.count ≤ length ram.old.bytes }
     ensures olds { olds.new ≡ buffer (drop span.count olds.old.items) olds.old.capacity }

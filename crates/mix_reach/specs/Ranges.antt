@@ -1,7 +1,9 @@
 -- Ranges of bytes outside of which none changes.
-use Rattle.std.specs.Prelude.{◌≡◌, ◌⊎◌, ℕ, ◌+◌, ◌<◌, ◌≤◌, List, length, slice_index}
+use Rattle.std.specs.Prelude.{◌≡◌, ◌⊎◌, ℕ, ◌+◌, ◌<◌, ◌≤◌, List, length, slice_index, Option, Some, None}
 use Rattle.mix_reach.specs.declared.reach.Reach.{Reach}
 use Rattle.mix_reach.specs.declared.reach.Stores.{Stores}
+use Rattle.mix_reach.specs.declared.reach.Told.{Told}
+use Rattle.mix_reach.specs.declared.reach.Told.TheVariants.{Nowhere, There, Unknown}
 
 -- the n bytes at an address, and none
 abbrev pub range : ℕ → ℕ → Reach
@@ -16,6 +18,17 @@ plain w = record { reach = w; filled = 0 }
 
 abbrev pub filling : ℕ → Stores
 filling n = record { reach = nothing; filled = n }
+
+-- where it stores, if anywhere
+abbrev pub stored_at : Option Reach → Stores
+stored_at (Some w) = plain w
+stored_at None = plain nothing
+
+-- what was told of where it stores is so
+abbrev pub IsTold : Told → Stores → Type 0
+IsTold Nowhere s = s ≡ plain nothing
+IsTold (There w) s = s ≡ plain w
+IsTold Unknown s = Unit {0}
 
 -- as many bytes, of which those outside a range are the same
 pub record Beside (w : Reach) (old new : List ℕ) : Type 0 where

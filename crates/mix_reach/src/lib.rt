@@ -1,7 +1,7 @@
 //! Which bytes of memory a step of the mixed machine may change, told without looking at memory.
 //!
-//! `next_stores` tells it before the step, by its instruction, and `is_still` for many instructions at once that they
-//! store nowhere; `step_reach` after it, where it made a frame or gave one up. All other bytes stay, as `reach_laws` says.
+//! `next_stores` tells it before the step, by its instruction, and `told_68k` and `told_ppc` at once for many instructions;
+//! `step_reach` after it, where it made a frame or gave one up. All other bytes stay, as `reach_laws` says.
 #![tactic(auto)]
 
 mod laws;
@@ -12,5 +12,5 @@ mod reach;
 mod steps;
 
 pub use laws::reach_laws;
-pub use reach::{Reach, Stores, no_stores};
-pub use steps::{is_still, next_stores, step_reach};
+pub use reach::{Reach, Stores, Told, no_stores, plain};
+pub use steps::{next_stores, step_reach, told_68k, told_ppc};

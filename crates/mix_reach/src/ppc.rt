@@ -1,69 +1,42 @@
 // Where an instruction of PowerPC code stores.
-ghost use Rattle.std.specs.Prelude.{◌≡◌, ◌<◌, false};
+ghost use Rattle.std.specs.Prelude.{◌≡◌};
 ghost use Rattle.ppc_isa.specs.Fields.{fields_of};
 ghost use Rattle.ppc_isa.specs.Rows.{decoded};
 ghost use Rattle.ppc_effects.specs.Storage.{index_address as index_address_of, offset_address as offset_address_of};
-ghost use Rattle.mix_reach.specs.Ranges.{nothing as nothing_of, plain, range as range_of};
+ghost use Rattle.mix_reach.specs.Ranges.{range as range_of, stored_at};
 ghost use Rattle.mix_reach.specs.RowsPpc.{string_at as string_at_of};
 ghost use Rattle.mix_reach.specs.Steps.{word_decoded};
 
-use crate::reach::{Reach, nothing, range};
+use crate::reach::{Reach, range};
 use mix_bits::onward;
 use ppc_alu::xer_string_length;
 use ppc_effects::base;
 use ppc_isa::{OpPpc, RegsPpc, a_of, b_of, offset_of, op_of, shift_of, string_length};
 
-/// Where the instruction of a word stores, if it is done.
+/// Where the instruction of a word stores, if it is done; None where it stores nowhere.
 #[inline(always)]
-pub fn stores(regs: &RegsPpc, word: u32) -> Reach
-    ensures { word_decoded regs.now (decoded word) ≡ plain result }
+pub fn stores(regs: &RegsPpc, word: u32) -> Option<Reach>
+    ensures { word_decoded regs.now (decoded word) ≡ stored_at result }
 {
     match op_of(word) {
-        OpPpc::Stw => at_offset(regs, word, 4),
-        OpPpc::Stwu => at_offset(regs, word, 4),
-        OpPpc::Stb => at_offset(regs, word, 4),
-        OpPpc::Stbu => at_offset(regs, word, 4),
-        OpPpc::Sth => at_offset(regs, word, 4),
-        OpPpc::Sthu => at_offset(regs, word, 4),
-        OpPpc::Stmw => at_offset(regs, word, 128),
-        OpPpc::Stwx => at_index(regs, word),
-        OpPpc::Stwux => at_index(regs, word),
-        OpPpc::Stbx => at_index(regs, word),
-        OpPpc::Stbux => at_index(regs, word),
-        OpPpc::Sthx => at_index(regs, word),
-        OpPpc::Sthux => at_index(regs, word),
-        OpPpc::Stwbrx => at_index(regs, word),
-        OpPpc::Sthbrx => at_index(regs, word),
-        OpPpc::Stswi => string_at(base(regs, a_of(word)), string_length(shift_of(word))),
-        OpPpc::Stswx => string_at(index_address(regs, word), xer_string_length(regs.xer)),
-        _ => nothing(),
-    }
-}
-
-/// Whether the instruction of a word stores, or may.
-#[inline(always)]
-pub fn is_storing(word: u32) -> bool
-    ensures { (r : RegsPpc) → result ≡ false → word_decoded r (decoded word) ≡ plain nothing_of }
-{
-    match op_of(word) {
-        OpPpc::Stw => true,
-        OpPpc::Stwu => true,
-        OpPpc::Stb => true,
-        OpPpc::Stbu => true,
-        OpPpc::Sth => true,
-        OpPpc::Sthu => true,
-        OpPpc::Stmw => true,
-        OpPpc::Stwx => true,
-        OpPpc::Stwux => true,
-        OpPpc::Stbx => true,
-        OpPpc::Stbux => true,
-        OpPpc::Sthx => true,
-        OpPpc::Sthux => true,
-        OpPpc::Stwbrx => true,
-        OpPpc::Sthbrx => true,
-        OpPpc::Stswi => true,
-        OpPpc::Stswx => true,
-        _ => false,
+        OpPpc::Stw => Some(at_offset(regs, word, 4)),
+        OpPpc::Stwu => Some(at_offset(regs, word, 4)),
+        OpPpc::Stb => Some(at_offset(regs, word, 4)),
+        OpPpc::Stbu => Some(at_offset(regs, word, 4)),
+        OpPpc::Sth => Some(at_offset(regs, word, 4)),
+        OpPpc::Sthu => Some(at_offset(regs, word, 4)),
+        OpPpc::Stmw => Some(at_offset(regs, word, 128)),
+        OpPpc::Stwx => Some(at_index(regs, word)),
+        OpPpc::Stwux => Some(at_index(regs, word)),
+        OpPpc::Stbx => Some(at_index(regs, word)),
+        OpPpc::Stbux => Some(at_index(regs, word)),
+        OpPpc::Sthx => Some(at_index(regs, word)),
+        OpPpc::Sthux => Some(at_index(regs, word)),
+        OpPpc::Stwbrx => Some(at_index(regs, word)),
+        OpPpc::Sthbrx => Some(at_index(regs, word)),
+        OpPpc::Stswi => Some(string_at(base(regs, a_of(word)), string_length(shift_of(word)))),
+        OpPpc::Stswx => Some(string_at(index_address(regs, word), xer_string_length(regs.xer))),
+        _ => None,
     }
 }
 

@@ -1,5 +1,5 @@
 ghost use Rattle.std.specs.Prelude.{◌≡◌};
-ghost use Rattle.mix_reach.specs.Ranges.{filling as filling_of, nothing as nothing_of, plain as plain_of, range as range_of};
+ghost use Rattle.mix_reach.specs.Ranges.{filling as filling_of, nothing as nothing_of, plain as plain_of, range as range_of, stored_at as stored_at_of};
 
 /// A range of bytes outside of which none changes, from the address of the first up to the one behind the last. It may
 /// reach beyond memory.
@@ -18,9 +18,20 @@ pub struct Stores {
     pub filled: u32,
 }
 
+/// What is told of where a step stores.
+#[derive(Clone, Copy)]
+pub enum Told {
+    /// Nowhere, and in no block that it makes.
+    Nowhere,
+    /// There, and in no block that it makes.
+    There(Reach),
+    /// That has to be looked at further.
+    Unknown,
+}
+
 /// In a range.
 #[inline(always)]
-pub(crate) fn plain(reach: Reach) -> Stores
+pub fn plain(reach: Reach) -> Stores
     ensures { result ≡ plain_of reach }
 {
     Stores { reach, filled: 0 }
@@ -32,6 +43,17 @@ pub fn no_stores() -> Stores
     ensures { result ≡ plain_of nothing_of }
 {
     plain(nothing())
+}
+
+/// Where a step stores, if anywhere.
+#[inline(always)]
+pub(crate) fn stored_at(reach: Option<Reach>) -> Stores
+    ensures { result ≡ stored_at_of reach }
+{
+    match reach {
+        Some(reach) => plain(reach),
+        None => no_stores(),
+    }
 }
 
 /// In a block that is made.

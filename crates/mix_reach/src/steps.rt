@@ -4,7 +4,7 @@ ghost use Rattle.big_memory.specs.Map.{host_code as host_code_of};
 ghost use Rattle.toolbox.specs.Functions.{trap_number};
 ghost use Rattle.toolbox.specs.Registers.{operands_of};
 ghost use Rattle.toolbox.specs.declared.function.Function.TheVariants.{BlockMove, NewPtrClear};
-ghost use Rattle.mix_reach.specs.Ranges.{nothing as nothing_of, plain as plain_of, range as range_of};
+ghost use Rattle.mix_reach.specs.Ranges.{IsTold, nothing as nothing_of, plain as plain_of, range as range_of, stored_at as stored_at_of};
 ghost use Rattle.mix_reach.specs.Steps.{decoded_stores as decoded_stores_of, frame_given_up as frame_given_up_of, frame_made as frame_made_of, host_stores as host_stores_of, next_stores as next_stores_of, reach, word_stores as word_stores_of};
 ghost use Rattle.big_memory.specs.Memory.{loaded};
 ghost use Rattle.m68_isa.specs.Decode.{decoded};
@@ -13,7 +13,7 @@ ghost use Rattle.mix_bits.specs.declared.size.Size.TheVariants.{Four};
 ghost use Rattle.switch_frame.specs.declared.active.Active.TheVariants.{M68, Ppc};
 
 use crate::quick::quick_stores;
-use crate::reach::{Reach, Stores, filling, nothing, plain, range};
+use crate::reach::{Reach, Stores, Told, filling, nothing, plain, range, stored_at};
 use crate::{m68, ppc, quick};
 use big_memory::{Ram, host_code, in_gate_page};
 use m68_ea::has_five;
@@ -31,6 +31,9 @@ const NEW_FAT_DESCRIPTOR: u32 = 1;
 const NEW_CLEAR: u32 = 5;
 
 const BLOCK_MOVE: u32 = 7;
+
+/// Where the addresses begin that lie above the gate page.
+const CODE_BEGIN: u32 = 0x2000;
 
 /// How many bytes a switch frame has at most.
 const MOST_FRAME: usize = 192;
@@ -52,49 +55,29 @@ pub fn next_stores(ram: &Ram, operations: &Operations, active: &Active) -> Store
     }
 }
 
-/// Whether the next step of code stores nowhere and makes no block, as its first word tells. Where it is false, it may.
+/// What is told at once of where the next step of 68K code stores.
 #[inline(always)]
-pub fn is_still(ram: &Ram, operations: &Operations, active: &Active) -> bool
-    ensures { result ≡ true → next_stores_of ram.now active.now ≡ plain_of nothing_of }
+pub fn told_68k(ram: &Ram, operations: &Operations, regs: &Regs68) -> Told
+    ensures { IsTold result (next_stores_of ram.now (M68 regs.now)) }
 {
-    match active {
-        Active::M68(regs) => is_still_68k(ram, operations, regs),
-        Active::Ppc(regs) => is_still_ppc(ram, regs),
-    }
-}
-
-/// The same for 68K code.
-#[inline(always)]
-fn is_still_68k(ram: &Ram, operations: &Operations, regs: &Regs68) -> bool
-    ensures { result ≡ true → decoded_stores_of regs.now (decoded (words_at ram.now regs.now.pc)) ≡ plain_of nothing_of }
-{
-    if has_five(ram, regs.pc) {
-        quick::is_still(ram, operations, regs)
+    if has_five(ram, regs.pc) && quick::is_still(ram, operations, regs) {
+        Told::Nowhere
     } else {
-        false
+        Told::Unknown
     }
 }
 
-/// The same for PowerPC code.
+/// The same of PowerPC code, all of whose instructions tell it.
 #[inline(always)]
-fn is_still_ppc(ram: &Ram, regs: &RegsPpc) -> bool
-    ensures { result ≡ true → next_stores_of ram.now (Ppc regs.now) ≡ plain_of nothing_of }
+pub fn told_ppc(ram: &Ram, regs: &RegsPpc) -> Told
+    ensures { IsTold result (next_stores_of ram.now (Ppc regs.now)) }
 {
-    if in_gate_page(regs.pc) {
-        false
-    } else {
-        is_still_word(ram, regs)
+    if regs.pc < CODE_BEGIN {
+        return Told::Unknown;
     }
-}
-
-/// The same for the word of PowerPC code.
-#[inline(always)]
-fn is_still_word(ram: &Ram, regs: &RegsPpc) -> bool
-    ensures { result ≡ true → word_stores_of regs.now (loaded ram.now regs.now.pc Four) ≡ plain_of nothing_of }
-{
-    match ram.load_long(regs.pc) {
-        Ok(word) => !ppc::is_storing(word),
-        Err(_) => true,
+    match word_reach(ram, regs) {
+        Some(reach) => Told::There(reach),
+        None => Told::Nowhere,
     }
 }
 
@@ -131,9 +114,17 @@ fn instruction_stores(ram: &Ram, regs: &Regs68, active: &Active) -> Stores
 fn word_stores(ram: &Ram, regs: &RegsPpc) -> Stores
     ensures { result ≡ word_stores_of regs.now (loaded ram.now regs.now.pc Four) }
 {
+    stored_at(word_reach(ram, regs))
+}
+
+/// Where the word of PowerPC code stores; None where it stores nowhere.
+#[inline(always)]
+fn word_reach(ram: &Ram, regs: &RegsPpc) -> Option<Reach>
+    ensures { word_stores_of regs.now (loaded ram.now regs.now.pc Four) ≡ stored_at_of result }
+{
     match ram.load_long(regs.pc) {
-        Ok(word) => plain(ppc::stores(regs, word)),
-        Err(_) => plain(nothing()),
+        Ok(word) => ppc::stores(regs, word),
+        Err(_) => None,
     }
 }
 

@@ -27,7 +27,7 @@ bytes-preserved-then-old-at c =
     let more = pushed-down-other c.bytes.at c.args.high c.bytes.count c.args.spans.now.capacity c.args.olds.now.capacity c.args.old.now c.args.new.now
     c.bytes.spans.items c.args.spans.now.items c.bytes.olds.items c.args.olds.now.items
     (omega (arith, c.bytes-test.true)) below c.requires.old_long c.requires.new_long c.if-old-at.true c.bytes.invariant.pushed in
-    let ring : c.push_front.new.self ≡ buffer (take c.bytes.olds.capacity (Rattle.std.proofs.Common.◌∷◌ (Rattle.std.proofs.Common.get_or c.args.old.now (c.bytes.at - 1) 0) c.bytes.olds.items)) c.bytes.olds.capacity = c.push_front.ensures.items in
+    let ring : c.push_front.new.self ≡ buffer (take c.bytes.olds.capacity (Rattle.std.proofs.Common.◌∷◌ (Rattle.std.proofs.Common.get_or c.args.old.now (c.bytes.at - 1) 0) c.bytes.olds.items)) c.bytes.olds.capacity = c.push_front.ensures in
     let items = ap (λ (b : Buffer ℕ). b.items) ring ∙ ap (λ n. take n (Rattle.std.proofs.Common.◌∷◌ (Rattle.std.proofs.Common.get_or c.args.old.now (c.bytes.at - 1) 0) c.bytes.olds.items)) c.bytes.invariant.old_room in
     let count : suc c.bytes.count ≡ c.bytes.count + 1 = omega arith in
     record {

@@ -69,4 +69,3 @@ returns-in_default c =
     ap (word_decoded c.args.regs.now) c.op_of.ensures.makes
     ∙ none_told c.op_of.result c.args.regs.now (fields_of c.args.word)
     (others_keep c.op_of.result c.in_default.not-Stw c.in_default.not-Stwu c.in_default.not-Stb c.in_default.not-Stbu c.in_default.not-Sth c.in_default.not-Sthu c.in_default.not-Stmw c.in_default.not-Stwx c.in_default.not-Stwux c.in_default.not-Stbx c.in_default.not-Stbux c.in_default.not-Sthx c.in_default.not-Sthux c.in_default.not-Stwbrx c.in_default.not-Sthbrx c.in_default.not-Stswi c.in_default.not-Stswx)
-    ∙ ap plain (sym c.nothing.ensures)

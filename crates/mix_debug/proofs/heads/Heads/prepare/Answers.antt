@@ -9,7 +9,7 @@ returns-clause-same c =
     let row = c.requires in
     let slots = c.args.self.now.slots.items in
     let written : Head = record c.index_mut-head.result.now { file = c.put_file.new.to } in
-    ap (λ k. window c.args.self.now.first c.args.self.now.count (set slots k written)) c.before-next.ensures.is
+    ap (λ k. window c.args.self.now.first c.args.self.now.count (set slots k written)) row.next
     ∙ beside-slots 10700 slots row.slots c.args.self.now.first c.args.self.now.count written row.first (omega (arith, row.count))
 
 pub returns-clause-ready : goal.returns-clause-ready
@@ -17,5 +17,5 @@ returns-clause-ready c =
     let row = c.requires in
     let slots = c.args.self.now.slots.items in
     let written : Head = record c.index_mut-head.result.now { file = c.put_file.new.to } in
-    let inside : c.before-next.result < length slots = omega (arith, row.slots, c.before-next.ensures.inside) in
-    ap file_in (set-read slots c.before-next.result (before c.args.self.now.first) written inside (sym c.before-next.ensures.is)) ∙ c.put_file.ensures
+    let inside : c.args.self.now.next < length slots = omega (arith, row.slots, row.inside) in
+    ap file_in (set-read slots c.args.self.now.next (before c.args.self.now.first) written inside (sym row.next)) ∙ c.put_file.ensures

@@ -13,12 +13,12 @@ returns-then-self-lt-MOST_HEADS-clause-pushed c =
     let slots = c.args.self.now.slots.items in
     let written : Head = head_with c.index_mut-head.result.now.file c.args.effect in
     let counted : length (heads_in c.args.self.now) ≡ c.args.self.now.count = length-window c.args.self.now.first c.args.self.now.count slots (omega (arith, row.slots, row.first)) (omega (arith, row.slots, row.count)) in
-    let inside : c.before-next.result < length slots = omega (arith, row.slots, c.before-next.ensures.inside) in
-    let read : slice_get slots c.before-next.result ≡ Some c.index_mut-head.result.now = was-read slots c.before-next.result c.index_mut-head.result.now inside c.index_mut-head.ensures.value in
+    let inside : c.args.self.now.next < length slots = omega (arith, row.slots, row.inside) in
+    let read : slice_get slots c.args.self.now.next ≡ Some c.index_mut-head.result.now = was-read slots c.args.self.now.next c.index_mut-head.result.now inside c.index_mut-head.ensures.value in
     let file : file_in (slice_get slots (before c.args.self.now.first)) ≡ c.index_mut-head.result.now.file =
-    ap (λ k. file_in (slice_get slots k)) (sym c.before-next.ensures.is) ∙ ap file_in read in
-    let more : window c.before-next.result (c.args.self.now.count + 1) (set slots c.before-next.result written) ≡ head_with (ready_in c.args.self.now) c.args.effect ∷ heads_in c.args.self.now =
-    ap (λ k. window k (c.args.self.now.count + 1) (set slots k written)) c.before-next.ensures.is
+    ap (λ k. file_in (slice_get slots k)) (sym row.next) ∙ ap file_in read in
+    let more : window c.args.self.now.next (c.args.self.now.count + 1) (set slots c.args.self.now.next written) ≡ head_with (ready_in c.args.self.now) c.args.effect ∷ heads_in c.args.self.now =
+    ap (λ k. window k (c.args.self.now.count + 1) (set slots k written)) row.next
     ∙ push-slots 10700 slots row.slots c.args.self.now.first c.args.self.now.count written row.first (omega (arith, row.count))
     ∙ ap (λ (f : Active). head_with f c.args.effect ∷ heads_in c.args.self.now) (sym file) in
     more ∙ sym (take_all 10700 (head_with (ready_in c.args.self.now) c.args.effect ∷ heads_in c.args.self.now) (omega (arith, counted, c.if-self-lt-MOST_HEADS.true)))
@@ -29,14 +29,14 @@ returns-else-self-lt-MOST_HEADS-clause-pushed c =
     let slots = c.args.self.now.slots.items in
     let written : Head = head_with c.index_mut-head.result.now.file c.args.effect in
     let counted : length (heads_in c.args.self.now) ≡ c.args.self.now.count = length-window c.args.self.now.first c.args.self.now.count slots (omega (arith, row.slots, row.first)) (omega (arith, row.slots, row.count)) in
-    let inside : c.before-next.result < length slots = omega (arith, row.slots, c.before-next.ensures.inside) in
-    let read : slice_get slots c.before-next.result ≡ Some c.index_mut-head.result.now = was-read slots c.before-next.result c.index_mut-head.result.now inside c.index_mut-head.ensures.value in
+    let inside : c.args.self.now.next < length slots = omega (arith, row.slots, row.inside) in
+    let read : slice_get slots c.args.self.now.next ≡ Some c.index_mut-head.result.now = was-read slots c.args.self.now.next c.index_mut-head.result.now inside c.index_mut-head.ensures.value in
     let file : file_in (slice_get slots (before c.args.self.now.first)) ≡ c.index_mut-head.result.now.file =
-    ap (λ k. file_in (slice_get slots k)) (sym c.before-next.ensures.is) ∙ ap file_in read in
-    let more : window c.before-next.result (c.args.self.now.count + 1) (set slots c.before-next.result written) ≡ head_with (ready_in c.args.self.now) c.args.effect ∷ heads_in c.args.self.now =
-    ap (λ k. window k (c.args.self.now.count + 1) (set slots k written)) c.before-next.ensures.is
+    ap (λ k. file_in (slice_get slots k)) (sym row.next) ∙ ap file_in read in
+    let more : window c.args.self.now.next (c.args.self.now.count + 1) (set slots c.args.self.now.next written) ≡ head_with (ready_in c.args.self.now) c.args.effect ∷ heads_in c.args.self.now =
+    ap (λ k. window k (c.args.self.now.count + 1) (set slots k written)) row.next
     ∙ push-slots 10700 slots row.slots c.args.self.now.first c.args.self.now.count written row.first (omega (arith, row.count))
     ∙ ap (λ (f : Active). head_with f c.args.effect ∷ heads_in c.args.self.now) (sym file) in
     let full : c.args.self.now.count ≡ 10700 = omega (arith, row.count, c.if-self-lt-MOST_HEADS.false) in
-    ap (λ n. window c.before-next.result n (set slots c.before-next.result written)) full
-    ∙ sym (window-fewer c.before-next.result 10700 (c.args.self.now.count + 1) (set slots c.before-next.result written) (omega (arith, full))) ∙ ap (take 10700) more
+    ap (λ n. window c.args.self.now.next n (set slots c.args.self.now.next written)) full
+    ∙ sym (window-fewer c.args.self.now.next 10700 (c.args.self.now.count + 1) (set slots c.args.self.now.next written) (omega (arith, full))) ∙ ap (take 10700) more

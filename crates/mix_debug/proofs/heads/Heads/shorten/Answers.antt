@@ -7,7 +7,7 @@ pub returns-clause-row : goal.returns-clause-row
 returns-clause-row c =
     let row = c.requires.row in
     let counted : length (heads_in c.args.self.now) ≡ c.args.self.now.count = length-window c.args.self.now.first c.args.self.now.count c.args.self.now.slots.items (omega (arith, row.slots, row.first)) (omega (arith, row.slots, row.count)) in
-    record { slots = row.slots; first = row.first; count = omega (arith, counted, c.requires.some, row.count) }
+    record { slots = row.slots; first = row.first; next = row.next; inside = row.inside; count = omega (arith, counted, c.requires.some, row.count) }
 
 pub returns-clause-left : goal.returns-clause-left
 returns-clause-left c =
