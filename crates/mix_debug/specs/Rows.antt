@@ -25,7 +25,11 @@ abbrev pub file_in : Option Head → Active
 file_in None = M68 cleared_registers
 file_in (Some head) = head.file
 
--- the register file that stands in the slot before the newest step
+-- what stands in the slot before the newest step
+abbrev pub waiting_in : Heads → Option Head
+waiting_in h = slice_get h.slots.items (before h.first)
+
+-- the register file that stands there
 abbrev pub ready_in : Heads → Active
 ready_in h = file_in (slice_get h.slots.items (before h.first))
 

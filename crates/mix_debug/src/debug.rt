@@ -294,7 +294,7 @@ fn advance_by<'i, 'o, 't, 'd, I: Source, O: Sink, T: Sink, D: Devices>(
     ensures same { AreSame outside.old outside.new }
 {
     let top = machine.body.top;
-    history.prepare(&machine.active);
+    history.prepare(&machine.active, top);
     let on = step_beside(machine, outside, stop);
     if on {
         history.keep(machine, top, next);

@@ -1,7 +1,8 @@
 // What is kept of steps beside the bytes that they changed, in a fixed number of slots that are taken in turn.
 ghost use Rattle.std.specs.Prelude.{◌≡◌, ◌<◌, ◌≤◌, ◌∷◌, [], IfOk, Some, drop, length, slice_get, take};
-ghost use Rattle.mix_debug.specs.Entries.{head_with};
-ghost use Rattle.mix_debug.specs.Rows.{IsRow, before as before_of, heads_in, ready_in};
+ghost use Rattle.mix_debug.specs.declared.head.Head.{Head};
+ghost use Rattle.mix_debug.specs.Entries.{head_with, still as still_of};
+ghost use Rattle.mix_debug.specs.Rows.{IsRow, before as before_of, heads_in, ready_in, waiting_in};
 
 use crate::head::{BlockChange, Effect, FrameChange, Head};
 use m68_isa::Regs68;
@@ -56,9 +57,23 @@ impl Heads {
         self.count
     }
 
+    /// Writes registers where the next step will stand, and where the innermost frame begins before it, as of a step that
+    /// changes nothing but these.
+    #[inline(always)]
+    pub fn prepare(&mut self, file: &Active, top: u32)
+        requires { IsRow self.old }
+        ensures row { IsRow self.new }
+        ensures same { heads_in self.new ≡ heads_in self.old }
+        ensures ready { ready_in self.new ≡ file.now }
+        ensures waits { waiting_in self.new ≡ Some (head_with (ready_in self.new) (still_of top)) }
+    {
+        self.write_file(file);
+        self.write(still(top));
+    }
+
     /// Writes a register file where the next step will stand.
     #[inline(always)]
-    pub fn prepare(&mut self, file: &Active)
+    fn write_file(&mut self, file: &Active)
         requires { IsRow self.old }
         ensures row { IsRow self.new }
         ensures same { heads_in self.new ≡ heads_in self.old }
@@ -66,6 +81,23 @@ impl Heads {
     {
         let head = &mut self.slots[self.next];
         put_file(&mut head.file, file);
+    }
+
+    /// Writes there what the step does, beside its registers.
+    #[inline(always)]
+    fn write(&mut self, effect: Effect)
+        requires { IsRow self.old }
+        ensures row { IsRow self.new }
+        ensures same { heads_in self.new ≡ heads_in self.old }
+        ensures ready { ready_in self.new ≡ ready_in self.old }
+        ensures waits { waiting_in self.new ≡ Some (head_with (ready_in self.old) effect) }
+    {
+        let head = &mut self.slots[self.next];
+        head.top = effect.top;
+        head.frame = effect.frame;
+        head.block = effect.block;
+        head.runs = effect.runs;
+        head.olds = effect.olds;
     }
 
     /// The register file that was written there.
@@ -84,13 +116,18 @@ impl Heads {
         ensures row { IsRow self.new }
         ensures pushed { heads_in self.new ≡ take MOST_HEADS (head_with (ready_in self.old) effect ∷ heads_in self.old) }
     {
+        self.write(effect);
+        self.push_prepared();
+    }
+
+    /// Puts the step in front that was written.
+    #[inline(always)]
+    pub fn push_prepared(&mut self)
+        requires { IsRow self.old }
+        ensures row { IsRow self.new }
+        ensures pushed { (h : Head) → waiting_in self.old ≡ Some h → heads_in self.new ≡ take MOST_HEADS (h ∷ heads_in self.old) }
+    {
         let first = self.next;
-        let head = &mut self.slots[first];
-        head.top = effect.top;
-        head.frame = effect.frame;
-        head.block = effect.block;
-        head.runs = effect.runs;
-        head.olds = effect.olds;
         self.first = first;
         self.next = before(first);
         if self.count < MOST_HEADS {
@@ -136,6 +173,20 @@ impl Heads {
         self.first = after(first);
         self.count -= 1;
         self.slots[first]
+    }
+}
+
+/// What a step does that changes nothing but registers.
+#[inline(always)]
+fn still(top: u32) -> Effect
+    ensures { result ≡ still_of top }
+{
+    Effect {
+        top,
+        frame: FrameChange::Stays,
+        block: BlockChange::Stays,
+        runs: 0,
+        olds: 0,
     }
 }
 

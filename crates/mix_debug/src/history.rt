@@ -1,9 +1,9 @@
 // What is kept beside a machine: a copy of its memory and of its list of blocks, and the steps that can be taken back.
-ghost use Rattle.std.specs.Prelude.{◌≡◌, ◌<◌, ◌≤◌, ◌∷◌, [], IfOk, length, vec_capacity};
+ghost use Rattle.std.specs.Prelude.{◌≡◌, ◌<◌, ◌≤◌, ◌∷◌, [], IfOk, Some, length, vec_capacity};
 ghost use Rattle.host_heap.specs.Sound.{IsSound as IsSoundHeap};
 ghost use Rattle.host_heap.specs.Space.{block_limit};
-ghost use Rattle.mix_debug.specs.Entries.{Entry, heap_before, within};
-ghost use Rattle.mix_debug.specs.Rows.{ready_in};
+ghost use Rattle.mix_debug.specs.Entries.{Entry, head_with, heap_before, still, within};
+ghost use Rattle.mix_debug.specs.Rows.{ready_in, waiting_in};
 ghost use Rattle.mix_debug.specs.Pasts.{IsPast, entries_in};
 ghost use Rattle.mix_debug.specs.Machines.{IsSound, before};
 ghost use Rattle.mix_debug.specs.Histories.{IsHistory, entry_of};
@@ -56,16 +56,17 @@ impl History {
         self.past.len()
     }
 
-    /// Writes the registers before a step where they are kept if it is done.
+    /// Writes the registers before a step, and where the innermost frame begins, where they are kept if it is done.
     #[inline(always)]
-    pub fn prepare(&mut self, file: &Active)
+    pub fn prepare(&mut self, file: &Active, top: u32)
         requires { IsPast self.old.past }
         ensures past { IsPast self.new.past }
         ensures entries { entries_in self.new.past ≡ entries_in self.old.past }
         ensures beside { self.new ≡ record self.old { past = self.new.past } }
         ensures ready { ready_in self.new.past.heads ≡ file.now }
+        ensures waits { waiting_in self.new.past.heads ≡ Some (head_with (ready_in self.new.past.heads) (still top)) }
     {
-        self.past.prepare(file);
+        self.past.prepare(file, top);
     }
 
     /// Keeps the step that led to a machine from the registers that were written and from the frame that began at `top`. What
@@ -78,6 +79,7 @@ impl History {
         requires same_blocks { SameBlocks self.old.blocks.items machine.now.body.heap.blocks }
         requires room { block_limit ≤ vec_capacity self.old.blocks }
         requires past { IsPast self.old.past }
+        requires waits { waiting_in self.old.past.heads ≡ Some (head_with (ready_in self.old.past.heads) (still top)) }
         requires old_small { top ≤ 16777216 }
         requires new_small { machine.now.body.top ≤ 16777216 }
         ensures copied { self.new.copy.items ≡ machine.now.body.ram.bytes }
@@ -107,6 +109,7 @@ impl History {
         requires blocks { self.old.blocks.items ≡ machine.now.body.heap.blocks }
         requires frames { machine.now.body.top ≡ top }
         requires past { IsPast self.old.past }
+        requires waits { waiting_in self.old.past.heads ≡ Some (head_with (ready_in self.old.past.heads) (still top)) }
         ensures copied { self.new.copy.items ≡ machine.now.body.ram.bytes }
         ensures blocks { self.new.blocks ≡ self.old.blocks }
         ensures past { IsPast self.new.past }
@@ -114,7 +117,7 @@ impl History {
             ≡ within ROOM (entry_of (ready_in self.old.past.heads) top self.old.copy.items self.old.blocks.items machine.now ∷ entries_in self.old.past) }
     {
         if reach.low == reach.high {
-            self.past.keep_still(top);
+            self.past.keep_still();
             return;
         }
         let bytes = machine.body.ram.bytes();

@@ -1,9 +1,9 @@
 // The steps that are kept, in three rings: heads, runs, and old bytes. The newest step stands in front. Older steps than those
 // for which there is room in the history may stand behind them, until they are overwritten or a step is taken back.
-ghost use Rattle.std.specs.Prelude.{◌≡◌, ◌<◌, ◌≤◌, ◌∷◌, [], All, IfOk, length, true};
+ghost use Rattle.std.specs.Prelude.{◌≡◌, ◌<◌, ◌≤◌, ◌∷◌, [], ℕ, All, IfOk, Some, length, true};
 ghost use Rattle.mix_debug.specs.Runs.{runs_in, undone};
 ghost use Rattle.mix_debug.specs.Entries.{IsInside, all_olds, all_spans, effect_of, file_cost as file_cost_of, head_cost, head_with, newest, still, within};
-ghost use Rattle.mix_debug.specs.Rows.{ready_in};
+ghost use Rattle.mix_debug.specs.Rows.{ready_in, waiting_in};
 ghost use Rattle.switch_frame.specs.Records.{isa_of};
 ghost use Rattle.mix_debug.specs.Pasts.{IsPast, entries_in};
 
@@ -64,15 +64,16 @@ impl Past {
         self.fitting().steps as u32
     }
 
-    /// Writes the registers before a step where they are kept if it is done.
+    /// Writes the registers before a step, and where the innermost frame begins, where they are kept if it is done.
     #[inline(always)]
-    pub fn prepare(&mut self, file: &Active)
+    pub fn prepare(&mut self, file: &Active, top: u32)
         requires { IsPast self.old }
         ensures past { IsPast self.new }
         ensures entries { entries_in self.new ≡ entries_in self.old }
         ensures ready { ready_in self.new.heads ≡ file.now }
+        ensures waits { waiting_in self.new.heads ≡ Some (head_with (ready_in self.new.heads) (still top)) }
     {
-        self.heads.prepare(file);
+        self.heads.prepare(file, top);
     }
 
     /// The set of the registers that were written.
@@ -83,22 +84,16 @@ impl Past {
         self.heads.ready().isa()
     }
 
-    /// Keeps a step that changed nothing but registers. Those before it were written.
+    /// Keeps a step that changed nothing but registers, as it was prepared.
     #[inline(always)]
-    pub fn keep_still(&mut self, top: u32)
+    pub fn keep_still(&mut self)
         requires { IsPast self.old }
-        ensures past { IsPast self.new }
-        ensures entries { entries_in self.new
-            ≡ within ROOM (record { head = head_with (ready_in self.old.heads) (still top); runs = [] } ∷ entries_in self.old) }
+        ensures past { (top : ℕ) → waiting_in self.old.heads ≡ Some (head_with (ready_in self.old.heads) (still top)) → IsPast self.new }
+        ensures entries { (top : ℕ) → waiting_in self.old.heads ≡ Some (head_with (ready_in self.old.heads) (still top))
+            → entries_in self.new ≡ within ROOM (record { head = head_with (ready_in self.old.heads) (still top); runs = [] } ∷ entries_in self.old) }
     {
         self.trimmed = false;
-        self.heads.push(Effect {
-            top,
-            frame: FrameChange::Stays,
-            block: BlockChange::Stays,
-            runs: 0,
-            olds: 0,
-        });
+        self.heads.push_prepared();
     }
 
     /// Keeps a step whose changed bytes lie in [`low`, `high`), and what it did to the frames and the blocks. The registers

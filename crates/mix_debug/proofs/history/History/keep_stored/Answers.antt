@@ -18,7 +18,7 @@ returns-then-reach-clause-copied c =
 pub returns-then-reach-clause-entries : goal.returns-then-reach-clause-entries
 returns-then-reach-clause-entries c =
     let same = all_same c.args.reach c.args.self.now.copy.items c.args.machine.now.body.ram.bytes c.if-reach.true c.requires.stored in
-    c.keep_still.ensures.entries
+    c.keep_still.ensures.entries c.args.top c.requires.waits
     ∙ ap (λ (e : Entry). within 1048576 (e ∷ entries_in c.args.self.now.past))
     (still_entry (ready_in c.args.self.now.past.heads) c.args.top c.args.self.now.copy.items c.args.self.now.blocks.items c.args.machine.now c.requires.frames (sym (ap length c.requires.blocks)) same)
 
@@ -41,3 +41,6 @@ returns-clause-entries c =
     c.args.self.now.blocks.items c.args.machine.now.body.heap.blocks BlockStays _ _ _ refl refl
     (frame-stays c.args.top c.args.machine.now.body.top (isa_of file) (isa_of c.args.machine.now.active) c.requires.frames) refl refl (block-stays c.args.self.now.blocks.items c.args.machine.now.body.heap.blocks long)
     (ap length kept) (ap (λ rs. length (olds_of rs)) kept) kept)
+
+pub returns-then-reach-clause-past : goal.returns-then-reach-clause-past
+returns-then-reach-clause-past c = c.keep_still.ensures.past c.args.top c.requires.waits

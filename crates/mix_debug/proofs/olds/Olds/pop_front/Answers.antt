@@ -1,37 +1,45 @@
-use Rattle.std.proofs.Common.{◌≡◌, ◌+◌, ◌-◌, ◌∷◌, [], drop, slice_get, Some, None, ℕ, List, ap, subst, sym, ◌∙◌, length, arith, refl}
+use Rattle.std.proofs.Common.{◌≡◌, ◌+◌, ◌-◌, ◌<◌, ◌∷◌, [], drop, slice_get, Some, None, ℕ, List, ap, subst, sym, ◌∙◌, get_or, arith}
 use Rattle.std.specs.Prelude.{Option}
 use Rattle.circular_buffer.specs.Buffer.{Buffer, buffer}
-use Rattle.mix_debug.specs.Rows.{window}
+use Rattle.mix_debug.specs.Olds.{AreOlds}
+use Rattle.mix_debug.specs.Rows.{slot_before, window}
 use Rattle.mix_debug.proofs.Windows.{pop-slots, was-read, window-none}
 use Rattle.mix_debug.proofs.olds.Olds.pop_front.Goals as goal
-use Rattle.mix_debug.proofs.olds.Olds.pop_front.Goals.{After-index}
+
+empty : (slots : List ℕ) (first count : ℕ) → count ≡ 0 → window first count slots ≡ []
+empty slots first count none = ap (λ n. window first n slots) none ∙ window-none first slots
+
+popped : (slots : List ℕ) (first count next x : ℕ) → AreOlds slots first count → slot_before 1048579 next ≡ first → next < 1048580 → 0 < count → x ≡ get_or slots first x
+    → window first count slots ≡ x ∷ window next (count - 1) slots
+popped slots first count next x are is inside some value =
+    let read : slice_get slots first ≡ Some x = was-read slots first x (omega (arith, are.long, are.start)) value in
+    let one : count ≡ (count - 1) + 1 = omega (arith, some) in
+    ap (λ n. window first n slots) one ∙ ap (λ k. window k ((count - 1) + 1) slots) (sym is)
+    ∙ pop-slots 1048579 slots are.long next (count - 1) x inside (omega (arith, are.few)) (ap (slice_get slots) is ∙ read)
 
 pub returns-then-self-eq0-clause-value : goal.returns-then-self-eq0-clause-value
 returns-then-self-eq0-clause-value c =
     let o = c.self.inside in
-    let none : window o.first o.count o.slots.items ≡ [] = ap (λ n. window o.first n o.slots.items) c.if-self-eq0.true ∙ window-none o.first o.slots.items in
     let nothing : Option ℕ = None in
-    subst (λ (b : Buffer ℕ). nothing ≡ slice_get b.items 0) c.self.view_is (sym (ap (λ (xs : List ℕ). slice_get xs 0) none))
+    subst (λ (b : Buffer ℕ). nothing ≡ slice_get b.items 0) c.self.view_is (sym (ap (λ (xs : List ℕ). slice_get xs 0) (empty o.slots.items o.first o.count c.if-self-eq0.true)))
 
 pub returns-then-self-eq0-clause-items : goal.returns-then-self-eq0-clause-items
 returns-then-self-eq0-clause-items c =
     let o = c.self.inside in
-    let none : window o.first o.count o.slots.items ≡ [] = ap (λ n. window o.first n o.slots.items) c.if-self-eq0.true ∙ window-none o.first o.slots.items in
+    let none = empty o.slots.items o.first o.count c.if-self-eq0.true in
     subst (λ (b : Buffer ℕ). b ≡ buffer (drop 1 b.items) b.capacity) c.self.view_is (ap (λ xs. buffer xs 1048576) (none ∙ sym (ap (drop 1) none)))
-
-popped : (c : After-index) → window c.self.inside.first c.self.inside.count c.self.inside.slots.items ≡ c.index.result.now ∷ window c.after-self-inside.result (c.self.inside.count - 1) c.self.inside.slots.items
-popped c =
-    let o = c.self.inside in
-    let slots = o.slots.items in
-    let read : slice_get slots o.first ≡ Some c.index.result.now = was-read slots o.first c.index.result.now (omega (arith, c.self.invariant.long, c.self.invariant.start)) c.index.ensures in
-    let one : o.count ≡ (o.count - 1) + 1 = omega (arith, c.if-self-eq0.false) in
-    ap (λ n. window o.first n slots) one ∙ ap (λ k. window k ((o.count - 1) + 1) slots) (sym c.after-self-inside.ensures.is)
-    ∙ pop-slots 1048579 slots c.self.invariant.long c.after-self-inside.result (o.count - 1) c.index.result.now c.after-self-inside.ensures.inside (omega (arith, c.self.invariant.few)) (ap (slice_get slots) c.after-self-inside.ensures.is ∙ read)
 
 pub returns-clause-value : goal.returns-clause-value
 returns-clause-value c =
-    subst (λ (b : Buffer ℕ). Some c.index.result.now ≡ slice_get b.items 0) c.self.view_is (sym (ap (λ (xs : List ℕ). slice_get xs 0) (popped c)))
+    let o = c.self.inside in
+    let first = popped o.slots.items o.first o.count c.after-self-inside.result c.index.result.now c.self.invariant c.after-self-inside.ensures.is c.after-self-inside.ensures.inside
+    (omega (arith, c.if-self-eq0.false)) c.index.ensures in
+    subst (λ (b : Buffer ℕ). Some c.index.result.now ≡ slice_get b.items 0) c.self.view_is (sym (ap (λ (xs : List ℕ). slice_get xs 0) first))
 
 pub returns-clause-items : goal.returns-clause-items
 returns-clause-items c =
-    subst (λ (b : Buffer ℕ). buffer (window c.after-self-inside.result (c.self.inside.count - 1) c.self.inside.slots.items) 1048576 ≡ buffer (drop 1 b.items) b.capacity) c.self.view_is (ap (λ xs. buffer xs 1048576) (sym (ap (drop 1) (popped c))))
+    let o = c.self.inside in
+    let first = popped o.slots.items o.first o.count c.after-self-inside.result c.index.result.now c.self.invariant c.after-self-inside.ensures.is c.after-self-inside.ensures.inside
+    (omega (arith, c.if-self-eq0.false)) c.index.ensures in
+    subst (λ (b : Buffer ℕ). buffer (window c.after-self-inside.result (o.count - 1) o.slots.items) 1048576 ≡ buffer (drop 1 b.items) b.capacity) c.self.view_is
+    (ap (λ xs. buffer xs 1048576) (sym (ap (drop 1) first)))

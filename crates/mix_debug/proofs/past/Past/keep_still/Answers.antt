@@ -7,17 +7,19 @@ use Rattle.mix_debug.proofs.Holding.{few-olds, few-spans, pushed}
 use Rattle.mix_debug.proofs.past.Past.keep_still.Goals as goal
 
 pub returns-clause-past : goal.returns-clause-past
-returns-clause-past c =
+returns-clause-past c = λ top is.
     let p : Past = c.args.self.now in
-    let q : Past = record { heads = c.push.new.self; spans = p.spans; olds = p.olds; trimmed = false } in
-    let kept = pushed p q (head_with (ready_in p.heads) (still c.args.top)) [] c.requires refl (no_olds [] refl) c.push.ensures.row c.push.ensures.pushed
+    let q : Past = record { heads = c.push_prepared.new.self; spans = p.spans; olds = p.olds; trimmed = false } in
+    let h = head_with (ready_in p.heads) (still top) in
+    let kept = pushed p q h [] c.requires refl (no_olds [] refl) c.push_prepared.ensures.row (c.push_prepared.ensures.pushed h is)
     (spans_stay [] p.spans.capacity p.spans.items refl (few-spans p c.requires)) refl (olds_stay [] p.olds.capacity p.olds.items refl (few-olds p c.requires)) refl refl in
     kept.past
 
 pub returns-clause-entries : goal.returns-clause-entries
-returns-clause-entries c =
+returns-clause-entries c = λ top is.
     let p : Past = c.args.self.now in
-    let q : Past = record { heads = c.push.new.self; spans = p.spans; olds = p.olds; trimmed = false } in
-    let kept = pushed p q (head_with (ready_in p.heads) (still c.args.top)) [] c.requires refl (no_olds [] refl) c.push.ensures.row c.push.ensures.pushed
+    let q : Past = record { heads = c.push_prepared.new.self; spans = p.spans; olds = p.olds; trimmed = false } in
+    let h = head_with (ready_in p.heads) (still top) in
+    let kept = pushed p q h [] c.requires refl (no_olds [] refl) c.push_prepared.ensures.row (c.push_prepared.ensures.pushed h is)
     (spans_stay [] p.spans.capacity p.spans.items refl (few-spans p c.requires)) refl (olds_stay [] p.olds.capacity p.olds.items refl (few-olds p c.requires)) refl refl in
     kept.entries_are
