@@ -36,7 +36,7 @@ use Rattle.m68_ea.specs.Words.{words_at}
 use Rattle.big_memory.specs.Memory.{Memory}
 use Rattle.mix_reach.specs.declared.reach.Reach.{Reach}
 use Rattle.mix_reach.specs.Ranges.{nothing, plain}
-use Rattle.mix_reach.specs.Rows68.{at_place, behind, into, links, pushes, stores}
+use Rattle.mix_reach.specs.Rows68.{at_place, behind, into, links, stores}
 use Rattle.m68_effects.specs.Bits.{bit_size}
 use Rattle.m68_effects.specs.Parts.{partner}
 use Rattle.m68_isa.specs.Immediates.{immediate_with}

@@ -1,12 +1,10 @@
 -- The words of an instruction, one after another.
-use Rattle.std.proofs.Common.{◌≡◌, ◌∙◌, ℕ, zero, suc, ◌+◌, ◌*◌, ◌≤◌, List, [], ◌∷◌, length, drop, Ok, Err, arith, ap, sym, refl}
-use Rattle.std.proofs.lemmas.Bool.Decides.{nat_tests}
-use Rattle.byteorder.specs.Endian.{big_number}
+use Rattle.std.proofs.Common.{◌≡◌, ◌∙◌, ℕ, suc, List, [], ◌∷◌, Ok, Err, ap, sym, refl}
 use Rattle.mix_bits.specs.Addresses.{onward}
 use Rattle.mix_bits.specs.declared.size.Size.TheVariants.{Two}
 use Rattle.big_memory.specs.declared.refusals.Access.{Access}
 use Rattle.big_memory.specs.Memory.{Memory, loaded}
-use Rattle.m68_ea.specs.Words.{word_and, words_at, words_from}
+use Rattle.m68_ea.specs.Words.{word_and, words_from}
 
 pub no-word : (m : Memory) (a : ℕ) → words_from 0 m a ≡ []
 unfolding words_from
