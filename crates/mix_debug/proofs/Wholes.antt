@@ -4,7 +4,7 @@ use Rattle.std.proofs.lemmas.Bool.{eq-eqb, ne_eqb}
 use Rattle.std.proofs.lemmas.List.{append-nil, drop-take}
 use Rattle.big_memory.specs.Lists.{part}
 use Rattle.mix_debug.specs.declared.head.Span.{Span}
-use Rattle.mix_debug.specs.Runs.{Run, joined, olds_of, runs_from, runs_in}
+use Rattle.mix_debug.specs.Runs.{Run, joined, olds_of, runs_from}
 use Rattle.mix_debug.specs.Entries.{spans_of}
 use Rattle.mix_debug.specs.Longs.{AreOneRun, IsLong}
 use Rattle.mix_debug.proofs.Turning.{four-bytes}

@@ -1,8 +1,8 @@
-use Rattle.std.proofs.Common.{◌≡◌, ◌+◌, ◌-◌, ◌≤◌, ◌∷◌, ◌++◌, ◌∙◌, length, take, drop, ap, sym, arith, ℕ, List}
+use Rattle.std.proofs.Common.{◌≡◌, ◌+◌, ◌-◌, ◌++◌, ◌∙◌, length, take, drop, ap, sym, arith, ℕ}
 use Rattle.big_memory.specs.Lists.{part}
 use Rattle.circular_buffer.specs.Buffer.{Buffer}
 use Rattle.mix_debug.specs.declared.head.Span.{Span}
-use Rattle.mix_debug.specs.Runs.{Run, runs_in}
+use Rattle.mix_debug.specs.Runs.{runs_in}
 use Rattle.mix_debug.proofs.Empty.{no_olds, olds_stay, runs_empty, spans_stay}
 use Rattle.mix_debug.proofs.Wholes.{counts-bytes, long-olds, long-part, long-spans}
 use Rattle.mix_debug.proofs.runs.push_in.Goals as goal

@@ -2,7 +2,7 @@ use Rattle.std.proofs.Common.{◌≡◌, ◌<◌, ◌∙◌, length, set, slice_
 use Rattle.switch_frame.specs.declared.active.Active.{Active}
 use Rattle.mix_debug.specs.declared.head.Head.{Head}
 use Rattle.mix_debug.specs.Entries.{head_with}
-use Rattle.mix_debug.specs.Rows.{before, file_in, ready_in, waiting_in, window}
+use Rattle.mix_debug.specs.Rows.{before, file_in, window}
 use Rattle.mix_debug.proofs.Windows.{beside-slots, set-read, was-read}
 use Rattle.mix_debug.proofs.heads.Heads.write.Goals as goal
 

@@ -1,4 +1,4 @@
-use Rattle.std.proofs.Common.{◌≡◌, take, ℕ, ap, subst, sym, ◌∙◌, length, arith}
+use Rattle.std.proofs.Common.{◌≡◌, take, ℕ, ap, subst, sym, arith}
 use Rattle.std.proofs.lemmas.List.{take_all}
 use Rattle.circular_buffer.specs.Buffer.{Buffer, buffer}
 use Rattle.mix_debug.specs.Rows.{window}
