@@ -8,6 +8,6 @@ pub advance_by-requires-clause-told : goal.advance_by-requires-clause-told
 advance_by-requires-clause-told g c =
     c.no_stores.ensures ∙ sym (subst (λ (t : Told). IsTold t (next_stores c.args.machine.now.body.ram c.args.machine.now.active)) c.in-Nowhere.is c.requires.told)
 
-pub advance_by-in-There-requires-clause-told : goal.advance_by-in-There-requires-clause-told
-advance_by-in-There-requires-clause-told g c =
+pub advance_by-requires-in-There-clause-told : goal.advance_by-requires-in-There-clause-told
+advance_by-requires-in-There-clause-told g c =
     c.plain.ensures ∙ sym (subst (λ (t : Told). IsTold t (next_stores c.args.machine.now.body.ram c.args.machine.now.active)) c.in-There.is c.requires.told)

@@ -1,4 +1,4 @@
-use Rattle.std.proofs.Common.{◌≡◌, ◌+◌, ◌-◌, ◌++◌, ◌∙◌, length, take, drop, ap, sym, arith, ℕ}
+use Rattle.std.proofs.Common.{◌≡◌, ◌-◌, ◌++◌, ◌∙◌, length, take, drop, ap, sym, arith, ℕ}
 use Rattle.big_memory.specs.Lists.{part}
 use Rattle.circular_buffer.specs.Buffer.{Buffer}
 use Rattle.mix_debug.specs.declared.head.Span.{Span}
