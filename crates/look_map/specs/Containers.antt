@@ -1,16 +1,17 @@
 -- The sections and imports of a container, line by line.
-use Rattle.std.specs.Prelude.{◌≡◌, ℕ, zero, suc, ◌==◌, List, [], ◌∷◌, ◌++◌, codes, decimal, if◌then◌else◌, Bool, true, false, Option, Some, None, is_some}
+use Rattle.std.specs.Prelude.{◌≡◌, ℕ, zero, suc, ◌==◌, List, [], ◌∷◌, ◌++◌, codes, decimal, if◌then◌else◌, Bool, true, false, Option, Some, None, is_some, ◌<◌, ◌&&◌, nat_le, length, replicate, slice_index}
 use Rattle.file_fields.specs.Search.{least}
 use Rattle.mix_bits.specs.Text.{hexadecimal}
 use Rattle.big_memory.specs.Map.{host_vector_at}
 use Rattle.pef_head.specs.declared.error.PefError.{PefError}
 use Rattle.pef_head.specs.Container.{instantiated_count}
-use Rattle.pef_head.specs.Parts.{ImportParts, SectionParts, cut, import_count, import_of, section_at}
+use Rattle.pef_head.specs.Parts.{ImportParts, SectionParts, cut, import_count, import_of, relocs_of, section_at}
 use Rattle.pef_head.specs.Refusals.{refusal_of}
 use Rattle.pef_reloc.specs.declared.error.RelocError.{RelocError}
 use Rattle.pef_reloc.specs.declared.error.RelocError.TheVariants.{Pattern, Short, Unsupported, OutsideSection, ImportIndex, SectionIndex, RepeatFront, Work}
 use Rattle.toolbox.specs.Names.{import_index}
-use Rattle.mix_load.specs.Sections.{patterns_refusal, section_base}
+use Rattle.pef_reloc.specs.Program.{relocated}
+use Rattle.mix_load.specs.Sections.{patterns_refusal, section_base, sources, total_at}
 use Rattle.look_text.specs.Pieces.{address_text, joined}
 
 abbrev pub kind_name : ℕ → List ℕ
@@ -68,13 +69,30 @@ container_text bytes start = container_by (refusal_of bytes) bytes start
 abbrev pub is_badly_packed : List ℕ → ℕ → Bool
 is_badly_packed bytes k = is_some (patterns_refusal bytes k)
 
--- the first section whose pattern data is refused, where that is what was refused; of relocations nothing is said
+-- whether the relocations of a section are refused in a container that begins behind `start`, whatever its bytes are; one that memory can't hold has none that could be
+abbrev pub is_badly_relocated : List ℕ → ℕ → ℕ → Bool
+is_badly_relocated bytes start k =
+    nat_le (total_at bytes k) 16777216 && is_some (relocated (sources bytes start) (relocs_of bytes k) (replicate (total_at bytes k) 0)).refusal
+
+-- the first section whose relocations are refused, wherever the container begins
+abbrev pub IsBadlyRelocated : List ℕ → Option ℕ → Type 0
+IsBadlyRelocated bytes section = (start : ℕ) → section ≡ least (is_badly_relocated bytes start) (instantiated_count bytes)
+
+-- the first section that is refused in this way
 abbrev pub IsUnmade : List ℕ → RelocError → Option ℕ → Type 0
 IsUnmade bytes (Pattern at) section = section ≡ least (is_badly_packed bytes) (instantiated_count bytes)
-IsUnmade bytes (Short at) section = Unit {0}
-IsUnmade bytes (Unsupported word) section = Unit {0}
-IsUnmade bytes (OutsideSection at) section = Unit {0}
-IsUnmade bytes (ImportIndex i) section = Unit {0}
-IsUnmade bytes (SectionIndex k) section = Unit {0}
-IsUnmade bytes (RepeatFront at) section = Unit {0}
-IsUnmade bytes Work section = Unit {0}
+IsUnmade bytes (Short at) section = IsBadlyRelocated bytes section
+IsUnmade bytes (Unsupported word) section = IsBadlyRelocated bytes section
+IsUnmade bytes (OutsideSection at) section = IsBadlyRelocated bytes section
+IsUnmade bytes (ImportIndex i) section = IsBadlyRelocated bytes section
+IsUnmade bytes (SectionIndex k) section = IsBadlyRelocated bytes section
+IsUnmade bytes (RepeatFront at) section = IsBadlyRelocated bytes section
+IsUnmade bytes Work section = IsBadlyRelocated bytes section
+
+-- sections at the address 0, of their sizes, and as many imports as a container has
+pub record HasSizes (bytes zeros sizes addresses : List ℕ) : Type 0 where
+  pub bases : length zeros ≡ instantiated_count bytes
+  pub low : (k : ℕ) → slice_index zeros k ≡ 0
+  pub long : length sizes ≡ instantiated_count bytes
+  pub totals : (k : ℕ) → k < instantiated_count bytes → slice_index sizes k ≡ total_at bytes k
+  pub imports : length addresses ≡ import_count bytes

@@ -1,15 +1,15 @@
 // The section of a container that was refused while it was made.
-ghost use Rattle.std.specs.Prelude.{◌≡◌, ℕ, ◌^◌, ◌%◌, ◌<◌, ◌≤◌, None, IfOk, IfSome, is_some, length, slice_index_or};
+ghost use Rattle.std.specs.Prelude.{◌≡◌, ℕ, ◌^◌, ◌%◌, ◌<◌, ◌≤◌, None, IfOk, IfSome, is_some, length, slice_index, slice_index_or};
 ghost use Rattle.file_fields.specs.Search.{least};
 ghost use Rattle.pef_head.specs.Container.{instantiated_count};
 ghost use Rattle.pef_head.specs.Parts.{IsLoadable, parts, reloc_header_of};
-ghost use Rattle.mix_load.specs.Sections.{pattern_refusal};
-ghost use Rattle.look_map.specs.Containers.{IsUnmade, is_badly_packed as is_packed_badly};
+ghost use Rattle.mix_load.specs.Sections.{pattern_refusal, total_at};
+ghost use Rattle.look_map.specs.Containers.{HasSizes, IsBadlyRelocated, IsUnmade, is_badly_packed as is_packed_badly, is_badly_relocated as is_relocated_badly};
 
 use big_memory::Ram;
 use mix_bits::NoMemory;
 use pef_head::{Pef, Section};
-use pef_reloc::{RelocError, relocate, unpack};
+use pef_reloc::{RelocError, plan_laws, relocate, unpack};
 use std::alloc::Global;
 
 /// As many bytes as RAM has at most.
@@ -30,13 +30,13 @@ pub fn unmade_section(alloc: Global, pef: &Pef, error: RelocError) -> Result<Opt
 {
     match error {
         RelocError::Pattern(_) => badly_packed(alloc, pef, pef.sections()),
-        RelocError::Short(_) => badly_relocated(alloc, pef, MOST),
-        RelocError::Unsupported(_) => badly_relocated(alloc, pef, MOST),
-        RelocError::OutsideSection(_) => badly_relocated(alloc, pef, MOST),
-        RelocError::ImportIndex(_) => badly_relocated(alloc, pef, MOST),
-        RelocError::SectionIndex(_) => badly_relocated(alloc, pef, MOST),
-        RelocError::RepeatFront(_) => badly_relocated(alloc, pef, MOST),
-        RelocError::Work => badly_relocated(alloc, pef, MOST),
+        RelocError::Short(_) => badly_relocated(alloc, pef),
+        RelocError::Unsupported(_) => badly_relocated(alloc, pef),
+        RelocError::OutsideSection(_) => badly_relocated(alloc, pef),
+        RelocError::ImportIndex(_) => badly_relocated(alloc, pef),
+        RelocError::SectionIndex(_) => badly_relocated(alloc, pef),
+        RelocError::RepeatFront(_) => badly_relocated(alloc, pef),
+        RelocError::Work => badly_relocated(alloc, pef),
     }
 }
 
@@ -67,13 +67,11 @@ fn is_badly_packed(alloc: Global, section: Section) -> Result<bool, NoMemory>
     Ok(unpack(section.bytes, &mut room).is_err())
 }
 
-/// The first section whose relocations are refused. Where sections stand and what they hold makes no difference to that,
-/// so each is taken for zeros at the address 0.
-fn badly_relocated(alloc: Global, pef: &Pef, ram: u32) -> Result<Option<u32>, NoMemory>
-    requires least { 131072 ≤ ram }
-    requires most { ram ≤ 16777216 }
-    requires whole { ram % 1024 ≡ 0 }
-    ensures { IfOk result (λ section. IfSome section (λ k. k < instantiated_count pef.now)) }
+/// The first section whose relocations are refused. Where sections and imports stand and what they hold makes no
+/// difference to that, so each is taken for zeros at the address 0.
+fn badly_relocated(alloc: Global, pef: &Pef) -> Result<Option<u32>, NoMemory>
+    ensures is { IfOk result (λ section. IsBadlyRelocated pef.now section) }
+    ensures below { IfOk result (λ section. IfSome section (λ k. k < instantiated_count pef.now)) }
 {
     let count = pef.sections();
     let headers = pef.reloc_headers(alloc)?;
@@ -82,14 +80,25 @@ fn badly_relocated(alloc: Global, pef: &Pef, ram: u32) -> Result<Option<u32>, No
         totals: totals(alloc, pef, count)?,
         imports: vec![in alloc; 0; pef.imports() as usize]?,
     };
-    let mut ram = Ram::new(alloc, ram)?;
+    let mut ram = memory(alloc, MOST)?;
     Ok(first_refused(&mut ram, pef, &headers, &sections, count))
+}
+
+/// Memory of so many bytes.
+fn memory(alloc: Global, bytes: u32) -> Result<Ram, NoMemory>
+    requires least { 131072 ≤ bytes }
+    requires most { bytes ≤ 16777216 }
+    requires whole { bytes % 1024 ≡ 0 }
+    ensures { IfOk result (λ ram. length ram.bytes ≡ bytes) }
+{
+    Ram::new(alloc, bytes)
 }
 
 /// The sizes of the first sections.
 fn totals(alloc: Global, pef: &Pef, count: u32) -> Result<Vec<u32>, NoMemory>
     requires { count ≤ instantiated_count pef.now }
-    ensures { IfOk result (λ totals. length totals.items ≡ count) }
+    ensures long { IfOk result (λ totals. length totals.items ≡ count) }
+    ensures each { IfOk result (λ totals. (k : ℕ) → k < count → slice_index totals.items k ≡ total_at pef.now k) }
 {
     let mut totals = Vec::new(alloc);
     for k in 0..count {
@@ -107,44 +116,48 @@ fn first_refused(
     count: u32,
 ) -> Option<u32>
     requires below { count ≤ instantiated_count pef.now }
+    requires large { length ram.old.bytes ≡ 16777216 }
     requires headers { (k : ℕ) → k < instantiated_count pef.now → slice_index_or headers.now k None ≡ reloc_header_of pef.now k }
     requires noted { length headers.now ≡ instantiated_count pef.now }
-    requires bases { length sections.now.bases.items ≡ instantiated_count pef.now }
-    requires totals { length sections.now.totals.items ≡ instantiated_count pef.now }
     requires few { length sections.now.imports.items < 2 ^ 32 }
-    ensures { IfSome result (λ k. k < count) }
+    requires sizes { HasSizes pef.now sections.now.bases.items sections.now.totals.items sections.now.imports.items }
+    ensures is { (start : ℕ) → result ≡ least (is_relocated_badly pef.now start) count }
+    ensures below { IfSome result (λ k. k < count) }
 {
     for k in 0..count {
-        let words = pef.relocs_by(k, headers[k as usize]);
-        if is_refused(
-            ram,
-            k,
-            words,
-            &sections.bases,
-            &sections.totals,
-            &sections.imports,
-        ) {
+        if is_badly_relocated(ram, pef, k, headers[k as usize], sections) {
             return Some(k);
         }
     }
     None
 }
 
-/// Whether the relocations of a section that lies in memory are refused.
-fn is_refused(
+/// Whether the relocations of a section are refused. The memory in which it is tried stays as large.
+fn is_badly_relocated(
     ram: &mut Ram,
+    pef: &Pef,
     k: u32,
-    words: &[u8],
-    bases: &[u32],
-    totals: &[u32],
-    imports: &[u32],
+    header: Option<u32>,
+    sections: &Sections,
 ) -> bool
-    requires small { length words.now ≤ 2 ^ 24 }
-    requires even { length words.now % 2 ≡ 0 }
-    requires below { k < length bases.now }
-    requires paired { length bases.now ≡ length totals.now }
-    requires few { length imports.now < 2 ^ 32 }
+    requires below { k < instantiated_count pef.now }
+    requires large { length ram.old.bytes ≡ 16777216 }
+    requires header { header ≡ reloc_header_of pef.now k }
+    requires few { length sections.now.imports.items < 2 ^ 32 }
+    requires sizes { HasSizes pef.now sections.now.bases.items sections.now.totals.items sections.now.imports.items }
+    ensures is { (start : ℕ) → result ≡ is_relocated_badly pef.now start k }
+    ensures large { length ram.new.bytes ≡ 16777216 }
 {
-    let end = u64::from(bases[k as usize]) + u64::from(totals[k as usize]);
-    end <= u64::from(ram.len()) && relocate(ram, k, words, bases, totals, imports).is_err()
+    plan_laws();
+    let words = pef.relocs_by(k, header);
+    sections.totals[k as usize] <= ram.len()
+        && relocate(
+            ram,
+            k,
+            words,
+            &sections.bases,
+            &sections.totals,
+            &sections.imports,
+        )
+        .is_err()
 }
