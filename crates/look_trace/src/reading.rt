@@ -1,13 +1,16 @@
 // The lines of a trace, one by one.
 use crate::error::LookError;
 use std::alloc::Global;
-use std::io::BufRead;
+use std::io::{BufRead, Read, Take};
 use trace_lines::{Event, read_event};
+
+/// As many bytes as are read for a line at most, more than a line of a trace has.
+const MOST_BYTES: u64 = 4096;
 
 /// Reads a trace, and counts its lines.
 #[derive(Drop)]
 pub struct Reading<R: BufRead + Drop> {
-    from: R,
+    from: Take<R>,
     line: Vec<u8>,
     number: u64,
 }
@@ -15,7 +18,7 @@ pub struct Reading<R: BufRead + Drop> {
 impl<R: BufRead + Drop> Reading<R> {
     pub fn new(alloc: Global, from: R) -> Reading<R> {
         Reading {
-            from,
+            from: from.take(MOST_BYTES),
             line: Vec::new(alloc),
             number: 0,
         }
@@ -25,6 +28,7 @@ impl<R: BufRead + Drop> Reading<R> {
     pub fn next(&mut self) -> Result<Option<Event>, LookError> {
         self.number = self.number.saturating_add(1);
         self.line.clear();
+        self.from.set_limit(MOST_BYTES);
         let count = self
             .from
             .read_until(b'\n', &mut self.line)
