@@ -1,7 +1,8 @@
 // The instruction that a machine is about to do.
 use arrayvec::ArrayVec;
 use big_memory::Ram;
-use mix_bits::{Isa, onward};
+use m68_ea::read_words;
+use mix_bits::Isa;
 use mix_engine::Machine;
 
 /// How many words an instruction has at most.
@@ -25,17 +26,11 @@ pub fn step_at(machine: &Machine) -> Step {
     }
 }
 
+/// The words from `at` on, up to the first one outside RAM.
 fn words_at(ram: &Ram, at: u32) -> ArrayVec<u16, MOST_WORDS> {
+    let mut read = [0; MOST_WORDS];
+    let count = read_words(ram, at, &mut read);
     let mut words = ArrayVec::new();
-    let mut next = at;
-    for _k in 0..MOST_WORDS {
-        match ram.load_word(next) {
-            Ok(word) => {
-                let _kept = words.try_push(word as u16);
-                next = onward(next, 2);
-            }
-            Err(_) => return words,
-        }
-    }
+    let _fits = words.try_extend_from_slice(&read[..count]);
     words
 }
