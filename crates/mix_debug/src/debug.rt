@@ -1,4 +1,4 @@
-ghost use Rattle.std.specs.Prelude.{◌≡◌, ◌==◌, ◌&&◌, not, nat_lt, [], ◌∷◌, ◌++◌, filter, if◌then◌else◌, IfOk, length};
+ghost use Rattle.std.specs.Prelude.{◌≡◌, ◌==◌, ◌&&◌, not, nat_lt, [], ◌∷◌, ◌++◌, filter, if◌then◌else◌, IfOk, IfSome, length};
 ghost use Rattle.std.specs.List.{list_any};
 ghost use Rattle.switch_frame.specs.Records.{isa_of};
 ghost use Rattle.dev_rack.specs.Accounts.{Accounts};
@@ -217,40 +217,33 @@ fn advance<'i, 'o, 't, 'd, I: Source, O: Sink, T: Sink, D: Devices>(
         (machine_beside I.left I.faults O.held O.faults T.held T.faults D.state machine.new.body machine.new.active outside.new) stop.new }
     ensures same { AreSame outside.old outside.new }
 {
-    match &machine.active {
-        Active::M68(regs) => {
-            let told = told_68k(&machine.body.ram, &machine.body.operations, regs);
-            advance_told(machine, history, outside, stop, told)
-        }
-        Active::Ppc(regs) => {
-            let told = told_ppc(&machine.body.ram, regs);
-            advance_told(machine, history, outside, stop, told)
-        }
+    match told_of(machine) {
+        Some(next) => advance_by(machine, history, outside, stop, &next),
+        None => advance_storing(machine, history, outside, stop),
     }
 }
 
-/// The same of a step of which was told at once where it stores.
+/// Where the next step stores, if that is told at once.
 #[inline(always)]
-fn advance_told<'i, 'o, 't, 'd, I: Source, O: Sink, T: Sink, D: Devices>(
-    machine: &mut Machine,
-    history: &mut History,
-    outside: &mut Outside<'i, 'o, 't, 'd, I, O, T, D>,
-    stop: &mut Stop,
-    told: Told,
-) -> bool
-    requires history { IsHistory machine.old history.old }
-    requires cell { stop.old ≡ Stop.Limit }
-    requires told { IsTold told (next_stores_of machine.old.body.ram machine.old.active) }
-    ensures answer { result ≡ goes_on stop.new }
-    ensures step { Advances machine.old machine.new history.old history.new
-        (machine_beside I.left I.faults O.held O.faults T.held T.faults D.state machine.old.body machine.old.active outside.old)
-        (machine_beside I.left I.faults O.held O.faults T.held T.faults D.state machine.new.body machine.new.active outside.new) stop.new }
-    ensures same { AreSame outside.old outside.new }
+fn told_of(machine: &Machine) -> Option<Stores>
+    ensures { IfSome result (λ next. next ≡ next_stores_of machine.now.body.ram machine.now.active) }
 {
-    match told {
-        Told::Nowhere => advance_by(machine, history, outside, stop, &no_stores()),
-        Told::There(reach) => advance_by(machine, history, outside, stop, &plain(reach)),
-        Told::Unknown => advance_storing(machine, history, outside, stop),
+    match told(machine) {
+        Told::Nowhere => Some(no_stores()),
+        Told::There(reach) => Some(plain(reach)),
+        Told::Unknown => None,
+    }
+}
+
+/// What is told at once of where the next step stores.
+#[inline(always)]
+fn told(machine: &Machine) -> Told
+    ensures { IsTold result (next_stores_of machine.now.body.ram machine.now.active) }
+{
+    let body = &machine.body;
+    match &machine.active {
+        Active::M68(regs) => told_68k(&body.ram, &body.operations, regs),
+        Active::Ppc(regs) => told_ppc(&body.ram, regs),
     }
 }
 
