@@ -8,6 +8,7 @@ ghost use Rattle.m68_core.specs.Fetch.{places_of};
 
 use big_memory::{GATE_PAGE_END, Ram};
 use byteorder::{BigEndian, ByteOrder};
+use m68_ea::word_laws;
 
 /// At how many even addresses, from the end of the gate page on, five words lie in memory, which is as many as an
 /// instruction can have.
@@ -40,6 +41,7 @@ pub fn plain_word(pc: u32, ram: &Ram) -> u32
     ensures there { IsThere (words_at ram.now pc) }
     ensures below { result < 2 ^ 16 }
 {
+    word_laws();
     ram.meets_invariant();
     u32::from(BigEndian::read_u16(&ram.bytes()[pc as usize..]))
 }

@@ -1,5 +1,5 @@
 -- A word of an instruction is the word in memory at its address: memory ends far below the last address.
-use Rattle.std.proofs.Common.{◌≡◌, ℕ, zero, suc, ◌+◌, ◌-◌, ◌*◌, ◌<◌, ◌≤◌, inl, inr, true, List, [], ◌∷◌, length, get_or, drop, take, arith, add-zero, sym, ap, subst, ◌∙◌, refl, Result, Ok, Err}
+use Rattle.std.proofs.Common.{◌≡◌, ℕ, zero, suc, ◌+◌, ◌-◌, ◌*◌, ◌<◌, ◌≤◌, inl, inr, true, List, [], ◌∷◌, length, get_or, slice_index, drop, take, arith, add-zero, sym, ap, subst, ◌∙◌, refl, Result, Ok, Err}
 use Rattle.std.proofs.Math.Seq.{drop-nil}
 use Rattle.std.proofs.lemmas.Grind.{common_steps}
 use Rattle.std.proofs.lemmas.List.{drop-take, take-take}
@@ -12,7 +12,7 @@ use Rattle.big_memory.specs.declared.refusals.Access.TheVariants.{Outside}
 use Rattle.big_memory.specs.Laws.{LoadsPart}
 use Rattle.big_memory.specs.Lists.{part}
 use Rattle.big_memory.specs.Memory.{Memory, in_memory, loaded}
-use Rattle.m68_ea.specs.Words.{words_from, word_and, or_zero}
+use Rattle.m68_ea.specs.Words.{words_at, words_from, word_and, or_zero}
 use Rattle.mix_bits.specs.Addresses.{onward}
 
 loaded-in : (m : Memory) (a : ℕ) → a + 2 ≤ length m.bytes → loaded m a Two ≡ Ok (big_number 2 (drop a m.bytes))
@@ -28,7 +28,7 @@ first-word (Err e) ws = refl
 onward-two : (a : ℕ) → a + 2 ≤ 16777216 → onward a 2 ≡ a + 2
 onward-two a h = omega arith
 
-pub word_in : (n k a : ℕ) (m : Memory) → length m.bytes ≤ 16777216 → k < n → get_or (words_from n m a) k 0 ≡ or_zero (loaded m (a + 2 * k) Two)
+word_in : (n k a : ℕ) (m : Memory) → length m.bytes ≤ 16777216 → k < n → get_or (words_from n m a) k 0 ≡ or_zero (loaded m (a + 2 * k) Two)
 unfolding words_from
 word_in zero k a m small below = absurd (omega arith)
 word_in (suc n) zero a m small below = rw (add-zero a) (first-word (loaded m a Two) (words_from n m (onward a 2)))
@@ -78,3 +78,33 @@ long_of_bytes m pc at bytes loads small below within is high low first second =
     let head : high ≡ get_or (words_from 5 m pc) at 0 =
     first ∙ word_of_bytes m pc at (take (length bytes - 2) bytes) loads small (omega arith) there front in
     rw (head, last) refl
+
+-- as many words as are asked for, where they lie in memory
+words_whole : (n a : ℕ) (m : Memory) → length m.bytes ≤ 16777216 → a + 2 * n ≤ length m.bytes → length (words_from n m a) ≡ n
+unfolding words_from
+words_whole zero a m small within = refl
+words_whole (suc n) a m small within = rw (loaded-in m a (omega arith), onward-two a (omega arith)) (ap suc (words_whole n (a + 2) m small (omega arith)))
+
+pub five_words : (pc : ℕ) (m : Memory) → length m.bytes ≤ 16777216 → pc + 10 ≤ length m.bytes → 5 ≤ length (words_at m pc)
+five_words pc m small within = let whole = words_whole 5 pc m small (omega arith) in omega arith
+
+-- the first word is that of the first two bytes
+pub first_of_five : (pc : ℕ) (m : Memory) → length m.bytes ≤ 16777216 → pc + 10 ≤ length m.bytes → slice_index (words_at m pc) 0 ≡ big_number 2 (drop pc m.bytes)
+first_of_five pc m small within =
+    let there : loaded m (pc + 2 * 0) Two ≡ Ok (big_number 2 (drop pc m.bytes)) = grind (arith, nat_tests) in
+    word_in 5 0 pc m small (omega arith) ∙ ap or_zero there
+
+-- no more words than lie in memory
+words_fewer : (n a : ℕ) (m : Memory) → length m.bytes ≤ 16777216 → length m.bytes < a + 2 * suc n → length (words_from (suc n) m a) < suc n
+unfolding words_from
+words_fewer zero a m small past = rw (loaded-out m a (omega arith)) (omega arith)
+words_fewer (suc n) a m small past =
+    elim (cases_lt (length m.bytes) (a + 2)) [
+      | inr within ↦
+          let fewer : length (words_from (suc n) m (a + 2)) < suc n = words_fewer n (a + 2) m small (omega arith) in
+          rw (loaded-in m a within, onward-two a (omega arith)) (omega arith)
+      | inl past ↦ rw (loaded-out m a past) (omega arith)
+    ]
+
+pub fewer_words : (pc : ℕ) (m : Memory) → length m.bytes ≤ 16777216 → length m.bytes < pc + 10 → length (words_at m pc) < 5
+fewer_words pc m small past = words_fewer 4 pc m small (omega arith)

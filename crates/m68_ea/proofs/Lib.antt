@@ -2,4 +2,3 @@ pub mod Fetch
 pub mod Back
 pub mod Tried
 pub mod Reading
-pub mod Five

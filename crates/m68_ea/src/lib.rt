@@ -15,7 +15,7 @@ mod usual;
 mod words;
 
 pub use accesses::{load, read_at, store, write_at};
-pub use laws::tried_laws;
+pub use laws::{tried_laws, word_laws};
 pub use operands::{Target, control, data_address, find, put, source, value};
 pub use places::{Place68, backward, place};
 pub use stack::{pop, push, push_if_open};

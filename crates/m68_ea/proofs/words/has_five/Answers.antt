@@ -1,6 +1,6 @@
 use Rattle.std.proofs.Common.{◌<◌, ◌+◌, ◌≤◌, length, arith}
 use Rattle.std.proofs.lemmas.Bool.Decides.{nat_tests}
-use Rattle.m68_ea.proofs.Five.{five_words, fewer_words}
+use Rattle.m68_ea.proofs.Fetch.{five_words, fewer_words}
 use Rattle.m68_ea.proofs.words.has_five.Goals as goal
 
 pub returns-clause-five : goal.returns-clause-five
