@@ -27,7 +27,7 @@ use mixed_machine::{Body, Did};
 use mode_switch::{Wanted, wants_68k, wants_ppc};
 use routine_desc::MIXED_MODE_MAGIC;
 use switch_frame::Active;
-use toolbox::{HostOut, host_call, trap_index, trap_laws};
+use toolbox::{HostOut, call_heap, host_call, trap_index, trap_laws};
 
 /// How a call of a host function went.
 #[derive(Clone, Copy)]
@@ -127,7 +127,7 @@ fn no_trap(word: u32, active: &Active, fault: &mut Fault) -> Did
     Did::Fault
 }
 
-/// Calls a host function for PowerPC code. A trap has the call in it, where its number is known from the word.
+/// Calls a host function for PowerPC code.
 #[inline(never)]
 fn call_import<'i, 'o, 't, 'd, I: Source, O: Sink, T: Sink, D: Devices>(
     index: u32,
@@ -146,9 +146,33 @@ fn call_import<'i, 'o, 't, 'd, I: Source, O: Sink, T: Sink, D: Devices>(
     call_function(index, body, active, outside, fault)
 }
 
-/// Calls a host function, and goes on into other code where it asks for that.
+/// Calls a host function: one of the usual functions of the heap at once.
 #[inline(always)]
 fn call_function<'i, 'o, 't, 'd, I: Source, O: Sink, T: Sink, D: Devices>(
+    index: u32,
+    body: &mut Body,
+    active: &mut Active,
+    outside: &mut Outside<'i, 'o, 't, 'd, I, O, T, D>,
+    fault: &mut Fault,
+) -> Did
+    requires whole { IsWhole body.old (isa_of active.old) }
+    requires index { index < 16 }
+    ensures does { Acts (λ s. hosts s index) result fault.new
+        (machine_beside I.left I.faults O.held O.faults T.held T.faults D.state body.old active.old outside.old)
+        (machine_beside I.left I.faults O.held O.faults T.held T.faults D.state body.new active.new outside.new) }
+    ensures same { AreSame outside.old outside.new }
+{
+    body_laws();
+    if call_heap(index, active, &mut body.heap) {
+        Did::Next
+    } else {
+        call_any(index, body, active, outside, fault)
+    }
+}
+
+/// Calls a host function, and goes on into other code where it asks for that.
+#[inline(never)]
+fn call_any<'i, 'o, 't, 'd, I: Source, O: Sink, T: Sink, D: Devices>(
     index: u32,
     body: &mut Body,
     active: &mut Active,

@@ -20,7 +20,7 @@ mod traps;
 mod values;
 
 pub use broken::Broken;
-pub use call::host_call;
+pub use call::{call_heap, host_call};
 pub use imports::import_index;
 pub use laws::{blame_laws, table_laws};
 pub use out::HostOut;

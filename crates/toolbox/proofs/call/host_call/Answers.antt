@@ -6,7 +6,7 @@ use Rattle.toolbox.specs.Registers.{answered}
 use Rattle.toolbox.specs.Host.Hosted.{Stops}
 use Rattle.toolbox.proofs.Puts.{counts}
 use Rattle.toolbox.proofs.Settled.{goes, stays, cannot_read, cannot_put}
-use Rattle.toolbox.proofs.call.call_of.Goals as goal
+use Rattle.toolbox.proofs.call.host_call.Goals as goal
 
 pub returns-in-Given-clause-does : goal.returns-in-Given-clause-does
 returns-in-Given-clause-does g c =
