@@ -13,3 +13,8 @@ returns-then-call_heap-clause-does g c =
     acts-from (λ s. hosts s c.args.index) (λ s. hosted_by (universal s s.active) s (host c.args.index (host_of s))) _ _ _ _ _ refl
     (λ around. hosts-are (flat c.args.body.now c.args.active.now around) c.args.index)
     (went-on c.body_laws.ensures (λ s. universal s s.active) c.args.index None _ _ _ _ _ _ _ _ _ _ c.requires.whole (c.call_heap.ensures.done c.if-call_heap.true _ _) (grows-none _))
+
+pub returns-else-call_heap-clause-does : goal.returns-else-call_heap-clause-does
+returns-else-call_heap-clause-does g c =
+    let kept = c.call_heap.ensures.left c.if-call_heap.false in
+    acts-from (λ s. hosts s c.args.index) (λ s. hosts s c.args.index) _ _ _ _ _ (rw (kept.0, kept.1) refl) (λ around. refl) c.call_any.ensures.does
