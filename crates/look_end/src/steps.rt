@@ -1,8 +1,8 @@
 // Steps as text.
 ghost use Rattle.std.specs.Prelude.{◌≡◌, []};
 
+use crate::step::Step;
 use big_memory::{host_code, in_gate_page};
-use look_run::Step;
 use look_text::{Piece, add_line};
 use mix_bits::{Isa, Line, NoMemory};
 use mix_list::write_words;

@@ -1,0 +1,164 @@
+// What words ask for.
+ghost use Rattle.std.specs.Prelude.{◌≡◌, ◌≢◌, ◌^◌, ◌<◌, ◌++◌, IfOk, codes, length, map};
+ghost use Rattle.std.specs.String.{string_bytes};
+ghost use Rattle.look_text.specs.Info.{info_of};
+ghost use Rattle.look_words.specs.Sentences.{why_text as why_of};
+ghost use Rattle.look_words.specs.Whys.{Explains};
+ghost use Rattle.look_words.specs.declared.why.Why.{Why};
+ghost use Rattle.look_commands.specs.Told.{Answers, Writes, WritesFork, WritesWhy, behind};
+
+use crate::files::{fetch, name_at};
+use crate::images::image;
+use crate::maps::map;
+use crate::program::requested;
+use crate::runs::end;
+use crate::said::{print, say, tell};
+use crate::status::{BAD_WORDS, NO_MEMORY, REFUSED};
+use crate::streams::Streams;
+use crate::traces::{picture, trace};
+use fork_wrap::find_fork;
+use look_text::info_text;
+use look_words::{Look, Refusal, explain, read_look, refusal_text, why_text};
+use mix_bits::NoMemory;
+use std::alloc::Global;
+use std::io::{Read, Write};
+use std::rt::Files;
+
+/// How long a file with a fork is at most, as a fork of mixedrun.
+const LONGEST: u32 = 16_777_216;
+
+/// Does what the words ask for, and answers the status. Behind the refusal of words, `usage` is put to the errors.
+pub fn answer<F: Files, R: Read + Drop, W: Write + Drop, E: Write + Drop>(
+    alloc: Global,
+    files: &F,
+    words: &[String],
+    usage: &str,
+    streams: &mut Streams<R, W, E>,
+) -> u8
+    ensures { Answers (map string_bytes words.now) (W.contents streams.old.out) (W.contents streams.new.out) result }
+{
+    let status = obey(alloc, files, words, streams);
+    if status == BAD_WORDS {
+        tell(&mut streams.errors, usage.as_bytes());
+    }
+    status
+}
+
+/// The same without the usage.
+fn obey<F: Files, R: Read + Drop, W: Write + Drop, E: Write + Drop>(
+    alloc: Global,
+    files: &F,
+    words: &[String],
+    streams: &mut Streams<R, W, E>,
+) -> u8
+    ensures { Answers (map string_bytes words.now) (W.contents streams.old.out) (W.contents streams.new.out) result }
+{
+    match read_look(words) {
+        Ok(Look::Info(word)) => info(alloc, word, &mut streams.out),
+        Ok(Look::Trace(file, names)) => trace(alloc, files, words, file, names, streams),
+        Ok(Look::Picture(file, names)) => picture(alloc, files, words, file, names, streams),
+        Ok(Look::Fork(file)) => fork(alloc, files, name_at(words, file), streams),
+        Ok(Look::Words) => why(alloc, words, &mut streams.out),
+        Ok(Look::Map) => match requested(alloc, words, &mut streams.errors) {
+            Ok(request) => map(alloc, files, &request, streams),
+            Err(status) => status,
+        },
+        Ok(Look::End(last)) => match requested(alloc, words, &mut streams.errors) {
+            Ok(request) => end(alloc, files, &request, last, streams),
+            Err(status) => status,
+        },
+        Ok(Look::Image(file)) => image(alloc, files, name_at(words, file), streams),
+        Err(refusal) => refuse(alloc, words, refusal, &mut streams.errors),
+    }
+}
+
+/// Writes what a procInfo word says.
+fn info<W: Write>(alloc: Global, word: u32, out: &mut W) -> u8
+    ensures { Writes (info_of word) (W.contents out.old) (W.contents out.new) result }
+{
+    match info_text(alloc, word) {
+        Ok(text) => print(out, &text),
+        Err(_) => NO_MEMORY,
+    }
+}
+
+/// Writes the raw fork of a file.
+fn fork<F: Files, R: Read + Drop, W: Write + Drop, E: Write + Drop>(
+    alloc: Global,
+    files: &F,
+    name: &str,
+    streams: &mut Streams<R, W, E>,
+) -> u8
+    ensures { WritesFork (W.contents streams.old.out) (W.contents streams.new.out) result }
+{
+    match fetch(alloc, files, name, LONGEST, &mut streams.errors) {
+        Ok(bytes) => fork_in(alloc, name, &bytes, streams),
+        Err(status) => status,
+    }
+}
+
+/// Writes the raw fork in the bytes of a file.
+fn fork_in<R: Read + Drop, W: Write + Drop, E: Write + Drop>(
+    alloc: Global,
+    name: &str,
+    bytes: &[u8],
+    streams: &mut Streams<R, W, E>,
+) -> u8
+    requires { length bytes.now < 2 ^ 32 }
+    ensures { WritesFork (W.contents streams.old.out) (W.contents streams.new.out) result }
+{
+    match find_fork(bytes) {
+        Ok(found) => {
+            let start = found.start as usize;
+            print(
+                &mut streams.out,
+                &bytes[start..start + found.length as usize],
+            )
+        }
+        Err(error) => {
+            say(
+                &mut streams.errors,
+                format!(in alloc; "{name}: {error}").ok(),
+            );
+            REFUSED
+        }
+    }
+}
+
+/// Says why mixedrun refuses the words behind the first one.
+fn why<W: Write>(alloc: Global, words: &[String], out: &mut W) -> u8
+    ensures { WritesWhy (behind (map string_bytes words.now)) (W.contents out.old) (W.contents out.new) result }
+{
+    match sentence(alloc, asked(words)) {
+        Ok(text) => print(out, text.as_bytes()),
+        Err(NoMemory) => NO_MEMORY,
+    }
+}
+
+/// The words behind the first one.
+fn asked(words: &[String]) -> &[String]
+    ensures { map string_bytes result.now ≡ behind (map string_bytes words.now) }
+{
+    match words {
+        [_, asked @ ..] => asked,
+        [] => words,
+    }
+}
+
+/// Why mixedrun refuses words, as a line.
+fn sentence(alloc: Global, words: &[String]) -> Result<String, NoMemory>
+    ensures { IfOk result (λ text. (why : Why) × Explains (map string_bytes words.now) why × (string_bytes text ≡ why_of (map string_bytes words.now) why ++ codes "\n")) }
+{
+    let why = explain(alloc, words)?;
+    let mut text = why_text(alloc, words, why)?;
+    text.push_str("\n")?;
+    Ok(text)
+}
+
+/// Says the sentence of a refusal.
+fn refuse<E: Write>(alloc: Global, words: &[String], refusal: Refusal, errors: &mut E) -> u8
+    ensures { result ≡ 2 }
+{
+    say(errors, refusal_text(alloc, words, refusal).ok());
+    BAD_WORDS
+}

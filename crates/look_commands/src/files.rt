@@ -1,0 +1,58 @@
+// Files by the words that name them.
+ghost use Rattle.std.specs.Prelude.{◌≡◌, ◌≤◌, IfErr, IfOk, length};
+ghost use Rattle.look_commands.specs.Told.{IsLost};
+
+use crate::said::say;
+use crate::status::{NO_FILE, NO_MEMORY, REFUSED};
+use mix_io::{FetchError, FileShelf, Shelf};
+use std::alloc::Global;
+use std::io::Write;
+use std::rt::Files;
+
+/// What stands behind the first equals sign of the word at a place.
+pub fn name_at(words: &[String], place: usize) -> &str {
+    let Some(word) = words.get(place) else {
+        return "";
+    };
+    match word.as_str().split_once('=') {
+        Some((_, name)) => name,
+        None => "",
+    }
+}
+
+/// The bytes of a file of at most so many, or else the status, once a sentence is said.
+pub fn fetch<F: Files, E: Write>(
+    alloc: Global,
+    files: &F,
+    name: &str,
+    most: u32,
+    errors: &mut E,
+) -> Result<Vec<u8>, u8>
+    ensures within { IfOk result (λ bytes. length bytes.items ≤ most) }
+    ensures lost { IfErr result IsLost }
+{
+    match FileShelf::new(files).fetch(alloc, name, most) {
+        Ok(bytes) => Ok(bytes),
+        Err(FetchError::NoMemory) => Err(NO_MEMORY),
+        Err(FetchError::Failed) => Err(unfound(alloc, name, errors)),
+        Err(FetchError::TooLong(_)) => Err(too_long(alloc, name, most, errors)),
+    }
+}
+
+fn too_long<E: Write>(alloc: Global, name: &str, most: u32, errors: &mut E) -> u8
+    ensures { result ≡ 3 }
+{
+    say(
+        errors,
+        format!(in alloc; "{name} has more than {most} bytes").ok(),
+    );
+    REFUSED
+}
+
+/// Says that a file could not be read, and answers the status.
+pub fn unfound<E: Write>(alloc: Global, name: &str, errors: &mut E) -> u8
+    ensures { result ≡ 4 }
+{
+    say(errors, format!(in alloc; "{name} could not be read").ok());
+    NO_FILE
+}

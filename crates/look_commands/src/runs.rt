@@ -1,0 +1,130 @@
+// Runs, and how they ended.
+ghost use Rattle.std.specs.Prelude.{◌≡◌, ◌≢◌, IfErr, IfOk};
+ghost use Rattle.switch_frame.specs.Records.{isa_of};
+ghost use Rattle.mixed_machine.specs.Machine.{IsWhole};
+ghost use Rattle.job_words.specs.Jobs.{IsProperJob};
+ghost use Rattle.look_commands.specs.Statuses.{status_at};
+ghost use Rattle.look_commands.specs.Told.{IsLost};
+
+use crate::maps::refuse;
+use crate::program::{Request, fetch_files};
+use crate::status::{INPUT_FAILED, NO_MEMORY, OUTPUT_FAILED, SUCCESS, TRACE_FAILED};
+use crate::streams::Streams;
+use call_trace::{End, put_end};
+use circular_buffer::HeapCircularBuffer;
+use dev_rack::Rack;
+use look_end::{report, run_keeping};
+use mix_bits::NoMemory;
+use mix_engine::{Machine, Stop};
+use mix_io::{Counter, Device, Failed, Sink, StdSink, StdSource, Tape};
+use mix_load::{LoadError, load};
+use std::alloc::Global;
+use std::io::{BufReader, Read, Write};
+use std::rt::Files;
+
+/// Runs a program, and writes how it ended behind its trace.
+pub fn end<F: Files, R: Read + Drop, W: Write + Drop, E: Write + Drop>(
+    alloc: Global,
+    files: &F,
+    request: &Request,
+    last: u32,
+    streams: &mut Streams<R, W, E>,
+) -> u8
+    requires { IsProperJob request.now.job }
+    ensures { result ≢ 2 }
+{
+    match start(alloc, files, request, &mut streams.errors) {
+        Ok(machine) => run(
+            alloc,
+            machine,
+            request.job.steps,
+            last,
+            &mut streams.input,
+            &mut streams.out,
+            &mut streams.errors,
+        )
+        .unwrap_or(NO_MEMORY),
+        Err(status) => status,
+    }
+}
+
+/// The machine at the start of a program, or else the status, once a sentence is said.
+fn start<F: Files, E: Write>(
+    alloc: Global,
+    files: &F,
+    request: &Request,
+    errors: &mut E,
+) -> Result<Machine, u8>
+    requires { IsProperJob request.now.job }
+    ensures whole { IfOk result (λ m. IsWhole m.body (isa_of m.active)) }
+    ensures lost { IfErr result IsLost }
+{
+    let program = fetch_files(alloc, files, request, errors)?;
+    match load(alloc, &program, request.job.main, request.job.kib) {
+        Ok(loaded) => Machine::start(alloc, loaded).map_err(|_| NO_MEMORY),
+        Err(LoadError::NoMemory) => Err(NO_MEMORY),
+        Err(error) => Err(refuse(alloc, &program, error, errors)),
+    }
+}
+
+/// Runs a machine over the streams, with a counter in slot 0 and a tape in slot 1, as mixedrun does, and keeps its last
+/// steps.
+fn run<R: Read, W: Write, E: Write>(
+    alloc: Global,
+    mut machine: Machine,
+    steps: u32,
+    last: u32,
+    input: &mut R,
+    out: &mut W,
+    errors: &mut E,
+) -> Result<u8, NoMemory>
+    requires { IsWhole machine.body (isa_of machine.active) }
+    ensures { IfOk result (λ status. status ≢ 2) }
+{
+    let Ok(reader) = BufReader::new(alloc, input) else {
+        return Err(NoMemory);
+    };
+    let counter: Box<dyn Device> = Box::new(alloc, Counter::new(alloc)?)?;
+    let tape: Box<dyn Device> = Box::new(alloc, Tape::new(alloc)?)?;
+    let mut rack = Rack::new(alloc, vec![in alloc; counter, tape]?)?;
+    let mut kept = HeapCircularBuffer::with_capacity(alloc, last as usize)?;
+    let mut input = StdSource::new(reader);
+    let mut out = StdSink::new(out);
+    let mut trace = StdSink::new(errors);
+    let ending = run_keeping(
+        &mut machine,
+        &mut kept,
+        &mut input,
+        &mut out,
+        &mut trace,
+        &mut rack,
+        steps,
+    );
+    let ended = put_last_line(&mut trace, &machine, ending.stop);
+    let text = report(alloc, &machine, Some(ending), kept.make_contiguous())?;
+    let reported = trace.put(&text);
+    Ok(status(ending.stop, ended.is_ok() && reported.is_ok()))
+}
+
+/// Puts the last line of a trace, if the run came to one.
+fn put_last_line<T: Sink>(trace: &mut T, machine: &Machine, stop: Stop) -> Result<(), Failed> {
+    let end = match stop {
+        Stop::Exit(code) => End::Exit(code),
+        Stop::Fault(fault) => End::Fault(machine.active.isa(), fault),
+        Stop::Limit => End::Limit,
+        _ => return Ok(()),
+    };
+    put_end(trace, &end)
+}
+
+/// The status of a run that was reported, or was not: only what the outside refused counts.
+fn status(stop: Stop, reported: bool) -> u8
+    ensures { result ≡ status_at stop reported }
+{
+    match stop {
+        Stop::ReadFault => INPUT_FAILED,
+        Stop::OutFault => OUTPUT_FAILED,
+        Stop::TraceFault => TRACE_FAILED,
+        _ => if reported { SUCCESS } else { TRACE_FAILED },
+    }
+}

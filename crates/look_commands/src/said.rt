@@ -1,0 +1,39 @@
+// What is said, and to whom.
+ghost use Rattle.std.specs.Prelude.{◌≡◌, ◌⊎◌};
+ghost use Rattle.std.specs.Io.KnownBytes.{Appends};
+
+use crate::status::{OUTPUT_FAILED, SUCCESS};
+use mix_io::write_whole;
+use std::io::Write;
+
+/// Puts a sentence and a line feed to the errors, where there is memory for it.
+pub fn say<E: Write>(errors: &mut E, text: Option<String>) {
+    if let Some(text) = text {
+        say_bytes(errors, text.as_bytes());
+    }
+}
+
+/// Puts a sentence and a line feed to the errors.
+pub fn say_bytes<E: Write>(errors: &mut E, text: &[u8]) {
+    tell(errors, b"mixedlook: ");
+    tell(errors, text);
+    tell(errors, b"\n");
+}
+
+/// Puts a piece to the errors. A failure is passed over: the status says it all.
+pub fn tell<E: Write>(errors: &mut E, piece: &[u8]) {
+    let mut faults = 0;
+    let _done = write_whole(errors, &mut faults, piece);
+}
+
+/// Puts a text to the output, and answers the status.
+pub fn print<W: Write>(out: &mut W, text: &[u8]) -> u8
+    ensures printed { result ≡ 0 → Appends (W.contents out.old) (W.contents out.new) text.now }
+    ensures status { (result ≡ 0) ⊎ (result ≡ 6) }
+{
+    let mut faults = 0;
+    match write_whole(out, &mut faults, text) {
+        Ok(()) => SUCCESS,
+        Err(_) => OUTPUT_FAILED,
+    }
+}
