@@ -6,7 +6,6 @@ use Rattle.mix_bits.specs.declared.isa.Isa.TheVariants.{M68, Ppc}
 use Rattle.job_words.specs.Drafts.{main_file}
 use Rattle.job_words.specs.Jobs.{IsProperJob}
 use Rattle.job_words.specs.declared.job.Job.{Job}
-use Rattle.mix_load.specs.declared.files.Files.{Files}
 use Rattle.mix_load.specs.Load.{AreLoadable, IsAlone, IsSmall}
 use Rattle.switch_frame.specs.Records.{isa_of}
 use Rattle.mixed_machine.specs.Machine.{IsWhole}

@@ -19,7 +19,7 @@ use Rattle.mixed_machine.specs.Exec.How.{Exited, Faulted, Limited}
 use Rattle.mixed_machine.specs.Machine.{IsWhole}
 use Rattle.mixed_machine.specs.Counts.{Blames, counts_of}
 use Rattle.mixed_machine.specs.Events.{StopsAt}
-use Rattle.mixed_machine.specs.Outside.{At, state_of}
+use Rattle.mixed_machine.specs.Outside.{At}
 use Rattle.mixed_machine.specs.Runs.{OutBroke, Ran, ReadBroke, Runs, Sinks, SinksTook, Stops, TraceBroke, sinks_of}
 use Rattle.mixed_machine.proofs.Machines.{begins-at, cut-goes-on, limit-at, stops-imply}
 use Rattle.mixed_machine.proofs.Runs.{exec-stays, limits-last}
