@@ -9,7 +9,7 @@ mod apple;
 mod binary;
 mod checksum;
 mod fork;
-#[cfg(test)]
-mod tests;
+mod laws;
 
 pub use fork::{Fork, ForkError, Wrapping, find_fork};
+pub use laws::checksum_law;

@@ -1,11 +1,7 @@
-//! Tests of the lines of a trace: as they are put, read back, and drawn as a tree or a picture.
+//! Tests of the lines of a trace: as they are put, and read back.
 #![tactic(auto)]
 
 #[cfg(test)]
 mod events;
 #[cfg(test)]
 mod lines;
-#[cfg(test)]
-mod signatures;
-#[cfg(test)]
-mod trees;
