@@ -1,8 +1,4 @@
 pub mod Extensions
-pub mod Quarters
-mod Table
-mod Counts
-mod Modes
 pub mod Bits
 mod Opposites
 pub mod Longs

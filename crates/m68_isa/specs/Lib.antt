@@ -20,6 +20,5 @@ pub mod Decode
 pub mod Fits
 pub mod Modes
 pub mod Widths
-pub mod Laws
 pub mod Needs
 pub mod Operations

@@ -62,7 +62,7 @@ pub enum Exchange {
 /// An instruction of the 68000 in user mode, or one of the additions of the 68020 that are taken, named as in the
 /// M68000 Family Programmer's Reference Manual, section 4. A register is a number below 8;
 /// which kind it is, the instruction says. Displacements are sign extended.
-#[derive(Clone, Copy, PartialEq)]
+#[derive(Clone, Copy)]
 pub enum Instr68 {
     /// ori, andi, subi, addi, eori, cmpi.
     Immediate {
@@ -361,7 +361,7 @@ pub enum Instr68 {
 }
 
 /// What the words of an instruction are.
-#[derive(Clone, Copy, PartialEq)]
+#[derive(Clone, Copy)]
 pub enum Decoded68 {
     /// An instruction, and how many words it has.
     Op(Instr68, u32),

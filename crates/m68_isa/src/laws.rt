@@ -1,11 +1,5 @@
-ghost use Rattle.m68_isa.specs.Laws.{TableLaws};
 ghost use Rattle.m68_isa.specs.Longs.{LongLaws};
 ghost use Rattle.m68_isa.specs.Needs.{IsKept, OpLaws};
-
-/// What holds of the table of instructions as a whole. It does nothing: the clause is its point.
-pub fn table_laws()
-    ensures { TableLaws }
-{}
 
 /// What holds of every operation. It does nothing: the clause is its point.
 pub fn op_laws()

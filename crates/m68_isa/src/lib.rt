@@ -2,8 +2,7 @@
 //! 68020 that are taken: long branches, extb.l, link.l, rtd, long multiplication and division, scaled index.
 //!
 //! The table of `specs/Decode` gives each first word its operation, and `op_of` answers it; the fields of the word
-//! stand beside it one by one. `decode68` gives the instruction that the operation makes of the words. No first word
-//! is in two rows.
+//! stand beside it one by one. `decode68` gives the instruction that the operation makes of the words.
 #![tactic(auto)]
 
 mod arithmetic;
@@ -39,7 +38,7 @@ pub use fields::{
 pub use instructions::{
     BitOp, Decoded68, Exchange, ImmediateOp, Instr68, LogicOp, ShiftCount, ShiftOp,
 };
-pub use laws::{long_laws, op_laws, reading_law, table_laws};
+pub use laws::{long_laws, op_laws, reading_law};
 pub use op::Op68;
 pub use operand::immediate_words;
 pub use operations::Operations;

@@ -2,7 +2,7 @@ ghost use Rattle.std.specs.Prelude.{◌≡◌, length};
 ghost use Rattle.m68_text.specs.Laws.{NamesAreListed};
 ghost use Rattle.m68_text.specs.Listed.{names};
 
-use m68_isa::table_laws;
+use m68_table::table_laws;
 
 /// What holds of the names of all instructions. It does nothing: the clauses are its point.
 pub fn text_laws()

@@ -5,7 +5,7 @@ use Rattle.mix_bits.specs.Ranges.{every}
 use Rattle.mix_bits.proofs.Every.{every_at, every_quarter}
 use Rattle.m68_isa.specs.First.{first_of}
 use Rattle.m68_isa.specs.Decode.{table}
-use Rattle.m68_isa.specs.Laws.{sections_with, rows_with}
+use Rattle.m68_table.specs.Laws.{sections_with, rows_with}
 
 abbrev is_once : ℕ → Bool
 is_once w = nat_lt (sections_with table (first_of w)) 2 && nat_lt (rows_with table (first_of w)) 2

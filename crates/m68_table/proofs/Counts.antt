@@ -1,9 +1,9 @@
 -- How many first words have a row: computed over all of them.
 use Rattle.std.proofs.Common.{ℕ, ◌≡◌, nat_lt, Bool, [], ◌∷◌, refl}
 use Rattle.m68_isa.specs.First.{first_of}
-use Rattle.m68_isa.specs.Laws.{rows_with, how_many, is_privileged}
+use Rattle.m68_table.specs.Laws.{rows_with, how_many, is_privileged}
 use Rattle.m68_isa.specs.Decode.{table, decoded}
-use Rattle.m68_isa.proofs.Quarters.{of_quarters}
+use Rattle.m68_table.proofs.Quarters.{of_quarters}
 
 abbrev has_row : ℕ → Bool
 has_row w = nat_lt 0 (rows_with table (first_of w))

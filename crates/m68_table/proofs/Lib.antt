@@ -1,0 +1,4 @@
+pub mod Quarters
+mod Table
+mod Counts
+mod Modes
