@@ -113,7 +113,7 @@ pub enum SpecialRegister {
 /// `rc`, `lk` and `aa` are the bits that ask for OV, for CR0, for LR and for an absolute target.
 /// `immediate` and `offset` are the sixteen bits as they stand in the word. `displacement` is the
 /// signed distance in bytes as a pattern of 32 bits. `field` is a field of the condition register.
-#[derive(Clone, Copy, PartialEq)]
+#[derive(Clone, Copy)]
 pub enum InstrPpc {
     /// addi, addis.
     AddImmediate {
