@@ -1,7 +1,8 @@
 // One run over objects in memory.
 use crate::case::Case;
 use crate::images::Images;
-use crate::outside::{keeper, no_memory, numbers, scripted, sink, value_of};
+use crate::outside::{keeper, scripted, sink};
+use case_words::{no_memory, numbers, value_of};
 use dev_rack::{Asked, Devices, Rack};
 use mix_io::{Counter, Device, MemKeep, MemShelf, MemSink, MemSource, Tape, have_distinct_names};
 use mix_top::mixed_main;
