@@ -15,7 +15,7 @@ use crate::runs::end;
 use crate::said::{print, say, tell};
 use crate::status::{BAD_WORDS, NO_MEMORY, REFUSED};
 use crate::streams::Streams;
-use crate::traces::{picture, trace};
+use crate::traces::{Shape, trace};
 use fork_wrap::find_fork;
 use look_text::info_text;
 use look_words::{Look, Refusal, explain, read_look, refusal_text, why_text};
@@ -55,8 +55,24 @@ fn obey<F: Files, R: Read + Drop, W: Write + Drop, E: Write + Drop>(
 {
     match read_look(words) {
         Ok(Look::Info(word)) => info(alloc, word, &mut streams.out),
-        Ok(Look::Trace(file, names)) => trace(alloc, files, words, file, names, streams),
-        Ok(Look::Picture(file, names)) => picture(alloc, files, words, file, names, streams),
+        Ok(Look::Trace(file, names)) => trace(
+            alloc,
+            files,
+            words,
+            Shape::Tree,
+            file,
+            names,
+            streams,
+        ),
+        Ok(Look::Picture(file, names)) => trace(
+            alloc,
+            files,
+            words,
+            Shape::Picture,
+            file,
+            names,
+            streams,
+        ),
         Ok(Look::Fork(file)) => fork(alloc, files, name_at(words, file), streams),
         Ok(Look::Words) => why(alloc, words, &mut streams.out),
         Ok(Look::Map) => match requested(alloc, words, &mut streams.errors) {

@@ -13,7 +13,7 @@ use crate::streams::Streams;
 use call_trace::{End, put_end};
 use circular_buffer::HeapCircularBuffer;
 use dev_rack::Rack;
-use look_end::{report, run_keeping};
+use look_end::{Ending, Step, report, run_keeping};
 use mix_bits::NoMemory;
 use mix_engine::{Machine, Stop};
 use mix_io::{Counter, Device, Failed, Sink, StdSink, StdSource, Tape};
@@ -34,9 +34,9 @@ pub fn end<F: Files, R: Read + Drop, W: Write + Drop, E: Write + Drop>(
     ensures { result ≢ 2 }
 {
     match start(alloc, files, request, &mut streams.errors) {
-        Ok(machine) => run(
+        Ok(mut machine) => run(
             alloc,
-            machine,
+            &mut machine,
             request.job.steps,
             last,
             &mut streams.input,
@@ -67,41 +67,53 @@ fn start<F: Files, E: Write>(
     }
 }
 
-/// Runs a machine over the streams, with a counter in slot 0 and a tape in slot 1, as mixedrun does, and keeps its last
-/// steps.
+/// Runs a machine over the streams, as mixedrun does, and keeps its last steps.
 fn run<R: Read, W: Write, E: Write>(
     alloc: Global,
-    mut machine: Machine,
+    machine: &mut Machine,
     steps: u32,
     last: u32,
     input: &mut R,
     out: &mut W,
     errors: &mut E,
 ) -> Result<u8, NoMemory>
-    requires { IsWhole machine.body (isa_of machine.active) }
+    requires { IsWhole machine.old.body (isa_of machine.old.active) }
     ensures { IfOk result (λ status. status ≢ 2) }
 {
     let Ok(reader) = BufReader::new(alloc, input) else {
         return Err(NoMemory);
     };
-    let counter: Box<dyn Device> = Box::new(alloc, Counter::new(alloc)?)?;
-    let tape: Box<dyn Device> = Box::new(alloc, Tape::new(alloc)?)?;
-    let mut rack = Rack::new(alloc, vec![in alloc; counter, tape]?)?;
+    let mut rack = devices(alloc)?;
     let mut kept = HeapCircularBuffer::with_capacity(alloc, last as usize)?;
     let mut input = StdSource::new(reader);
     let mut out = StdSink::new(out);
     let mut trace = StdSink::new(errors);
     let ending = run_keeping(
-        &mut machine,
-        &mut kept,
-        &mut input,
-        &mut out,
-        &mut trace,
-        &mut rack,
-        steps,
+        machine, &mut kept, &mut input, &mut out, &mut trace, &mut rack, steps,
     );
-    let ended = put_last_line(&mut trace, &machine, ending.stop);
-    let text = report(alloc, &machine, Some(ending), kept.make_contiguous())?;
+    finish(alloc, machine, ending, kept.make_contiguous(), &mut trace)
+}
+
+/// The devices of a run: a counter in slot 0 and a tape in slot 1, as mixedrun has them.
+fn devices(alloc: Global) -> Result<Rack, NoMemory> {
+    let counter: Box<dyn Device> = Box::new(alloc, Counter::new(alloc)?)?;
+    let tape: Box<dyn Device> = Box::new(alloc, Tape::new(alloc)?)?;
+    Rack::new(alloc, vec![in alloc; counter, tape]?)
+}
+
+/// Puts the last line of a trace and the report behind it, and answers the status.
+fn finish<T: Sink>(
+    alloc: Global,
+    machine: &Machine,
+    ending: Ending,
+    steps: &[Step],
+    trace: &mut T,
+) -> Result<u8, NoMemory>
+    requires { IsWhole machine.now.body (isa_of machine.now.active) }
+    ensures { IfOk result (λ status. status ≢ 2) }
+{
+    let ended = put_last_line(trace, machine, ending.stop);
+    let text = report(alloc, machine, Some(ending), steps)?;
     let reported = trace.put(&text);
     Ok(status(ending.stop, ended.is_ok() && reported.is_ok()))
 }

@@ -20,40 +20,34 @@ enum Untold {
     Told(LookError),
 }
 
-/// Writes the trace in the file of a word as a tree, with the names in the file of another one.
+/// How a trace is written.
+#[derive(Clone, Copy)]
+pub enum Shape {
+    Tree,
+    Picture,
+}
+
+/// Writes the trace in the file of a word, with the names in the file of another one.
 pub fn trace<F: Files, R: Read + Drop, W: Write + Drop, E: Write + Drop>(
     alloc: Global,
     files: &F,
     words: &[String],
+    shape: Shape,
     file: usize,
     names: Option<usize>,
     streams: &mut Streams<R, W, E>,
 ) -> u8
     ensures { result ≢ 2 }
 {
-    let done = tell_tree(alloc, files, words, file, names, &mut streams.out);
+    let done = write(alloc, files, words, shape, file, names, &mut streams.out);
     told(alloc, words, done, &mut streams.errors)
 }
 
-/// Writes it as a picture.
-pub fn picture<F: Files, R: Read + Drop, W: Write + Drop, E: Write + Drop>(
+fn write<F: Files, W: Write>(
     alloc: Global,
     files: &F,
     words: &[String],
-    file: usize,
-    names: Option<usize>,
-    streams: &mut Streams<R, W, E>,
-) -> u8
-    ensures { result ≢ 2 }
-{
-    let done = tell_picture(alloc, files, words, file, names, &mut streams.out);
-    told(alloc, words, done, &mut streams.errors)
-}
-
-fn tell_tree<F: Files, W: Write>(
-    alloc: Global,
-    files: &F,
-    words: &[String],
+    shape: Shape,
     file: usize,
     names: Option<usize>,
     out: &mut W,
@@ -61,22 +55,10 @@ fn tell_tree<F: Files, W: Write>(
     let names = names_of(alloc, files, words, names)?;
     let trace = open(alloc, files, words, file)?;
     let mut out = BufWriter::new(alloc, out).map_err(no_memory)?;
-    let done = write_tree(alloc, trace, &names, &mut out);
-    finish(done, out.flush())
-}
-
-fn tell_picture<F: Files, W: Write>(
-    alloc: Global,
-    files: &F,
-    words: &[String],
-    file: usize,
-    names: Option<usize>,
-    out: &mut W,
-) -> Result<(), Untold> {
-    let names = names_of(alloc, files, words, names)?;
-    let trace = open(alloc, files, words, file)?;
-    let mut out = BufWriter::new(alloc, out).map_err(no_memory)?;
-    let done = write_picture(alloc, trace, &names, &mut out);
+    let done = match shape {
+        Shape::Tree => write_tree(alloc, trace, &names, &mut out),
+        Shape::Picture => write_picture(alloc, trace, &names, &mut out),
+    };
     finish(done, out.flush())
 }
 
