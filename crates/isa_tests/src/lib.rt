@@ -1,4 +1,4 @@
-//! Tests of the decoders and the arithmetic of both instruction sets.
+//! Tests of the arithmetic of both instruction sets, and of the 68K decoder over all first words.
 #![tactic(auto)]
 
 #[cfg(test)]
@@ -6,6 +6,4 @@ mod arithmetic_m68;
 #[cfg(test)]
 mod arithmetic_ppc;
 #[cfg(test)]
-mod m68;
-#[cfg(test)]
-mod ppc;
+mod first_words;

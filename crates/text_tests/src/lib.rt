@@ -1,13 +1,9 @@
-//! Tests of the texts of instructions, and of lines and listings that are assembled.
+//! Tests of the texts of all first words, of lines that are too long for a row, and of listings that are assembled.
 #![tactic(auto)]
 
 #[cfg(test)]
-mod assembler;
+mod first_words;
+#[cfg(test)]
+mod lines;
 #[cfg(test)]
 mod listings;
-#[cfg(test)]
-mod m68;
-#[cfg(test)]
-mod ppc;
-#[cfg(test)]
-mod words_ppc;
