@@ -4,6 +4,8 @@
 #[cfg(test)]
 mod bits;
 #[cfg(test)]
+mod checks;
+#[cfg(test)]
 mod memory;
 #[cfg(test)]
 mod outside;

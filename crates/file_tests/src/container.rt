@@ -1,4 +1,8 @@
+ghost use Rattle.std.specs.Prelude.{◌≤◌, ◌^◌, length};
+
+use crate::checks::same;
 use pef_head::{Import, Pef, PefError, Section};
+use std::alloc::Global;
 use std::process::Abort;
 use std::test::Fail;
 
@@ -81,11 +85,47 @@ fn libraries_with(rt: &impl Abort, place: usize, byte: u8) -> [u8; 189] {
     file
 }
 
+/// A section that is there.
+fn section<'a>(rt: &impl Abort, pef: &Pef<'a>, k: u32) -> Section<'a> {
+    assert!(rt; k < pef.sections());
+    pef.section(k)
+}
+
+/// The relocations of a section that is there.
+fn relocs<'a>(rt: &impl Abort, pef: &Pef<'a>, k: u32) -> &'a [u8] {
+    assert!(rt; k < pef.sections());
+    pef.relocs(k)
+}
+
+/// An import that is there.
+fn import<'a>(rt: &impl Abort, pef: &Pef<'a>, i: u32) -> Import<'a> {
+    assert!(rt; i < pef.imports());
+    pef.import(i)
+}
+
+/// The container is refused so, with this byte at this place or cut there.
+fn check_refused(rt: &impl Abort, place: usize, file: &[u8], wanted: PefError)
+    requires { length file.now ≤ 2 ^ 24 }
+{
+    same(rt, (place, Pef::read(file).err()), (place, Some(wanted)));
+}
+
+/// A place, the byte that stands there, and the refusal.
+type Field = (usize, u8, PefError);
+
+/// The program is refused so for each byte.
+fn check_fields(rt: &impl Abort, fields: &[Field]) {
+    for (place, byte, wanted) in fields {
+        let file = program_with(rt, *place, *byte);
+        check_refused(rt, *place, &file, *wanted);
+    }
+}
+
 #[test]
 fn reads_a_program(rt: HostRuntime) -> Result<(), PefError> {
     let file = PROGRAM;
     let pef = Pef::read(&file)?;
-    assert!(rt; pef.sections() == 2);
+    same(&rt, (pef.sections(), pef.imports()), (2, 1));
     let code = Section {
         kind: 0,
         total: 20,
@@ -100,19 +140,22 @@ fn reads_a_program(rt: HostRuntime) -> Result<(), PefError> {
         align: 4,
         bytes: &file[144..156],
     };
-    assert_eq!(rt; pef.section(0), code);
-    assert_eq!(rt; pef.section(1), data);
-    assert!(rt; !pef.section(1).is_pattern());
-    assert_eq!(rt; pef.main(), Some((1, 4)));
-    assert_eq!(rt; pef.relocs(0), b"".as_slice());
-    assert_eq!(rt; pef.relocs(1), [0x60, 0x00, 0x46, 0x00].as_slice());
-    assert!(rt; pef.imports() == 1);
+    same(&rt, section(&rt, &pef, 0), code);
+    same(&rt, section(&rt, &pef, 1), data);
+    same(&rt, section(&rt, &pef, 1).is_pattern(), false);
+    same(&rt, pef.main(), Some((1, 4)));
+    same(&rt, relocs(&rt, &pef, 0), b"".as_slice());
+    same(
+        &rt,
+        relocs(&rt, &pef, 1),
+        [0x60, 0x00, 0x46, 0x00].as_slice(),
+    );
     let put_byte = Import {
         library: b"HostLib",
         name: b"PutByte",
         weak: false,
     };
-    assert_eq!(rt; pef.import(0), put_byte);
+    same(&rt, import(&rt, &pef, 0), put_byte);
     Ok(())
 }
 
@@ -120,40 +163,39 @@ fn reads_a_program(rt: HostRuntime) -> Result<(), PefError> {
 fn reads_libraries_in_any_order(rt: HostRuntime) -> Result<(), PefError> {
     let file = LIBRARIES;
     let pef = Pef::read(&file)?;
-    assert_eq!(rt; pef.sections(), 0);
-    assert_eq!(rt; pef.main(), None);
-    assert!(rt; pef.imports() == 2);
-    let first = pef.import(0);
-    assert_eq!(rt;
-        (first.library, first.name),
-        (b"B".as_slice(), b"x".as_slice())
-    );
-    assert!(rt; first.weak);
-    let second = pef.import(1);
-    assert_eq!(rt;
-        (second.library, second.name),
-        (b"A".as_slice(), b"yz".as_slice())
-    );
-    assert!(rt; !second.weak);
+    same(&rt, (pef.sections(), pef.imports()), (0, 2));
+    same(&rt, pef.main(), None);
+    let first = Import {
+        library: b"B",
+        name: b"x",
+        weak: true,
+    };
+    let second = Import {
+        library: b"A",
+        name: b"yz",
+        weak: false,
+    };
+    same(&rt, import(&rt, &pef, 0), first);
+    same(&rt, import(&rt, &pef, 1), second);
     Ok(())
 }
 
 #[test]
 fn refuses_each_cut(rt: HostRuntime) {
     for len in 0..PROGRAM.len() {
-        let want = match len {
+        let wanted = match len {
             0..124 => PefError::Short(len as u32),
             124..144 => PefError::Section(0),
             144..156 => PefError::Section(1),
             _ => PefError::Section(2),
         };
-        assert_eq!(rt; Pef::read(&PROGRAM[..len]).err(), Some(want), "at {len}");
+        check_refused(&rt, len, &PROGRAM[..len], wanted);
     }
 }
 
 #[test]
 fn refuses_bad_headers(rt: HostRuntime) {
-    for (place, byte, want) in [
+    let fields = [
         (0, b'K', PefError::Magic),
         (7, b'F', PefError::Magic),
         (8, b'm', PefError::Architecture),
@@ -180,15 +222,13 @@ fn refuses_bad_headers(rt: HostRuntime) {
         // the loader section's bytes leave the file; it is no loader section
         (115, 0x75, PefError::Section(2)),
         (120, 5, PefError::NoLoader),
-    ] {
-        let file = program_with(&rt, place, byte);
-        assert_eq!(rt; Pef::read(&file).err(), Some(want), "at {place}");
-    }
+    ];
+    check_fields(&rt, &fields);
 }
 
 #[test]
 fn refuses_bad_loader_sections(rt: HostRuntime) {
-    for (place, byte, want) in [
+    let fields = [
         // 55 bytes; four libraries; 2^24 symbols more; ten relocation headers
         (115, 55, PefError::Loader(156)),
         (183, 4, PefError::Loader(212)),
@@ -209,10 +249,8 @@ fn refuses_bad_loader_sections(rt: HostRuntime) {
         (271, b'!', PefError::Name(236)),
         (196, 0xFF, PefError::Name(212)),
         (164, 0, PefError::Init),
-    ] {
-        let file = program_with(&rt, place, byte);
-        assert_eq!(rt; Pef::read(&file).err(), Some(want), "at {place}");
-    }
+    ];
+    check_fields(&rt, &fields);
 }
 
 #[test]
@@ -221,19 +259,20 @@ fn refuses_4294967295_symbols(rt: HostRuntime) {
     for place in 184..188 {
         file[place] = 0xFF;
     }
-    assert_eq!(rt; Pef::read(&file).err(), Some(PefError::Loader(236)));
+    same(&rt, Pef::read(&file).err(), Some(PefError::Loader(236)));
 }
 
 #[test]
 fn refuses_symbols_of_no_library_or_two(rt: HostRuntime) {
-    for (place, byte, want) in [
+    let fields = [
         // B has both symbols; B has symbol 1, as A has; A has none
         (163, 2, PefError::Loader(176)),
         (167, 1, PefError::Loader(172)),
         (139, 0, PefError::Loader(176)),
-    ] {
-        let file = libraries_with(&rt, place, byte);
-        assert_eq!(rt; Pef::read(&file).err(), Some(want), "at {place}");
+    ];
+    for (place, byte, wanted) in &fields {
+        let file = libraries_with(&rt, *place, *byte);
+        check_refused(&rt, *place, &file, *wanted);
     }
 }
 
@@ -242,8 +281,8 @@ fn reads_a_library_without_symbols(rt: HostRuntime) -> Result<(), PefError> {
     let mut file = libraries_with(&rt, 139, 0);
     file[163] = 2;
     let pef = Pef::read(&file)?;
-    assert!(rt; pef.imports() == 2);
-    assert_eq!(rt; pef.import(1).library, b"B".as_slice());
+    same(&rt, pef.imports(), 2);
+    same(&rt, import(&rt, &pef, 1).library, b"B".as_slice());
     Ok(())
 }
 
@@ -256,11 +295,10 @@ fn reads_what_the_rules_allow(rt: HostRuntime) -> Result<(), PefError> {
     file[158] = 0xFF;
     file[159] = 0xFF;
     let pef = Pef::read(&file)?;
-    assert!(rt; 1 < pef.sections());
-    let pattern = pef.section(1);
-    assert_eq!(rt; (pattern.kind, pattern.align), (2, 4096));
-    assert_eq!(rt; pattern.bytes, &file[144..149]);
-    assert_eq!(rt; pef.main(), Some((65535, 4)));
+    let pattern = section(&rt, &pef, 1);
+    same(&rt, (pattern.kind, pattern.align), (2, 4096));
+    same(&rt, pattern.bytes, &file[144..149]);
+    same(&rt, pef.main(), Some((65535, 4)));
     Ok(())
 }
 
@@ -269,7 +307,7 @@ fn takes_the_first_loader_section(rt: HostRuntime) {
     // section 1 is a loader section too, of 12 bytes
     let mut file = program_with(&rt, 92, 4);
     file[35] = 1;
-    assert_eq!(rt; Pef::read(&file).err(), Some(PefError::Loader(144)));
+    same(&rt, Pef::read(&file).err(), Some(PefError::Loader(144)));
 }
 
 #[test]
@@ -279,7 +317,7 @@ fn counts_missing_sections_last(rt: HostRuntime) {
     file[120] = 6;
     file[107] = 0x74;
     file[111] = 0x74;
-    assert_eq!(rt; Pef::read(&file).err(), Some(PefError::Section(3)));
+    same(&rt, Pef::read(&file).err(), Some(PefError::Section(3)));
 }
 
 #[test]
@@ -290,41 +328,46 @@ fn reads_two_relocation_headers(rt: HostRuntime) -> Result<(), PefError> {
         file[place] = 0;
     }
     let pef = Pef::read(&file)?;
-    assert!(rt; 1 < pef.sections());
-    assert_eq!(rt; pef.relocs(0), b"".as_slice());
-    assert_eq!(rt; pef.relocs(1), &file[252..256]);
+    same(&rt, relocs(&rt, &pef, 0), b"".as_slice());
+    same(&rt, relocs(&rt, &pef, 1), &file[252..256]);
     file[253] = 1;
-    assert_eq!(rt; Pef::read(&file).err(), Some(PefError::Loader(252)));
+    same(&rt, Pef::read(&file).err(), Some(PefError::Loader(252)));
+    Ok(())
+}
+
+/// The library of each symbol, and the relocation header of each section.
+fn check_tables(
+    rt: &impl Abort,
+    alloc: Global,
+    file: &[u8],
+    owners: &[u32],
+    headers: &[Option<u32>],
+) -> Result<(), Fail>
+    requires { length file.now ≤ 2 ^ 24 }
+{
+    let pef = Pef::read(file)?;
+    same(rt, pef.owners(alloc)?.as_slice(), owners);
+    same(rt, pef.reloc_headers(alloc)?.as_slice(), headers);
     Ok(())
 }
 
 #[test]
 fn tables_of_libraries_and_relocations(rt: HostRuntime) -> Result<(), Fail> {
-    let alloc = rt.alloc();
-    let file = LIBRARIES;
-    let pef = Pef::read(&file)?;
-    assert_eq!(rt; pef.owners(alloc)?.as_slice(), [1, 0].as_slice());
-    assert!(rt; pef.reloc_headers(alloc)?.is_empty());
-    let file = PROGRAM;
-    let pef = Pef::read(&file)?;
-    assert_eq!(rt; pef.owners(alloc)?.as_slice(), [0].as_slice());
-    assert_eq!(rt;
-        pef.reloc_headers(alloc)?.as_slice(),
-        [None, Some(0)].as_slice()
-    );
-    Ok(())
+    check_tables(&rt, rt.alloc(), &LIBRARIES, &[1, 0], &[])?;
+    check_tables(&rt, rt.alloc(), &PROGRAM, &[0], &[None, Some(0)])
 }
 
 #[test]
 fn tests_names_before_the_init_section(rt: HostRuntime) {
     let mut file = program_with(&rt, 164, 0);
     file[271] = b'!';
-    assert_eq!(rt; Pef::read(&file).err(), Some(PefError::Name(236)));
+    same(&rt, Pef::read(&file).err(), Some(PefError::Name(236)));
 }
 
 #[test]
 fn shows_refusals(rt: HostRuntime) -> Result<(), std::alloc::AllocError> {
     let text = format!(in rt.alloc(); "{}", PefError::Name(236))?;
-    assert_eq!(rt; text.as_str(), "the name of what stands at 236 has no end");
+    let wanted = "the name of what stands at 236 has no end";
+    same(&rt, text.as_str(), wanted);
     Ok(())
 }

@@ -1,4 +1,6 @@
+use crate::checks::same;
 use rsrc_fork::{Fork, RsrcError};
+use std::alloc::Global;
 use std::ops::Range;
 use std::process::Abort;
 use std::test::Fail;
@@ -46,69 +48,109 @@ const TYPES: [u8; 113] = [
     0x00, 0x00, 0x00, 0x01, 0x61, 0x00, 0x00, 0x00, 0x02, 0x62, 0x63, 0x00, 0x00, 0x00, 0x00,
 ];
 
-/// The program's fork, with some of its bytes replaced by another.
-fn program_with(rt: &impl Abort, places: Range<usize>, byte: u8) -> [u8; 120] {
-    let mut file = PROGRAM;
-    for place in places {
-        assert!(rt; place < 120);
-        file[place] = byte;
+/// A type, an id, and the bytes of the resource.
+pub type Get<'a> = (u32, i16, Option<&'a [u8]>);
+
+/// The fork gives these.
+fn check_gets(rt: &impl Abort, fork: &Fork, gets: &[Get]) {
+    for (kind, id, wanted) in gets {
+        let got = (*kind, *id, fork.get(*kind, *id));
+        same(rt, got, (*kind, *id, *wanted));
     }
-    file
 }
 
-#[test]
-fn reads_a_program(rt: HostRuntime) -> Result<(), Fail> {
-    let file = PROGRAM;
-    let fork = Fork::read(rt.alloc(), &file)?;
-    assert_eq!(rt; fork.get(CODE, 0), Some(&file[20..44]));
-    assert_eq!(rt; fork.get(CODE, 1), Some(&file[48..58]));
-    assert_eq!(rt; fork.get(CODE, 2), None);
-    assert_eq!(rt; fork.get(ICON, 0), None);
-    for (after, next) in [(-1, Some(0)), (0, Some(1)), (1, None)] {
-        assert_eq!(rt; fork.ids(CODE, after), next, "after {after}");
+/// A type, an id, and the next id of the type.
+pub type Next = (u32, i16, Option<i16>);
+
+fn check_nexts(rt: &impl Abort, fork: &Fork, nexts: &[Next]) {
+    for (kind, after, next) in nexts {
+        let got = (*kind, *after, fork.ids(*kind, *after));
+        same(rt, got, (*kind, *after, *next));
     }
+}
+
+/// The file is a fork that gives these.
+pub fn check_fork(
+    rt: &impl Abort,
+    alloc: Global,
+    file: &[u8],
+    gets: &[Get],
+    nexts: &[Next],
+) -> Result<(), RsrcError> {
+    assert!(rt; file.len() <= 0x100_0000);
+    let fork = Fork::read(alloc, file)?;
+    check_gets(rt, &fork, gets);
+    check_nexts(rt, &fork, nexts);
     Ok(())
 }
 
+/// A file of so many bytes is refused so.
+pub fn check_refused(rt: &impl Abort, alloc: Global, file: &[u8], wanted: RsrcError) {
+    assert!(rt; file.len() <= 0x100_0000);
+    let refusal = Fork::read(alloc, file).err();
+    same(rt, (file.len(), refusal), (file.len(), Some(wanted)));
+}
+
 #[test]
-fn reads_several_types(rt: HostRuntime) -> Result<(), Fail> {
-    let file = TYPES;
-    let fork = Fork::read(rt.alloc(), &file)?;
-    assert_eq!(rt; fork.get(ICON, 3), Some(b"a".as_slice()));
-    assert_eq!(rt; fork.get(ICON, -1), Some(b"bc".as_slice()));
-    assert_eq!(rt; fork.get(STR, 3), Some(b"".as_slice()));
-    assert_eq!(rt; fork.get(STR, -1), None);
-    for (kind, after, next) in [
+fn reads_a_program(rt: HostRuntime) -> Result<(), RsrcError> {
+    let file = PROGRAM;
+    let gets = [
+        (CODE, 0, Some(&file[20..44])),
+        (CODE, 1, Some(&file[48..58])),
+        (CODE, 2, None),
+        (ICON, 0, None),
+    ];
+    let nexts = [(CODE, -1, Some(0)), (CODE, 0, Some(1)), (CODE, 1, None)];
+    check_fork(&rt, rt.alloc(), &file, &gets, &nexts)
+}
+
+#[test]
+fn reads_several_types(rt: HostRuntime) -> Result<(), RsrcError> {
+    let gets: [Get; 4] = [
+        (ICON, 3, Some(b"a")),
+        (ICON, -1, Some(b"bc")),
+        (STR, 3, Some(b"")),
+        (STR, -1, None),
+    ];
+    let nexts = [
         (ICON, -32768, Some(-1)),
         (ICON, -1, Some(3)),
         (ICON, 3, None),
         (STR, -1, Some(3)),
         (CODE, -32768, None),
-    ] {
-        assert_eq!(rt; fork.ids(kind, after), next, "{kind:x} after {after}");
-    }
-    Ok(())
+    ];
+    check_fork(&rt, rt.alloc(), &TYPES, &gets, &nexts)
 }
 
 #[test]
 fn refuses_each_cut(rt: HostRuntime) {
     for len in 0..PROGRAM.len() {
-        let want = if len < 16 {
+        let wanted = if len < 16 {
             RsrcError::Short(len as u32)
         } else {
             RsrcError::BadOffset(0)
         };
-        assert_eq!(rt;
-            Fork::read(rt.alloc(), &PROGRAM[..len]).err(),
-            Some(want),
-            "at {len}"
-        );
+        check_refused(&rt, rt.alloc(), &PROGRAM[..len], wanted);
     }
+}
+
+/// The places of some bytes, what stands there in place of them, and the refusal.
+type Field = (Range<usize>, u8, RsrcError);
+
+/// The program's fork is refused so where some of its bytes are replaced by another.
+fn check_field(rt: &impl Abort, alloc: Global, field: &Field) {
+    let (places, byte, wanted) = field;
+    let mut file = PROGRAM;
+    for place in places.start..places.end {
+        assert!(rt; place < 120);
+        file[place] = *byte;
+    }
+    check_refused(rt, alloc, &file, *wanted);
 }
 
 #[test]
 fn refuses_each_bad_field(rt: HostRuntime) {
-    for (places, byte, want) in [
+    let fields = [
         // the data ends behind the file; the map has 27 bytes; the data ends in the map
         (0..1, 1, RsrcError::BadOffset(0)),
         (15..16, 27, RsrcError::BadOffset(0)),
@@ -128,28 +170,25 @@ fn refuses_each_bad_field(rt: HostRuntime) {
         (112..113, 1, RsrcError::Compressed(CODE, 1)),
         (109..110, 0, RsrcError::Twice(CODE, 0)),
         (97..98, 1, RsrcError::Twice(CODE, 1)),
-    ] {
-        let file = program_with(&rt, places, byte);
-        assert_eq!(rt; Fork::read(rt.alloc(), &file).err(), Some(want));
+    ];
+    for field in &fields {
+        check_field(&rt, rt.alloc(), field);
     }
 }
 
 #[test]
-fn reads_what_the_rules_allow(rt: HostRuntime) -> Result<(), Fail> {
+fn reads_what_the_rules_allow(rt: HostRuntime) -> Result<(), RsrcError> {
     // no type; other attributes; a shorter resource
     let mut file = PROGRAM;
     file[86] = 0xFF;
     file[87] = 0xFF;
-    assert_eq!(rt; Fork::read(rt.alloc(), &file)?.ids(CODE, -1), None);
+    check_fork(&rt, rt.alloc(), &file, &[], &[(CODE, -1, None)])?;
 
     let mut file = PROGRAM;
     file[112] = 0xFE;
     file[47] = 9;
-    assert_eq!(rt;
-        Fork::read(rt.alloc(), &file)?.get(CODE, 1),
-        Some(&file[48..57])
-    );
-    Ok(())
+    let gets = [(CODE, 1, Some(&file[48..57]))];
+    check_fork(&rt, rt.alloc(), &file, &gets, &[])
 }
 
 #[test]
@@ -158,25 +197,17 @@ fn tests_the_data_first_and_the_name_last(rt: HostRuntime) {
     let mut file = PROGRAM;
     file[109] = 0;
     file[112] = 1;
-    assert_eq!(rt;
-        Fork::read(rt.alloc(), &file).err(),
-        Some(RsrcError::Compressed(CODE, 0))
-    );
+    check_refused(&rt, rt.alloc(), &file, RsrcError::Compressed(CODE, 0));
     for place in 113..116 {
         file[place] = 0xFF;
     }
-    assert_eq!(rt;
-        Fork::read(rt.alloc(), &file).err(),
-        Some(RsrcError::BadOffset(108))
-    );
+    check_refused(&rt, rt.alloc(), &file, RsrcError::BadOffset(108));
 }
 
 #[test]
 fn shows_refusals(rt: HostRuntime) -> Result<(), Fail> {
     let text = format!(in rt.alloc(); "{}", RsrcError::Twice(CODE, -1))?;
-    assert_eq!(rt;
-        text.as_str(),
-        "the resource -1 of type 0x434f4445 comes twice"
-    );
+    let wanted = "the resource -1 of type 0x434f4445 comes twice";
+    same(&rt, text.as_str(), wanted);
     Ok(())
 }

@@ -1,5 +1,6 @@
-ghost use Rattle.std.specs.Prelude.{◌≤◌};
+ghost use Rattle.std.specs.Prelude.{◌≡◌, ◌≤◌, length};
 
+use crate::checks::same;
 use big_memory::{Access, Ram};
 use mix_bits::Size;
 use pef_reloc::{RelocError, relocate, unpack};
@@ -24,7 +25,8 @@ type Unpacking<'a> = (&'a [u8], usize, Result<(), RelocError>, &'a [u8]);
 /// Each row unpacks as it says.
 fn check_unpacking(rt: &impl Abort, rows: &[Unpacking]) {
     for (from, room, answer, written) in rows {
-        assert!(rt; unpacks(from, *room, *answer, written), "{from:?}");
+        let fits = unpacks(from, *room, *answer, written);
+        same(rt, (*from, fits), (*from, true));
     }
 }
 
@@ -137,8 +139,11 @@ const BASES: [u32; 2] = [0x1_0000, 0x1_0100];
 
 const IMPORTS: [u32; 3] = [0x1448, 0x1450, 0x1458];
 
-fn memory(alloc: Global) -> Result<Ram, Fail> {
-    Ok(Ram::new(alloc, 0x2_0000)?)
+/// What fails where a test has no memory.
+const MEMORY: &str = "there is memory for a test";
+
+fn memory(rt: &impl Abort, alloc: Global) -> Ram {
+    Ram::new(alloc, 0x2_0000).expect(rt, MEMORY)
 }
 
 /// Relocates section 1 of this size.
@@ -160,49 +165,55 @@ fn bytes_of(alloc: Global, words: &[u16]) -> Result<Vec<u8>, AllocError> {
 }
 
 /// What words answer for a section of eight longs 0 in a memory of its own, and its longs then.
-fn relocated(
-    rt: &impl Abort,
-    alloc: Global,
-    words: &[u16],
-) -> Result<(Result<(), RelocError>, [u32; 8]), Fail> {
-    let mut ram = memory(alloc)?;
-    let answer = run(rt, &mut ram, 32, &bytes_of(alloc, words)?);
+fn relocated(rt: &impl Abort, alloc: Global, words: &[u16]) -> (Result<(), RelocError>, [u32; 8]) {
+    let bytes = bytes_of(alloc, words).expect(rt, MEMORY);
+    let mut ram = memory(rt, alloc);
+    let answer = run(rt, &mut ram, 32, &bytes);
+    (answer, longs_of(&ram))
+}
+
+/// The longs of section 1.
+fn longs_of(ram: &Ram) -> [u32; 8] {
     let mut longs = [0; 8];
     for (k, long) in longs.iter_mut().enumerate() {
         *long = ram
             .load(0x1_0100 + 4 * k as u32, Size::Four)
             .unwrap_or(0xEEEE_EEEE);
     }
-    Ok((answer, longs))
+    longs
+}
+
+/// These longs, and behind them 0.
+fn and_zeros(longs: &[u32]) -> [u32; 8] {
+    let mut all = [0; 8];
+    for (to, long) in all.iter_mut().zip(longs) {
+        *to = *long;
+    }
+    all
 }
 
 /// Words that are not refused leave these longs, and behind them 0.
-fn check_left(rt: &impl Abort, alloc: Global, rows: &[(&[u16], &[u32])]) -> Result<(), Fail> {
+fn check_left(rt: &impl Abort, alloc: Global, rows: &[(&[u16], &[u32])]) {
     for (words, wanted) in rows {
-        let (answer, longs) = relocated(rt, alloc, words)?;
-        assert_eq!(rt; answer, Ok(()), "{words:?}");
-        assert!(rt; longs.starts_with(wanted), "{words:?}");
-        let mut rest = longs.iter().skip(wanted.len());
-        assert!(rt; rest.all(|long| *long == 0), "{words:?}");
+        let (answer, longs) = relocated(rt, alloc, words);
+        same(
+            rt,
+            (*words, answer, longs),
+            (*words, Ok(()), and_zeros(wanted)),
+        );
     }
-    Ok(())
 }
 
 /// Words are refused so.
-fn check_refused(
-    rt: &impl Abort,
-    alloc: Global,
-    rows: &[(&[u16], RelocError)],
-) -> Result<(), Fail> {
+fn check_refused(rt: &impl Abort, alloc: Global, rows: &[(&[u16], RelocError)]) {
     for (words, error) in rows {
-        let (answer, _) = relocated(rt, alloc, words)?;
-        assert_eq!(rt; answer, Err(*error), "{words:?}");
+        let (answer, _) = relocated(rt, alloc, words);
+        same(rt, (*words, answer), (*words, Err(*error)));
     }
-    Ok(())
 }
 
 #[test]
-fn each_row_has_its_effect(rt: HostRuntime) -> Result<(), Fail> {
+fn each_row_has_its_effect(rt: HostRuntime) {
     let (c, d) = (0x1_0000, 0x1_0100);
     let rows: [(&[u16], &[u32]); 18] = [
         // BySectDWithSkip: over one long, then D twice
@@ -239,11 +250,11 @@ fn each_row_has_its_effect(rt: HostRuntime) -> Result<(), Fail> {
         (&[0xB440, 0x0001, 0x4000], &[d]),
         (&[0xB480, 0x0000, 0x4200], &[c]),
     ];
-    check_left(&rt, rt.alloc(), &rows)
+    check_left(&rt, rt.alloc(), &rows);
 }
 
 #[test]
-fn large_numbers_have_their_high_bits_in_the_first_word(rt: HostRuntime) -> Result<(), Fail> {
+fn large_numbers_have_their_high_bits_in_the_first_word(rt: HostRuntime) {
     let rows: [(&[u16], RelocError); 3] = [
         (
             &[0xA3FF, 0xFFFE, 0x4000],
@@ -252,47 +263,50 @@ fn large_numbers_have_their_high_bits_in_the_first_word(rt: HostRuntime) -> Resu
         (&[0xA600, 0x0001], RelocError::ImportIndex(0x200_0001)),
         (&[0xB43F, 0xFFFF], RelocError::SectionIndex(0x3F_FFFF)),
     ];
-    check_refused(&rt, rt.alloc(), &rows)
+    check_refused(&rt, rt.alloc(), &rows);
 }
 
 #[test]
-fn an_addition_stays_in_its_section(rt: HostRuntime) -> Result<(), Fail> {
+fn an_addition_stays_in_its_section(rt: HostRuntime) {
     let left: [(&[u16], &[u32]); 2] = [
         (&[0xA000, 28, 0x4000], &[0, 0, 0, 0, 0, 0, 0, 0x1_0000]),
         // a long across two others: the high half of C goes into the first
         (&[0x8001, 0x4000], &[1]),
     ];
-    check_left(&rt, rt.alloc(), &left)?;
+    check_left(&rt, rt.alloc(), &left);
     let refused: [(&[u16], RelocError); 2] = [
         (&[0xA000, 29, 0x4000], RelocError::OutsideSection(29)),
         (&[0x0908], RelocError::OutsideSection(144)),
     ];
-    check_refused(&rt, rt.alloc(), &refused)?;
-    let nine = relocated(&rt, rt.alloc(), &[0x4008])?;
-    assert_eq!(rt; nine.0, Err(RelocError::OutsideSection(32)));
-    assert!(rt; nine.1 == [0x1_0000; 8]);
-    Ok(())
+    check_refused(&rt, rt.alloc(), &refused);
+    let nine = relocated(&rt, rt.alloc(), &[0x4008]);
+    same(
+        &rt,
+        nine,
+        (Err(RelocError::OutsideSection(32)), [0x1_0000; 8]),
+    );
+}
+
+/// 4096 bytes, 1048576 times: 4080 times 257, and 16; and an addition.
+fn go_round(words: &mut Vec<u8>) -> Result<(), AllocError> {
+    for _ in 0..4080 {
+        words.extend_from_slice(&[0x8F, 0xFF, 0x90, 0xFF])?;
+    }
+    words.extend_from_slice(&[0x8F, 0xFF, 0x90, 0x0E, 0x40, 0x00])
 }
 
 #[test]
 fn a_position_is_tested_before_it_is_cut_to_32_bits(rt: HostRuntime) -> Result<(), Fail> {
-    // 4096 bytes, 1048576 times: 4080 times 257, and 16
     let mut words = Vec::new(rt.alloc());
-    for _ in 0..4080 {
-        words.extend_from_slice(&[0x8F, 0xFF, 0x90, 0xFF])?;
-    }
-    words.extend_from_slice(&[0x8F, 0xFF, 0x90, 0x0E])?;
-    words.extend_from_slice(&[0x40, 0x00])?;
-    let mut ram = memory(rt.alloc())?;
-    assert_eq!(rt;
-        run(&rt, &mut ram, 32, &words),
-        Err(RelocError::OutsideSection(0))
-    );
+    go_round(&mut words)?;
+    let mut ram = memory(&rt, rt.alloc());
+    let answer = run(&rt, &mut ram, 32, &words);
+    same(&rt, answer, Err(RelocError::OutsideSection(0)));
     Ok(())
 }
 
 #[test]
-fn what_is_missing_is_refused_behind_the_position(rt: HostRuntime) -> Result<(), Fail> {
+fn what_is_missing_is_refused_behind_the_position(rt: HostRuntime) {
     let rows: [(&[u16], RelocError); 15] = [
         (&[0x6003, 0x0000, 0x0000], RelocError::ImportIndex(3)),
         (&[0x4A03, 0x0000, 0x0000], RelocError::ImportIndex(3)),
@@ -310,11 +324,11 @@ fn what_is_missing_is_refused_behind_the_position(rt: HostRuntime) -> Result<(),
         (&[0x0000, 0x0000, 0xB4C0], RelocError::Unsupported(0xB4C0)),
         (&[0xA000], RelocError::Short(0)),
     ];
-    check_refused(&rt, rt.alloc(), &rows)
+    check_refused(&rt, rt.alloc(), &rows);
 }
 
 #[test]
-fn a_repeat_goes_back_over_whole_instructions(rt: HostRuntime) -> Result<(), Fail> {
+fn a_repeat_goes_back_over_whole_instructions(rt: HostRuntime) {
     let refused: [(&[u16], RelocError); 5] = [
         (&[0x9001], RelocError::RepeatFront(0)),
         (&[0x4200, 0x9101], RelocError::RepeatFront(2)),
@@ -325,7 +339,7 @@ fn a_repeat_goes_back_over_whole_instructions(rt: HostRuntime) -> Result<(), Fai
         // the span is the second word of SetPosition, which is no instruction
         (&[0xA000, 0xB000, 0x9000], RelocError::Unsupported(0xB000)),
     ];
-    check_refused(&rt, rt.alloc(), &refused)?;
+    check_refused(&rt, rt.alloc(), &refused);
     let left: [(&[u16], &[u32]); 3] = [
         // the span is the second word of SetPosition, which adds D at 1
         (&[0xA000, 0x0001, 0x9000], &[0x0000_0101]),
@@ -337,7 +351,7 @@ fn a_repeat_goes_back_over_whole_instructions(rt: HostRuntime) -> Result<(), Fai
             &[0x1_0100, 0x1_0100],
         ),
     ];
-    check_left(&rt, rt.alloc(), &left)
+    check_left(&rt, rt.alloc(), &left);
 }
 
 /// Groups of SetPosition 0 and a repeat that runs it 256 further times, 258 instructions each.
@@ -349,37 +363,52 @@ fn groups(alloc: Global, count: u32) -> Result<Vec<u8>, AllocError> {
     Ok(words)
 }
 
+/// So many groups are answered so, for a section of four bytes.
+fn check_groups(rt: &impl Abort, ram: &mut Ram, words: &[u8], wanted: Result<(), RelocError>) {
+    same(rt, run(rt, ram, 4, words), wanted);
+    check_long(rt, ram, 0x1_0100, 0);
+}
+
 #[test]
-fn no_more_instructions_are_run_than_the_limit_allows(rt: HostRuntime) -> Result<(), Fail> {
-    let mut ram = memory(rt.alloc())?;
+fn as_many_instructions_are_run_as_the_limit_allows(rt: HostRuntime) -> Result<(), Fail> {
     let below = groups(rt.alloc(), 65027)?;
-    assert_eq!(rt; run(&rt, &mut ram, 4, &below), Ok(()));
-    let above = groups(rt.alloc(), 65028)?;
-    assert_eq!(rt; run(&rt, &mut ram, 4, &above), Err(RelocError::Work));
-    assert_eq!(rt; ram.load(0x1_0100, Size::Four), Ok(0));
+    check_groups(&rt, &mut memory(&rt, rt.alloc()), &below, Ok(()));
     Ok(())
 }
 
-/// What words behind as many instructions as may be run answer, for a section of four bytes, at the
-/// position 0 or, if `moved`, behind the section.
-fn behind_the_limit(
-    rt: &impl Abort,
-    alloc: Global,
-    moved: bool,
-    words: &[u8],
-) -> Result<Result<(), RelocError>, Fail> {
-    let mut ram = memory(alloc)?;
+#[test]
+fn no_more_instructions_are_run_than_the_limit_allows(rt: HostRuntime) -> Result<(), Fail> {
+    let above = groups(rt.alloc(), 65028)?;
+    let refused = Err(RelocError::Work);
+    check_groups(&rt, &mut memory(&rt, rt.alloc()), &above, refused);
+    Ok(())
+}
+
+/// Words behind as many instructions as may be run. These leave the position at 0 or, if `moved`, behind
+/// a section of four bytes.
+fn behind_the_limit(alloc: Global, moved: bool, words: &[u8]) -> Result<Vec<u8>, AllocError> {
     let mut all = groups(alloc, 65027)?;
     // an instruction that adds nothing, and a repeat that runs it 248 further times: 250 instructions
-    all.extend_from_slice(if moved { &[0x80, 0x03] } else { &[0x00, 0x00] })?;
-    all.extend_from_slice(&[0x90, 0xF7])?;
+    let last: [u8; 2] = if moved { [0x80, 0x03] } else { [0x00, 0x00] };
+    all.extend_from_slice(&[last[0], last[1], 0x90, 0xF7])?;
     all.extend_from_slice(words)?;
-    Ok(run(rt, &mut ram, 4, &all))
+    Ok(all)
+}
+
+/// Whether words are to stand behind the section, the words, and what they answer.
+type Late<'a> = (bool, &'a [u8], Result<(), RelocError>);
+
+/// Words behind the limit are answered so, each in a memory of its own.
+fn check_late(rt: &impl Abort, alloc: Global, late: &Late) {
+    let (moved, words, wanted) = late;
+    let all = behind_the_limit(alloc, *moved, words).expect(rt, MEMORY);
+    let answer = run(rt, &mut memory(rt, alloc), 4, &all);
+    same(rt, (*words, answer), (*words, *wanted));
 }
 
 #[test]
-fn the_limit_is_tested_last(rt: HostRuntime) -> Result<(), Fail> {
-    let rows: [(bool, &[u8], Result<(), RelocError>); 9] = [
+fn the_limit_is_tested_last(rt: HostRuntime) {
+    let rows: [Late; 9] = [
         (false, b"", Ok(())),
         (false, b"\x40\x00", Err(RelocError::Work)),
         (false, b"\x00\x00", Err(RelocError::Work)),
@@ -390,65 +419,78 @@ fn the_limit_is_tested_last(rt: HostRuntime) -> Result<(), Fail> {
         (false, b"\xB0\x00", Err(RelocError::Unsupported(0xB000))),
         (true, b"\x40\x00", Err(RelocError::OutsideSection(996))),
     ];
-    for (moved, words, wanted) in rows {
-        let answer = behind_the_limit(&rt, rt.alloc(), moved, words)?;
-        assert_eq!(rt; answer, wanted, "{words:?}");
+    for row in &rows {
+        check_late(&rt, rt.alloc(), row);
     }
-    Ok(())
+}
+
+/// The memory has 131072 bytes.
+fn check_len(rt: &impl Abort, ram: &Ram)
+    ensures { length ram.now.bytes ≡ 131072 }
+{
+    assert_eq!(rt; ram.len(), 0x2_0000);
+}
+
+fn check_long(rt: &impl Abort, ram: &Ram, a: u32, wanted: u32) {
+    same(rt, ram.load(a, Size::Four), Ok(wanted));
 }
 
 #[test]
-fn examples_by_hand(rt: HostRuntime) -> Result<(), Fail> {
-    let mut ram = memory(rt.alloc())?;
-    assert_eq!(rt; ram.len(), 0x2_0000);
+fn examples_by_hand(rt: HostRuntime) {
+    let mut ram = memory(&rt, rt.alloc());
+    check_len(&rt, &ram);
     ram.fix(0x1_0100, &[0, 0, 0, 1, 0, 0, 0, 2, 0, 0, 0, 3]);
     let words = [0x42, 0x00, 0x90, 0x01];
-    assert_eq!(rt; run(&rt, &mut ram, 12, &words), Ok(()));
-    assert_eq!(rt; ram.load(0x1_0100, Size::Four), Ok(0x1_0101));
-    assert_eq!(rt; ram.load(0x1_0104, Size::Four), Ok(0x1_0102));
-    assert_eq!(rt; ram.load(0x1_0108, Size::Four), Ok(0x1_0103));
-    // a sum is cut to 32 bits
-    assert_eq!(rt; ram.len(), 0x2_0000);
+    same(&rt, run(&rt, &mut ram, 12, &words), Ok(()));
+    check_long(&rt, &ram, 0x1_0100, 0x1_0101);
+    check_long(&rt, &ram, 0x1_0104, 0x1_0102);
+    check_long(&rt, &ram, 0x1_0108, 0x1_0103);
+}
+
+#[test]
+fn a_sum_is_cut_to_32_bits(rt: HostRuntime) {
+    let mut ram = memory(&rt, rt.alloc());
+    check_len(&rt, &ram);
     ram.fix(0x1_0100, &[0xFF, 0xFF, 0xFF, 0xFF]);
-    assert_eq!(rt; run(&rt, &mut ram, 4, &[0x42, 0x00]), Ok(()));
-    assert_eq!(rt; ram.load(0x1_0100, Size::Four), Ok(0x1_00FF));
-    Ok(())
+    same(&rt, run(&rt, &mut ram, 4, &[0x42, 0x00]), Ok(()));
+    check_long(&rt, &ram, 0x1_0100, 0x1_00FF);
 }
 
 #[test]
-fn a_guard_and_the_gate_page_are_passed(rt: HostRuntime) -> Result<(), Fail> {
-    let mut ram = memory(rt.alloc())?;
-    assert_eq!(rt; ram.len(), 0x2_0000);
-    assert_eq!(rt;
-        relocate(&mut ram, 0, &[0x40, 0x00], &[0x1000], &[4], &[]),
-        Ok(())
-    );
-    assert_eq!(rt; ram.load(0x1000, Size::Four), Ok(0x1000));
-    assert_eq!(rt; ram.load(0x1004, Size::Four), Ok(0));
-    assert_eq!(rt; ram.len(), 0x2_0000);
+fn a_guard_and_the_gate_page_are_passed(rt: HostRuntime) {
+    let mut ram = memory(&rt, rt.alloc());
+    pass_the_gate_page(&rt, &mut ram);
+    pass_a_guard(&rt, &mut ram);
+}
+
+fn pass_the_gate_page(rt: &impl Abort, ram: &mut Ram) {
+    check_len(rt, ram);
+    let answer = relocate(ram, 0, &[0x40, 0x00], &[0x1000], &[4], &[]);
+    same(rt, answer, Ok(()));
+    check_long(rt, ram, 0x1000, 0x1000);
+    check_long(rt, ram, 0x1004, 0);
+}
+
+/// Section D is missing, and counts as 0.
+fn pass_a_guard(rt: &impl Abort, ram: &mut Ram) {
+    check_len(rt, ram);
     ram.guard(0x1_8000, 0x1_8010);
-    assert_eq!(rt; ram.len(), 0x2_0000);
-    // section D is missing, and counts as 0
-    assert_eq!(rt;
-        relocate(&mut ram, 0, &[0x46, 0x00], &[0x1_8000], &[8], &[]),
-        Ok(())
-    );
-    assert_eq!(rt; ram.load(0x1_8000, Size::Four), Ok(0x1_8000));
-    assert_eq!(rt; ram.load(0x1_8004, Size::Four), Ok(0));
-    assert_eq!(rt; ram.probe(0x1_8000, 1), Err(Access::Frame(0x1_8000)));
-    Ok(())
+    check_len(rt, ram);
+    let answer = relocate(ram, 0, &[0x46, 0x00], &[0x1_8000], &[8], &[]);
+    same(rt, answer, Ok(()));
+    check_long(rt, ram, 0x1_8000, 0x1_8000);
+    check_long(rt, ram, 0x1_8004, 0);
+    same(rt, ram.probe(0x1_8000, 1), Err(Access::Frame(0x1_8000)));
 }
 
 #[test]
-fn an_empty_section_may_stand_anywhere(rt: HostRuntime) -> Result<(), Fail> {
-    let mut ram = memory(rt.alloc())?;
+fn an_empty_section_may_stand_anywhere(rt: HostRuntime) {
+    let mut ram = memory(&rt, rt.alloc());
     let bases = [0xFFFF_FFF0];
-    assert_eq!(rt; relocate(&mut ram, 0, &[], &bases, &[0], &[]), Ok(()));
-    assert_eq!(rt;
-        relocate(&mut ram, 0, &[0x40, 0x00], &bases, &[0], &[]),
-        Err(RelocError::OutsideSection(0))
-    );
-    Ok(())
+    let answer = relocate(&mut ram, 0, &[], &bases, &[0], &[]);
+    same(&rt, answer, Ok(()));
+    let answer = relocate(&mut ram, 0, &[0x40, 0x00], &bases, &[0], &[]);
+    same(&rt, answer, Err(RelocError::OutsideSection(0)));
 }
 
 #[test]
@@ -481,9 +523,9 @@ fn each_refusal_has_its_text(rt: HostRuntime) -> Result<(), Fail> {
         ),
         (RelocError::Work, "too many relocations are to be run"),
     ];
-    for (error, wanted) in texts {
+    for (error, wanted) in &texts {
         let text = format!(in rt.alloc(); "{error}")?;
-        assert_eq!(rt; text.as_str(), wanted);
+        same(&rt, text.as_str(), *wanted);
     }
     Ok(())
 }
