@@ -12,7 +12,7 @@ use crate::status::{INPUT_FAILED, NO_MEMORY, OUTPUT_FAILED, SUCCESS, TRACE_FAILE
 use crate::streams::Streams;
 use call_trace::{End, put_end};
 use circular_buffer::HeapCircularBuffer;
-use dev_rack::Rack;
+use dev_rack::{Devices, Rack};
 use look_end::{Ending, Step, report, run_keeping};
 use mix_bits::NoMemory;
 use mix_engine::{Machine, Stop};
@@ -67,7 +67,7 @@ fn start<F: Files, E: Write>(
     }
 }
 
-/// Runs a machine over the streams, as mixedrun does, and keeps its last steps.
+/// Runs a machine over the streams, with a counter in slot 0 and a tape in slot 1, as mixedrun does.
 fn run<R: Read, W: Write, E: Write>(
     alloc: Global,
     machine: &mut Machine,
@@ -80,25 +80,37 @@ fn run<R: Read, W: Write, E: Write>(
     requires { IsWhole machine.old.body (isa_of machine.old.active) }
     ensures { IfOk result (λ status. status ≢ 2) }
 {
+    let counter: Box<dyn Device> = Box::new(alloc, Counter::new(alloc)?)?;
+    let tape: Box<dyn Device> = Box::new(alloc, Tape::new(alloc)?)?;
+    let mut rack = Rack::new(alloc, vec![in alloc; counter, tape]?)?;
+    run_beside(alloc, machine, steps, last, input, out, errors, &mut rack)
+}
+
+/// Runs a machine over streams and devices, and keeps its last steps.
+fn run_beside<R: Read, W: Write, E: Write, D: Devices>(
+    alloc: Global,
+    machine: &mut Machine,
+    steps: u32,
+    last: u32,
+    input: &mut R,
+    out: &mut W,
+    errors: &mut E,
+    rack: &mut D,
+) -> Result<u8, NoMemory>
+    requires { IsWhole machine.old.body (isa_of machine.old.active) }
+    ensures { IfOk result (λ status. status ≢ 2) }
+{
     let Ok(reader) = BufReader::new(alloc, input) else {
         return Err(NoMemory);
     };
-    let mut rack = devices(alloc)?;
     let mut kept = HeapCircularBuffer::with_capacity(alloc, last as usize)?;
     let mut input = StdSource::new(reader);
     let mut out = StdSink::new(out);
     let mut trace = StdSink::new(errors);
     let ending = run_keeping(
-        machine, &mut kept, &mut input, &mut out, &mut trace, &mut rack, steps,
+        machine, &mut kept, &mut input, &mut out, &mut trace, rack, steps,
     );
     finish(alloc, machine, ending, kept.make_contiguous(), &mut trace)
-}
-
-/// The devices of a run: a counter in slot 0 and a tape in slot 1, as mixedrun has them.
-fn devices(alloc: Global) -> Result<Rack, NoMemory> {
-    let counter: Box<dyn Device> = Box::new(alloc, Counter::new(alloc)?)?;
-    let tape: Box<dyn Device> = Box::new(alloc, Tape::new(alloc)?)?;
-    Rack::new(alloc, vec![in alloc; counter, tape]?)
 }
 
 /// Puts the last line of a trace and the report behind it, and answers the status.
