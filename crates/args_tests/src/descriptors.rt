@@ -1,8 +1,9 @@
+use crate::bench::{equal, memory, must};
 use big_memory::{Access, Ram};
 use mix_bits::{Isa, Size};
 use proc_info::{BadInfo, Sig, read};
 use routine_desc::{BadDesc, Desc, Rec, build, choose, read_desc};
-use std::test::Fail;
+use std::process::Abort;
 
 /// Where the descriptors of these tests stand.
 const AT: u32 = 0x1_0020;
@@ -26,11 +27,6 @@ fn rec(info: u32, isa: Isa, flags: u32, target: u32, selector: u32) -> Rec {
     }
 }
 
-/// The fields beside the signature, for which there is no comparison.
-fn fields(rec: &Rec) -> (u32, Isa, u32, u32, u32) {
-    (rec.info, rec.isa, rec.flags, rec.target, rec.selector)
-}
-
 /// Stores bytes one by one.
 fn put(ram: &mut Ram, at: u32, bytes: &[u8]) {
     let mut place = at;
@@ -40,60 +36,103 @@ fn put(ram: &mut Ram, at: u32, bytes: &[u8]) {
     }
 }
 
-/// The answer without the records.
-fn refusal(read: &Result<Desc, BadDesc>) -> Option<BadDesc> {
-    match read {
+/// Why no descriptor stands at an address.
+fn refusal(ram: &Ram, at: u32) -> Option<BadDesc> {
+    match read_desc(ram, at) {
         Ok(_) => None,
-        Err(bad) => Some(*bad),
+        Err(bad) => Some(bad),
+    }
+}
+
+/// The descriptor with one byte changed is refused so.
+fn is_refused(rt: &impl Abort, ram: &mut Ram, at: u32, byte: u8, wanted: BadDesc) {
+    put(ram, AT, &FAT);
+    put(ram, AT + 52, &[0; 1220]);
+    if wanted == BadDesc::Info(BadInfo::Gap) {
+        put(ram, AT + 52, &[0, 0, 4, 0x40]);
+    }
+    put(ram, AT.wrapping_add(at), &[byte]);
+    equal(rt, at, refusal(ram, AT), Some(wanted));
+}
+
+/// The same for each change.
+fn are_refused(rt: &impl Abort, ram: &mut Ram, rows: &[(u32, u8, BadDesc)]) {
+    for (at, byte, wanted) in rows {
+        is_refused(rt, ram, *at, *byte, *wanted);
     }
 }
 
 #[test]
-fn fields_are_tested_in_their_order(rt: HostRuntime) -> Result<(), Fail> {
-    let rows = [
-        (0, 0xAB, BadDesc::Magic),
-        (2, 6, BadDesc::Version),
-        (7, 1, BadDesc::Reserved),
-        (8, 1, BadDesc::Reserved),
-        (10, 1, BadDesc::Count),
-        (11, 64, BadDesc::Count),
-        (16, 1, BadDesc::Reserved),
-        (27, 1, BadDesc::Reserved),
-        (17, 2, BadDesc::Isa),
-        (17, 0x11, BadDesc::Isa),
-        (19, 2, BadDesc::Flags),
-        (19, 0x20, BadDesc::Flags),
-        (18, 1, BadDesc::Flags),
-        (15, 0x3F, BadDesc::Info(BadInfo::Convention)),
-        (35, 0xF1, BadDesc::Mixed),
-        (35, 0x30, BadDesc::Mixed),
-        (11, 63, BadDesc::Info(BadInfo::Gap)),
-    ];
-    let mut ram = Ram::new(rt.alloc(), 131_072)?;
-    for (at, byte, wanted) in rows {
-        put(&mut ram, AT, &FAT);
-        put(&mut ram, AT + 52, &[0; 1220]);
-        if wanted == BadDesc::Info(BadInfo::Gap) {
-            put(&mut ram, AT + 52, &[0, 0, 4, 0x40]);
-        }
-        put(&mut ram, AT.wrapping_add(at), &[byte]);
-        assert_eq!(rt; refusal(&read_desc(&ram, AT)), Some(wanted));
-    }
-    assert_eq!(rt; refusal(&read_desc(&ram, 131_064)), Some(BadDesc::Access));
+fn fields_are_tested_in_their_order(rt: HostRuntime) {
+    let mut ram = memory(&rt, rt.alloc());
+    are_refused(
+        &rt,
+        &mut ram,
+        &[
+            (0, 0xAB, BadDesc::Magic),
+            (2, 6, BadDesc::Version),
+            (7, 1, BadDesc::Reserved),
+            (8, 1, BadDesc::Reserved),
+            (10, 1, BadDesc::Count),
+            (11, 64, BadDesc::Count),
+            (16, 1, BadDesc::Reserved),
+            (27, 1, BadDesc::Reserved),
+            (17, 2, BadDesc::Isa),
+            (17, 0x11, BadDesc::Isa),
+            (19, 2, BadDesc::Flags),
+            (19, 0x20, BadDesc::Flags),
+            (18, 1, BadDesc::Flags),
+            (15, 0x3F, BadDesc::Info(BadInfo::Convention)),
+            (35, 0xF1, BadDesc::Mixed),
+            (35, 0x30, BadDesc::Mixed),
+            (11, 63, BadDesc::Info(BadInfo::Gap)),
+        ],
+    );
+    let outside = Some(BadDesc::Access);
+    equal(&rt, "no header", refusal(&ram, 131_064), outside);
     put(&mut ram, 131_060, &FAT[..12]);
-    assert_eq!(rt; refusal(&read_desc(&ram, 131_060)), Some(BadDesc::Access));
-    Ok(())
+    equal(&rt, "no record", refusal(&ram, 131_060), outside);
 }
 
 #[test]
 fn refusals_have_their_numbers(rt: HostRuntime) {
-    assert_eq!(rt; BadDesc::Access.code(), 1);
-    assert_eq!(rt; BadDesc::Info(BadInfo::Twice).code(), 8);
+    equal(&rt, "access", BadDesc::Access.code(), 1);
+    equal(&rt, "twice", BadDesc::Info(BadInfo::Twice).code(), 8);
+}
+
+/// The descriptor that stands in memory.
+fn described(rt: &impl Abort, ram: &Ram) -> Desc {
+    read_desc(ram, AT).ok().expect(rt, "a descriptor")
+}
+
+/// A descriptor has so many records.
+fn counts(rt: &impl Abort, ram: &Ram, wanted: u32) {
+    let desc = described(rt, ram);
+    equal(rt, "where it stands", desc.at, AT);
+    equal(rt, "how many records", desc.count, wanted);
+}
+
+/// The fields beside the signature, for which there is no comparison.
+fn fields(rec: &Rec) -> (u32, Isa, u32, u32, u32) {
+    (rec.info, rec.isa, rec.flags, rec.target, rec.selector)
+}
+
+/// The record with this number has the procInfo $31, no selector and these fields, and is of CFM-68K code or not.
+fn is_rec(rt: &impl Abort, ram: &Ram, number: usize, isa: Isa, flags: u32, target: u32, cfm: bool) {
+    must(rt, number < 64);
+    let rec = described(rt, ram).recs[number];
+    equal(
+        rt,
+        "the record",
+        fields(&rec),
+        (0x31, isa, flags, target, 0),
+    );
+    equal(rt, "CFM-68K code", rec.cfm, cfm);
 }
 
 #[test]
-fn as_many_records_as_a_descriptor_may_have(rt: HostRuntime) -> Result<(), Fail> {
-    let mut ram = Ram::new(rt.alloc(), 131_072)?;
+fn as_many_records_as_a_descriptor_may_have(rt: HostRuntime) {
+    let mut ram = memory(&rt, rt.alloc());
     put(&mut ram, AT, &FAT[..12]);
     let mut place = AT + 12;
     for _ in 0..64 {
@@ -101,72 +140,43 @@ fn as_many_records_as_a_descriptor_may_have(rt: HostRuntime) -> Result<(), Fail>
         place = place.wrapping_add(20);
     }
     put(&mut ram, AT + 11, &[63]);
-    match read_desc(&ram, AT) {
-        Ok(desc) => {
-            assert_eq!(rt; desc.at, AT);
-            assert_eq!(rt; desc.count, 64);
-            assert_eq!(rt; fields(&desc.recs[63]), (0x31, Isa::Ppc, 0, 0x1_0060, 0));
-        }
-        Err(_) => assert!(rt; false),
-    }
-    Ok(())
+    counts(&rt, &ram, 64);
+    is_rec(&rt, &ram, 63, Isa::Ppc, 0, 0x1_0060, false);
+}
+
+/// Builds a descriptor of two routines or of one.
+fn builds(rt: &impl Abort, ram: &mut Ram, m68: Option<u32>, isa: u8, target: u32) {
+    let made = build(ram, AT, 0x31, m68, isa, target);
+    equal(rt, "building", made, Ok(()));
 }
 
 #[test]
-fn descriptors_are_built_and_read_back(rt: HostRuntime) -> Result<(), Fail> {
-    let mut ram = Ram::new(rt.alloc(), 131_072)?;
-    assert_eq!(rt; build(&mut ram, AT, 0x31, None, 1, 0x1_0040), Ok(()));
-    match read_desc(&ram, AT) {
-        Ok(desc) => {
-            assert_eq!(rt; desc.count, 1);
-            assert_eq!(rt; fields(&desc.recs[0]), (0x31, Isa::Ppc, 0, 0x1_0040, 0));
-            assert!(rt; !desc.recs[0].cfm);
-        }
-        Err(_) => assert!(rt; false),
-    }
-    assert_eq!(rt;
-        build(&mut ram, AT, 0x31, Some(0x1_0058), 1, 0x1_0060),
-        Ok(())
-    );
-    match read_desc(&ram, AT) {
-        Ok(desc) => {
-            assert_eq!(rt; desc.count, 2);
-            assert_eq!(rt; fields(&desc.recs[0]), (0x31, Isa::M68, 0, 0x1_0058, 0));
-            assert_eq!(rt; fields(&desc.recs[1]), (0x31, Isa::Ppc, 0, 0x1_0060, 0));
-        }
-        Err(_) => assert!(rt; false),
-    }
-    assert_eq!(rt; build(&mut ram, AT, 0x31, None, 0x10, 0x1_0040), Ok(()));
-    match read_desc(&ram, AT) {
-        Ok(desc) => {
-            assert_eq!(rt; fields(&desc.recs[0]), (0x31, Isa::M68, 0, 0x1_0040, 0));
-            assert!(rt; desc.recs[0].cfm);
-        }
-        Err(_) => assert!(rt; false),
-    }
-    assert_eq!(rt;
-        build(&mut ram, 131_064, 0x31, None, 1, 0),
-        Err(Access::Outside(131_064))
-    );
-    assert_eq!(rt;
-        build(&mut ram, 0x0FF0, 0x31, None, 1, 0),
-        Err(Access::Gate(0x0FF0))
-    );
-    Ok(())
+fn descriptors_are_built_and_read_back(rt: HostRuntime) {
+    let mut ram = memory(&rt, rt.alloc());
+    builds(&rt, &mut ram, None, 1, 0x1_0040);
+    counts(&rt, &ram, 1);
+    is_rec(&rt, &ram, 0, Isa::Ppc, 0, 0x1_0040, false);
+    builds(&rt, &mut ram, Some(0x1_0058), 1, 0x1_0060);
+    counts(&rt, &ram, 2);
+    is_rec(&rt, &ram, 0, Isa::M68, 0, 0x1_0058, false);
+    is_rec(&rt, &ram, 1, Isa::Ppc, 0, 0x1_0060, false);
+    builds(&rt, &mut ram, None, 0x10, 0x1_0040);
+    counts(&rt, &ram, 1);
+    is_rec(&rt, &ram, 0, Isa::M68, 0, 0x1_0040, true);
+    let outside = build(&mut ram, 131_064, 0x31, None, 1, 0);
+    equal(&rt, "outside", outside, Err(Access::Outside(131_064)));
+    let gate = build(&mut ram, 0x0FF0, 0x31, None, 1, 0);
+    equal(&rt, "the gate page", gate, Err(Access::Gate(0x0FF0)));
 }
 
 #[test]
-fn a_relative_target_is_counted_from_the_descriptor(rt: HostRuntime) -> Result<(), Fail> {
-    let mut ram = Ram::new(rt.alloc(), 131_072)?;
+fn a_relative_target_is_counted_from_the_descriptor(rt: HostRuntime) {
+    let mut ram = memory(&rt, rt.alloc());
     put(&mut ram, AT, &FAT);
     put(&mut ram, AT + 11, &[0]);
     put(&mut ram, AT + 19, &[1]);
     put(&mut ram, AT + 20, &[0, 0, 0, 0x20]);
-    match read_desc(&ram, AT) {
-        Ok(desc) => assert_eq!(rt; fields(&desc.recs[0]), (0x31, Isa::M68, 1, 0x1_0040, 0)),
-        Err(_) => assert!(rt; false),
-    }
-    Ok(())
+    is_rec(&rt, &ram, 0, Isa::M68, 1, 0x1_0040, false);
 }
 
 /// The targets of the records in the choices.
@@ -201,49 +211,88 @@ fn rec_at(target: u32) -> Rec {
     }
 }
 
+/// The target that is chosen among the two records with these.
+fn chosen(first: u32, second: u32, caller: Isa, selector: Option<u32>) -> Option<u32> {
+    let mut recs = [Rec::empty(); 64];
+    recs[0] = rec_at(first);
+    recs[1] = rec_at(second);
+    let desc = Desc {
+        at: AT,
+        count: 2,
+        recs,
+    };
+    choose(&desc, caller, selector).map(|rec| rec.target)
+}
+
+/// A caller gets the third of each row among the first two.
+fn chooses(rt: &impl Abort, caller: Isa, selector: Option<u32>, rows: &[[u32; 3]]) {
+    for [first, second, wanted] in rows {
+        let found = chosen(*first, *second, caller, selector);
+        equal(rt, *first, found, Some(*wanted));
+    }
+}
+
 #[test]
 fn the_choice_among_records(rt: HostRuntime) {
-    let rows = [
-        ([OLD, NEW], Isa::M68, None, Some(OLD)),
-        ([OLD, NEW], Isa::Ppc, None, Some(NEW)),
-        ([NATIVE, NEW], Isa::M68, None, Some(NEW)),
-        ([NEW, NATIVE], Isa::M68, None, Some(NATIVE)),
-        ([NEW, NEW], Isa::M68, None, Some(NEW)),
-        ([OTHER, NEW], Isa::M68, Some(7), Some(NEW)),
-        ([OLD, OTHER], Isa::Ppc, Some(9), Some(OTHER)),
-        ([OLD, OTHER], Isa::Ppc, Some(8), Some(OTHER)),
-        ([OTHER, OLD], Isa::M68, Some(9), Some(OTHER)),
-        ([OTHER, OLD], Isa::Ppc, Some(7), Some(OLD)),
-        ([OTHER, NEW], Isa::Ppc, Some(9), Some(OTHER)),
-        ([NATIVE, OTHER], Isa::M68, Some(7), Some(NATIVE)),
-        ([NATIVE, NEW], Isa::M68, Some(7), Some(NEW)),
-        ([NATIVE, NEW], Isa::Ppc, Some(7), Some(NEW)),
-        ([NATIVE, OLD], Isa::M68, None, Some(NATIVE)),
-        ([OLD, NATIVE], Isa::M68, None, Some(OLD)),
-        ([OLD, NATIVE], Isa::Ppc, None, Some(OLD)),
-        ([NEW, OLD], Isa::Ppc, None, Some(NEW)),
-        ([NEW, OLD], Isa::M68, None, Some(OLD)),
-        ([OLD, NEW], Isa::Ppc, Some(8), None),
-        ([CFM, NEW], Isa::M68, None, Some(CFM)),
-        ([NEW, CFM], Isa::M68, None, Some(CFM)),
-        ([CFM, OLD], Isa::M68, None, Some(CFM)),
-        ([OLD, CFM], Isa::M68, None, Some(OLD)),
-        ([CFM, NEW], Isa::Ppc, None, Some(NEW)),
-        ([NATIVE_CFM, NEW], Isa::M68, None, Some(NEW)),
-        ([NEW, NATIVE_CFM], Isa::M68, None, Some(NATIVE_CFM)),
-    ];
-    for ([first, second], caller, selector, wanted) in rows {
-        let mut recs = [Rec::empty(); 64];
-        recs[0] = rec_at(first);
-        recs[1] = rec_at(second);
-        let desc = Desc {
-            at: AT,
-            count: 2,
-            recs,
-        };
-        assert_eq!(rt;
-            choose(&desc, caller, selector).map(|rec| rec.target),
-            wanted
-        );
-    }
+    chooses(
+        &rt,
+        Isa::M68,
+        None,
+        &[
+            [OLD, NEW, OLD],
+            [NATIVE, NEW, NEW],
+            [NEW, NATIVE, NATIVE],
+            [NEW, NEW, NEW],
+            [NATIVE, OLD, NATIVE],
+            [OLD, NATIVE, OLD],
+            [NEW, OLD, OLD],
+            [CFM, NEW, CFM],
+            [NEW, CFM, CFM],
+            [CFM, OLD, CFM],
+            [OLD, CFM, OLD],
+            [NATIVE_CFM, NEW, NEW],
+            [NEW, NATIVE_CFM, NATIVE_CFM],
+        ],
+    );
+    chooses(
+        &rt,
+        Isa::Ppc,
+        None,
+        &[
+            [OLD, NEW, NEW],
+            [OLD, NATIVE, OLD],
+            [NEW, OLD, NEW],
+            [CFM, NEW, NEW],
+        ],
+    );
+}
+
+#[test]
+fn the_choice_among_records_with_selectors(rt: HostRuntime) {
+    chooses(
+        &rt,
+        Isa::M68,
+        Some(7),
+        &[
+            [OTHER, NEW, NEW],
+            [NATIVE, OTHER, NATIVE],
+            [NATIVE, NEW, NEW],
+        ],
+    );
+    chooses(&rt, Isa::M68, Some(9), &[[OTHER, OLD, OTHER]]);
+    chooses(
+        &rt,
+        Isa::Ppc,
+        Some(7),
+        &[[OTHER, OLD, OLD], [NATIVE, NEW, NEW]],
+    );
+    chooses(&rt, Isa::Ppc, Some(8), &[[OLD, OTHER, OTHER]]);
+    chooses(
+        &rt,
+        Isa::Ppc,
+        Some(9),
+        &[[OLD, OTHER, OTHER], [OTHER, NEW, OTHER]],
+    );
+    let none = chosen(OLD, NEW, Isa::Ppc, Some(8));
+    equal(&rt, "no record", none, None);
 }
