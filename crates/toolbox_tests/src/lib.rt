@@ -10,6 +10,8 @@ mod case;
 #[cfg(test)]
 mod devices;
 #[cfg(test)]
+mod equal;
+#[cfg(test)]
 mod heap;
 #[cfg(test)]
 mod names;
