@@ -1,8 +1,9 @@
 // A machine, and what stands around it in memory.
-ghost use Rattle.std.specs.Prelude.{◌≤◌, IfOk};
+ghost use Rattle.std.specs.Prelude.{◌≤◌};
 ghost use Rattle.switch_frame.specs.Records.{isa_of};
 ghost use Rattle.mixed_machine.specs.Machine.{IsWhole};
 
+use crate::equal::equal;
 use crate::text::image;
 use dev_rack::{Asked, Devices, Rack};
 use mix_bits::Isa;
@@ -11,7 +12,6 @@ use mix_io::{Counter, Device, MemSink, MemSource, Source, Tape};
 use mix_load::{FileBytes, Files, load};
 use std::alloc::Global;
 use std::process::Abort;
-use std::test::Fail;
 use switch_frame::{Active, Held, depth, top};
 
 /// What goes wrong outside: the calls that fail, by their numbers from 1, and how much the output takes.
@@ -41,35 +41,66 @@ pub struct Outside {
 }
 
 impl Outside {
-    pub fn new(alloc: Global, bytes: &[u8], faults: Faults) -> Result<Outside, Fail> {
-        let counter: Box<dyn Device> = Box::new(alloc, Counter::new(alloc)?)?;
-        let tape: Box<dyn Device> = Box::new(alloc, Tape::new(alloc)?)?;
-        Ok(Outside {
-            input: MemSource::new(bytes.to_vec(alloc)?, faults.input.to_vec(alloc)?),
-            out: MemSink::new(alloc, faults.room, faults.out.to_vec(alloc)?)?,
-            trace: MemSink::new(alloc, 65536, faults.trace.to_vec(alloc)?)?,
-            rack: Rack::new(alloc, vec![in alloc; counter, tape]?)?,
-        })
+    pub fn new(rt: &impl Abort, alloc: Global, bytes: &[u8], faults: Faults) -> Outside {
+        Outside {
+            input: source(rt, alloc, bytes, faults.input),
+            out: sink(rt, alloc, faults.room, faults.out),
+            trace: sink(rt, alloc, 65536, faults.trace),
+            rack: rack(rt, alloc),
+        }
     }
 }
 
+/// This input; the takes with these numbers fail.
+fn source(rt: &impl Abort, alloc: Global, bytes: &[u8], takes: &[u32]) -> MemSource {
+    let bytes = bytes.to_vec(alloc).expect(rt, "no input");
+    MemSource::new(bytes, takes.to_vec(alloc).expect(rt, "no takes"))
+}
+
+/// An output with so much room; the puts with these numbers fail.
+fn sink(rt: &impl Abort, alloc: Global, room: u32, puts: &[u32]) -> MemSink {
+    let puts = puts.to_vec(alloc).expect(rt, "no puts");
+    MemSink::new(alloc, room, puts).expect(rt, "no output")
+}
+
+/// A counter at 0.
+fn counter(rt: &impl Abort, alloc: Global) -> Counter {
+    Counter::new(alloc).expect(rt, "no counter")
+}
+
+/// A tape without words.
+fn tape(rt: &impl Abort, alloc: Global) -> Tape {
+    Tape::new(alloc).expect(rt, "no tape")
+}
+
+/// The two devices in their slots.
+fn rack(rt: &impl Abort, alloc: Global) -> Rack {
+    let counter: Box<dyn Device> = Box::new(alloc, counter(rt, alloc)).expect(rt, "no device");
+    let tape: Box<dyn Device> = Box::new(alloc, tape(rt, alloc)).expect(rt, "no device");
+    let devices = vec![in alloc; counter, tape].expect(rt, "no devices");
+    Rack::new(alloc, devices).expect(rt, "no rack")
+}
+
 /// A machine with a flat image, at its start, in so many KiB of RAM.
-pub fn start(alloc: Global, main: Isa, kib: u32, text: &str) -> Result<Machine, Fail>
+pub fn start(rt: &impl Abort, alloc: Global, main: Isa, kib: u32, text: &str) -> Machine
     requires least { 128 ≤ kib }
     requires most { kib ≤ 16384 }
-    ensures { IfOk result (λ m. IsWhole m.body (isa_of m.active)) }
+    ensures { IsWhole result.body (isa_of result.active) }
 {
-    let bytes = image(alloc, text)?;
-    if bytes.len() > 0x100_0000 {
-        return Err(Fail::new("the image is long"));
-    }
+    let bytes = image(rt, alloc, text);
+    assert!(rt; bytes.len() <= 0x100_0000);
     let files = Files {
         flat: Some(FileBytes::of(bytes)),
         rsrc: None,
         pef: None,
     };
-    let program = load(alloc, &files, main, kib)?;
-    Ok(Machine::start(alloc, program)?)
+    let Ok(program) = load(alloc, &files, main, kib) else {
+        panic!(rt; "no program")
+    };
+    let Ok(machine) = Machine::start(alloc, program) else {
+        panic!(rt; "no machine")
+    };
+    machine
 }
 
 /// Runs a machine for at most so many steps.
@@ -138,43 +169,56 @@ pub fn waiting(m: &Machine) -> u32
 /// All that a run leaves.
 #[derive(Drop)]
 pub struct Left {
-    pub stop: Stop,
-    pub active: Active,
-    pub out: Vec<u8>,
+    stop: Stop,
+    active: Active,
+    out: Vec<u8>,
     pub trace: Vec<u8>,
-    pub input: Vec<u8>,
-    pub journal: Vec<Asked>,
+    input: Vec<u8>,
+    journal: Vec<Asked>,
 }
 
-/// What a machine that stopped leaves, and what stands around it then.
-pub fn leave(alloc: Global, stop: Stop, active: Active, mut around: Outside) -> Result<Left, Fail> {
-    let mut input = Vec::new(alloc);
+/// What is left of an input.
+fn rest(rt: &impl Abort, alloc: Global, input: &mut MemSource) -> Vec<u8> {
+    let mut bytes = Vec::new(alloc);
     for _ in 0..65536 {
-        match around.input.take()? {
-            Some(byte) => input.push(byte)?,
+        match input.take().expect(rt, "no byte is taken") {
+            Some(byte) => bytes.push(byte).expect(rt, "no room"),
             None => break,
         }
     }
-    Ok(Left {
+    bytes
+}
+
+/// The bytes that an output took.
+fn taken(rt: &impl Abort, alloc: Global, out: &MemSink) -> Vec<u8> {
+    out.held().to_vec(alloc).expect(rt, "no room")
+}
+
+/// What a machine that stopped leaves, and what stands around it then.
+pub fn leave(
+    rt: &impl Abort,
+    alloc: Global,
+    stop: Stop,
+    active: Active,
+    around: &mut Outside,
+) -> Left {
+    let journal = around.rack.journal().to_vec(alloc);
+    Left {
         stop,
         active,
-        out: around.out.held().to_vec(alloc)?,
-        trace: around.trace.held().to_vec(alloc)?,
-        input,
-        journal: around.rack.journal().to_vec(alloc)?,
-    })
+        out: taken(rt, alloc, &around.out),
+        trace: taken(rt, alloc, &around.trace),
+        input: rest(rt, alloc, &mut around.input),
+        journal: journal.expect(rt, "no room"),
+    }
 }
 
 /// Two runs left the same.
 pub fn same(rt: &impl Abort, left: &Left, right: &Left, at: u32) {
-    assert_eq!(rt; left.stop, right.stop, "at {at}");
-    assert_eq!(rt; left.active, right.active, "at {at}");
-    assert_eq!(rt; left.out.as_slice(), right.out.as_slice(), "at {at}");
-    assert_eq!(rt; left.trace.as_slice(), right.trace.as_slice(), "at {at}");
-    assert_eq!(rt; left.input.as_slice(), right.input.as_slice(), "at {at}");
-    assert_eq!(rt;
-        left.journal.as_slice(),
-        right.journal.as_slice(),
-        "at {at}"
-    );
+    equal(rt, at, left.stop, right.stop);
+    equal(rt, at, left.active, right.active);
+    equal(rt, at, left.out.as_slice(), right.out.as_slice());
+    equal(rt, at, left.trace.as_slice(), right.trace.as_slice());
+    equal(rt, at, left.input.as_slice(), right.input.as_slice());
+    equal(rt, at, left.journal.as_slice(), right.journal.as_slice());
 }

@@ -1,10 +1,13 @@
 // An input, an output or a trace that fails while a machine runs.
+ghost use Rattle.switch_frame.specs.Records.{isa_of};
+ghost use Rattle.mixed_machine.specs.Machine.{IsWhole};
+
 use crate::bench::{CALM, Faults, Outside, run_on, start, waiting};
+use crate::equal::equal;
 use mix_bits::Isa;
-use mix_engine::Stop;
+use mix_engine::{Machine, Stop};
 use std::alloc::Global;
 use std::process::Abort;
-use std::test::Fail;
 use switch_frame::Active;
 
 /// Puts its input.
@@ -118,139 +121,139 @@ const CALL_TOLD: Row<'static> = Row {
 };
 
 /// Where a calm run of a row's program is after the row's steps, and how many callers wait then.
-fn calm(alloc: Global, row: &Row) -> Result<(Active, u32), Fail> {
-    let mut m = start(alloc, row.main, 128, row.text)?;
-    let mut around = Outside::new(alloc, b"abc", CALM)?;
+fn calm(rt: &impl Abort, alloc: Global, row: &Row) -> (Active, u32) {
+    let mut m = start(rt, alloc, row.main, 128, row.text);
+    let mut around = Outside::new(rt, alloc, b"abc", CALM);
     let _ = run_on(&mut m, &mut around, row.steps);
-    Ok((m.active, waiting(&m)))
+    (m.active, waiting(&m))
 }
 
-/// A run stops and goes on as a row says, with the registers and the callers of a calm run at that step.
-fn stops(rt: &impl Abort, alloc: Global, row: &Row) -> Result<(), Fail> {
+/// What is outside of a row's run.
+fn outside(rt: &impl Abort, alloc: Global, row: &Row) -> Outside {
     let faults = Faults {
         input: &[row.input],
         out: &[row.out],
         trace: &[row.trace],
         room: row.room,
     };
-    let here = calm(alloc, row)?;
-    let mut m = start(alloc, row.main, 128, row.text)?;
-    let mut around = Outside::new(alloc, b"abc", faults)?;
-    assert_eq!(rt; run_on(&mut m, &mut around, 1000), row.stop);
-    assert_eq!(rt; place(&m.active), (row.pc, row.value));
-    assert_eq!(rt; (m.active, waiting(&m)), here);
-    assert_eq!(rt; run_on(&mut m, &mut around, 1000), row.end);
-    assert_eq!(rt; around.out.held(), row.bytes);
-    assert_eq!(rt; around.trace.held(), row.lines.as_bytes());
-    Ok(())
+    Outside::new(rt, alloc, b"abc", faults)
 }
 
-#[test]
-fn a_run_stops_where_its_outside_fails_and_goes_on(rt: HostRuntime) -> Result<(), Fail> {
-    let alloc = rt.alloc();
-    stops(&rt, alloc, &READ_68K)?;
-    stops(
-        &rt,
-        alloc,
-        &Row {
-            input: 2,
-            steps: 5,
-            value: 0x61,
-            ..READ_68K
-        },
-    )?;
-    stops(
-        &rt,
-        alloc,
-        &Row {
-            input: 4,
-            steps: 15,
-            value: 0x63,
-            ..READ_68K
-        },
-    )?;
-    stops(&rt, alloc, &READ_PPC)?;
-    stops(
-        &rt,
-        alloc,
-        &Row {
-            input: 2,
-            steps: 8,
-            ..READ_PPC
-        },
-    )
+/// A run stops as a row says, at a place of code, with the registers and the callers of a calm run at that step.
+fn is_at(rt: &impl Abort, m: &Machine, row: &Row, calm: (Active, u32))
+    requires { IsWhole m.now.body (isa_of m.now.active) }
+{
+    equal(rt, "the place", place(&m.active), (row.pc, row.value));
+    equal(rt, "the step", (m.active, waiting(m)), calm);
 }
 
-#[test]
-fn a_put_that_fails_is_tried_again(rt: HostRuntime) -> Result<(), Fail> {
-    let alloc = rt.alloc();
-    let put = Row {
-        input: 0,
-        out: 2,
-        stop: Stop::OutFault,
-        value: 0x62,
+/// A run stops and goes on as a row says.
+fn stops(rt: &impl Abort, alloc: Global, row: &Row) {
+    let here = calm(rt, alloc, row);
+    let mut m = start(rt, alloc, row.main, 128, row.text);
+    let mut around = outside(rt, alloc, row);
+    equal(rt, "the stop", run_on(&mut m, &mut around, 1000), row.stop);
+    is_at(rt, &m, row, here);
+    equal(rt, "the end", run_on(&mut m, &mut around, 1000), row.end);
+    equal(rt, "the output", around.out.held(), row.bytes);
+    equal(rt, "the trace", around.trace.held(), row.lines.as_bytes());
+}
+
+/// All rows are so.
+fn all_stop(rt: &impl Abort, alloc: Global, rows: &[Row]) {
+    for row in rows {
+        stops(rt, alloc, row);
+    }
+}
+
+/// A byte is not read, by code of both sets.
+static READS: [Row<'static>; 5] = [
+    READ_68K,
+    Row {
+        input: 2,
+        steps: 5,
+        value: 0x61,
         ..READ_68K
-    };
-    stops(
-        &rt,
-        alloc,
-        &Row {
-            steps: 8,
-            pc: 0x1_0006,
-            ..put
-        },
-    )?;
-    stops(
-        &rt,
-        alloc,
-        &Row {
-            main: Isa::Ppc,
-            text: ECHO_PPC,
-            steps: 12,
-            pc: 0x1824,
-            ..put
-        },
-    )?;
-    stops(&rt, alloc, &BLOCK_PUT)?;
-    stops(
-        &rt,
-        alloc,
-        &Row {
-            out: 0,
-            room: 5,
-            bytes: b"abcde",
-            end: Stop::OutFault,
-            ..BLOCK_PUT
-        },
-    )
-}
+    },
+    Row {
+        input: 4,
+        steps: 15,
+        value: 0x63,
+        ..READ_68K
+    },
+    READ_PPC,
+    Row {
+        input: 2,
+        steps: 8,
+        ..READ_PPC
+    },
+];
 
 #[test]
-fn a_step_is_done_though_its_line_is_not_told(rt: HostRuntime) -> Result<(), Fail> {
-    let alloc = rt.alloc();
-    let back = Row {
+fn a_run_stops_where_its_outside_fails_and_goes_on(rt: HostRuntime) {
+    all_stop(&rt, rt.alloc(), &READS);
+}
+
+/// A byte is not put.
+const PUT: Row<'static> = Row {
+    input: 0,
+    out: 2,
+    stop: Stop::OutFault,
+    value: 0x62,
+    ..READ_68K
+};
+
+/// A byte is not put, by code of both sets, nor a block, nor all of it.
+static PUTS: [Row<'static>; 4] = [
+    Row {
+        steps: 8,
+        pc: 0x1_0006,
+        ..PUT
+    },
+    Row {
+        main: Isa::Ppc,
+        text: ECHO_PPC,
+        steps: 12,
+        pc: 0x1824,
+        ..PUT
+    },
+    BLOCK_PUT,
+    Row {
+        out: 0,
+        room: 5,
+        bytes: b"abcde",
+        end: Stop::OutFault,
+        ..BLOCK_PUT
+    },
+];
+
+#[test]
+fn a_put_that_fails_is_tried_again(rt: HostRuntime) {
+    all_stop(&rt, rt.alloc(), &PUTS);
+}
+
+/// The line of a call is not told, that of a return, and that of an ask.
+static LINES: [Row<'static>; 3] = [
+    CALL_TOLD,
+    Row {
         trace: 2,
         steps: 6,
         pc: 0x1_000C,
         value: 0x42,
         lines: FIRST,
         ..CALL_TOLD
-    };
-    stops(&rt, alloc, &CALL_TOLD)?;
-    stops(&rt, alloc, &back)?;
-    let asked = Row {
+    },
+    Row {
         text: ASK,
         pc: 0x1_0006,
         value: 0,
         lines: "",
+        end: Stop::Exit(5),
         ..CALL_TOLD
-    };
-    stops(
-        &rt,
-        alloc,
-        &Row {
-            end: Stop::Exit(5),
-            ..asked
-        },
-    )
+    },
+];
+
+#[test]
+fn a_step_is_done_though_its_line_is_not_told(rt: HostRuntime) {
+    all_stop(&rt, rt.alloc(), &LINES);
 }

@@ -3,13 +3,13 @@ ghost use Rattle.switch_frame.specs.Records.{isa_of};
 ghost use Rattle.mixed_machine.specs.Machine.{IsWhole};
 
 use crate::bench::{CALM, Outside, innermost, run_on, start, waiting};
+use crate::equal::equal;
 use m68_isa::{Ccr, Regs68};
 use mix_bits::{Fault, FaultKind, Isa, Size};
 use mix_engine::{Machine, Stop};
 use ppc_isa::RegsPpc;
 use std::alloc::Global;
 use std::process::Abort;
-use std::test::Fail;
 use switch_frame::{Active, Held};
 
 /// 68K code that fills its registers from a table, and calls a descriptor. The frame lies from $1FF80 to $1FFF0.
@@ -120,7 +120,7 @@ fn ppc_file() -> Active {
 }
 
 /// Does single steps until so many callers wait. The answer is the innermost caller before the last step.
-fn step_to(m: &mut Machine, around: &mut Outside, callers: u32) -> Result<Option<Held>, Fail>
+fn step_to(rt: &impl Abort, m: &mut Machine, around: &mut Outside, callers: u32) -> Option<Held>
     requires { IsWhole m.old.body (isa_of m.old.active) }
     ensures { IsWhole m.new.body (isa_of m.new.active) }
 {
@@ -128,86 +128,96 @@ fn step_to(m: &mut Machine, around: &mut Outside, callers: u32) -> Result<Option
         let before = innermost(m);
         let _ = run_on(m, around, 1);
         if waiting(m) == callers {
-            return Ok(before);
+            return before;
         }
     }
-    Err(Fail::new("the callee does not return"))
+    panic!(rt; "the callee does not return")
+}
+
+/// Goes on until a first caller waits, and answers it.
+fn call(rt: &impl Abort, m: &mut Machine, around: &mut Outside) -> Held
+    requires { IsWhole m.old.body (isa_of m.old.active) }
+    ensures { IsWhole m.new.body (isa_of m.new.active) }
+{
+    let _ = step_to(rt, m, around, 1);
+    innermost(m).expect(rt, "no caller waits")
+}
+
+/// Goes on with the callee, and then to its return. The caller waits all the time.
+fn come_back(rt: &impl Abort, m: &mut Machine, around: &mut Outside, held: Held)
+    requires { IsWhole m.old.body (isa_of m.old.active) }
+    ensures { IsWhole m.new.body (isa_of m.new.active) }
+{
+    equal(rt, "the cut", run_on(m, around, 90_000), Stop::Limit);
+    equal(rt, "the caller that waits", innermost(m), Some(held));
+    let returning = step_to(rt, m, around, 0);
+    equal(rt, "the caller at the return", returning, Some(held));
+}
+
+/// The callee wrote all that it may: the long at each of these places.
+fn are_written(rt: &impl Abort, m: &Machine, places: &[u32], long: u32) {
+    for a in places {
+        equal(rt, *a, m.body.ram.load(*a, Size::Four), Ok(long));
+    }
+}
+
+/// All around a frame is written, and nothing in it.
+fn is_written_around(rt: &impl Abort, m: &Machine, held: Held) {
+    let places = [0, 0xFFC, 0x2000, 0x1_8000, 0x1_FFFC];
+    are_written(rt, m, &places, u32::MAX);
+    let beside = [held.lo.saturating_sub(8), held.hi];
+    are_written(rt, m, &beside, u32::MAX);
+    let inside = [held.lo, held.hi.saturating_sub(4)];
+    are_written(rt, m, &inside, 0);
 }
 
 /// A caller waits with these registers while its callee writes all that it may, and goes on with those.
-fn waits(
-    rt: &impl Abort,
-    alloc: Global,
-    main: Isa,
-    text: &str,
-    caller: Active,
-    after: Active,
-) -> Result<(), Fail> {
-    let mut m = start(alloc, main, 128, text)?;
-    let mut around = Outside::new(alloc, b"", CALM)?;
-    let _ = step_to(&mut m, &mut around, 1)?;
-    let held = innermost(&m).ok_or("no caller waits")?;
-    assert_eq!(rt; held.caller, caller);
-    let stop = run_on(&mut m, &mut around, 90_000);
-    assert_eq!(rt; (stop, innermost(&m)), (Stop::Limit, Some(held)));
-    let returning = step_to(&mut m, &mut around, 0)?;
-    assert_eq!(rt; returning, Some(held));
-    assert_eq!(rt; m.active, after);
-    for (a, long) in [
-        (0, u32::MAX),
-        (0xFFC, u32::MAX),
-        (0x2000, u32::MAX),
-        (0x1_8000, u32::MAX),
-        (held.lo.saturating_sub(8), u32::MAX),
-        (held.lo, 0),
-        (held.hi.saturating_sub(4), 0),
-        (held.hi, u32::MAX),
-        (0x1_FFFC, u32::MAX),
-    ] {
-        assert_eq!(rt;
-            m.body.ram.load(a, Size::Four),
-            Ok(long),
-            "the long at {a:08X}"
-        );
+fn waits(rt: &impl Abort, alloc: Global, main: Isa, text: &str, caller: Active, after: Active) {
+    let mut m = start(rt, alloc, main, 128, text);
+    let mut around = Outside::new(rt, alloc, b"", CALM);
+    let held = call(rt, &mut m, &mut around);
+    equal(rt, "the caller", held.caller, caller);
+    come_back(rt, &mut m, &mut around, held);
+    equal(rt, "the registers", m.active, after);
+    is_written_around(rt, &m, held);
+}
+
+/// A 68K caller waits while its callee writes.
+fn m68_waits(rt: &impl Abort, alloc: Global, text: &str) {
+    let (before, after) = (m68_file(0x1_FFF8), m68_file(0x1_FFFC));
+    waits(rt, alloc, Isa::M68, text, before, after);
+}
+
+/// A PowerPC caller does.
+fn ppc_waits(rt: &impl Abort, alloc: Global, text: &str) {
+    waits(rt, alloc, Isa::Ppc, text, ppc_file(), ppc_file());
+}
+
+/// Pieces of a text, one behind the other.
+fn joined(rt: &impl Abort, alloc: Global, pieces: &[&str]) -> String {
+    let mut text = String::new(alloc);
+    for piece in pieces {
+        text.push_str(piece).expect(rt, "no text");
     }
-    Ok(())
+    text
 }
 
 #[test]
-fn callers_wait_while_callees_write_all_that_they_may(rt: HostRuntime) -> Result<(), Fail> {
+fn callers_wait_while_callees_write_all_that_they_may(rt: HostRuntime) {
     let alloc = rt.alloc();
-    waits(
-        &rt,
-        alloc,
-        Isa::M68,
-        &format!(in alloc; "{M68_CALLER} {DESCRIPTOR} {PPC_FILLS} {AROUND_M68}")?,
-        m68_file(0x1_FFF8),
-        m68_file(0x1_FFFC),
-    )?;
-    waits(
-        &rt,
-        alloc,
-        Isa::M68,
-        &format!(in alloc; "{M68_CALLER} {DESCRIPTOR} {CFM} @68 {M68_FILLS} {AROUND_M68}")?,
-        m68_file(0x1_FFF8),
-        m68_file(0x1_FFFC),
-    )?;
-    waits(
-        &rt,
-        alloc,
-        Isa::Ppc,
-        &format!(in alloc; "{PPC_CALLER} @40 {M68_FILLS} {AROUND_PPC}")?,
-        ppc_file(),
-        ppc_file(),
-    )?;
-    waits(
-        &rt,
-        alloc,
-        Isa::Ppc,
-        &format!(in alloc; "{PPC_CALLER} {DESCRIPTOR} {PPC_FILLS} {AROUND_PPC}")?,
-        ppc_file(),
-        ppc_file(),
-    )
+    let text = joined(&rt, alloc, &[M68_CALLER, DESCRIPTOR, PPC_FILLS, AROUND_M68]);
+    m68_waits(&rt, alloc, &text);
+    let text = joined(&rt, alloc, &[PPC_CALLER, DESCRIPTOR, PPC_FILLS, AROUND_PPC]);
+    ppc_waits(&rt, alloc, &text);
+}
+
+#[test]
+fn callers_wait_while_68k_code_writes_all_that_it_may(rt: HostRuntime) {
+    let alloc = rt.alloc();
+    let pieces = [M68_CALLER, DESCRIPTOR, CFM, " @68 ", M68_FILLS, AROUND_M68];
+    m68_waits(&rt, alloc, &joined(&rt, alloc, &pieces));
+    let pieces = [PPC_CALLER, " @40 ", M68_FILLS, AROUND_PPC];
+    ppc_waits(&rt, alloc, &joined(&rt, alloc, &pieces));
 }
 
 /// A store that is refused.
@@ -220,69 +230,91 @@ fn refused(pc: u32, a: u32) -> Stop {
     })
 }
 
-/// A callee that stores once runs to this end; where it is refused, the caller waits as before.
-fn stores(rt: &impl Abort, alloc: Global, main: Isa, text: &str, wanted: Stop) -> Result<(), Fail> {
-    let mut m = start(alloc, main, 128, text)?;
-    let mut around = Outside::new(alloc, b"", CALM)?;
-    let _ = step_to(&mut m, &mut around, 1)?;
-    let held = innermost(&m);
-    let stop = run_on(&mut m, &mut around, ALL);
-    assert_eq!(rt; stop, wanted, "{text}");
+/// A callee stores once and goes to this end; where it is refused, the caller waits as before.
+fn ends(rt: &impl Abort, m: &mut Machine, around: &mut Outside, text: &str, wanted: Stop)
+    requires { IsWhole m.old.body (isa_of m.old.active) }
+    ensures { IsWhole m.new.body (isa_of m.new.active) }
+{
+    let held = call(rt, m, around);
+    let stop = run_on(m, around, ALL);
+    equal(rt, text, stop, wanted);
     if let Stop::Fault(_) = stop {
-        assert_eq!(rt; innermost(&m), held, "{text}");
+        equal(rt, text, innermost(m), Some(held));
     }
-    Ok(())
+}
+
+/// The same of a program from its start on.
+fn stores(rt: &impl Abort, alloc: Global, main: Isa, text: &str, wanted: Stop) {
+    let mut m = start(rt, alloc, main, 128, text);
+    let mut around = Outside::new(rt, alloc, b"", CALM);
+    ends(rt, &mut m, &mut around, text, wanted);
+}
+
+/// PowerPC code stores once, and returns to 68K code.
+fn ppc_stores(rt: &impl Abort, alloc: Global, code: &str, wanted: Stop) {
+    let pieces = [M68_CALLER, DESCRIPTOR, " @68 ", code];
+    let text = joined(rt, alloc, &pieces);
+    stores(rt, alloc, Isa::M68, &text, wanted);
+}
+
+/// It returns, and the 68K code ends.
+fn ppc_may_store(rt: &impl Abort, alloc: Global, code: &str) {
+    ppc_stores(rt, alloc, code, Stop::Exit(0xD000_0000));
+}
+
+/// Its store at this address is refused.
+fn ppc_may_not_store(rt: &impl Abort, alloc: Global, code: &str, a: u32) {
+    ppc_stores(rt, alloc, code, refused(0x1_0070, a));
 }
 
 #[test]
-fn stores_into_a_live_frame_are_refused(rt: HostRuntime) -> Result<(), Fail> {
+fn stores_into_a_live_frame_are_refused(rt: HostRuntime) {
     let alloc = rt.alloc();
-    let m68_end = Stop::Exit(0xD000_0000);
-    let ppc_end = Stop::Exit(0x1_0040);
-    for (code, wanted) in [
-        ("3CA00001 60A5FF7F 98650000 4E800020", m68_end),
-        (
-            "3CA00001 60A5FF80 98650000 4E800020",
-            refused(0x1_0070, 0x1_FF80),
-        ),
-        (
-            "3CA00001 60A5FFEF 98650000 4E800020",
-            refused(0x1_0070, 0x1_FFEF),
-        ),
-        ("3CA00001 60A5FFF0 98650000 4E800020", m68_end),
-        ("3CA00001 60A5FF7E B0650000 4E800020", m68_end),
-        (
-            "3CA00001 60A5FF7F B0650000 4E800020",
-            refused(0x1_0070, 0x1_FF7F),
-        ),
-        ("3CA00001 60A5FF7C 90650000 4E800020", m68_end),
-        (
-            "3CA00001 60A5FF7D 90650000 4E800020",
-            refused(0x1_0070, 0x1_FF7D),
-        ),
-        (
-            "3CA00001 60A5FFEF 90650000 4E800020",
-            refused(0x1_0070, 0x1_FFEF),
-        ),
-        ("3CA00001 60A5FFF0 90650000 4E800020", m68_end),
-    ] {
-        let text = format!(in alloc; "{M68_CALLER} {DESCRIPTOR} @68 {code}")?;
-        stores(&rt, alloc, Isa::M68, &text, wanted)?;
-    }
-    for (code, wanted) in [
-        ("13FC0008 0001FEFF 4E75", ppc_end),
-        ("13FC0008 0001FF00 4E75", refused(0x1_0040, 0x1_FF00)),
-        ("13FC0008 0001FFBF 4E75", refused(0x1_0040, 0x1_FFBF)),
-        ("13FC0008 0001FFC0 4E75", ppc_end),
-        ("33FC1008 0001FEFE 4E75", ppc_end),
-        ("33FC1008 0001FF00 4E75", refused(0x1_0040, 0x1_FF00)),
-        ("23FC0000 10080001 FEFC4E75", ppc_end),
-        ("23FC0000 10080001 FEFE4E75", refused(0x1_0040, 0x1_FEFE)),
-        ("23FC0000 10080001 FFBE4E75", refused(0x1_0040, 0x1_FFBE)),
-        ("23FC0000 10080001 FFC04E75", ppc_end),
-    ] {
-        let text = format!(in alloc; "{PPC_CALLER} @40 {code}")?;
-        stores(&rt, alloc, Isa::Ppc, &text, wanted)?;
-    }
-    Ok(())
+    // Bytes.
+    ppc_may_store(&rt, alloc, "3CA00001 60A5FF7F 98650000 4E800020");
+    ppc_may_not_store(&rt, alloc, "3CA00001 60A5FF80 98650000 4E800020", 0x1_FF80);
+    ppc_may_not_store(&rt, alloc, "3CA00001 60A5FFEF 98650000 4E800020", 0x1_FFEF);
+    ppc_may_store(&rt, alloc, "3CA00001 60A5FFF0 98650000 4E800020");
+    // Words.
+    ppc_may_store(&rt, alloc, "3CA00001 60A5FF7E B0650000 4E800020");
+    ppc_may_not_store(&rt, alloc, "3CA00001 60A5FF7F B0650000 4E800020", 0x1_FF7F);
+    // Longs.
+    ppc_may_store(&rt, alloc, "3CA00001 60A5FF7C 90650000 4E800020");
+    ppc_may_not_store(&rt, alloc, "3CA00001 60A5FF7D 90650000 4E800020", 0x1_FF7D);
+    ppc_may_not_store(&rt, alloc, "3CA00001 60A5FFEF 90650000 4E800020", 0x1_FFEF);
+    ppc_may_store(&rt, alloc, "3CA00001 60A5FFF0 90650000 4E800020");
+}
+
+/// 68K code stores once, and returns to PowerPC code.
+fn m68_stores(rt: &impl Abort, alloc: Global, code: &str, wanted: Stop) {
+    let text = joined(rt, alloc, &[PPC_CALLER, " @40 ", code]);
+    stores(rt, alloc, Isa::Ppc, &text, wanted);
+}
+
+/// It returns, and the PowerPC code ends.
+fn m68_may_store(rt: &impl Abort, alloc: Global, code: &str) {
+    m68_stores(rt, alloc, code, Stop::Exit(0x1_0040));
+}
+
+/// Its store at this address is refused.
+fn m68_may_not_store(rt: &impl Abort, alloc: Global, code: &str, a: u32) {
+    m68_stores(rt, alloc, code, refused(0x1_0040, a));
+}
+
+#[test]
+fn stores_of_68k_code_into_a_live_frame_are_refused(rt: HostRuntime) {
+    let alloc = rt.alloc();
+    // Bytes.
+    m68_may_store(&rt, alloc, "13FC0008 0001FEFF 4E75");
+    m68_may_not_store(&rt, alloc, "13FC0008 0001FF00 4E75", 0x1_FF00);
+    m68_may_not_store(&rt, alloc, "13FC0008 0001FFBF 4E75", 0x1_FFBF);
+    m68_may_store(&rt, alloc, "13FC0008 0001FFC0 4E75");
+    // Words.
+    m68_may_store(&rt, alloc, "33FC1008 0001FEFE 4E75");
+    m68_may_not_store(&rt, alloc, "33FC1008 0001FF00 4E75", 0x1_FF00);
+    // Longs.
+    m68_may_store(&rt, alloc, "23FC0000 10080001 FEFC4E75");
+    m68_may_not_store(&rt, alloc, "23FC0000 10080001 FEFE4E75", 0x1_FEFE);
+    m68_may_not_store(&rt, alloc, "23FC0000 10080001 FFBE4E75", 0x1_FFBE);
+    m68_may_store(&rt, alloc, "23FC0000 10080001 FFC04E75");
 }

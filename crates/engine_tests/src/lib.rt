@@ -7,6 +7,8 @@ mod bench;
 #[cfg(test)]
 mod cuts;
 #[cfg(test)]
+mod equal;
+#[cfg(test)]
 mod failing;
 #[cfg(test)]
 mod frames;

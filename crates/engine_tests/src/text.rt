@@ -2,28 +2,28 @@
 ghost use Rattle.std.specs.Prelude.{◌<◌};
 
 use std::alloc::Global;
-use std::test::Fail;
+use std::process::Abort;
 
 /// The bytes that a text spells: words of hexadecimal digits, one after the other. `@PLACE` goes on at a
 /// place, with zeros up to it.
-pub fn image(alloc: Global, text: &str) -> Result<Vec<u8>, Fail> {
+pub fn image(rt: &impl Abort, alloc: Global, text: &str) -> Vec<u8> {
     let mut bytes = Vec::new(alloc);
     let mut at = 0;
     for word in text.split_whitespace() {
         at = match word.strip_prefix('@') {
-            Some(place) => go_to(&mut bytes, number(place))?,
-            None => put_digits(&mut bytes, at, word)?,
+            Some(place) => go_to(rt, &mut bytes, number(place)),
+            None => put_digits(rt, &mut bytes, at, word),
         };
     }
-    Ok(bytes)
+    bytes
 }
 
 /// Goes on at a place.
-fn go_to(bytes: &mut Vec<u8>, place: u16) -> Result<u16, Fail> {
+fn go_to(rt: &impl Abort, bytes: &mut Vec<u8>, place: u16) -> u16 {
     for _ in bytes.len()..place as usize {
-        bytes.push(0)?;
+        bytes.push(0).expect(rt, "no room");
     }
-    Ok(place)
+    place
 }
 
 /// The number of hexadecimal digits.
@@ -32,25 +32,24 @@ fn number(digits: &str) -> u16 {
 }
 
 /// Puts the bytes of hexadecimal digits from a place on, and answers where they end.
-fn put_digits(bytes: &mut Vec<u8>, at: u16, digits: &str) -> Result<u16, Fail> {
+fn put_digits(rt: &impl Abort, bytes: &mut Vec<u8>, at: u16, digits: &str) -> u16 {
     let mut at = at;
     for pair in digits.as_bytes().chunks(2) {
         if let [high, low] = pair {
-            put(bytes, at as usize, nibble(*high) * 16 + nibble(*low))?;
+            put(rt, bytes, at as usize, nibble(*high) * 16 + nibble(*low));
         }
         at = at.saturating_add(1);
     }
-    Ok(at)
+    at
 }
 
 /// Puts a byte at a place that is there, or behind all others.
-fn put(bytes: &mut Vec<u8>, at: usize, byte: u8) -> Result<(), Fail> {
+fn put(rt: &impl Abort, bytes: &mut Vec<u8>, at: usize, byte: u8) {
     if at < bytes.len() {
         bytes[at] = byte;
     } else {
-        bytes.push(byte)?;
+        bytes.push(byte).expect(rt, "no room");
     }
-    Ok(())
 }
 
 /// The value of a hexadecimal digit.

@@ -1,8 +1,12 @@
 // The ways into a run of each set, entered by themselves.
+ghost use Rattle.switch_frame.specs.Records.{isa_of};
+ghost use Rattle.mixed_machine.specs.Machine.{IsWhole};
+
 use crate::bench::{CALM, Outside, run_on, run_set, start};
+use crate::equal::equal;
 use mix_bits::Isa;
-use mix_engine::{Stop, Turn};
-use std::test::Fail;
+use mix_engine::{Machine, Stop, Turn};
+use std::process::Abort;
 use switch_frame::Active;
 
 /// PowerPC code adds two numbers that 68K code passes on its stack; the sum is the exit code.
@@ -10,21 +14,51 @@ const ADDS: &str = "598F 3F3C FFFE 2F3C 0001 0002 4EB9 0001 0020 201F AA85
     @20 AAFE0700 00000000 00000000 000003B0 00010000 00010040 00000000 00000000
     @40 00010048 00000000 7C632214 4E800020";
 
+/// The code of the active set runs with so many steps, and leaves so many. The answer is how its turn ends.
+fn turn(rt: &impl Abort, m: &mut Machine, around: &mut Outside, steps: u32, left: u32) -> Turn
+    requires { IsWhole m.old.body (isa_of m.old.active) }
+    ensures { IsWhole m.new.body (isa_of m.new.active) }
+{
+    let mut steps = steps;
+    let turn = run_set(m, around, &mut steps);
+    equal(rt, "the steps that are left", steps, left);
+    turn
+}
+
+/// Its turn ends as its 68K caller goes on.
+fn goes_back(rt: &impl Abort, m: &mut Machine, around: &mut Outside, steps: u32, left: u32)
+    requires { IsWhole m.old.body (isa_of m.old.active) }
+    ensures { IsWhole m.new.body (isa_of m.new.active) }
+{
+    let turn = turn(rt, m, around, steps, left);
+    assert!(rt; matches!(turn, Turn::Back(Active::M68(_))));
+}
+
+/// Its turn ends as 68K code stops so.
+fn stops(
+    rt: &impl Abort,
+    m: &mut Machine,
+    around: &mut Outside,
+    steps: u32,
+    left: u32,
+    wanted: Stop,
+)
+    requires { IsWhole m.old.body (isa_of m.old.active) }
+    ensures { IsWhole m.new.body (isa_of m.new.active) }
+{
+    match turn(rt, m, around, steps, left) {
+        Turn::Stop(Active::M68(_), stop) => equal(rt, "the stop", stop, wanted),
+        _ => panic!(rt; "no 68K code stops"),
+    }
+}
+
 #[test]
-fn a_callee_comes_back_and_its_caller_stops(rt: HostRuntime) -> Result<(), Fail> {
-    let alloc = rt.alloc();
-    let mut m = start(alloc, Isa::M68, 128, ADDS)?;
-    let mut around = Outside::new(alloc, b"", CALM)?;
+fn a_callee_comes_back_and_its_caller_stops(rt: HostRuntime) {
+    let mut m = start(&rt, rt.alloc(), Isa::M68, 128, ADDS);
+    let mut around = Outside::new(&rt, rt.alloc(), b"", CALM);
     let cut = run_on(&mut m, &mut around, 5);
-    assert_eq!(rt; cut, Stop::Limit);
-    let mut steps = 100;
-    let callee = run_set(&mut m, &mut around, &mut steps);
-    assert!(rt; matches!(callee, Turn::Back(Active::M68(_))));
-    assert_eq!(rt; steps, 97);
-    let caller = run_set(&mut m, &mut around, &mut steps);
-    assert!(rt; matches!(caller, Turn::Stop(Active::M68(_), Stop::Exit(0x20000))));
-    assert_eq!(rt; steps, 95);
-    let again = run_set(&mut m, &mut around, &mut 0);
-    assert!(rt; matches!(again, Turn::Stop(Active::M68(_), Stop::Limit)));
-    Ok(())
+    equal(&rt, "the cut", cut, Stop::Limit);
+    goes_back(&rt, &mut m, &mut around, 100, 97);
+    stops(&rt, &mut m, &mut around, 97, 95, Stop::Exit(0x20000));
+    stops(&rt, &mut m, &mut around, 0, 0, Stop::Limit);
 }
