@@ -64,7 +64,7 @@ pub fn leave_code<'i, 'o, 't, 'd, I: Source, O: Sink, T: Sink, D: Devices>(
                 trap(number, body, active, outside, fault)
             }
         }
-        Active::Ppc(_) => call_function(number, body, active, outside, fault),
+        Active::Ppc(_) => call_import(number, body, active, outside, fault),
     }
 }
 
@@ -127,8 +127,27 @@ fn no_trap(word: u32, active: &Active, fault: &mut Fault) -> Did
     Did::Fault
 }
 
-/// Calls a host function: one of the usual functions of the heap at once.
+/// Calls a host function for PowerPC code.
 #[inline(never)]
+fn call_import<'i, 'o, 't, 'd, I: Source, O: Sink, T: Sink, D: Devices>(
+    index: u32,
+    body: &mut Body,
+    active: &mut Active,
+    outside: &mut Outside<'i, 'o, 't, 'd, I, O, T, D>,
+    fault: &mut Fault,
+) -> Did
+    requires whole { IsWhole body.old (isa_of active.old) }
+    requires index { index < 16 }
+    ensures does { Acts (λ s. hosts s index) result fault.new
+        (machine_beside I.left I.faults O.held O.faults T.held T.faults D.state body.old active.old outside.old)
+        (machine_beside I.left I.faults O.held O.faults T.held T.faults D.state body.new active.new outside.new) }
+    ensures same { AreSame outside.old outside.new }
+{
+    call_function(index, body, active, outside, fault)
+}
+
+/// Calls a host function: one of the usual functions of the heap at once.
+#[inline(always)]
 fn call_function<'i, 'o, 't, 'd, I: Source, O: Sink, T: Sink, D: Devices>(
     index: u32,
     body: &mut Body,

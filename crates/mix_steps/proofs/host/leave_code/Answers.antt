@@ -24,4 +24,4 @@ returns-else-number-eq-MIXED_MODE_MAGIC-clause-does g c =
 pub returns-in-Ppc-clause-does : goal.returns-in-Ppc-clause-does
 returns-in-Ppc-clause-does g c =
     acts-from (λ s. leaves_code c.args.active.now s c.args.fault.now.detail) (λ s. hosts s c.args.fault.now.detail) _ _ _ _ _ refl
-    (λ around. ap (λ w. leaves_code w (flat c.args.body.now c.args.active.now around) c.args.fault.now.detail) c.in-Ppc.is) c.call_function.ensures.does
+    (λ around. ap (λ w. leaves_code w (flat c.args.body.now c.args.active.now around) c.args.fault.now.detail) c.in-Ppc.is) c.call_import.ensures.does
