@@ -16,7 +16,8 @@
 //! address from the first to the last, with the address as the last four bytes of its input, and the answer
 //! tells which of them end alike. So it is with `lengths=` for the last file cut to each length, with `places=`
 //! for the last file with 1 added to the byte at each place, and with `cuts=` for the run cut after each number
-//! of steps, kept and continued.
+//! of steps, kept and continued. With `untold` the outside is that of std around an empty input, outputs that
+//! keep nothing, and no device; it tells nothing, so the answer is `NAME | STATUS`.
 //!
 //! The answers that are stored beside this program were not made by it. They were worked out from the rules
 //! in `docs/`: by hand the addresses, steps and lines of each small program, and by a reader of forks and
@@ -31,6 +32,7 @@ mod outside;
 mod run;
 mod sweep;
 mod tell;
+mod untold;
 
 use case::Case;
 use images::Images;
@@ -47,7 +49,7 @@ fn main(rt: HostRuntime) -> io::Result<()> {
         if let Some(named) = text.strip_prefix("file ") {
             images.define(alloc, named)?;
         } else if !text.is_empty() && !text.starts_with(';') {
-            let told = answer(alloc, &images, text)?;
+            let told = answer(&rt, &images, text)?;
             println!(rt; "{told}")?;
         }
     }
@@ -55,11 +57,12 @@ fn main(rt: HostRuntime) -> io::Result<()> {
 }
 
 /// What the case of a line gives, as text.
-fn answer(alloc: Global, images: &Images, line: &str) -> io::Result<String> {
+fn answer(rt: &HostRuntime, images: &Images, line: &str) -> io::Result<String> {
     let case = Case::read(line);
     match Sweep::read(case.outside) {
-        Some(sweep) => sweep.answer(alloc, images, case),
-        None => told(alloc, images, case),
+        Some(sweep) => sweep.answer(rt.alloc(), images, case),
+        None if case.outside == "untold" => untold::told(rt, images, case),
+        None => told(rt.alloc(), images, case),
     }
 }
 

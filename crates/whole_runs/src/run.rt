@@ -133,7 +133,7 @@ impl Run {
 }
 
 /// The words of a text.
-fn split(alloc: Global, text: &str) -> Result<Vec<String>, AllocError> {
+pub fn split(alloc: Global, text: &str) -> Result<Vec<String>, AllocError> {
     let mut all = Vec::new(alloc);
     for word in text.split_whitespace() {
         all.push(String::from_str(alloc, word)?)?;
@@ -142,7 +142,7 @@ fn split(alloc: Global, text: &str) -> Result<Vec<String>, AllocError> {
 }
 
 /// A shelf with the files of a case.
-fn shelf(alloc: Global, images: &Images, case: Case) -> io::Result<MemShelf> {
+pub fn shelf(alloc: Global, images: &Images, case: Case) -> io::Result<MemShelf> {
     let mut names = Vec::new(alloc);
     let mut contents = Vec::new(alloc);
     for file in case.files.split(';') {
