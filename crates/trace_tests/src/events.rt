@@ -1,37 +1,42 @@
 // Lines of the documents, read; and texts that are no lines.
+use crate::equal::equal;
 use call_trace::End;
 use dev_rack::Answer;
-use mix_bits::{FaultKind, Isa, Size};
+use mix_bits::{Fault, FaultKind, Isa, Size};
 use std::process::Abort;
-use std::test::Fail;
 use switch_frame::Kind;
 use trace_lines::{Crossing, Event, read_event};
 
-fn call(text: &str) -> Option<Crossing> {
+/// The call that a line tells.
+fn call(rt: &impl Abort, text: &str) -> Crossing {
     match read_event(text.as_bytes()) {
-        Some(Event::Called(call)) => Some(call),
-        _ => None,
+        Some(Event::Called(call)) => call,
+        _ => panic!(rt; "no call: {text}"),
     }
 }
 
 #[test]
-fn calls_of_the_samples(rt: HostRuntime) -> Result<(), Fail> {
-    let c = call("call 68k ppc 00010040 00000E71 07 BEEF 00012345").ok_or("no call")?;
-    assert_eq!(rt; c.kind, Kind::M68ToPpc);
-    assert_eq!(rt; (c.target, c.info, c.selector), (0x1_0040, 0xE71, 0));
-    assert_eq!(rt; c.count, 3);
-    assert_eq!(rt;
-        (c.args[0], c.args[1], c.args[2], c.args[3]),
-        (7, 0xBEEF, 0x1_2345, 0)
+fn calls_of_the_samples(rt: HostRuntime) {
+    let c = call(&rt, "call 68k ppc 00010040 00000E71 07 BEEF 00012345");
+    equal(&rt, "the kind", c.kind, Kind::M68ToPpc);
+    let words = (c.target, c.info, c.selector);
+    equal(&rt, "the words", words, (0x1_0040, 0xE71, 0));
+    equal(&rt, "how many arguments", c.count, 3);
+    let arguments = [7, 0xBEEF, 0x1_2345, 0];
+    equal(&rt, "the arguments", &c.args[..4], arguments.as_slice());
+    let c = call(&rt, "call ppc 68k 00010020 000003C8 #00000002 ABCDEF01");
+    equal(&rt, "the kind", c.kind, Kind::PpcToM68);
+    let words = (c.selector, c.count, c.args[0]);
+    equal(
+        &rt,
+        "the selector and the argument",
+        words,
+        (2, 1, 0xABCD_EF01),
     );
-    let c = call("call ppc 68k 00010020 000003C8 #00000002 ABCDEF01").ok_or("no call")?;
-    assert_eq!(rt; c.kind, Kind::PpcToM68);
-    assert_eq!(rt; (c.selector, c.count, c.args[0]), (2, 1, 0xABCD_EF01));
-    Ok(())
 }
 
 fn is_nothing(rt: &impl Abort, text: &str) {
-    assert!(rt; read_event(text.as_bytes()).is_none());
+    assert!(rt; read_event(text.as_bytes()).is_none(), "a line: {text}");
 }
 
 #[test]
@@ -48,36 +53,49 @@ fn texts_that_are_no_lines(rt: HostRuntime) {
     is_nothing(&rt, "fault odd 68k 00000001 00000001");
 }
 
+/// A line tells of a return with this result.
+fn returns(rt: &impl Abort, text: &str, size: Size, value: u32) {
+    let found = match read_event(text.as_bytes()) {
+        Some(Event::Returned(size, value)) => Some((size, value)),
+        _ => None,
+    };
+    equal(rt, text, found, Some((size, value)));
+}
+
+/// A line tells of an ask: this slot, this word, and what came of it.
+fn asks(rt: &impl Abort, text: &str, slot: u32, word: u32, answer: Answer) {
+    let found = match read_event(text.as_bytes()) {
+        Some(Event::Asked(slot, word, answer)) => Some((slot, word, answer)),
+        _ => None,
+    };
+    equal(rt, text, found, Some((slot, word, answer)));
+}
+
+/// A line tells of this end.
+fn ends(rt: &impl Abort, text: &str, end: End) {
+    let found = match read_event(text.as_bytes()) {
+        Some(Event::Ended(end)) => Some(end),
+        _ => None,
+    };
+    equal(rt, text, found, Some(end));
+}
+
 #[test]
 fn returns_asks_and_ends(rt: HostRuntime) {
-    assert!(rt; matches!(read_event(b"ret"), Some(Event::Returned(Size::Zero, 0))));
-    assert!(rt;
-        matches!(
-            read_event(b"ret 12AF6683"),
-            Some(Event::Returned(Size::Four, 0x12AF_6683))
-        )
+    returns(&rt, "ret", Size::Zero, 0);
+    returns(&rt, "ret 12AF6683", Size::Four, 0x12AF_6683);
+    asks(&rt, "ask 10 ABCDEF01 fail", 10, 0xABCD_EF01, Answer::Failed);
+    ends(&rt, "exit 313484932", End::Exit(313_484_932));
+    ends(&rt, "limit", End::Limit);
+    let unmatched = Fault {
+        kind: FaultKind::Unmatched,
+        pc: 0x1008,
+        detail: 0xF_FEF6,
+        also: 0xF_FEFC,
+    };
+    ends(
+        &rt,
+        "fault unmatched 68k 00001008 000FFEF6 000FFEFC",
+        End::Fault(Isa::M68, unmatched),
     );
-    assert!(rt;
-        matches!(
-            read_event(b"ask 10 ABCDEF01 fail"),
-            Some(Event::Asked(10, 0xABCD_EF01, Answer::Failed))
-        )
-    );
-    assert!(rt;
-        matches!(
-            read_event(b"exit 313484932"),
-            Some(Event::Ended(End::Exit(313_484_932)))
-        )
-    );
-    assert!(rt; matches!(read_event(b"limit"), Some(Event::Ended(End::Limit))));
-    match read_event(b"fault unmatched 68k 00001008 000FFEF6 000FFEFC") {
-        Some(Event::Ended(End::Fault(Isa::M68, fault))) => {
-            assert_eq!(rt; fault.kind, FaultKind::Unmatched);
-            assert_eq!(rt;
-                (fault.pc, fault.detail, fault.also),
-                (0x1008, 0xF_FEF6, 0xF_FEFC)
-            );
-        }
-        _ => assert!(rt; false),
-    }
 }
