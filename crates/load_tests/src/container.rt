@@ -1,13 +1,13 @@
 ghost use Rattle.std.specs.Prelude.{◌^◌, ◌≤◌, length};
 
+use crate::equal::{equal, must};
+use crate::loaded::{Places, has_places, stands_at, starts_powerpc};
 use mix_bits::Isa;
 use mix_load::{File, FileBytes, Files, LoadError, Program, load};
 use pef_head::PefError;
 use pef_reloc::RelocError;
 use std::alloc::Global;
 use std::process::Abort;
-use std::test::Fail;
-use switch_frame::Active;
 
 /// A program that writes `H`: code, data that is relocated, and an import. The loader section stands at
 /// 156, its library at 212, its symbol at 236, its relocation header at 240 and its strings at 256.
@@ -59,6 +59,13 @@ fn load_container(alloc: Global, container: &[u8]) -> Result<Program, LoadError>
     load(alloc, &files, Isa::Ppc, 1024)
 }
 
+/// The program of a container.
+fn program_of(rt: &impl Abort, alloc: Global, container: &[u8]) -> Program
+    requires { length container.now ≤ 2 ^ 24 }
+{
+    load_container(alloc, container).expect(rt, "no program")
+}
+
 /// Why a container is refused.
 fn refusal(alloc: Global, container: &[u8]) -> Option<LoadError>
     requires { length container.now ≤ 2 ^ 24 }
@@ -68,86 +75,100 @@ fn refusal(alloc: Global, container: &[u8]) -> Option<LoadError>
 
 /// The program's container, with one of its bytes replaced.
 fn program_with(rt: &impl Abort, place: usize, byte: u8) -> [u8; 272] {
+    must(rt, place < 272);
     let mut file = PROGRAM;
-    assert!(rt; place < 272);
     file[place] = byte;
     file
 }
 
-#[test]
-fn loads_a_container(rt: HostRuntime) -> Result<(), Fail> {
-    let program = load_container(rt.alloc(), &PROGRAM)?;
-    assert_eq!(rt; program.a5, 0);
-    assert_eq!(rt; program.heap_lo, 0x1_0040);
-    assert_eq!(rt; program.heap_hi, 0xC_0000);
-    assert_eq!(rt; program.start_sp, 0xF_FFC0);
-    let Active::Ppc(regs) = program.active else {
-        return Err("it starts as 68K code")?;
-    };
-    assert_eq!(rt; regs.pc, 0x1_0000);
-    assert_eq!(rt; regs.gpr[1], 0xF_FFC0);
-    assert_eq!(rt; regs.gpr[2], 0x1_0020);
-    assert_eq!(rt; regs.lr, 0x1010);
-    assert_eq!(rt; program.ram.span(0x1_0000, 20), Ok(&PROGRAM[124..144]));
+/// What stands where in the program as it was loaded.
+fn is_program(rt: &impl Abort, program: &Program) {
+    has_places(
+        rt,
+        program,
+        Places {
+            a5: 0,
+            heap_lo: 0x1_0040,
+            heap_hi: 0xC_0000,
+            start_sp: 0xF_FFC0,
+        },
+    );
+    starts_powerpc(rt, program, [0x1_0000, 0xF_FFC0, 0x1_0020, 0x1010]);
+    stands_at(rt, program, 0x1_0000, &PROGRAM[124..144]);
     // the data: the import's vector, the main vector, and zeros behind them
     let data = [
         0x00, 0x00, 0x14, 0x48, 0x00, 0x01, 0x00, 0x00, 0x00, 0x01, 0x00, 0x20, 0x00, 0x00, 0x00,
         0x00,
     ];
-    assert_eq!(rt; program.ram.span(0x1_0020, 16), Ok(data.as_slice()));
+    stands_at(rt, program, 0x1_0020, &data);
     // what the gate page tells the program
     let told = [
         0x00, 0x00, 0x00, 0x00, 0x00, 0x01, 0x00, 0x24, 0x00, 0x00, 0x00, 0x00, 0x00, 0x10, 0x00,
         0x00,
     ];
-    assert_eq!(rt; program.ram.span(0x1020, 16), Ok(told.as_slice()));
+    stands_at(rt, program, 0x1020, &told);
     // the transition vector of PutByte
     let vector = [0x00, 0x00, 0x18, 0x24, 0x00, 0x00, 0x00, 0x00];
-    assert_eq!(rt; program.ram.span(0x1448, 8), Ok(vector.as_slice()));
-    Ok(())
+    stands_at(rt, program, 0x1448, &vector);
 }
 
 #[test]
-fn a_weak_import_may_be_missing(rt: HostRuntime) -> Result<(), Fail> {
+fn loads_a_container(rt: HostRuntime) {
+    let program = program_of(&rt, rt.alloc(), &PROGRAM);
+    is_program(&rt, &program);
+}
+
+#[test]
+fn a_weak_import_may_be_missing(rt: HostRuntime) {
     let mut file = program_with(&rt, 270, b's');
-    assert_eq!(rt; refusal(rt.alloc(), &file), Some(LoadError::Unresolved(0)));
+    let unresolved = Some(LoadError::Unresolved(0));
+    equal(&rt, "the import", refusal(rt.alloc(), &file), unresolved);
     file[236] = 0x82;
-    let program = load_container(rt.alloc(), &file)?;
+    let program = program_of(&rt, rt.alloc(), &file);
     let data = [0x00, 0x00, 0x00, 0x00, 0x00, 0x01, 0x00, 0x00];
-    assert_eq!(rt; program.ram.span(0x1_0020, 8), Ok(data.as_slice()));
-    Ok(())
+    stands_at(&rt, &program, 0x1_0020, &data);
+}
+
+/// Each row replaces one byte, and the container is then refused so.
+fn are_refused(rt: &impl Abort, alloc: Global, rows: &[(usize, u8, LoadError)]) {
+    for (place, byte, why) in rows {
+        let file = program_with(rt, *place, *byte);
+        equal(rt, *place, refusal(alloc, &file), Some(*why));
+    }
 }
 
 #[test]
 fn refuses_containers(rt: HostRuntime) {
     let alloc = rt.alloc();
-    assert_eq!(rt; refusal(alloc, &[]), Some(LoadError::Empty(File::Pef)));
-    let short = LoadError::Pef(PefError::Short(39));
-    assert_eq!(rt; refusal(alloc, &PROGRAM[..39]), Some(short));
-    for (place, byte, why) in [
-        (0, b'K', LoadError::Pef(PefError::Magic)),
-        (8, b'm', LoadError::Pef(PefError::Architecture)),
-        (15, 2, LoadError::Pef(PefError::Version)),
-        // the alignment of the code
-        (66, 13, LoadError::Pef(PefError::Section(0))),
-        // the kind of the loader section
-        (120, 5, LoadError::Pef(PefError::NoLoader)),
-        // how many symbols there are
-        (184, 0xFF, LoadError::Pef(PefError::Loader(236))),
-        // the end of the symbol's name
-        (271, b's', LoadError::Pef(PefError::Name(236))),
-        // the section of the initialization routine
-        (164, 0, LoadError::Pef(PefError::Init)),
-        // the size of the data in memory
-        (76, 1, LoadError::TooLarge(0x101_0040)),
-        // the first relocation word
-        (252, 0xB0, LoadError::Reloc(RelocError::Unsupported(0xB000))),
-        // where main stands in its section
-        (163, 25, LoadError::NoMain),
-    ] {
-        let file = program_with(&rt, place, byte);
-        assert_eq!(rt; refusal(alloc, &file), Some(why), "at {place}");
-    }
+    let empty = Some(LoadError::Empty(File::Pef));
+    equal(&rt, "no byte", refusal(alloc, &[]), empty);
+    let short = Some(LoadError::Pef(PefError::Short(39)));
+    equal(&rt, "39 bytes", refusal(alloc, &PROGRAM[..39]), short);
+    are_refused(
+        &rt,
+        alloc,
+        &[
+            (0, b'K', LoadError::Pef(PefError::Magic)),
+            (8, b'm', LoadError::Pef(PefError::Architecture)),
+            (15, 2, LoadError::Pef(PefError::Version)),
+            // the alignment of the code
+            (66, 13, LoadError::Pef(PefError::Section(0))),
+            // the kind of the loader section
+            (120, 5, LoadError::Pef(PefError::NoLoader)),
+            // how many symbols there are
+            (184, 0xFF, LoadError::Pef(PefError::Loader(236))),
+            // the end of the symbol's name
+            (271, b's', LoadError::Pef(PefError::Name(236))),
+            // the section of the initialization routine
+            (164, 0, LoadError::Pef(PefError::Init)),
+            // the size of the data in memory
+            (76, 1, LoadError::TooLarge(0x101_0040)),
+            // the first relocation word
+            (252, 0xB0, LoadError::Reloc(RelocError::Unsupported(0xB000))),
+            // where main stands in its section
+            (163, 25, LoadError::NoMain),
+        ],
+    );
 }
 
 #[test]
@@ -155,6 +176,6 @@ fn refuses_pattern_data(rt: HostRuntime) {
     // the kind of the data, and the first byte of its pattern
     let mut file = program_with(&rt, 92, 2);
     file[144] = 0xA0;
-    let why = LoadError::Reloc(RelocError::Pattern(0));
-    assert_eq!(rt; refusal(rt.alloc(), &file), Some(why));
+    let why = Some(LoadError::Reloc(RelocError::Pattern(0)));
+    equal(&rt, "the pattern", refusal(rt.alloc(), &file), why);
 }

@@ -1,12 +1,12 @@
 ghost use Rattle.std.specs.Prelude.{◌^◌, ◌≤◌, length};
 
+use crate::equal::{equal, must};
+use crate::loaded::{Places, has_places, stands_at, starts_68k};
 use mix_bits::Isa;
 use mix_load::{File, FileBytes, Files, LoadError, Program, load};
 use rsrc_fork::RsrcError;
 use std::alloc::Global;
 use std::process::Abort;
-use std::test::Fail;
-use switch_frame::Active;
 
 /// A program's fork: CODE 0 with one entry of the jump table, and CODE 1.
 const PROGRAM: [u8; 120] = [
@@ -42,6 +42,13 @@ fn load_fork(alloc: Global, fork: &[u8]) -> Result<Program, LoadError>
     load(alloc, &files, Isa::M68, 1024)
 }
 
+/// The program of a fork.
+fn program_of(rt: &impl Abort, alloc: Global, fork: &[u8]) -> Program
+    requires { length fork.now ≤ 2 ^ 24 }
+{
+    load_fork(alloc, fork).expect(rt, "no program")
+}
+
 /// Why a fork is refused.
 fn refusal(alloc: Global, fork: &[u8]) -> Option<LoadError>
     requires { length fork.now ≤ 2 ^ 24 }
@@ -51,71 +58,87 @@ fn refusal(alloc: Global, fork: &[u8]) -> Option<LoadError>
 
 /// The program's fork, with one of its bytes replaced.
 fn program_with(rt: &impl Abort, place: usize, byte: u8) -> [u8; 120] {
+    must(rt, place < 120);
     let mut file = PROGRAM;
-    assert!(rt; place < 120);
     file[place] = byte;
     file
 }
 
-#[test]
-fn loads_a_fork(rt: HostRuntime) -> Result<(), Fail> {
-    let program = load_fork(rt.alloc(), &PROGRAM)?;
-    assert_eq!(rt; program.a5, 0x1_0010);
-    assert_eq!(rt; program.heap_lo, 0x1_0050);
-    assert_eq!(rt; program.heap_hi, 0xC_0000);
-    assert_eq!(rt; program.start_sp, 0x10_0000);
-    let Active::M68(regs) = program.active else {
-        return Err("it starts as PowerPC code")?;
-    };
-    assert_eq!(rt; regs.pc, 0x1_0032);
-    assert_eq!(rt; regs.a[5], 0x1_0010);
-    assert_eq!(rt; regs.a[7], 0xF_FFFC);
+/// What stands where in the program as it was loaded.
+fn is_program(rt: &impl Abort, program: &Program) {
+    has_places(
+        rt,
+        program,
+        Places {
+            a5: 0x1_0010,
+            heap_lo: 0x1_0050,
+            heap_hi: 0xC_0000,
+            start_sp: 0x10_0000,
+        },
+    );
+    starts_68k(rt, program, [0x1_0032, 0x1_0010, 0xF_FFFC]);
     // the jump table's entry, CODE 1 whole, and where the start returns to
     let entry = [0x00, 0x01, 0x4E, 0xF9, 0x00, 0x01, 0x00, 0x44];
-    assert_eq!(rt; program.ram.span(0x1_0030, 8), Ok(entry.as_slice()));
+    stands_at(rt, program, 0x1_0030, &entry);
     let code = [0x00, 0x00, 0x00, 0x01, 0x70, 0x48, 0xAA, 0x80, 0x4E, 0x75];
-    assert_eq!(rt; program.ram.span(0x1_0040, 10), Ok(code.as_slice()));
+    stands_at(rt, program, 0x1_0040, &code);
     let gate = [0x00, 0x00, 0x10, 0x00];
-    assert_eq!(rt; program.ram.span(0xF_FFFC, 4), Ok(gate.as_slice()));
+    stands_at(rt, program, 0xF_FFFC, &gate);
     // what the gate page tells
     let told = [
         0x00, 0x01, 0x00, 0x32, 0x00, 0x00, 0x00, 0x00, 0x00, 0x01, 0x00, 0x10, 0x00, 0x10, 0x00,
         0x00,
     ];
-    assert_eq!(rt; program.ram.span(0x1020, 16), Ok(told.as_slice()));
-    Ok(())
+    stands_at(rt, program, 0x1020, &told);
+}
+
+#[test]
+fn loads_a_fork(rt: HostRuntime) {
+    let program = program_of(&rt, rt.alloc(), &PROGRAM);
+    is_program(&rt, &program);
+}
+
+/// Each row replaces one byte, and the fork is then refused so.
+fn are_refused(rt: &impl Abort, alloc: Global, rows: &[(usize, u8, LoadError)]) {
+    for (place, byte, why) in rows {
+        let file = program_with(rt, *place, *byte);
+        equal(rt, *place, refusal(alloc, &file), Some(*why));
+    }
 }
 
 #[test]
 fn refuses_forks(rt: HostRuntime) {
     let alloc = rt.alloc();
-    assert_eq!(rt; refusal(alloc, &[]), Some(LoadError::Empty(File::Rsrc)));
-    let short = LoadError::Rsrc(RsrcError::Short(15));
-    assert_eq!(rt; refusal(alloc, &PROGRAM[..15]), Some(short));
-    for (place, byte, why) in [
-        // where the data stands
-        (0, 0xFF, LoadError::Rsrc(RsrcError::BadOffset(0))),
-        // the first id
-        (97, 1, LoadError::Rsrc(RsrcError::Twice(CODE, 1))),
-        (97, 2, LoadError::NoCode(0)),
-        // the attributes of CODE 1, and its id
-        (112, 1, LoadError::Rsrc(RsrcError::Compressed(CODE, 1))),
-        (108, 0xFF, LoadError::NoCode(1)),
-        // the length of the jump table, and its entry's segment and words
-        (31, 4, LoadError::JumpTable(0)),
-        (41, 2, LoadError::JumpTable(16)),
-        (42, 0xA8, LoadError::JumpTable(16)),
-        // the size above A5
-        (20, 1, LoadError::TooLarge(0x101_004A)),
-    ] {
-        let file = program_with(&rt, place, byte);
-        assert_eq!(rt; refusal(alloc, &file), Some(why), "at {place}");
-    }
+    let empty = Some(LoadError::Empty(File::Rsrc));
+    equal(&rt, "no byte", refusal(alloc, &[]), empty);
+    let short = Some(LoadError::Rsrc(RsrcError::Short(15)));
+    equal(&rt, "15 bytes", refusal(alloc, &PROGRAM[..15]), short);
+    are_refused(
+        &rt,
+        alloc,
+        &[
+            // where the data stands
+            (0, 0xFF, LoadError::Rsrc(RsrcError::BadOffset(0))),
+            // the first id
+            (97, 1, LoadError::Rsrc(RsrcError::Twice(CODE, 1))),
+            (97, 2, LoadError::NoCode(0)),
+            // the attributes of CODE 1, and its id
+            (112, 1, LoadError::Rsrc(RsrcError::Compressed(CODE, 1))),
+            (108, 0xFF, LoadError::NoCode(1)),
+            // the length of the jump table, and its entry's segment and words
+            (31, 4, LoadError::JumpTable(0)),
+            (41, 2, LoadError::JumpTable(16)),
+            (42, 0xA8, LoadError::JumpTable(16)),
+            // the size above A5
+            (20, 1, LoadError::TooLarge(0x101_004A)),
+        ],
+    );
 }
 
 #[test]
 fn refuses_the_far_model(rt: HostRuntime) {
     let mut file = program_with(&rt, 48, 0xFF);
     file[49] = 0xFF;
-    assert_eq!(rt; refusal(rt.alloc(), &file), Some(LoadError::Far(1)));
+    let far = Some(LoadError::Far(1));
+    equal(&rt, "the fork", refusal(rt.alloc(), &file), far);
 }

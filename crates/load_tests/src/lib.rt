@@ -4,6 +4,10 @@
 #[cfg(test)]
 mod container;
 #[cfg(test)]
+mod equal;
+#[cfg(test)]
 mod flat;
 #[cfg(test)]
 mod fork;
+#[cfg(test)]
+mod loaded;
