@@ -21,6 +21,8 @@ macro_rules! rows {
 }
 
 #[cfg(test)]
+mod equal;
+#[cfg(test)]
 mod refusals;
 #[cfg(test)]
 mod steps;

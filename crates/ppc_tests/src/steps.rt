@@ -1,7 +1,10 @@
+use crate::equal::{equal, must};
 use big_memory::{Ram, is_gate};
 use mix_bits::Size;
 use ppc_core::{OutPpc, step_ppc};
 use ppc_isa::RegsPpc;
+use std::alloc::Global;
+use std::fmt::Display;
 use std::process::Abort;
 
 /// Where the instruction is.
@@ -41,29 +44,51 @@ pub fn registers(values: [u32; 7], pc: u32) -> RegsPpc {
     regs
 }
 
+/// Memory of 128 KiB.
+pub fn memory(rt: &impl Abort, alloc: Global) -> Ram {
+    Ram::new(alloc, 0x2_0000).expect(rt, "no memory")
+}
+
 /// Puts the instruction and the data into memory.
 pub fn prepare(rt: &impl Abort, ram: &mut Ram, word: u32) {
-    assert!(rt; ram.store(CODE, Size::Four, word).is_ok());
+    put(rt, ram, CODE, word);
     let mut at = DATA;
     for long in LONGS {
-        assert!(rt; ram.store(at, Size::Four, long).is_ok());
+        put(rt, ram, at, long);
         at = at.wrapping_add(4);
     }
 }
 
-/// A step where pc is no gate.
-pub fn step(rt: &impl Abort, regs: &mut RegsPpc, ram: &mut Ram) -> OutPpc {
-    assert!(rt; !is_gate(regs.pc));
-    step_ppc(regs, ram)
+/// Stores a long.
+fn put(rt: &impl Abort, ram: &mut Ram, at: u32, long: u32) {
+    equal(rt, at, ram.store(at, Size::Four, long), Ok(()));
 }
 
-/// Does each row and compares what it leaves.
-pub fn check(rt: &impl Abort, ram: &mut Ram, rows: &[Row]) {
-    for row in rows {
-        prepare(rt, ram, row.word);
-        let mut regs = registers(row.before, CODE);
-        assert_eq!(rt; step(rt, &mut regs, ram), OutPpc::Next, "{}", row.line);
-        assert_eq!(rt; regs, registers(row.after, row.pc), "{}", row.line);
-        assert_eq!(rt; ram.load(row.at, Size::Four), Ok(row.long), "{}", row.line);
-    }
+/// A long stands at this address.
+pub fn holds<W: Display + Copy>(rt: &impl Abort, ram: &Ram, what: W, at: u32, long: u32) {
+    equal(rt, what, ram.load(at, Size::Four), Ok(long));
+}
+
+/// A step from these registers, whose pc is no gate, answers so and leaves those.
+pub fn steps<W: Display + Copy>(
+    rt: &impl Abort,
+    ram: &mut Ram,
+    what: W,
+    before: RegsPpc,
+    out: OutPpc,
+    after: RegsPpc,
+) {
+    must(rt, !is_gate(before.pc));
+    let mut regs = before;
+    equal(rt, what, step_ppc(&mut regs, ram), out);
+    equal(rt, what, regs, after);
+}
+
+/// Does one row and compares what it leaves.
+pub fn check(rt: &impl Abort, ram: &mut Ram, row: &Row) {
+    prepare(rt, ram, row.word);
+    let before = registers(row.before, CODE);
+    let after = registers(row.after, row.pc);
+    steps(rt, ram, row.line, before, OutPpc::Next, after);
+    holds(rt, ram, row.line, row.at, row.long);
 }
