@@ -3,7 +3,7 @@ use dev_rack::Rack;
 use mix_debug::{Debug, Step};
 use mix_io::{MemSink, MemSource};
 use std::alloc::Global;
-use std::test::Fail;
+use std::process::Abort;
 
 #[derive(Drop)]
 pub struct Around {
@@ -14,13 +14,13 @@ pub struct Around {
 }
 
 impl Around {
-    pub fn new(alloc: Global) -> Result<Around, Fail> {
-        Ok(Around {
+    pub fn new(rt: &impl Abort, alloc: Global) -> Around {
+        Around {
             input: MemSource::new(Vec::new(alloc), Vec::new(alloc)),
-            out: MemSink::new(alloc, 0, Vec::new(alloc))?,
-            trace: MemSink::new(alloc, 0, Vec::new(alloc))?,
-            rack: Rack::new(alloc, Vec::new(alloc))?,
-        })
+            out: sink(rt, alloc),
+            trace: sink(rt, alloc),
+            rack: Rack::new(alloc, Vec::new(alloc)).expect(rt, "no rack"),
+        }
     }
 
     /// A step of the debugger forward.
@@ -32,4 +32,9 @@ impl Around {
             &mut self.rack,
         )
     }
+}
+
+/// An output without room.
+fn sink(rt: &impl Abort, alloc: Global) -> MemSink {
+    MemSink::new(alloc, 0, Vec::new(alloc)).expect(rt, "no output")
 }

@@ -1,14 +1,15 @@
 // How many steps can be taken back.
-ghost use Rattle.std.specs.Prelude.{◌≤◌, vec_len, IfOk};
+ghost use Rattle.std.specs.Prelude.{◌≤◌, vec_len};
 ghost use Rattle.switch_frame.specs.Program.{IsProgram};
 
 use crate::around::Around;
+use crate::equal::equal;
 use mix_bits::Isa;
 use mix_debug::{Debug, Step};
 use mix_engine::Machine;
 use mix_load::{FileBytes, Files, load};
 use std::alloc::Global;
-use std::test::Fail;
+use std::process::Abort;
 use switch_frame::Program;
 
 /// 68K code that makes a block of 1048576 bytes, moves as many bytes there, from $10100 on, and then does nothing
@@ -22,39 +23,44 @@ const CODE: [u8; 28] = [
 const KEPT: [u32; 8] = [1, 2, 3, 4, 5, 0, 1, 2];
 
 #[test]
-fn a_long_move_empties_the_history(rt: HostRuntime) -> Result<(), Fail> {
-    let mut debug = debugger(rt.alloc())?;
-    let mut around = Around::new(rt.alloc())?;
-    for kept in KEPT {
-        assert_eq!(rt; around.step(&mut debug), Step::Next);
-        assert_eq!(rt; debug.kept(), kept);
+fn a_long_move_empties_the_history(rt: HostRuntime) {
+    let mut debug = debugger(&rt, rt.alloc());
+    let mut around = Around::new(&rt, rt.alloc());
+    for (number, kept) in KEPT.iter().enumerate() {
+        equal(&rt, number, around.step(&mut debug), Step::Next);
+        equal(&rt, number, debug.kept(), *kept);
     }
-    Ok(())
 }
 
 /// A debugger before the first step of the code.
-fn debugger(alloc: Global) -> Result<Debug, Fail> {
-    Ok(Debug::new(alloc, Machine::start(alloc, program(alloc)?)?)?)
+fn debugger(rt: &impl Abort, alloc: Global) -> Debug {
+    let Ok(machine) = Machine::start(alloc, program(rt, alloc)) else {
+        panic!(rt; "no machine")
+    };
+    Debug::new(alloc, machine).expect(rt, "no debugger")
 }
 
 /// The program of the code, in 4096 KiB of RAM.
-fn program(alloc: Global) -> Result<Program, Fail>
-    ensures { IfOk result IsProgram }
+fn program(rt: &impl Abort, alloc: Global) -> Program
+    ensures { IsProgram result }
 {
     let files = Files {
-        flat: Some(FileBytes::of(image(alloc)?)),
+        flat: Some(FileBytes::of(image(rt, alloc))),
         rsrc: None,
         pef: None,
     };
-    Ok(load(alloc, &files, Isa::M68, 4096)?)
+    let Ok(program) = load(alloc, &files, Isa::M68, 4096) else {
+        panic!(rt; "no program")
+    };
+    program
 }
 
 /// The code, and behind it, from $100 on, 1048576 bytes $FF.
-fn image(alloc: Global) -> Result<Vec<u8>, Fail>
-    ensures { IfOk result (λ bytes. vec_len bytes ≤ 16777216) }
+fn image(rt: &impl Abort, alloc: Global) -> Vec<u8>
+    ensures { vec_len result ≤ 16777216 }
 {
-    let mut bytes = CODE.to_vec(alloc)?;
-    bytes.resize(0x100, 0)?;
-    bytes.resize(0x10_0100, 0xFF)?;
-    Ok(bytes)
+    let mut bytes = CODE.to_vec(alloc).expect(rt, "no image");
+    bytes.resize(0x100, 0).expect(rt, "no room");
+    bytes.resize(0x10_0100, 0xFF).expect(rt, "no room");
+    bytes
 }

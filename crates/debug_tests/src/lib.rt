@@ -4,6 +4,8 @@
 #[cfg(test)]
 mod around;
 #[cfg(test)]
+mod equal;
+#[cfg(test)]
 mod history;
 #[cfg(test)]
 mod reach;

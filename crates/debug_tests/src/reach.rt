@@ -1,30 +1,44 @@
 // The words are those that GNU as gives.
+use crate::equal::equal;
 use big_memory::Ram;
 use m68_isa::{Ccr, Operations, Regs68};
-use mix_reach::{Told, next_stores, step_reach, told_68k, told_ppc};
+use mix_reach::{Reach, Stores, Told, next_stores, step_reach, told_68k, told_ppc};
 use ppc_isa::RegsPpc;
+use std::alloc::Global;
 use std::process::Abort;
-use std::test::Fail;
 use switch_frame::Active;
 
 /// Where the code stands.
 const CODE: u32 = 0x1_0000;
 
 /// Two words of code, and where the instruction that they begin stores.
-#[derive(Clone, Copy)]
-struct Case {
-    words: [u32; 2],
-    low: usize,
-    high: usize,
-}
+type Case = (u32, u32, (usize, usize));
 
-fn row(first: u32, second: u32, low: usize, high: usize) -> Case {
-    Case {
-        words: [first, second],
-        low,
-        high,
-    }
-}
+/// 68K code.
+const M68_CASES: [Case; 9] = [
+    // move.l d0,(a0); move.b d0,-(sp); add.w d1,4(a0)
+    (0x2080, 0, (0x1_1000, 0x1_1004)),
+    (0x1F00, 0, (0x1_BFFE, 0x1_C002)),
+    (0xD368, 4, (0x1_1004, 0x1_1008)),
+    // link a6,#-8; addi.w #16,(a0)
+    (0x4E56, 0xFFF8, (0x1_BFFC, 0x1_C000)),
+    (0x0650, 0x10, (0x1_1000, 0x1_1004)),
+    // movem.l d0-d7/a0-a6,-(sp); bsr.s; moveq #1,d0
+    (0x48E7, 0xFFFE, (0x1_BFBC, 0x1_C000)),
+    (0x6102, 0, (0x1_BFFC, 0x1_C000)),
+    (0x7001, 0, (0, 0)),
+    // the trap BlockMove
+    (0xA02E, 0, (0x1_2000, 0x1_2040)),
+];
+
+/// PowerPC code.
+const PPC_CASES: [Case; 4] = [
+    // stw r0,4(r3); stwx r7,r3,r4; stmw r26,16(r3); addi r7,r7,-1
+    (0x9003, 4, (0x1_1004, 0x1_1008)),
+    (0x7CE3, 0x212E, (0x1_1040, 0x1_1044)),
+    (0xBF43, 0x10, (0x1_1010, 0x1_1090)),
+    (0x38E7, 0xFFFF, (0, 0)),
+];
 
 /// D0 is $40, D1 is 8, A0 is $11000, A1 is $12000, and the stack pointer is $1C000.
 fn m68() -> Active {
@@ -58,106 +72,128 @@ fn ppc() -> Active {
     })
 }
 
-/// Whether each instruction stores where it is to.
-fn stores_there(ram: &mut Ram, operations: &Operations, active: &Active, rows: &[Case]) -> bool {
-    for row in rows {
-        let written = ram.store_word(CODE, row.words[0]).is_ok()
-            && ram.store_word(CODE + 2, row.words[1]).is_ok();
-        let reach = next_stores(ram, operations, active).reach;
-        if !written || reach.low != row.low || reach.high != row.high {
-            return false;
-        }
-    }
-    true
+/// Memory of 128 KiB.
+fn memory(rt: &impl Abort, alloc: Global) -> Ram {
+    Ram::new(alloc, 131_072).expect(rt, "no memory")
 }
 
-#[test]
-fn instructions_of_68k_code(rt: HostRuntime) -> Result<(), Fail> {
-    let mut ram = Ram::new(rt.alloc(), 131_072)?;
-    let operations = Operations::new(rt.alloc())?;
-    let rows = [
-        // move.l d0,(a0); move.b d0,-(sp); add.w d1,4(a0)
-        row(0x2080, 0, 0x1_1000, 0x1_1004),
-        row(0x1F00, 0, 0x1_BFFE, 0x1_C002),
-        row(0xD368, 4, 0x1_1004, 0x1_1008),
-        // link a6,#-8; addi.w #16,(a0)
-        row(0x4E56, 0xFFF8, 0x1_BFFC, 0x1_C000),
-        row(0x0650, 0x10, 0x1_1000, 0x1_1004),
-        // movem.l d0-d7/a0-a6,-(sp); bsr.s; moveq #1,d0
-        row(0x48E7, 0xFFFE, 0x1_BFBC, 0x1_C000),
-        row(0x6102, 0, 0x1_BFFC, 0x1_C000),
-        row(0x7001, 0, 0, 0),
-        // the trap BlockMove
-        row(0xA02E, 0, 0x1_2000, 0x1_2040),
-    ];
-    assert!(rt; stores_there(&mut ram, &operations, &m68(), &rows));
-    Ok(())
+/// The operations of 68K code.
+fn operations(rt: &impl Abort, alloc: Global) -> Operations {
+    Operations::new(alloc).expect(rt, "no operations")
 }
 
-#[test]
-fn instructions_of_powerpc_code(rt: HostRuntime) -> Result<(), Fail> {
-    let mut ram = Ram::new(rt.alloc(), 131_072)?;
-    let operations = Operations::new(rt.alloc())?;
-    let rows = [
-        // stw r0,4(r3); stwx r7,r3,r4; stmw r26,16(r3); addi r7,r7,-1
-        row(0x9003, 4, 0x1_1004, 0x1_1008),
-        row(0x7CE3, 0x212E, 0x1_1040, 0x1_1044),
-        row(0xBF43, 0x10, 0x1_1010, 0x1_1090),
-        row(0x38E7, 0xFFFF, 0, 0),
-    ];
-    assert!(rt; stores_there(&mut ram, &operations, &ppc(), &rows));
-    Ok(())
+/// Stores two words where the code stands.
+fn put(rt: &impl Abort, ram: &mut Ram, first: u32, second: u32) {
+    equal(rt, "the first word", ram.store_word(CODE, first), Ok(()));
+    equal(
+        rt,
+        "the second word",
+        ram.store_word(CODE + 2, second),
+        Ok(()),
+    );
 }
 
-/// What is told at once of where the next step stores.
-fn told(ram: &Ram, operations: &Operations, active: &Active) -> Told {
-    match active {
-        Active::M68(regs) => told_68k(ram, operations, regs),
-        Active::Ppc(regs) => told_ppc(ram, regs),
-    }
+/// The bounds of a range, for which there is no comparison.
+fn bounds(reach: Reach) -> (usize, usize) {
+    (reach.low, reach.high)
 }
 
-/// Whether the instruction of two words is told to store nowhere.
-fn still_there(
+/// Each instruction stores where it is to.
+fn store_there(
+    rt: &impl Abort,
     ram: &mut Ram,
     operations: &Operations,
     active: &Active,
-    first: u32,
-    second: u32,
-) -> bool {
-    ram.store_word(CODE, first).is_ok()
-        && ram.store_word(CODE + 2, second).is_ok()
-        && matches!(told(ram, operations, active), Told::Nowhere)
+    cases: &[Case],
+) {
+    for (first, second, wanted) in cases {
+        put(rt, ram, *first, *second);
+        let reach = next_stores(ram, operations, active).reach;
+        equal(rt, *first, bounds(reach), *wanted);
+    }
 }
 
 #[test]
-fn instructions_that_store_nowhere(rt: HostRuntime) -> Result<(), Fail> {
-    let mut ram = Ram::new(rt.alloc(), 131_072)?;
-    let operations = Operations::new(rt.alloc())?;
+fn instructions_of_68k_code(rt: HostRuntime) {
+    let mut ram = memory(&rt, rt.alloc());
+    let operations = operations(&rt, rt.alloc());
+    store_there(&rt, &mut ram, &operations, &m68(), &M68_CASES);
+}
+
+#[test]
+fn instructions_of_powerpc_code(rt: HostRuntime) {
+    let mut ram = memory(&rt, rt.alloc());
+    let operations = operations(&rt, rt.alloc());
+    store_there(&rt, &mut ram, &operations, &ppc(), &PPC_CASES);
+}
+
+/// Two words of code, and whether the instruction that they begin is told to store nowhere.
+type Still = (u32, u32, bool);
+
+/// 68K code.
+const M68_STILL: [Still; 7] = [
     // move.l (a0),d0; addi.w #16,d1; addq.l #1,d2; clr.l d3; tst.w (a0)
-    assert!(rt; still_there(&mut ram, &operations, &m68(), 0x2010, 0));
-    assert!(rt; still_there(&mut ram, &operations, &m68(), 0x0641, 0x10));
-    assert!(rt; still_there(&mut ram, &operations, &m68(), 0x5282, 0));
-    assert!(rt; still_there(&mut ram, &operations, &m68(), 0x4283, 0));
-    assert!(rt; still_there(&mut ram, &operations, &m68(), 0x4A50, 0));
-    // addq.l #1,(a0); link a6,#-8; addi r7,r7,-1; stw r0,4(r3)
-    assert!(rt; !still_there(&mut ram, &operations, &m68(), 0x5290, 0));
-    assert!(rt; !still_there(&mut ram, &operations, &m68(), 0x4E56, 0xFFF8));
-    assert!(rt; still_there(&mut ram, &operations, &ppc(), 0x38E7, 0xFFFF));
-    assert!(rt; !still_there(&mut ram, &operations, &ppc(), 0x9003, 4));
-    Ok(())
+    (0x2010, 0, true),
+    (0x0641, 0x10, true),
+    (0x5282, 0, true),
+    (0x4283, 0, true),
+    (0x4A50, 0, true),
+    // addq.l #1,(a0); link a6,#-8
+    (0x5290, 0, false),
+    (0x4E56, 0xFFF8, false),
+];
+
+/// PowerPC code.
+const PPC_STILL: [Still; 2] = [
+    // addi r7,r7,-1; stw r0,4(r3)
+    (0x38E7, 0xFFFF, true),
+    (0x9003, 4, false),
+];
+
+/// Whether it is told at once that the next step stores nowhere.
+fn is_still(ram: &Ram, operations: &Operations, active: &Active) -> bool {
+    let told = match active {
+        Active::M68(regs) => told_68k(ram, operations, regs),
+        Active::Ppc(regs) => told_ppc(ram, regs),
+    };
+    matches!(told, Told::Nowhere)
+}
+
+/// Each instruction is told to store nowhere, or is not.
+fn are_still(
+    rt: &impl Abort,
+    ram: &mut Ram,
+    operations: &Operations,
+    active: &Active,
+    cases: &[Still],
+) {
+    for (first, second, wanted) in cases {
+        put(rt, ram, *first, *second);
+        equal(rt, *first, is_still(ram, operations, active), *wanted);
+    }
 }
 
 #[test]
-fn frames(rt: HostRuntime) -> Result<(), Fail> {
-    let ram = Ram::new(rt.alloc(), 131_072)?;
-    let operations = Operations::new(rt.alloc())?;
+fn instructions_that_store_nowhere(rt: HostRuntime) {
+    let mut ram = memory(&rt, rt.alloc());
+    let operations = operations(&rt, rt.alloc());
+    are_still(&rt, &mut ram, &operations, &m68(), &M68_STILL);
+    are_still(&rt, &mut ram, &operations, &ppc(), &PPC_STILL);
+}
+
+/// A step whose innermost frame was at `old` and is at `new` stores there.
+fn reaches(rt: &impl Abort, next: Stores, old: u32, new: u32, wanted: (usize, usize)) {
+    let found = bounds(step_reach(next, old, new, &m68()));
+    equal(rt, new, found, wanted);
+}
+
+#[test]
+fn frames(rt: HostRuntime) {
+    let ram = memory(&rt, rt.alloc());
+    let operations = operations(&rt, rt.alloc());
     let next = next_stores(&ram, &operations, &m68());
-    let same = step_reach(next, 0x1_D000, 0x1_D000, &m68());
-    let made = step_reach(next, 0x1_D000, 0x1_C100, &m68());
-    let given_up = step_reach(next, 0x1_B000, 0x1_D000, &m68());
-    assert!(rt; same.low == next.reach.low && same.high == next.reach.high);
-    assert!(rt; made.low == 0x1_C000 && made.high == 0x1_C1C0);
-    assert!(rt; given_up.low == 0x1_B000 && given_up.high == 0x1_C004);
-    Ok(())
+    // None is made or given up, one is made, and one is given up.
+    reaches(&rt, next, 0x1_D000, 0x1_D000, bounds(next.reach));
+    reaches(&rt, next, 0x1_D000, 0x1_C100, (0x1_C000, 0x1_C1C0));
+    reaches(&rt, next, 0x1_B000, 0x1_D000, (0x1_B000, 0x1_C004));
 }
