@@ -12,8 +12,8 @@
 //! those at odd addresses as a 68020, and as a 603e in user mode). The lines of what the manuals leave open,
 //! of faults, and of what QEMU does otherwise than the manual says (three shifts of a word in memory, flags
 //! of long immediates from $80000000 on, `link` of A7) are by hand, from the tables in `docs/`; so are the two of
-//! `btst` with a number and the program counter, and the last 259 lines, instructions and every BO as GNU as
-//! assembles them for the 601, whose results are the manual's sums over unbounded integers.
+//! `btst` with a number and the program counter, and the last 404 lines, instructions and every BO as GNU as
+//! assembles them for the 601 and the 68020, whose results are the manuals' sums over unbounded integers.
 #![tactic(auto)]
 
 mod area;

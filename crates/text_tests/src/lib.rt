@@ -1,4 +1,4 @@
-//! Tests of the texts of all first words, of lines that are too long for a row, and of listings that are assembled.
+//! Tests of all first words and their texts, of lines that are too long for a row, and of listings that are assembled.
 #![tactic(auto)]
 
 #[cfg(test)]
