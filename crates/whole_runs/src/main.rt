@@ -36,9 +36,10 @@ mod untold;
 
 use case::Case;
 use images::Images;
-use std::alloc::Global;
+use run::told;
 use std::io::{self, BufRead, BufReader};
 use sweep::Sweep;
+use tell::Telling;
 
 fn main(rt: HostRuntime) -> io::Result<()> {
     let alloc = rt.alloc();
@@ -62,14 +63,6 @@ fn answer(rt: &HostRuntime, images: &Images, line: &str) -> io::Result<String> {
     match Sweep::read(case.outside) {
         Some(sweep) => sweep.answer(rt.alloc(), images, case),
         None if case.outside == "untold" => untold::told(rt, images, case),
-        None => told(rt.alloc(), images, case),
+        None => told(rt.alloc(), images, case, Telling::WithKept),
     }
-}
-
-/// What a case gives that is run once, as text.
-fn told(alloc: Global, images: &Images, case: Case) -> io::Result<String> {
-    let mut run = run::run_case(alloc, images, case)?;
-    let mut text = tell::all(alloc, case.name, &mut run)?;
-    tell::add_kept(&mut text, images, run.keep.kept())?;
-    Ok(text)
 }

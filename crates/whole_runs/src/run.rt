@@ -2,6 +2,7 @@
 use crate::case::Case;
 use crate::images::Images;
 use crate::outside::{keeper, scripted, sink};
+use crate::tell::{self, Telling};
 use case_words::{no_memory, numbers, value_of};
 use dev_rack::{Asked, Devices, Rack};
 use mix_io::{Counter, Device, MemKeep, MemShelf, MemSink, MemSource, Tape, have_distinct_names};
@@ -25,26 +26,43 @@ pub struct Run {
     pub asks: Vec<Asked>,
 }
 
-/// Runs a case.
-pub fn run_case(alloc: Global, images: &Images, case: Case) -> io::Result<Run> {
-    let mut run = Run::new(alloc, case.outside, images.spell(alloc, case.input)?)?;
-    let mut files = shelf(alloc, images, case)?;
-    run.beside_devices(alloc, case, &mut files)?;
-    Ok(run)
+/// Runs a case, and tells of it.
+pub fn told(alloc: Global, images: &Images, case: Case, telling: Telling) -> io::Result<String> {
+    let files = shelf(alloc, images, case)?;
+    let input = images.spell(alloc, case.input)?;
+    let mut run = Run::new(alloc, case.outside, input)?;
+    run.told(alloc, images, case, files, telling)
 }
 
 impl Run {
     /// What stands around a run with this input.
     fn new(alloc: Global, outside: &str, input: Vec<u8>) -> io::Result<Run> {
+        let fails = numbers(alloc, outside, "in")?;
+        let out = sink(alloc, outside, "out", "out-room")?;
+        let trace = sink(alloc, outside, "trace", "trace-room")?;
+        let keep = keeper(alloc, outside)?;
         Ok(Run {
             status: 0,
             is_continued: false,
-            input: MemSource::new(input, numbers(alloc, outside, "in")?),
-            out: sink(alloc, outside, "out", "out-room")?,
-            trace: sink(alloc, outside, "trace", "trace-room")?,
-            keep: keeper(alloc, outside)?,
+            input: MemSource::new(input, fails),
+            out,
+            trace,
+            keep,
             asks: Vec::new(alloc),
         })
+    }
+
+    /// Runs a case over files, and tells of it.
+    fn told(
+        &mut self,
+        alloc: Global,
+        images: &Images,
+        case: Case,
+        mut files: MemShelf,
+        telling: Telling,
+    ) -> io::Result<String> {
+        self.beside_devices(alloc, case, &mut files)?;
+        tell::told(alloc, images, case.name, self, telling)
     }
 
     /// Runs a case beside its devices: a counter or a script in slot 0, and a tape in slot 1.

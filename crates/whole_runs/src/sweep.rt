@@ -1,9 +1,10 @@
 // Many runs of one program, each with another number: an address in its input, a length or a place in its file,
 // or the step at which it is cut.
 use crate::case::Case;
+use crate::cut;
 use crate::images::{Images, number};
-use crate::run::run_case;
-use crate::{cut, tell};
+use crate::run::told;
+use crate::tell::Telling;
 use std::alloc::Global;
 use std::io;
 
@@ -78,13 +79,13 @@ impl Sweep {
         };
         let uncut = self.uncut(alloc, images, case)?;
         let stretches = self.stretches(alloc, images, case, uncut.as_str())?;
-        told(alloc, case.name, &stretches)
+        listed(alloc, case.name, &stretches)
     }
 
     /// What the uncut run gives, where runs are cut.
     fn uncut(self, alloc: Global, images: &Images, case: Case) -> io::Result<String> {
         match self.varied {
-            Varied::Cut => Ok(tell::all(alloc, case.name, &mut run_case(alloc, images, case)?)?),
+            Varied::Cut => told(alloc, images, case, Telling::All),
             _ => Ok(String::new(alloc)),
         }
     }
@@ -132,7 +133,7 @@ fn at_address(alloc: Global, images: &Images, case: Case, at: u32) -> io::Result
     let input = case.input;
     let input = format!(in alloc; "{input} {at:08X}")?;
     let input = input.as_str();
-    tell::end(alloc, &run_case(alloc, images, Case { input, ..case })?, at)
+    told(alloc, images, Case { input, ..case }, Telling::End(at))
 }
 
 /// What tells the run that is cut after so many steps from the uncut one.
@@ -152,7 +153,7 @@ fn with_change(
     let files = case.files;
     let files = format!(in alloc; "{files} {mark}{at:X}")?;
     let files = files.as_str();
-    tell::refusal(alloc, &run_case(alloc, images, Case { files, ..case })?, at)
+    told(alloc, images, Case { files, ..case }, Telling::Refusal(at))
 }
 
 /// Adds a number, to the last stretch where it ends alike.
@@ -172,7 +173,7 @@ fn add(stretches: &mut Vec<Stretch>, at: u32, end: String) -> io::Result<()> {
 }
 
 /// The stretches as text.
-fn told(alloc: Global, name: &str, stretches: &[Stretch]) -> io::Result<String> {
+fn listed(alloc: Global, name: &str, stretches: &[Stretch]) -> io::Result<String> {
     let mut text = String::from_str(alloc, name)?;
     for stretch in stretches {
         let (first, last, end) = (stretch.first, stretch.last, stretch.end.as_str());

@@ -7,8 +7,67 @@ use std::alloc::{AllocError, Global};
 use std::io;
 use std::str::from_utf8;
 
+/// What is told of a run.
+#[derive(Clone, Copy)]
+pub enum Telling {
+    /// All that it gave.
+    All,
+    /// The same, and what was kept.
+    WithKept,
+    /// All that it gave, without the end line of the first part where it was continued.
+    Joined,
+    /// How it ended, with `ADDRESS` for this address.
+    End(u32),
+    /// Why its files were refused, with `NUMBER` for this number.
+    Refusal(u32),
+}
+
+/// What is told of the run of a case with this name.
+pub fn told(
+    alloc: Global,
+    images: &Images,
+    name: &str,
+    run: &mut Run,
+    telling: Telling,
+) -> io::Result<String> {
+    match telling {
+        Telling::All => Ok(all(alloc, name, run)?),
+        Telling::WithKept => Ok(with_kept(alloc, images, name, run)?),
+        Telling::Joined => Ok(joined(alloc, name, run)?),
+        Telling::End(address) => end(alloc, run, address),
+        Telling::Refusal(number) => refusal(alloc, run, number),
+    }
+}
+
+/// All that a run gave, and what was kept.
+fn with_kept(
+    alloc: Global,
+    images: &Images,
+    name: &str,
+    run: &mut Run,
+) -> Result<String, AllocError> {
+    let mut text = all(alloc, name, run)?;
+    add_kept(&mut text, images, run.keep.kept())?;
+    Ok(text)
+}
+
+/// All that a run gave, without the end line of the first part where it was continued.
+fn joined(alloc: Global, name: &str, run: &mut Run) -> Result<String, AllocError> {
+    let text = all(alloc, name, run)?;
+    if run.is_continued {
+        return without_limit(alloc, text.as_str());
+    }
+    Ok(text)
+}
+
+/// A text without the first line `limit` of a trace.
+fn without_limit(alloc: Global, text: &str) -> Result<String, AllocError> {
+    let (front, back) = text.split_once("limit / ").unwrap_or((text, ""));
+    format!(in alloc; "{front}{back}")
+}
+
 /// All that a run gave: `NAME | STATUS | OUTPUT | TRACE | JOURNAL | INPUT LEFT`, with `-` for nothing.
-pub fn all(alloc: Global, name: &str, run: &mut Run) -> Result<String, AllocError> {
+fn all(alloc: Global, name: &str, run: &mut Run) -> Result<String, AllocError> {
     let mut text = String::from_str(alloc, name)?;
     let status = run.status;
     write!(text, " | {status}")?;
@@ -20,7 +79,7 @@ pub fn all(alloc: Global, name: &str, run: &mut Run) -> Result<String, AllocErro
 }
 
 /// Adds what was kept, if anything was: ` | LENGTH NAME`, with the name of a file of the same bytes.
-pub fn add_kept(text: &mut String, images: &Images, kept: &[u8]) -> Result<(), AllocError> {
+fn add_kept(text: &mut String, images: &Images, kept: &[u8]) -> Result<(), AllocError> {
     if kept.is_empty() {
         return Ok(());
     }
@@ -29,7 +88,7 @@ pub fn add_kept(text: &mut String, images: &Images, kept: &[u8]) -> Result<(), A
 }
 
 /// How a run ended: the status and the last line of the trace, with `ADDRESS` for this address.
-pub fn end(alloc: Global, run: &Run, address: u32) -> io::Result<String> {
+fn end(alloc: Global, run: &Run, address: u32) -> io::Result<String> {
     let status = run.status;
     let line = from_utf8(run.trace.held()).unwrap_or("").lines().last();
     let digits = format!(in alloc; "{address:08X}")?;
@@ -42,7 +101,7 @@ pub fn end(alloc: Global, run: &Run, address: u32) -> io::Result<String> {
 
 /// Why the files of a run were refused: the status and the line, with `NUMBER` for this number; or that they
 /// were not.
-pub fn refusal(alloc: Global, run: &Run, number: u32) -> io::Result<String> {
+fn refusal(alloc: Global, run: &Run, number: u32) -> io::Result<String> {
     let status = run.status;
     let line = from_utf8(run.trace.held()).unwrap_or("").trim();
     if !line.starts_with("load ") {
