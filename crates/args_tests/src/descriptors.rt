@@ -1,8 +1,7 @@
 use crate::bench::{equal, memory, must};
 use big_memory::{Access, Ram};
 use mix_bits::{Isa, Size};
-use proc_info::{BadInfo, Sig, read};
-use routine_desc::{BadDesc, Desc, Rec, build, choose, read_desc};
+use proc_info::{BadDesc, BadInfo, Desc, Rec, Sig, build, choose, read, read_desc};
 use std::process::Abort;
 
 /// Where the descriptors of these tests stand.

@@ -1,9 +1,9 @@
 // Arguments and results in 68K code.
 use crate::bench::{equal, memory, must, signature};
-use args_m68::{
+use big_memory::{Access, Ram};
+use call_args::{
     Words, below68, deliver68, gather68, popped, put_result68, removed68, result68, select68,
 };
-use big_memory::{Access, Ram};
 use m68_isa::{Ccr, Regs68};
 use mix_bits::Size;
 use proc_info::Sig;

@@ -1,9 +1,9 @@
 // Arguments and results in PowerPC code.
 use crate::bench::{equal, memory, must, signature};
-use args_ppc::{
-    PpcWords, below_ppc, deliver_ppc, gather_ppc, put_result_ppc, result_ppc, select_ppc,
-};
 use big_memory::{Access, Ram};
+use call_args::{
+    Words, below_ppc, deliver_ppc, gather_ppc, put_result_ppc, result_ppc, select_ppc,
+};
 use mix_bits::Size;
 use ppc_isa::RegsPpc;
 use proc_info::Sig;
@@ -19,11 +19,11 @@ const VALUES: [u32; 3] = [0x1122_33FF, 0x4455_6677, 0x8899_AABB];
 const SELECTOR: u32 = 0xABCD_1234;
 
 /// Words of some values.
-fn words(rt: &impl Abort, values: &[u32]) -> PpcWords {
+fn words(rt: &impl Abort, values: &[u32]) -> Words {
     let mut value = [0; 13];
     must(rt, values.len() <= 13);
     value[..values.len()].copy_from_slice(values);
-    PpcWords {
+    Words {
         count: values.len() as u8,
         value,
     }

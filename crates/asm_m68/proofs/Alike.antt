@@ -21,7 +21,7 @@ use Rattle.m68_isa.specs.Widths.{is_any}
 use Rattle.m68_text.specs.declared.operand.Operand.{Operand}
 use Rattle.m68_text.specs.declared.operand.Operand.TheVariants.{Data, Word, Long, ConditionCodes, Pair}
 use Rattle.m68_text.specs.Operands.{immediate, operands, place, with_registers}
-use Rattle.m68_spelling.proofs.Places.{special_immediate}
+use Rattle.asm_m68.proofs.Places.{special_immediate}
 
 -- two lists agree on so many words
 pub record Agree (ws vs : List ℕ) (n : ℕ) : Type 0 where

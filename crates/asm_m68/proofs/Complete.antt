@@ -13,18 +13,18 @@ use Rattle.m68_text.specs.declared.operand.Operand.TheVariants.{Data, Pair, Addr
 use Rattle.m68_text.specs.Listed.{is_name}
 use Rattle.m68_text.specs.Operands.{hex}
 use Rattle.m68_text.specs.Text.{text_of}
-use Rattle.m68_forms.specs.declared.form.Form.{Form}
-use Rattle.m68_forms.specs.declared.form.Form.TheVariants.{Always, Chosen, Data as DataWord, Far, Near, Registers}
-use Rattle.m68_forms.specs.Table.{form_by, form_of, rows_d}
-use Rattle.m68_forms.proofs.Names.{is_listed}
-use Rattle.m68_spelling.specs.declared.code.Code68.{Code68}
-use Rattle.m68_spelling.specs.declared.line.Parsed.{Parsed}
-use Rattle.m68_spelling.specs.Laws.{AreWords, spelled_by}
+use Rattle.m68_text.specs.declared.form.Form.{Form}
+use Rattle.m68_text.specs.declared.form.Form.TheVariants.{Always, Chosen, Data as DataWord, Far, Near, Registers}
+use Rattle.m68_text.specs.Table.{form_by, form_of, rows_d}
+use Rattle.m68_text.proofs.Names.{is_listed}
+use Rattle.asm_m68.specs.declared.code.Code68.{Code68}
+use Rattle.asm_m68.specs.declared.line.Parsed.{Parsed}
+use Rattle.asm_m68.specs.SpellingLaws.{AreWords, spelled_by}
 use Rattle.mix_bits.specs.Names.{name_of, rest_of}
-use Rattle.m68_spelling.specs.Lines.{read_all}
-use Rattle.m68_spelling.specs.Spelling.{Ending, content, contents, ending, following, is_word, leading, spelled}
-use Rattle.m68_spelling.specs.Spelling.Ending.{Alone, Distance, Extended, Paired}
-use Rattle.m68_spelling.proofs.Complete.{texts_spell, words_spell}
+use Rattle.asm_m68.specs.Lines.{read_all}
+use Rattle.asm_m68.specs.Spelling.{Ending, content, contents, ending, following, is_word, leading, spelled}
+use Rattle.asm_m68.specs.Spelling.Ending.{Alone, Distance, Extended, Paired}
+use Rattle.asm_m68.proofs.Spelled.{texts_spell, words_spell}
 use Rattle.asm_m68.specs.declared.assembler.AsmError.{AsmError}
 use Rattle.asm_m68.specs.declared.assembler.AsmError.TheVariants.{Name, Operands}
 use Rattle.asm_m68.specs.Assembly.{Gives, GivesSome, IsData, IsText, answer, assembled, checked, data_text, has_text, prints, tells, with_form}

@@ -4,3 +4,12 @@ pub mod Alike
 pub mod Same
 pub mod Prefix
 pub mod TakenBack
+pub mod Digits
+pub mod Texts
+pub mod Commas
+pub mod Places
+pub mod FirstWords
+pub mod Shapes
+pub mod Rows
+pub mod Telling
+pub mod Spelled

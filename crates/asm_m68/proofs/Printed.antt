@@ -7,7 +7,7 @@ use Rattle.std.specs.Str.{bytes_eq}
 use Rattle.m68_isa.specs.Decode.{decoded}
 use Rattle.m68_text.specs.Listed.{stems, wide_stems, plain_names, tested, conditions, names}
 use Rattle.m68_text.specs.Text.{text_of}
-use Rattle.m68_spelling.specs.Laws.{AreWords}
+use Rattle.asm_m68.specs.SpellingLaws.{AreWords}
 use Rattle.mix_bits.specs.Names.{name_of}
 use Rattle.mix_bits.proofs.Conditions.{both}
 use Rattle.asm_m68.specs.Assembly.{is_exact}

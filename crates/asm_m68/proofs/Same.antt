@@ -16,7 +16,7 @@ use Rattle.m68_isa.specs.Operands.{operand_at}
 use Rattle.m68_isa.specs.Shifts.{shift_op}
 use Rattle.m68_isa.specs.Widths.{is_any}
 use Rattle.m68_text.specs.declared.operand.Operand.TheVariants.{Data, Address, Word, Number, ConditionCodes, StatusRegister}
-use Rattle.m68_spelling.proofs.Shapes.{some_long, some_size}
+use Rattle.asm_m68.proofs.Shapes.{some_long, some_size}
 use Rattle.asm_m68.proofs.Alike.{IsSame, codes_row, extension_told, immediate_row, masked_from, masked_to, move_row, product_row, same_long, same_one, same_second, same_word}
 
 same_immediate : (at : ℕ) (ws vs : List ℕ) (f : First) (g : IsFirst f) (op : ImmediateOp) → IsSame at ws vs (immediate_with op f ws) (immediate_with op f vs)

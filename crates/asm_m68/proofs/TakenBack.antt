@@ -7,7 +7,7 @@ use Rattle.m68_isa.specs.Decode.{decoded}
 use Rattle.m68_text.specs.Names.{name}
 use Rattle.m68_text.specs.Operands.{operands_text}
 use Rattle.m68_text.specs.Text.{text_of}
-use Rattle.m68_spelling.specs.Laws.{AreWords}
+use Rattle.asm_m68.specs.SpellingLaws.{AreWords}
 use Rattle.asm_m68.specs.Assembly.{Gives, count_of, data_text}
 use Rattle.asm_m68.specs.Laws.{TextsGive}
 use Rattle.asm_m68.proofs.Prefix.{Alone, alone}

@@ -7,15 +7,15 @@ use Rattle.m68_isa.specs.declared.instructions.Instr68.{Instr68}
 use Rattle.m68_isa.specs.Decode.{decoded}
 use Rattle.m68_text.specs.Operands.{hex}
 use Rattle.m68_text.specs.Text.{text_of}
-use Rattle.m68_forms.specs.declared.form.Form.{Form}
-use Rattle.m68_forms.specs.declared.form.Form.TheVariants.{Data}
-use Rattle.m68_forms.specs.Table.{form_of}
-use Rattle.m68_spelling.specs.declared.code.Code68.{Code68}
-use Rattle.m68_spelling.specs.Code.{kept}
-use Rattle.m68_spelling.specs.Laws.{AreWords}
+use Rattle.m68_text.specs.declared.form.Form.{Form}
+use Rattle.m68_text.specs.declared.form.Form.TheVariants.{Data}
+use Rattle.m68_text.specs.Table.{form_of}
+use Rattle.asm_m68.specs.declared.code.Code68.{Code68}
+use Rattle.asm_m68.specs.Code.{kept}
+use Rattle.asm_m68.specs.SpellingLaws.{AreWords}
 use Rattle.mix_bits.specs.Names.{name_of, rest_of}
-use Rattle.m68_spelling.specs.Lines.{read_all}
-use Rattle.m68_spelling.specs.Spelling.{spelled}
+use Rattle.asm_m68.specs.Lines.{read_all}
+use Rattle.asm_m68.specs.Spelling.{spelled}
 use Rattle.asm_m68.specs.declared.assembler.AsmError.{AsmError}
 use Rattle.asm_m68.specs.declared.assembler.AsmError.TheVariants.{Name, Operands}
 

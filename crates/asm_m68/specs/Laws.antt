@@ -5,7 +5,7 @@ use Rattle.m68_isa.specs.declared.instructions.Instr68.{Instr68}
 use Rattle.m68_isa.specs.Decode.{decoded}
 use Rattle.m68_text.specs.Listed.{is_name}
 use Rattle.m68_text.specs.Text.{text_of}
-use Rattle.m68_spelling.specs.Laws.{AreWords}
+use Rattle.asm_m68.specs.SpellingLaws.{AreWords}
 use Rattle.mix_bits.specs.Names.{name_of}
 use Rattle.asm_m68.specs.Assembly.{Gives, count_of, is_exact}
 

@@ -3,16 +3,15 @@ ghost use Rattle.mix_bits.specs.Names.{name_of, rest_of};
 ghost use Rattle.m68_isa.specs.declared.instructions.Decoded68.TheVariants.{Short};
 ghost use Rattle.m68_isa.specs.Decode.{decoded};
 ghost use Rattle.m68_text.specs.Listed.{is_name};
-ghost use Rattle.m68_spelling.specs.Code.{IsPadded, kept};
-ghost use Rattle.m68_spelling.specs.Lines.{read_all};
-ghost use Rattle.m68_spelling.specs.Spelling.{spelled};
+ghost use Rattle.asm_m68.specs.Code.{IsPadded, kept};
+ghost use Rattle.asm_m68.specs.Lines.{read_all};
+ghost use Rattle.asm_m68.specs.Spelling.{spelled};
 ghost use Rattle.asm_m68.specs.Assembly.{Gives, GivesSome, IsFew, answer, assembled, checked, count_of, data_text, has_text as has_text_of, prints as prints_of};
 ghost use Rattle.asm_m68.specs.declared.assembler.AsmError.TheVariants.{Name as NameError, Operands as OperandsError};
 
-use m68_forms::{Form, form_of};
+use super::{Code68, read_operands, spell};
 use m68_isa::{Decoded68, decode68};
-use m68_spelling::{Code68, read_operands, spell};
-use m68_text::text68;
+use m68_text::{Form, form_of, text68};
 use mix_bits::{Line, split_name};
 
 /// Why a line gives no words.

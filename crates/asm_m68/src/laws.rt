@@ -1,4 +1,5 @@
 ghost use Rattle.asm_m68.specs.Laws.{GivenAreNamed, GivesOne, NamesArePrinted, NoneIsMissing, TextsDiffer, TextsGive};
+ghost use Rattle.asm_m68.specs.SpellingLaws.{LongOrWordIsAny, SizeIsAny, SpecialIsImmediate, TextsSpell, WordsSpell};
 
 /// What holds of lines, texts and names. It does nothing: the clauses are its point.
 pub fn asm_laws()
@@ -8,4 +9,17 @@ pub fn asm_laws()
     ensures whole { NoneIsMissing }
     ensures differ { TextsDiffer }
     ensures names { NamesArePrinted }
+{}
+
+/// What holds of the texts of instructions. It does nothing: the clauses are its point.
+pub fn spelling_laws()
+    ensures instructions { TextsSpell }
+    ensures words { WordsSpell }
+{}
+
+/// What holds of immediates, and of the sizes that first words name. It does nothing, either.
+pub fn operand_laws()
+    ensures immediates { SpecialIsImmediate }
+    ensures sizes { SizeIsAny }
+    ensures longs { LongOrWordIsAny }
 {}

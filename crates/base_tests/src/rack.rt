@@ -2,8 +2,7 @@
 ghost use Rattle.std.specs.Prelude.{None};
 
 use crate::checks::same;
-use dev_rack::{Answer, Devices, Rack};
-use mix_io::{Counter, Device, Failed, ScriptDevice};
+use mix_io::{Answer, Counter, Device, Devices, Failed, Rack, ScriptDevice};
 use std::alloc::Global;
 use std::cell::Cell;
 use std::process::Abort;

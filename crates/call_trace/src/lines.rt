@@ -7,8 +7,8 @@ ghost use Rattle.switch_frame.specs.Records.{record_of};
 
 use crate::End;
 use crate::names::{fault_name, set_name, set_names};
-use dev_rack::Answer;
 use mix_bits::{Fault, Isa, Line, Size};
+use mix_io::Answer;
 use proc_info::{Param, Sig};
 use switch_frame::Held;
 

@@ -10,9 +10,8 @@ ghost use Rattle.switch_frame.specs.Records.{record_of};
 
 use crate::End;
 use crate::lines::{put_ask_text, put_call_text, put_end_text, put_ret_text};
-use dev_rack::Answer;
 use mix_bits::Line;
-use mix_io::{Failed, Sink};
+use mix_io::{Answer, Failed, Sink};
 use proc_info::Sig;
 use switch_frame::Held;
 

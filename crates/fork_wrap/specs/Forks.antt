@@ -3,7 +3,7 @@ use Rattle.std.specs.Prelude.{ℕ, zero, suc, ◌+◌, ◌*◌, ◌==◌, ◌&&�
 use Rattle.std.specs.List.{list_all}
 use Rattle.std.specs.Option.{option_or}
 use Rattle.mix_bits.specs.Multiples.{rounded_up}
-use Rattle.file_fields.specs.Fields.{word_at, long_at}
+use Rattle.mix_bits.specs.Fields.{word_at, long_at}
 use Rattle.fork_wrap.specs.Checksum.{sum_from}
 use Rattle.fork_wrap.specs.declared.fork.Fork.{Fork}
 use Rattle.fork_wrap.specs.declared.fork.ForkError.{ForkError}

@@ -4,7 +4,7 @@ ghost use Rattle.std.specs.Option.{option_or};
 ghost use Rattle.fork_wrap.specs.Forks.{apple_fork as fork_in_apple, entry_place as place_of_entry, fork_entry as entry_of_fork, is_fork as names_fork, is_version as is_known_version, listed_fork, named};
 
 use crate::fork::{Fork, ForkError, Wrapping, inside};
-use file_fields::{long_at, word_at};
+use mix_bits::{long_at, word_at};
 
 /// The number of the entry of a resource fork.
 const RESOURCE_FORK: u32 = 2;

@@ -6,8 +6,7 @@ ghost use Rattle.fork_wrap.specs.Forks.{binary_fork as fork_in_binary, binary_wr
 
 use crate::checksum::checksum;
 use crate::fork::{Fork, ForkError, Wrapping, inside};
-use file_fields::{long_at, word_at};
-use mix_bits::round_up;
+use mix_bits::{long_at, round_up, word_at};
 
 /// `mBIN`, by which MacBinary III is known.
 const SIGNATURE: u32 = 0x6D42_494E;

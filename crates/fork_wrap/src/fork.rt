@@ -3,7 +3,7 @@ ghost use Rattle.fork_wrap.specs.Forks.{apple_wrapping as wrapping_of_magic, for
 
 use crate::apple::apple_fork;
 use crate::binary::{binary_fork, binary_wrapping, is_header};
-use file_fields::long_at;
+use mix_bits::long_at;
 use thiserror::Error;
 
 /// What a resource fork is wrapped in.

@@ -12,11 +12,10 @@ use crate::status::{INPUT_FAILED, NO_MEMORY, OUTPUT_FAILED, SUCCESS, TRACE_FAILE
 use crate::streams::Streams;
 use call_trace::{End, put_end};
 use circular_buffer::HeapCircularBuffer;
-use dev_rack::{Devices, Rack};
 use look_end::{Ending, Step, report, run_keeping};
 use mix_bits::NoMemory;
 use mix_engine::{Machine, Stop};
-use mix_io::{Counter, Device, Failed, Sink, StdSink, StdSource, Tape};
+use mix_io::{Counter, Device, Devices, Failed, Rack, Sink, StdSink, StdSource, Tape};
 use mix_load::{LoadError, load};
 use std::alloc::Global;
 use std::io::{BufReader, Read, Write};

@@ -3,8 +3,8 @@ use Rattle.std.proofs.Common.{◌≡◌, ◌≢◌, ℕ, suc, ◌+◌, ◌-◌, 
 use Rattle.std.specs.Int.{from_bool}
 use Rattle.mix_bits.specs.declared.fault.Fault.{Fault as AFault}
 use Rattle.switch_frame.specs.Records.{isa_of}
-use Rattle.dev_rack.specs.Accounts.{Accounts}
-use Rattle.dev_rack.proofs.Steps.{accounts-join, accounts-none}
+use Rattle.mix_io.specs.Accounts.{Accounts}
+use Rattle.mix_io.proofs.Steps.{accounts-join, accounts-none}
 use Rattle.toolbox.specs.Blames.{Calm}
 use Rattle.toolbox.proofs.Blaming.{blamed-after, calm-first}
 use Rattle.mixed_machine.specs.declared.stop.Stop.{Stop}

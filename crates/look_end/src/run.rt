@@ -2,7 +2,7 @@
 ghost use Rattle.std.specs.Prelude.{◌≡◌, ◌+◌, ◌<◌, ◌≤◌};
 ghost use Rattle.std.specs.Int.{from_bool};
 ghost use Rattle.switch_frame.specs.Records.{isa_of};
-ghost use Rattle.dev_rack.specs.Accounts.{Accounts};
+ghost use Rattle.mix_io.specs.Accounts.{Accounts};
 ghost use Rattle.toolbox.specs.Blames.{counts};
 ghost use Rattle.toolbox.specs.Calls.{outside as outside_of};
 ghost use Rattle.mixed_machine.specs.Counts.{Blames};
@@ -13,9 +13,8 @@ ghost use Rattle.look_end.specs.Counted.{RanSteps, ends as ends_at, is_done as i
 
 use crate::step::{Step, step_at};
 use circular_buffer::HeapCircularBuffer;
-use dev_rack::Devices;
 use mix_engine::{Machine, Stop, run};
-use mix_io::{Sink, Source};
+use mix_io::{Devices, Sink, Source};
 
 /// How a run ended, and how many steps were done.
 #[derive(Clone, Copy)]

@@ -5,7 +5,7 @@ use crate::step::Step;
 use big_memory::{host_code, in_gate_page};
 use look_text::{Piece, add_line};
 use mix_bits::{Isa, Line, NoMemory};
-use mix_list::write_words;
+use mix_text::write_words;
 use ppc_text::text_ppc;
 
 /// Appends `NUMBER SET ADDRESS: TEXT` for each of the last steps, the last of which has the number `last`.

@@ -1,6 +1,6 @@
 -- The sections and imports of a container, line by line.
 use Rattle.std.specs.Prelude.{◌≡◌, ℕ, zero, suc, ◌==◌, List, [], ◌∷◌, ◌++◌, codes, decimal, if◌then◌else◌, Bool, true, false, Option, Some, None, is_some, ◌<◌, ◌&&◌, nat_le, length, replicate, slice_index}
-use Rattle.file_fields.specs.Search.{least}
+use Rattle.mix_bits.specs.Search.{least}
 use Rattle.mix_bits.specs.Text.{hexadecimal}
 use Rattle.big_memory.specs.Map.{host_vector_at}
 use Rattle.pef_head.specs.declared.error.PefError.{PefError}

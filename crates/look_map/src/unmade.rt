@@ -1,6 +1,6 @@
 // The section of a container that was refused while it was made.
 ghost use Rattle.std.specs.Prelude.{◌≡◌, ℕ, ◌^◌, ◌%◌, ◌<◌, ◌≤◌, None, IfOk, IfSome, is_some, length, slice_index, slice_index_or};
-ghost use Rattle.file_fields.specs.Search.{least};
+ghost use Rattle.mix_bits.specs.Search.{least};
 ghost use Rattle.pef_head.specs.Container.{instantiated_count};
 ghost use Rattle.pef_head.specs.Parts.{IsLoadable, parts, reloc_header_of};
 ghost use Rattle.mix_load.specs.Sections.{pattern_refusal, total_at};
@@ -41,7 +41,7 @@ pub fn unmade_section(alloc: Global, pef: &Pef, error: RelocError) -> Result<Opt
 }
 
 /// The first section whose pattern data is refused.
-#[tactic(auto, using(file_fields::proofs::Searches::least_at))]
+#[tactic(auto, using(mix_bits::proofs::Searches::least_at))]
 fn badly_packed(alloc: Global, pef: &Pef, count: u32) -> Result<Option<u32>, NoMemory>
     requires { count ≤ instantiated_count pef.now }
     ensures is { IfOk result (λ section. section ≡ least (is_packed_badly pef.now) count) }

@@ -1,4 +1,4 @@
--- A procInfo word in words: the places are those that args_m68 and args_ppc define.
+-- A procInfo word in words: the places are those that call_args defines.
 use Rattle.std.specs.Prelude.{ℕ, ◌+◌, List, [], ◌∷◌, ◌++◌, codes, decimal, if◌then◌else◌, Result, Ok, Err}
 use Rattle.mix_bits.specs.Text.{hexadecimal}
 use Rattle.mix_bits.specs.declared.size.Size.{Size}
@@ -8,7 +8,7 @@ use Rattle.proc_info.specs.Signature.{Signature, signature_of}
 use Rattle.proc_info.specs.declared.bad_info.BadInfo.{BadInfo}
 use Rattle.proc_info.specs.declared.conv.Conv.{Conv}
 use Rattle.proc_info.specs.declared.param.Param.{Param}
-use Rattle.args_m68.specs.Places.{next_base, place_of, result_place, route_of, selector_place, selector_width, widths}
+use Rattle.call_args.specs.Places68.{next_base, place_of, result_place, route_of, selector_place, selector_width, widths}
 use Rattle.look_text.specs.Places.{place_text, ppc_place}
 use Rattle.look_text.specs.Words.{conv_name, rule_text, size_name}
 

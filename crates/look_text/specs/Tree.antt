@@ -7,10 +7,10 @@ use Rattle.proc_info.specs.declared.param.Param.{Param}
 use Rattle.proc_info.specs.Signature.{Signature, signature_in}
 use Rattle.switch_frame.specs.Sets.{caller_isa, callee_isa}
 use Rattle.call_trace.specs.Names.{set_name}
-use Rattle.trace_lines.specs.Events.{args_of}
-use Rattle.trace_lines.specs.declared.event.Crossing.{Crossing}
-use Rattle.trace_lines.specs.declared.event.Event.{Event}
-use Rattle.trace_lines.specs.declared.event.Event.TheVariants.{Called, Returned, Asked, Ended}
+use Rattle.call_trace.specs.Events.{args_of}
+use Rattle.call_trace.specs.declared.event.Crossing.{Crossing}
+use Rattle.call_trace.specs.declared.event.Event.{Event}
+use Rattle.call_trace.specs.declared.event.Event.TheVariants.{Called, Returned, Asked, Ended}
 
 -- a value behind the word for its size
 abbrev pub sized_text : Size → ℕ → List ℕ

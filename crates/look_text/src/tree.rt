@@ -4,14 +4,14 @@ ghost use Rattle.call_trace.specs.Names.{set_name as name_of_set};
 ghost use Rattle.mix_bits.specs.Text.{hexadecimal};
 ghost use Rattle.proc_info.specs.Signature.{signature_in};
 ghost use Rattle.proc_info.specs.Views.{signature};
-ghost use Rattle.trace_lines.specs.Events.{args_of};
+ghost use Rattle.call_trace.specs.Events.{args_of};
 ghost use Rattle.look_text.specs.Tree.{args_text, called_text, event_text, indent_text, result_text, sized_text, tree_of, values_text};
 
 use super::pieces::{add, add_bytes, add_hex};
+use call_trace::{Crossing, Event};
 use mix_bits::{Isa, NoMemory, Size};
 use proc_info::{Param, Sig, read};
 use std::alloc::Global;
-use trace_lines::{Crossing, Event};
 
 /// How many calls deep a line stands at most to the right.
 pub const DEEPEST: u32 = 256;

@@ -1,11 +1,11 @@
 // The calls that are open, and how often each routine was called.
 use crate::error::LookError;
 use crate::names::Names;
+use call_trace::Crossing;
 use indexmap::IndexMap;
 use look_text::{Piece, add_line};
 use mix_bits::{Isa, NoMemory};
 use std::alloc::Global;
-use trace_lines::Crossing;
 
 /// A set of instructions.
 #[derive(Clone, Copy, PartialEq, Eq, Hash)]

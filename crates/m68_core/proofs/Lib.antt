@@ -1,3 +1,4 @@
 pub mod ByOp
 pub mod Fetching
 pub mod Leaving
+pub mod Operands

@@ -9,6 +9,10 @@ use super::branches::{
 };
 use super::jumps::{do_jmp, do_jsr, do_rtd, do_rtr, do_rts};
 use super::traps::{do_illegal, do_line_a, do_line_f, do_nop, do_privileged, do_trap, do_trapv};
+use super::{
+    do_and_to_memory, do_and_to_register, do_andi, do_bit_by_number, do_bit_by_register, do_eor,
+    do_eori, do_not, do_or_to_memory, do_or_to_register, do_ori, do_shift, do_shift_memory,
+};
 use big_memory::{Did, Ram};
 use m68_arithmetic::{
     do_abcd, do_add_to_memory, do_add_to_register, do_adda, do_addi, do_addq, do_addx, do_chk,
@@ -17,10 +21,6 @@ use m68_arithmetic::{
     do_subi, do_subq, do_subx,
 };
 use m68_isa::{Op68, Regs68};
-use m68_logic::{
-    do_and_to_memory, do_and_to_register, do_andi, do_bit_by_number, do_bit_by_register, do_eor,
-    do_eori, do_not, do_or_to_memory, do_or_to_register, do_ori, do_shift, do_shift_memory,
-};
 use m68_movement::{
     do_clr, do_exg, do_ext, do_ext_byte, do_lea, do_link, do_link_long, do_logic_to_ccr,
     do_move_byte, do_move_from_sr, do_move_long, do_move_to_ccr, do_move_word, do_movea_long,

@@ -3,3 +3,5 @@ pub mod Listed
 pub mod Operands
 pub mod Text
 pub mod Laws
+pub mod Table
+pub mod FormLaws

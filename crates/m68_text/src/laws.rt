@@ -1,6 +1,7 @@
 ghost use Rattle.std.specs.Prelude.{◌≡◌, length};
 ghost use Rattle.m68_text.specs.Laws.{NamesAreListed};
 ghost use Rattle.m68_text.specs.Listed.{names};
+ghost use Rattle.m68_text.specs.FormLaws.{FormsAreListed};
 
 use m68_table::table_laws;
 
@@ -11,3 +12,8 @@ pub fn text_laws()
 {
     table_laws();
 }
+
+/// What holds of the table as a whole. It does nothing: the clause is its point.
+pub fn form_laws()
+    ensures { FormsAreListed }
+{}

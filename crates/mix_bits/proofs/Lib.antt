@@ -8,3 +8,4 @@ pub mod NamesBack
 pub mod Glyphs
 pub mod Conditions
 pub mod Sizes
+pub mod Searches

@@ -11,3 +11,6 @@ pub mod Laws
 pub mod Text
 pub mod Ranges
 pub mod Results
+pub mod Fields
+pub mod Search
+pub mod SearchLaws

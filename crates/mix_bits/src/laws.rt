@@ -1,5 +1,6 @@
 ghost use Rattle.mix_bits.specs.Laws.{BothHold, FewBytes, HoldsByQuarters, HoldsOfEach, NamesReadBack, ReadsReplaced, OthersStay};
 ghost use Rattle.mix_bits.specs.Numbers.{ReadsDecimals, ReadsHexadecimals};
+ghost use Rattle.mix_bits.specs.SearchLaws.{FailsBelow, FirstIsLeast, LeastOfFailing, NoneIsCounted, NoneIsLeast};
 
 /// What follows from the definition of a replaced digit. It does nothing: the clauses are its point.
 pub fn digit_laws()
@@ -28,4 +29,13 @@ pub fn number_laws()
 /// What a line's name and the rest of it give back. It does nothing, either.
 pub fn name_laws()
     ensures back { NamesReadBack }
+{}
+
+/// What follows from the definitions of searches. It does nothing: the clauses are its point.
+pub fn search_laws()
+    ensures first { FirstIsLeast }
+    ensures none { NoneIsLeast }
+    ensures behind { LeastOfFailing }
+    ensures fails { FailsBelow }
+    ensures counted { NoneIsCounted }
 {}

@@ -1,11 +1,12 @@
 //! Words that every crate of the host shares: instruction sets, sizes of values, faults, addresses,
-//! digits of numbers, lines of text and the files of a program.
+//! digits of numbers, lines of text, the files of a program and the numbers in their fields.
 #![tactic(auto)]
 
 mod addresses;
 mod appends;
 mod digits;
 mod fault;
+mod fields;
 mod file;
 mod isa;
 mod laws;
@@ -20,9 +21,10 @@ mod size;
 pub use addresses::{aligned, backward, onward};
 pub use digits::{digit, power, with_digit};
 pub use fault::{Fault, FaultKind};
+pub use fields::{long_at, three_at, word_at};
 pub use file::File;
 pub use isa::{Isa, is_isa};
-pub use laws::{digit_laws, name_laws, number_laws, size_laws, test_laws};
+pub use laws::{digit_laws, name_laws, number_laws, search_laws, size_laws, test_laws};
 pub use line::Line;
 pub use multiples::round_up;
 pub use names::split_name;

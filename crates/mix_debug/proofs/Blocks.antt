@@ -4,14 +4,14 @@ use Rattle.std.specs.Prelude.{All, AllPairs, filter}
 use Rattle.std.specs.List.{Contains}
 use Rattle.std.proofs.lemmas.Bool.{cases_Bool, cases_lt, eq-eqb, eqb-true, ne_eqb, le-ltb, lt-ltb}
 use Rattle.std.proofs.lemmas.List.{drop_all, drop_more}
-use Rattle.host_heap.specs.Place.{place_for, taken}
+use Rattle.toolbox.specs.Place.{place_for, taken}
 use Rattle.mix_debug.specs.Reaches.{SameBlocks}
 use Rattle.std.proofs.lemmas.List.Elements.{All-head, All-tail}
-use Rattle.host_heap.specs.declared.block.Block.{Block}
-use Rattle.host_heap.specs.Space.{Space, rounded}
-use Rattle.host_heap.specs.Place.{CanPlace, begins_at, can_place, freed, placed, with_block, without}
-use Rattle.host_heap.specs.Sound.{EndsBefore, IsAligned, IsSound}
-use Rattle.host_heap.proofs.Keeps.{none_begins}
+use Rattle.toolbox.specs.declared.block.Block.{Block}
+use Rattle.toolbox.specs.Space.{Space, rounded}
+use Rattle.toolbox.specs.Place.{CanPlace, begins_at, can_place, freed, placed, with_block, without}
+use Rattle.toolbox.specs.Sound.{EndsBefore, IsAligned, IsSound}
+use Rattle.toolbox.proofs.Keeps.{none_begins}
 use Rattle.mixed_machine.specs.StepLaws.{HeapMoves}
 use Rattle.mix_debug.specs.declared.head.BlockChange.TheVariants.{Stays, Made, Freed}
 use Rattle.mix_debug.specs.Entries.{block_between, first_other, heap_before}

@@ -4,14 +4,14 @@ use Rattle.std.specs.Prelude.{All, vec_capacity}
 use Rattle.std.proofs.lemmas.Bool.{cases_Bool, cases_lt}
 use Rattle.std.proofs.lemmas.List.{take_at}
 use Rattle.std.proofs.lemmas.List.Elements.{All-head, All-tail}
-use Rattle.host_heap.specs.declared.block.Block.{Block}
+use Rattle.toolbox.specs.declared.block.Block.{Block}
 use Rattle.switch_frame.specs.declared.active.Active.{Active}
 use Rattle.switch_frame.specs.Records.{isa_of}
 use Rattle.mix_engine.specs.declared.machine.Machine.{Machine}
 use Rattle.mix_bits.specs.declared.isa.Isa.{Isa}
 use Rattle.big_memory.specs.Lists.{part, put}
 use Rattle.big_memory.specs.Memory.{Memory}
-use Rattle.host_heap.specs.Space.{Space, block_limit}
+use Rattle.toolbox.specs.Space.{Space, block_limit}
 use Rattle.mix_debug.specs.declared.head.FrameChange.{FrameChange}
 use Rattle.mix_debug.specs.declared.head.BlockChange.{BlockChange}
 use Rattle.mix_debug.specs.declared.head.Head.{Head}
@@ -69,7 +69,7 @@ pub record StepBack (m n : Machine) : Type 0 where
   pub cost : head_cost (entry_of m.active m.body.top m.body.ram.bytes m.body.heap.blocks n).head ≡ cost_between m n
   pub long : length n.body.ram.bytes ≡ length m.body.ram.bytes
 
-pub step-back : (m n : Machine) → IsSound m → IsSound n → Rattle.host_heap.specs.Sound.IsSound m.body.heap → Followed m.body n.body → StepBack m n
+pub step-back : (m n : Machine) → IsSound m → IsSound n → Rattle.toolbox.specs.Sound.IsSound m.body.heap → Followed m.body n.body → StepBack m n
 unfolding entry_of before cost_between
 step-back m n here there sound moved =
     let long : length n.body.ram.bytes ≡ length m.body.ram.bytes = same-long m.body n.body (isa_of m.active) (isa_of n.active) here there moved in
@@ -124,7 +124,7 @@ pub record KeptStep (m n : Machine) (h k : History) : Type 0 where
   pub kept : earlier n (entries_in k.past) ≡ fitting history_room (record { machine = m; cost = cost_between m n } ∷ earlier m (entries_in h.past))
 
 pub kept-step : (m n : Machine) (h k : History) → IsHistory m h → IsSound n → Followed m.body n.body → k.copy.items ≡ n.body.ram.bytes → k.blocks.items ≡ n.body.heap.blocks
-    → Rattle.host_heap.specs.Sound.IsSound n.body.heap → block_limit ≤ vec_capacity k.blocks → IsPast k.past
+    → Rattle.toolbox.specs.Sound.IsSound n.body.heap → block_limit ≤ vec_capacity k.blocks → IsPast k.past
     → entries_in k.past ≡ within history_room (entry_of m.active m.body.top h.copy.items h.blocks.items n ∷ entries_in h.past) → KeptStep m n h k
 kept-step m n h k here there moved copied blocks heap room past entries =
     let e : Entry = entry_of m.active m.body.top m.body.ram.bytes m.body.heap.blocks n in
@@ -173,7 +173,7 @@ earlier-first e es m all =
     (All-head sound first (earlier (before e m) es) all, All-tail sound first (earlier (before e m) es) all)
 
 pub undone-step : (m n : Machine) (h k : History) (e : Entry) → IsHistory m h → entries_in h.past ≡ e ∷ entries_in k.past → n ≡ before e m → k.copy.items ≡ n.body.ram.bytes
-    → k.blocks.items ≡ n.body.heap.blocks → Rattle.host_heap.specs.Sound.IsSound n.body.heap → block_limit ≤ vec_capacity k.blocks → IsPast k.past → IsHistory n k
+    → k.blocks.items ≡ n.body.heap.blocks → Rattle.toolbox.specs.Sound.IsSound n.body.heap → block_limit ≤ vec_capacity k.blocks → IsPast k.past → IsHistory n k
 unfolding before
 undone-step m n h k e here entries is copied blocks heap room past =
     let es : List Entry = entries_in k.past in
@@ -194,7 +194,7 @@ undone-step m n h k e here entries is copied blocks heap room past =
     }
 
 -- before the first step
-pub no-step : (m : Machine) (h : History) → IsSound m → h.copy.items ≡ m.body.ram.bytes → h.blocks.items ≡ m.body.heap.blocks → Rattle.host_heap.specs.Sound.IsSound m.body.heap
+pub no-step : (m : Machine) (h : History) → IsSound m → h.copy.items ≡ m.body.ram.bytes → h.blocks.items ≡ m.body.heap.blocks → Rattle.toolbox.specs.Sound.IsSound m.body.heap
     → block_limit ≤ vec_capacity h.blocks → IsPast h.past → entries_in h.past ≡ [] → IsHistory m h
 unfolding earlier
 no-step m h whole copied blocks heap room past empty =

@@ -2,10 +2,10 @@
 use Rattle.std.proofs.Common.{◌≡◌, ◌⊎◌, ℕ, ◌≤◌, ◌==◌, nat_lt, Bool, true, false, not, if◌then◌else◌, List, [], ◌++◌, length, Option, Some, None, arith, ap, sym, subst, ◌∙◌, refl, inl, inr}
 use Rattle.std.proofs.lemmas.Bool.{le-ltb}
 use Rattle.std.proofs.lemmas.List.Filters.{length-filter_both}
-use Rattle.host_heap.specs.declared.block.Block.{Block}
-use Rattle.host_heap.specs.Space.{Space, rounded}
-use Rattle.host_heap.specs.Place.{without}
-use Rattle.host_heap.specs.Sound.{IsSound as IsSoundHeap}
+use Rattle.toolbox.specs.declared.block.Block.{Block}
+use Rattle.toolbox.specs.Space.{Space, rounded}
+use Rattle.toolbox.specs.Place.{without}
+use Rattle.toolbox.specs.Sound.{IsSound as IsSoundHeap}
 use Rattle.switch_frame.specs.declared.active.Active.{Active}
 use Rattle.switch_frame.specs.Records.{isa_of}
 use Rattle.mixed_machine.specs.declared.body.Body.{Body}

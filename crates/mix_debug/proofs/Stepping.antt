@@ -11,7 +11,7 @@ use Rattle.switch_frame.proofs.Beside.{view_is_memory}
 use Rattle.switch_frame.proofs.Marked.{marks_same}
 use Rattle.toolbox.specs.Calls.{IsLeft}
 use Rattle.toolbox.specs.Effects.{Around}
-use Rattle.host_heap.specs.Space.{Space}
+use Rattle.toolbox.specs.Space.{Space}
 use Rattle.mixed_machine.specs.declared.body.Body.{Body}
 use Rattle.mixed_machine.specs.declared.stop.Stop.{Stop}
 use Rattle.mixed_machine.specs.declared.stop.Stop.TheVariants.{Exit, Fault, Limit, ReadFault, OutFault, TraceFault}

@@ -3,7 +3,7 @@ use Rattle.std.proofs.Common.{◌≡◌, ℕ, suc, ◌+◌, nat_lt, Bool, if◌t
 use Rattle.std.proofs.lemmas.Bool.{cases_lt}
 use Rattle.std.proofs.lemmas.Grind.{same_number_lists}
 use Rattle.mix_bits.specs.declared.isa.Isa.{Isa}
-use Rattle.host_heap.specs.declared.block.Block.{Block}
+use Rattle.toolbox.specs.declared.block.Block.{Block}
 use Rattle.switch_frame.specs.declared.active.Active.{Active}
 use Rattle.switch_frame.specs.Records.{isa_of}
 use Rattle.switch_frame.specs.Sets.{frame_size}

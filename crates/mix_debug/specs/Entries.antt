@@ -5,9 +5,9 @@ use Rattle.big_memory.specs.Lists.{put}
 use Rattle.switch_frame.specs.declared.active.Active.{Active}
 use Rattle.switch_frame.specs.declared.active.Active.TheVariants.{M68, Ppc}
 use Rattle.switch_frame.specs.Sets.{frame_size}
-use Rattle.host_heap.specs.declared.block.Block.{Block}
-use Rattle.host_heap.specs.Space.{Space}
-use Rattle.host_heap.specs.Place.{can_place, freed, placed}
+use Rattle.toolbox.specs.declared.block.Block.{Block}
+use Rattle.toolbox.specs.Space.{Space}
+use Rattle.toolbox.specs.Place.{can_place, freed, placed}
 use Rattle.mix_debug.specs.declared.head.Effect.{Effect}
 use Rattle.mix_debug.specs.declared.head.Head.{Head}
 use Rattle.mix_debug.specs.declared.head.Span.{Span}

@@ -2,10 +2,10 @@
 use Rattle.std.specs.Prelude.{◌≡◌, ℕ, ◌≤◌, Bool, true, false, List, ◌∷◌, length, All, vec_capacity}
 use Rattle.switch_frame.specs.declared.active.Active.{Active}
 use Rattle.switch_frame.specs.Records.{isa_of}
-use Rattle.host_heap.specs.Space.{block_limit}
-use Rattle.host_heap.specs.declared.block.Block.{Block}
-use Rattle.host_heap.specs.Sound.{IsSound as IsSoundHeap}
-use Rattle.dev_rack.specs.Accounts.{Accounts}
+use Rattle.toolbox.specs.Space.{block_limit}
+use Rattle.toolbox.specs.declared.block.Block.{Block}
+use Rattle.toolbox.specs.Sound.{IsSound as IsSoundHeap}
+use Rattle.mix_io.specs.Accounts.{Accounts}
 use Rattle.toolbox.specs.Calls.{counts_beside}
 use Rattle.mixed_machine.specs.declared.stop.Stop.{Stop}
 use Rattle.mixed_machine.specs.Counts.{Blames}

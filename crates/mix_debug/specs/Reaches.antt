@@ -1,6 +1,6 @@
 -- Where a step stored, and what it did to the blocks, as they are told without a look at memory.
 use Rattle.std.specs.Prelude.{◌≡◌, ℕ, List, length}
-use Rattle.host_heap.specs.declared.block.Block.{Block}
+use Rattle.toolbox.specs.declared.block.Block.{Block}
 use Rattle.switch_frame.specs.declared.active.Active.{Active}
 use Rattle.mix_reach.specs.declared.reach.Reach.{Reach}
 use Rattle.mix_reach.specs.declared.reach.Stores.{Stores}

@@ -9,10 +9,10 @@ ghost use Rattle.mix_debug.specs.Entries.{block_between, first_other, frame_betw
 ghost use Rattle.mix_debug.specs.Reaches.{stored_in as stored_in_of};
 
 use crate::head::{BlockChange, FrameChange};
-use host_heap::Block;
 use mix_bits::Isa;
 use mix_reach::{Reach, Stores, step_reach};
 use switch_frame::Active;
+use toolbox::Block;
 
 /// How many bytes are compared at once in a large range.
 const PIECE: usize = 1024;

@@ -1,7 +1,7 @@
 // What is kept beside a machine: a copy of its memory and of its list of blocks, and the steps that can be taken back.
 ghost use Rattle.std.specs.Prelude.{◌≡◌, ◌<◌, ◌≤◌, ◌∷◌, [], IfOk, Some, length, vec_capacity};
-ghost use Rattle.host_heap.specs.Sound.{IsSound as IsSoundHeap};
-ghost use Rattle.host_heap.specs.Space.{block_limit};
+ghost use Rattle.toolbox.specs.Sound.{IsSound as IsSoundHeap};
+ghost use Rattle.toolbox.specs.Space.{block_limit};
 ghost use Rattle.mix_debug.specs.Entries.{Entry, head_with, heap_before, still, within};
 ghost use Rattle.mix_debug.specs.Rows.{ready_in, waiting_in};
 ghost use Rattle.mix_debug.specs.Pasts.{IsPast, entries_in};
@@ -15,12 +15,12 @@ use crate::compare::{Range, block_between, frame_between, in_memory, narrowed, s
 use crate::head::{BlockChange, FrameChange};
 use crate::past::{Past, ROOM};
 use crate::undo::{copy_range, undo_block, undo_frame};
-use host_heap::{BLOCK_LIMIT, Block, Heap};
 use mix_bits::NoMemory;
 use mix_engine::Machine;
 use mix_reach::{Reach, Stores};
 use std::alloc::Global;
 use switch_frame::Active;
+use toolbox::{BLOCK_LIMIT, Block, Heap};
 
 /// What is kept beside a machine.
 #[derive(Drop)]

@@ -10,7 +10,7 @@ use crate::head::{BlockChange, FrameChange, Span};
 use crate::olds::Olds;
 use big_memory::Ram;
 use circular_buffer::HeapCircularBuffer;
-use host_heap::Heap;
+use toolbox::Heap;
 
 /// How many bytes most steps store: so many are copied at once.
 const WORD: usize = 4;

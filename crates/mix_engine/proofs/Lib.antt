@@ -1,3 +1,15 @@
+pub mod Changed
+pub mod Instructions
+pub mod Codes
+pub mod Over
+pub mod Doing
+pub mod Amid
+pub mod Hosts
+pub mod Leavings
+pub mod Framing
+pub mod Entering
+pub mod Returning
+pub mod Advancing
 pub mod Ways
 pub mod Looping
 pub mod Starting

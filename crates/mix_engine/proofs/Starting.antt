@@ -5,7 +5,7 @@ use Rattle.switch_frame.specs.Chain.{Chain, cleared}
 use Rattle.switch_frame.specs.Program.{HasGatePage, HasHeap, IsProgram}
 use Rattle.switch_frame.specs.Records.{Record, isa_of}
 use Rattle.switch_frame.proofs.Linked.{begins_empty, reads_back}
-use Rattle.host_heap.specs.Space.{Space}
+use Rattle.toolbox.specs.Space.{Space}
 use Rattle.toolbox.specs.Effects.{Around}
 use Rattle.mixed_machine.specs.declared.body.Body.{Body}
 use Rattle.mixed_machine.specs.Machine.{IsWhole, callers_of, flat, memory_of}

@@ -3,8 +3,8 @@ use Rattle.std.proofs.Common.{◌≡◌, ℕ, ◌-◌, ◌<◌, ◌≤◌, lengt
 use Rattle.mix_bits.specs.declared.fault.Fault.{Fault}
 use Rattle.switch_frame.specs.declared.active.Active.{Active}
 use Rattle.switch_frame.specs.Records.{isa_of}
-use Rattle.dev_rack.specs.Accounts.{Accounts}
-use Rattle.dev_rack.proofs.Steps.{accounts-join, accounts-none}
+use Rattle.mix_io.specs.Accounts.{Accounts}
+use Rattle.mix_io.proofs.Steps.{accounts-join, accounts-none}
 use Rattle.mixed_machine.specs.declared.did.Did.{Did}
 use Rattle.mixed_machine.specs.declared.stop.Stop.{Stop}
 use Rattle.mixed_machine.specs.Acts.{Acts}

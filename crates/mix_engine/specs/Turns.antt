@@ -2,7 +2,7 @@
 use Rattle.std.specs.Prelude.{◌≡◌, ℕ, ◌≤◌, List, ◌∷◌, length}
 use Rattle.switch_frame.specs.declared.active.Active.{Active}
 use Rattle.switch_frame.specs.Records.{Record, isa_of}
-use Rattle.dev_rack.specs.Accounts.{Accounts}
+use Rattle.mix_io.specs.Accounts.{Accounts}
 use Rattle.toolbox.specs.Blames.{Calm, Counts}
 use Rattle.mixed_machine.specs.Counts.{Blames, counts_of}
 use Rattle.mixed_machine.specs.Events.{CameBackAt, StopsAt}

@@ -2,7 +2,7 @@
 ghost use Rattle.std.specs.Prelude.{◌≡◌, IfOk};
 ghost use Rattle.switch_frame.specs.Program.{IsProgram};
 ghost use Rattle.switch_frame.specs.Records.{isa_of};
-ghost use Rattle.dev_rack.specs.Accounts.{Accounts};
+ghost use Rattle.mix_io.specs.Accounts.{Accounts};
 ghost use Rattle.toolbox.specs.Blames.{counts};
 ghost use Rattle.toolbox.specs.Calls.{counts_beside, outside as outside_of};
 ghost use Rattle.toolbox.specs.Effects.{Around};
@@ -10,21 +10,20 @@ ghost use Rattle.mixed_machine.specs.Counts.{Blames};
 ghost use Rattle.mixed_machine.specs.Machine.{IsWhole, flat};
 ghost use Rattle.mixed_machine.specs.Outside.{at};
 ghost use Rattle.mixed_machine.specs.Runs.{Runs};
-ghost use Rattle.mix_steps.specs.Beside.{AreSame, machine_beside, outside_lent, trace_lent};
+ghost use Rattle.mix_engine.specs.Beside.{AreSame, machine_beside, outside_lent, trace_lent};
 ghost use Rattle.mix_io.specs.Streams.{output};
 ghost use Rattle.mix_engine.specs.Start.{start_of};
 
+use super::Outside;
 use crate::runs::run_turns;
 use crate::turn::TurnEnd;
-use dev_rack::Devices;
-use host_heap::Heap;
 use m68_isa::Operations;
 use mix_bits::NoMemory;
-use mix_io::{Sink, Source};
-use mix_steps::Outside;
+use mix_io::{Devices, Sink, Source};
 use mixed_machine::{Body, Stop};
 use std::alloc::Global;
 use switch_frame::{Active, Program};
+use toolbox::Heap;
 
 /// The machine between two steps.
 ///

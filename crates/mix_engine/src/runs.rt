@@ -6,15 +6,14 @@ ghost use Rattle.toolbox.specs.Calls.{outside as outside_of};
 ghost use Rattle.mixed_machine.specs.Machine.{IsWhole};
 ghost use Rattle.mixed_machine.specs.Outside.{at};
 ghost use Rattle.mix_io.specs.Streams.{output};
-ghost use Rattle.mix_steps.specs.Beside.{AreSame, machine_beside};
+ghost use Rattle.mix_engine.specs.Beside.{AreSame, machine_beside};
 ghost use Rattle.mix_engine.specs.Turns.{Turned, file_of, turn_of};
 
+use super::{Outside, advance};
 use crate::turn::{Turn, TurnEnd};
-use dev_rack::Devices;
 use m68_isa::Regs68;
 use mix_bits::{Fault, FaultKind};
-use mix_io::{Sink, Source};
-use mix_steps::{Outside, advance};
+use mix_io::{Devices, Sink, Source};
 use mixed_machine::{Body, Did, Stop};
 use ppc_isa::RegsPpc;
 use switch_frame::Active;

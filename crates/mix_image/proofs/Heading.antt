@@ -5,7 +5,7 @@ use Rattle.std.proofs.lemmas.Bool.Decides.{nat_tests}
 use Rattle.mix_bits.specs.declared.isa.Isa.{Isa}
 use Rattle.mix_bits.specs.declared.isa.Isa.TheVariants.{M68, Ppc}
 use Rattle.big_memory.specs.Numbers.{long_at, longs_at}
-use Rattle.host_heap.specs.Space.{block_limit}
+use Rattle.toolbox.specs.Space.{block_limit}
 use Rattle.switch_frame.specs.Program.{program_start, start_sp_of}
 use Rattle.mix_image.specs.declared.error.ImageError.{ImageError}
 use Rattle.mix_image.specs.declared.error.ImageError.TheVariants.{Short, Magic, Ram, Main, StartSp, Heap, Block as Blocks}

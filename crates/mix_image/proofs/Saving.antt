@@ -5,7 +5,7 @@ use Rattle.byteorder.specs.Endian.{big_bytes}
 use Rattle.big_memory.specs.Lists.{part}
 use Rattle.big_memory.specs.Numbers.{bytes_of_longs}
 use Rattle.big_memory.proofs.Numbers.{bytes_join}
-use Rattle.host_heap.specs.declared.block.Block.{Block}
+use Rattle.toolbox.specs.declared.block.Block.{Block}
 use Rattle.mix_io.specs.declared.errors.Failed.{Failed}
 use Rattle.mix_io.specs.Counts.{CountsStay}
 use Rattle.mix_io.specs.Kept.{KeepsMore, Saves}

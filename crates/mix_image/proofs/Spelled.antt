@@ -14,9 +14,9 @@ use Rattle.big_memory.specs.Lists.{part}
 use Rattle.big_memory.specs.Memory.{Memory, IsRam}
 use Rattle.big_memory.specs.Numbers.{AreBytes, AreLongs, bytes_of_longs, long_at, longs_at}
 use Rattle.big_memory.proofs.Numbers.{length_of_bytes, longs_again, longs_of_part}
-use Rattle.host_heap.specs.declared.block.Block.{Block}
-use Rattle.host_heap.specs.Space.{Space}
-use Rattle.host_heap.specs.Sound.{IsSound}
+use Rattle.toolbox.specs.declared.block.Block.{Block}
+use Rattle.toolbox.specs.Space.{Space}
+use Rattle.toolbox.specs.Sound.{IsSound}
 use Rattle.switch_frame.specs.declared.active.Active.{Active}
 use Rattle.switch_frame.specs.declared.active.Active.TheVariants.{M68, Ppc}
 use Rattle.switch_frame.specs.Chain.{IsFile}

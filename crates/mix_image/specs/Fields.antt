@@ -8,8 +8,8 @@ use Rattle.ppc_isa.specs.Longs.{file_of as ppc_file}
 use Rattle.big_memory.specs.Lists.{part}
 use Rattle.big_memory.specs.Memory.{Memory}
 use Rattle.big_memory.specs.Numbers.{long_at, longs_at}
-use Rattle.host_heap.specs.Space.{Space, block_limit}
-use Rattle.host_heap.specs.Place.{can_append, placed}
+use Rattle.toolbox.specs.Space.{Space, block_limit}
+use Rattle.toolbox.specs.Place.{can_append, placed}
 use Rattle.switch_frame.specs.declared.active.Active.{Active}
 use Rattle.switch_frame.specs.declared.active.Active.TheVariants.{M68, Ppc}
 use Rattle.switch_frame.specs.Program.{blank, program_start, start_sp_of}

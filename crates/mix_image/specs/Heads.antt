@@ -1,7 +1,7 @@
 -- What every head that is read meets.
 use Rattle.std.specs.Prelude.{◌≡◌, ◌*◌, ◌%◌, ◌≤◌}
 use Rattle.switch_frame.specs.Program.{start_sp_of}
-use Rattle.host_heap.specs.Space.{block_limit}
+use Rattle.toolbox.specs.Space.{block_limit}
 use Rattle.mix_image.specs.declared.head.Head.{Head}
 
 pub record IsHead (head : Head) : Type 0 where

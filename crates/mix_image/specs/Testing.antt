@@ -1,7 +1,7 @@
 -- What the tests of an image's fields answer.
 use Rattle.std.specs.Prelude.{ℕ, ◌+◌, ◌*◌, List, Result, Ok, Err}
 use Rattle.mix_bits.specs.Results.{◌>>=◌}
-use Rattle.host_heap.specs.Place.{may_follow}
+use Rattle.toolbox.specs.Place.{may_follow}
 use Rattle.mix_image.specs.declared.error.ImageError.{ImageError}
 use Rattle.mix_image.specs.declared.error.ImageError.TheVariants.{Block as Blocks}
 use Rattle.mix_image.specs.Fields.{long_from, only_if}

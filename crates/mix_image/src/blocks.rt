@@ -1,14 +1,14 @@
 // The blocks of the heap in an image.
 ghost use Rattle.std.specs.Prelude.{◌≡◌, ◌%◌, ◌<◌, ◌≤◌, length, MatchResult, Ok, Err};
-ghost use Rattle.host_heap.specs.Space.{block_limit};
+ghost use Rattle.toolbox.specs.Space.{block_limit};
 ghost use Rattle.mix_image.specs.Fields.{block_from, blocks_from, empty_heap};
 ghost use Rattle.mix_image.specs.Restoring.{Gives};
 ghost use Rattle.mix_image.specs.Testing.{end_from, outcome};
 
 use crate::ImageError;
 use crate::longs::long;
-use host_heap::{Heap, may_follow};
 use std::alloc::Global;
+use toolbox::{Heap, may_follow};
 
 /// Tests the blocks in order, each by where the one before it ends. It takes no memory.
 pub fn test_blocks(bytes: &[u8], low: u32, high: u32, count: u32) -> Result<(), ImageError>

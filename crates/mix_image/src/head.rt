@@ -3,14 +3,14 @@ ghost use Rattle.std.specs.Prelude.{◌≡◌, ◌*◌, ◌%◌, ◌≤◌, ℕ,
 ghost use Rattle.switch_frame.specs.Program.{start_sp_of};
 ghost use Rattle.mix_image.specs.declared.error.ImageError.{ImageError};
 ghost use Rattle.mix_image.specs.Fields.{are_bounds, bounds_of, count_of, head_of, kib_of, magic_of, main_of, set_of, start_of};
-ghost use Rattle.host_heap.specs.Space.{block_limit};
+ghost use Rattle.toolbox.specs.Space.{block_limit};
 ghost use Rattle.mix_image.specs.Heads.{IsHead};
 
 use crate::ImageError;
 use crate::longs::{MARK_FIRST, MARK_SECOND, long, short};
-use host_heap::BLOCK_LIMIT;
 use mix_bits::Isa;
 use switch_frame::start_sp_of;
+use toolbox::BLOCK_LIMIT;
 
 /// Where the heap of a program may begin at the lowest.
 const PROGRAM_START: u32 = 0x1_0000;

@@ -12,13 +12,13 @@ ghost use Rattle.mix_image.specs.Spelling.{HasSpelling, block_longs, head_longs,
 use crate::longs::{MARK_FIRST, MARK_SECOND};
 use crate::memory::{PAGE, is_blank};
 use byteorder::{BigEndian, ByteOrder};
-use host_heap::Block;
 use m68_isa::Regs68;
 use mix_bits::Isa;
 use mix_engine::Machine;
 use mix_io::{Failed, Keeper};
 use ppc_isa::RegsPpc;
 use switch_frame::Active;
+use toolbox::Block;
 
 /// Keeps the spelling of a whole machine behind what was kept by this name, or a beginning of it where the keeper fails. It
 /// takes no memory.

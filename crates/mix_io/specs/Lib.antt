@@ -7,3 +7,6 @@ pub mod Memory
 pub mod Texts
 pub mod Told
 pub mod Streams
+pub mod Slots
+pub mod Rack
+pub mod Accounts

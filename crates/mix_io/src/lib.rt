@@ -1,10 +1,15 @@
 //! What the machine meets of the world outside it: files, input, output, devices and what is kept, by five traits,
 //! each with objects in memory for tests and for closed runs, and, but for devices, with adapters over std.
+//!
+//! Devices stand in numbered slots, with a journal of all asks. The layers above take any type with the trait
+//! `Devices`; a `Rack` of boxed devices is the one that a program makes.
 #![tactic(auto)]
 
+mod answers;
 mod conversation;
 mod counter;
 mod counts;
+mod devices;
 mod errors;
 mod file_keep;
 mod file_shelf;
@@ -13,23 +18,28 @@ mod memory_keep;
 mod memory_shelf;
 mod memory_sink;
 mod memory_source;
+mod rack;
 mod script_device;
+mod slots;
 mod std_sink;
 mod std_source;
 mod tape;
 mod traits;
 mod write;
 
+pub use answers::{Answer, Asked};
 pub use counter::Counter;
+pub use devices::Devices;
 pub use errors::{Failed, FetchError};
 pub use file_keep::FileKeep;
 pub use file_shelf::FileShelf;
-pub use laws::{keeper_laws, stream_laws};
+pub use laws::{journal_laws, keeper_laws, stream_laws};
 pub use memory_keep::MemKeep;
 pub use memory_shelf::{MemShelf, have_distinct_names};
 pub use memory_sink::MemSink;
 pub use memory_source::MemSource;
 pub use mix_bits::NoMemory;
+pub use rack::Rack;
 pub use script_device::ScriptDevice;
 pub use std_sink::StdSink;
 pub use std_source::StdSource;

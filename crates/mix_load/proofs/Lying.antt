@@ -10,8 +10,8 @@ use Rattle.big_memory.specs.Memory.{floor_of}
 use Rattle.pef_head.specs.declared.error.PefError.{PefError}
 use Rattle.pef_head.specs.Container.{instantiated_count}
 use Rattle.pef_head.specs.Refusals.{refusal_of}
-use Rattle.file_fields.specs.Search.{◌or◌, least, refused}
-use Rattle.file_fields.proofs.Searches.{fails_below}
+use Rattle.mix_bits.specs.Search.{◌or◌, least, refused}
+use Rattle.mix_bits.proofs.Searches.{fails_below}
 use Rattle.rsrc_fork.specs.declared.error.RsrcError.{RsrcError}
 use Rattle.rsrc_fork.specs.References.{resources_of}
 use Rattle.rsrc_fork.specs.Resources.{Resource}

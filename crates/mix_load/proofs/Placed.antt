@@ -6,7 +6,7 @@ use Rattle.pef_head.specs.Container.{instantiated_count}
 use Rattle.pef_head.specs.declared.error.PefError.{PefError}
 use Rattle.pef_head.specs.Refusals.{refusal_of}
 use Rattle.mix_load.specs.declared.error.LoadError.TheVariants.{Pef}
-use Rattle.file_fields.specs.Search.{◌or◌}
+use Rattle.mix_bits.specs.Search.{◌or◌}
 use Rattle.mix_load.specs.declared.error.LoadError.{LoadError}
 use Rattle.mix_load.specs.declared.image.Image.{Image}
 use Rattle.mix_load.specs.Pieces.{with_pieces}

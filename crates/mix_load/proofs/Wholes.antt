@@ -12,7 +12,7 @@ use Rattle.mix_load.specs.declared.image.Image.{Image}
 use Rattle.mix_bits.specs.Multiples.{rounded_up}
 use Rattle.mix_load.specs.Segments.{a5_of, entry_count, header_of, segment_pieces, segment_places, segments_end, segments_start, table_pieces, table_start}
 use Rattle.std.proofs.lemmas.Bool.Decides.{nat_tests}
-use Rattle.file_fields.specs.Search.{refused}
+use Rattle.mix_bits.specs.Search.{refused}
 use Rattle.mix_load.specs.declared.error.LoadError.TheVariants.{TooLarge}
 use Rattle.mix_load.specs.ForkImage.{HasRoom, too_large, fork_end, fork_image}
 use Rattle.mix_load.specs.Load.{flat_entry, flat_image}

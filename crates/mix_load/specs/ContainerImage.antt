@@ -7,7 +7,7 @@ use Rattle.pef_head.specs.declared.error.PefError.{PefError}
 use Rattle.pef_head.specs.Container.{instantiated_count}
 use Rattle.pef_head.specs.Parts.{import_count}
 use Rattle.pef_head.specs.Refusals.{refusal_of}
-use Rattle.file_fields.specs.Search.{◌or◌, refused, least}
+use Rattle.mix_bits.specs.Search.{◌or◌, refused, least}
 use Rattle.mix_load.specs.declared.error.LoadError.{LoadError}
 use Rattle.mix_load.specs.declared.error.LoadError.TheVariants.{Pef, Reloc, Unresolved, NoMain}
 use Rattle.mix_load.specs.declared.image.Image.{Image}

@@ -1,7 +1,7 @@
 -- A resource fork as a program in memory, or why it is refused.
 use Rattle.std.specs.Prelude.{ℕ, ◌+◌, ◌≤◌, pos, not, nat_lt, List, Option, Some, None, option_map, Result, Ok, Err}
 use Rattle.big_memory.specs.Memory.{Memory, floor_of}
-use Rattle.file_fields.specs.Search.{◌or◌, refused, any_below, least}
+use Rattle.mix_bits.specs.Search.{◌or◌, refused, any_below, least}
 use Rattle.rsrc_fork.specs.declared.error.RsrcError.{RsrcError}
 use Rattle.rsrc_fork.specs.Resources.{Resource}
 use Rattle.rsrc_fork.specs.References.{resources_of}

@@ -4,7 +4,7 @@ use Rattle.std.specs.Prelude.{◌≡◌, ◌<◌, ◌^◌, length, ℕ, zero, su
 use Rattle.big_memory.specs.Lists.{part}
 use Rattle.pef_head.specs.Container.{instantiated_count, is_pattern}
 use Rattle.pef_head.specs.Parts.{SectionParts, ImportParts, section_at, import_of, import_count, main_of, relocs_of}
-use Rattle.file_fields.specs.Search.{◌or◌}
+use Rattle.mix_bits.specs.Search.{◌or◌}
 use Rattle.pef_reloc.specs.declared.error.RelocError.{RelocError}
 use Rattle.pef_reloc.specs.Additions.{Sources}
 use Rattle.pef_reloc.specs.Pattern.{unpacked}

@@ -7,7 +7,7 @@
 -- number of a segment, and $A9F0. The segments are the CODEs above 0, each with a header of 4 bytes.
 use Rattle.std.specs.Prelude.{ℕ, zero, suc, ◌+◌, ◌*◌, ◌≤◌, ◌<◌, ◌/◌, ◌%◌, ◌^◌, slice_index, pos, Bool, false, not, ◌==◌, ◌&&◌, ◌||◌, nat_lt, nat_le, if◌then◌else◌, List, [], ◌∷◌, length, Option, Some, None, is_some}
 use Rattle.std.specs.Option.{option_map_or}
-use Rattle.file_fields.specs.Fields.{word_at, long_at}
+use Rattle.mix_bits.specs.Fields.{word_at, long_at}
 use Rattle.rsrc_fork.specs.Resources.{Resource, bytes_of, named}
 use Rattle.switch_frame.specs.Pieces.{Piece, piece, long_piece}
 use Rattle.switch_frame.specs.Program.{program_start}

@@ -2,7 +2,7 @@
 ghost use Rattle.std.specs.Prelude.{◌≡◌, ℕ, ◌+◌, ◌^◌, ◌≤◌, ◌&&◌, is_none, length, take, IfOk, IfSome, OnOk};
 ghost use Rattle.std.specs.Result.{result_err};
 ghost use Rattle.pef_head.specs.Container.{instantiated_count};
-ghost use Rattle.file_fields.specs.Search.{◌or◌, refused};
+ghost use Rattle.mix_bits.specs.Search.{◌or◌, refused};
 ghost use Rattle.mix_load.specs.ContainerImage.{imports_refusal, is_ppc, patterns_of, relocations_refusal, with_container, with_sections};
 ghost use Rattle.mix_load.specs.Loaded.{IsImage};
 ghost use Rattle.mix_load.specs.Outcome.{Finds, Gives};

@@ -2,8 +2,7 @@ ghost use Rattle.std.specs.Prelude.{IsTrue, ◌≡◌, ◌+◌, ◌^◌, ◌≤�
 ghost use Rattle.mix_load.specs.Segments.{HasTable, a5_of, has_table, header_of, segments_start, table_start};
 
 use crate::image::PROGRAM_START;
-use file_fields::long_at;
-use mix_bits::round_up;
+use mix_bits::{long_at, round_up};
 
 /// What CODE 0 says of the world of A5: its sizes in bytes, and the jump table in it.
 #[derive(Clone, Copy)]

@@ -1,7 +1,7 @@
 //! The imports of a container: transition vectors of the host's functions.
 ghost use Rattle.std.specs.Prelude.{◌≡◌, ℕ, ◌^◌, ◌<◌, ◌≤◌, length, option_map, slice_index, IfOk};
 ghost use Rattle.pef_head.specs.Parts.{import_count, import_of, library_of, names};
-ghost use Rattle.file_fields.specs.Search.{least};
+ghost use Rattle.mix_bits.specs.Search.{least};
 ghost use Rattle.mix_load.specs.ContainerImage.{imports_refusal};
 ghost use Rattle.mix_load.specs.Outcome.{Finds};
 ghost use Rattle.mix_load.specs.Sections.{import_address, import_addresses, is_missing};
@@ -36,7 +36,7 @@ fn import_at(pef: &Pef, i: u32, owner: u32) -> Option<u32>
 }
 
 /// The addresses of the first imports, by the numbers of their libraries.
-#[tactic(auto, using(file_fields::proofs::Searches::least_at))]
+#[tactic(auto, using(mix_bits::proofs::Searches::least_at))]
 fn addresses_of(alloc: Global, pef: &Pef, owners: &[u32], count: u32) -> Result<Vec<u32>, LoadError>
     requires below { count ≤ import_count pef.now }
     requires owners { (i : ℕ) → i < import_count pef.now → slice_index owners.now i ≡ library_of pef.now i }

@@ -2,7 +2,7 @@
 ghost use Rattle.std.specs.Prelude.{◌≡◌, ◌+◌, ◌^◌, ◌≤◌, ◌<◌, [], false, length, option_map, IfSome, IfOk};
 ghost use Rattle.std.specs.Result.{result_err};
 ghost use Rattle.std.specs.Option.{option_map_or};
-ghost use Rattle.file_fields.specs.Search.{◌or◌, any_below, least, refused};
+ghost use Rattle.mix_bits.specs.Search.{◌or◌, any_below, least, refused};
 ghost use Rattle.mix_load.specs.ForkImage.{segments_refusal};
 ghost use Rattle.mix_bits.specs.Multiples.{rounded_up};
 ghost use Rattle.mix_load.specs.Pieces.{with_pieces};
@@ -10,8 +10,7 @@ ghost use Rattle.mix_load.specs.Segments.{added_segment, code_at, is_far, is_far
 
 use crate::error::LoadError;
 use big_memory::Ram;
-use file_fields::word_at;
-use mix_bits::round_up;
+use mix_bits::{round_up, word_at};
 use rsrc_fork::Fork;
 use std::alloc::{AllocError, Global};
 

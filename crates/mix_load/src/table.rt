@@ -1,7 +1,7 @@
 //! The jump table, which stands in CODE 0 and is loaded into the world above A5.
 ghost use Rattle.std.specs.Prelude.{◌≡◌, ◌+◌, ◌*◌, ◌^◌, ◌≤◌, ◌<◌, length, IfSome, OnOk};
 ghost use Rattle.std.specs.Result.{result_err};
-ghost use Rattle.file_fields.specs.Search.{least};
+ghost use Rattle.mix_bits.specs.Search.{least};
 ghost use Rattle.mix_load.specs.ForkImage.{table_refusal};
 ghost use Rattle.mix_load.specs.Pieces.{with_pieces};
 ghost use Rattle.mix_load.specs.Segments.{HasTable, entry_count, entry_place, header_of, is_bad_entry, is_unloaded, jump_target, offset_in, reaches, segment_at, segment_in, table_pieces, table_start};
@@ -10,7 +10,7 @@ use crate::error::LoadError;
 use crate::header::{has_table, read_header, table_start};
 use crate::segments::segment_at;
 use big_memory::Ram;
-use file_fields::word_at;
+use mix_bits::word_at;
 use rsrc_fork::Fork;
 
 /// The words of an entry whose segment is not loaded: $3F3C pushes the segment's number, and $A9F0 is the
@@ -79,7 +79,7 @@ pub fn is_bad_entry(fork: &Fork, code0: &[u8], i: u32) -> bool
 }
 
 /// The first entry that cannot be loaded.
-#[tactic(auto, using(file_fields::proofs::Searches::least_at))]
+#[tactic(auto, using(mix_bits::proofs::Searches::least_at))]
 fn bad_entry(fork: &Fork, code0: &[u8], count: u32) -> Option<u32>
     requires within { entry_place count ≤ length code0.now }
     requires few { count < 2 ^ 24 }

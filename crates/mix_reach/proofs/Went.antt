@@ -32,17 +32,17 @@ use Rattle.ppc_effects.specs.Effects.{at_gate_page, runs as runs_ppc, runs_decod
 use Rattle.ppc_effects.specs.Storage.{after_load}
 use Rattle.proc_info.specs.declared.param.Param.{Param}
 use Rattle.proc_info.specs.Signature.{Signature, signature_in}
-use Rattle.routine_desc.specs.Build.{image}
-use Rattle.routine_desc.specs.Layout.{mixed_mode_magic}
-use Rattle.args_m68.specs.declared.places.Place.{Place}
-use Rattle.args_m68.specs.declared.places.Place.TheVariants.{Data, Address}
-use Rattle.args_m68.specs.declared.places.Route.{Route}
-use Rattle.args_m68.specs.declared.places.Route.TheVariants.{PascalStack, CStack, Registers}
-use Rattle.args_m68.specs.Gather.{values_at as values_at_68k}
-use Rattle.args_m68.specs.Places.{next_base, place_of, result_place, route_of, widths}
-use Rattle.args_m68.specs.Results.{after_call, with_result as with_result_68k}
-use Rattle.args_m68.specs.Values.{Given as Given68, above_sp, put_at, value_at as value_at_68k}
-use Rattle.args_ppc.specs.Words.{value_at as value_at_ppc, values_at as values_at_ppc}
+use Rattle.proc_info.specs.Build.{image}
+use Rattle.proc_info.specs.Layout.{mixed_mode_magic}
+use Rattle.call_args.specs.declared.m68_places.Place.{Place}
+use Rattle.call_args.specs.declared.m68_places.Place.TheVariants.{Data, Address}
+use Rattle.call_args.specs.declared.m68_places.Route.{Route}
+use Rattle.call_args.specs.declared.m68_places.Route.TheVariants.{PascalStack, CStack, Registers}
+use Rattle.call_args.specs.Gather68.{values_at as values_at_68k}
+use Rattle.call_args.specs.Places68.{next_base, place_of, result_place, route_of, widths}
+use Rattle.call_args.specs.Results68.{after_call, with_result as with_result_68k}
+use Rattle.call_args.specs.Values68.{Given as Given68, above_sp, put_at, value_at as value_at_68k}
+use Rattle.call_args.specs.WordsPpc.{value_at as value_at_ppc, values_at as values_at_ppc}
 use Rattle.switch_frame.specs.declared.active.Active.{Active}
 use Rattle.switch_frame.specs.declared.active.Active.TheVariants.{M68, Ppc}
 use Rattle.switch_frame.specs.declared.full.Full.{Full}
@@ -60,9 +60,9 @@ use Rattle.mode_switch.specs.Passed.{Passage, behind, entry_at, gathered, passed
 use Rattle.mode_switch.specs.Returned.{Given, Returned, given_back, put_result, result_at}
 use Rattle.mode_switch.specs.Wanted.{Crossing, Want, passed_selector, wants_68k, wants_ppc}
 use Rattle.mode_switch.specs.Wanted.Want.{Calls, Jumps, Refuses}
-use Rattle.host_heap.specs.Space.{HasNone, IsLowest, Space, block_limit, rounded}
-use Rattle.host_heap.proofs.Lowest.{lowest_fit-lowest}
-use Rattle.host_heap.specs.Place.{place_for, taken, lowest_fit}
+use Rattle.toolbox.specs.Space.{HasNone, IsLowest, Space, block_limit, rounded}
+use Rattle.toolbox.proofs.Lowest.{lowest_fit-lowest}
+use Rattle.toolbox.specs.Place.{place_for, taken, lowest_fit}
 use Rattle.toolbox.specs.declared.function.Function.{Function}
 use Rattle.toolbox.specs.declared.function.Function.TheVariants.{NewRoutineDescriptor, NewFatRoutineDescriptor, DisposeRoutineDescriptor, CallUniversalProc, NewPtr, NewPtrClear, DisposePtr, BlockMove, ExitToShell, PutByte, GetByte, PutBlock, AskDevice, EjectDevice, ExitWith, UnloadSeg}
 use Rattle.toolbox.specs.declared.values.Operands.{Operands}

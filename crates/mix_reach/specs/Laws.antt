@@ -1,7 +1,7 @@
 -- What a step of a whole machine leaves of its memory.
 use Rattle.std.specs.Prelude.{◌≡◌, ◌⊎◌, ℕ, Some}
-use Rattle.host_heap.specs.Space.{Space}
-use Rattle.host_heap.specs.Place.{freed, place_for, taken}
+use Rattle.toolbox.specs.Space.{Space}
+use Rattle.toolbox.specs.Place.{freed, place_for, taken}
 use Rattle.switch_frame.specs.declared.active.Active.{Active}
 use Rattle.switch_frame.specs.Records.{isa_of}
 use Rattle.toolbox.specs.Effects.{Around}

@@ -9,8 +9,7 @@ ghost use Rattle.mix_reach.specs.Steps.{word_decoded};
 
 use crate::reach::{Reach, range};
 use mix_bits::onward;
-use ppc_alu::xer_string_length;
-use ppc_effects::base;
+use ppc_effects::{base, xer_string_length};
 use ppc_isa::{OpPpc, RegsPpc, a_of, b_of, offset_of, op_of, shift_of, string_length};
 
 /// Where the instruction of a word stores, if it is done; None where it stores nowhere.

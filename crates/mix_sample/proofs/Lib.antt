@@ -1,3 +1,4 @@
 pub mod Alone
 pub mod Loading
 pub mod Counting
+pub mod Images

@@ -6,11 +6,11 @@ ghost use Rattle.mixed_machine.specs.Machine.{IsWhole, callers_of, flat};
 ghost use Rattle.mix_sample.specs.Samples.{IsSample, CountedRun, Steps, nothing, sample_program, sample_ram, sample_steps};
 
 use super::nothing::{NoDevices, NoInput, Nowhere};
+use super::sample;
 use super::sampled::Sampled;
 use call_trace::End;
 use mix_bits::{Isa, NoMemory};
 use mix_engine::{Machine, Stop, run};
-use mix_gen::sample;
 use mix_load::{LoadError, load};
 use std::alloc::Global;
 use switch_frame::{Program, depth as live_frames};

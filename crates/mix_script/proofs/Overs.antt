@@ -1,7 +1,7 @@
 -- Claims on the sessions that a debugger stands for, one after the other.
 use Rattle.std.proofs.Common.{[], ◌++◌, Option, None, sym, subst}
 use Rattle.mix_io.specs.Streams.{Output}
-use Rattle.dev_rack.proofs.Steps.{accounts-join, accounts-none}
+use Rattle.mix_io.proofs.Steps.{accounts-join, accounts-none}
 use Rattle.toolbox.specs.Calls.{Outside, answers_since}
 use Rattle.toolbox.specs.Effects.{Around}
 use Rattle.toolbox.specs.Blames.{BlamesOnly}

@@ -8,7 +8,7 @@ use Rattle.switch_frame.specs.Records.{isa_of}
 use Rattle.switch_frame.proofs.Seen.{seen_is_memory}
 use Rattle.toolbox.specs.Calls.{Outside}
 use Rattle.toolbox.specs.Effects.{Around}
-use Rattle.dev_rack.specs.Accounts.{Accounts}
+use Rattle.mix_io.specs.Accounts.{Accounts}
 use Rattle.toolbox.specs.Blames.{BlamesOnly}
 use Rattle.mixed_machine.specs.Counts.{Blames}
 use Rattle.mixed_machine.specs.Exec.{GoesTo, Leads, Reads, Says, Tells, exec_to, goes_on, is_back, line_of, log, log_then, rests, said_of}

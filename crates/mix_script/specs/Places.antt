@@ -1,15 +1,15 @@
 -- A debugger in memory beside the outside, and claims on the sessions that it stands for.
 use Rattle.std.specs.Prelude.{ℕ, List, Option, Some, None, Result, Ok, Err}
 use Rattle.mix_io.specs.Streams.{Output}
-use Rattle.dev_rack.specs.Accounts.{Accounts}
-use Rattle.dev_rack.specs.Rack.{State as Rack}
+use Rattle.mix_io.specs.Accounts.{Accounts}
+use Rattle.mix_io.specs.Rack.{State as Rack}
 use Rattle.toolbox.specs.Blames.{BlamesOnly, Counts}
 use Rattle.toolbox.specs.Calls.{Outside, counts_beside}
 use Rattle.mixed_machine.specs.Outside.{Between, around_at}
 use Rattle.mixed_machine.specs.Runs.{Sinks}
 use Rattle.mix_debug.specs.Trails.{Trail}
-use Rattle.mix_steps.specs.Beside.{outside_lent, trace_lent}
-use Rattle.mix_steps.specs.declared.outside.Outside.{Outside as Lent}
+use Rattle.mix_engine.specs.Beside.{outside_lent, trace_lent}
+use Rattle.mix_engine.specs.declared.outside.Outside.{Outside as Lent}
 use Rattle.mix_script.specs.Sessions.{Session, session_of}
 use Rattle.toolbox.specs.declared.broken.Broken.{Broken}
 

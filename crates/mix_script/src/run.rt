@@ -1,6 +1,6 @@
 // The commands of a script, one after the other.
 ghost use Rattle.std.specs.Prelude.{◌≡◌, length};
-ghost use Rattle.mix_steps.specs.Beside.{AreSame};
+ghost use Rattle.mix_engine.specs.Beside.{AreSame};
 ghost use Rattle.mix_script.specs.Events.{events_of, forward, told, told_behind};
 ghost use Rattle.mix_script.specs.Places.{place_beside, stop_in};
 ghost use Rattle.mix_script.specs.Plays.{Does, Plays};
@@ -9,10 +9,9 @@ use crate::command::Command;
 use crate::script::Script;
 use crate::texts::{tell_answer, tell_crawl, tell_end, tell_place};
 use crate::walk::{Until, Walked, live, walk_back, walk_forward};
-use dev_rack::Devices;
 use mix_debug::Debug;
-use mix_io::{Sink, Source};
-use mix_steps::Outside;
+use mix_engine::Outside;
+use mix_io::{Devices, Sink, Source};
 use toolbox::Broken;
 
 /// Does the commands of a script, one after the other, and puts their texts among the lines of the steps; where the outside

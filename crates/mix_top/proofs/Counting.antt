@@ -4,8 +4,8 @@ use Rattle.std.specs.Prelude.{IsSomeAnd, MatchBool}
 use Rattle.mix_bits.specs.declared.isa.Isa.{Isa}
 use Rattle.mix_io.specs.Counts.{CountRose, CountsStay, Rose}
 use Rattle.mix_io.specs.Streams.{Output as Sink, Breaks}
-use Rattle.dev_rack.specs.Accounts.{Accounts}
-use Rattle.dev_rack.proofs.Steps.{accounts-none}
+use Rattle.mix_io.specs.Accounts.{Accounts}
+use Rattle.mix_io.proofs.Steps.{accounts-none}
 use Rattle.toolbox.specs.declared.broken.Broken.{Broken}
 use Rattle.toolbox.specs.declared.broken.Broken.TheVariants.{Input, Output, Trace}
 use Rattle.toolbox.specs.Blames.{BlamesOnly, Counts}

@@ -1,7 +1,7 @@
 -- How a script's events make up a way to end.
 use Rattle.std.proofs.Common.{◌≡◌, ℕ, List, [], ◌++◌, Option, Some, None, Result, Err, subst, refl}
 use Rattle.mix_io.specs.Streams.{Output as Sink}
-use Rattle.dev_rack.specs.Accounts.{Accounts}
+use Rattle.mix_io.specs.Accounts.{Accounts}
 use Rattle.switch_frame.specs.declared.program.Program.{Program}
 use Rattle.toolbox.specs.Calls.{Outside, answers_since}
 use Rattle.toolbox.specs.Effects.{Around}

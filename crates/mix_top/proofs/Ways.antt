@@ -40,7 +40,7 @@ use Rattle.mix_load.specs.Outcome.{Gives}
 use Rattle.mix_load.specs.declared.files.Files.{Files}
 use Rattle.mix_load.specs.declared.error.LoadError.{LoadError}
 use Rattle.mix_load.specs.declared.error.LoadError.TheVariants.{NoMemory}
-use Rattle.dev_rack.specs.Accounts.{Accounts}
+use Rattle.mix_io.specs.Accounts.{Accounts}
 use Rattle.mix_io.specs.declared.errors.Failed.{Failed as Failure}
 use Rattle.mix_engine.specs.declared.machine.Machine.{Machine}
 use Rattle.mix_image.specs.Restoring.{IsRestored}
@@ -48,11 +48,11 @@ use Rattle.mix_image.specs.Spelling.{HasSpelling, spell}
 use Rattle.mix_image.specs.declared.error.ImageError.{ImageError}
 use Rattle.mix_top.specs.Lines.{Refusal, load_line, load_refusal, memory_line, refused_line, refused_status, words_line}
 use Rattle.mix_top.specs.World.{Beside, Keep, World, Accounted, Closes, Contents, Early, EndsIn, NoneRose, OnlyPuts, PutsText, beside}
-use Rattle.mix_steps.specs.Does.{beside as sinks_beside}
+use Rattle.mix_engine.specs.Does.{beside as sinks_beside}
 use Rattle.mix_top.specs.Files.{AreFiles, IsNamed, bytes_in, ram_size}
-use Rattle.mix_assemble.specs.Assembling.{IsAssembled}
-use Rattle.mix_assemble.specs.Parts.{OfBytes}
-use Rattle.mix_assemble.specs.declared.refused.Refused.{Refused}
+use Rattle.mix_text.specs.Assembling.{IsAssembled}
+use Rattle.mix_text.specs.Parts.{OfBytes}
+use Rattle.mix_text.specs.declared.refused.Refused.{Refused}
 use Rattle.mix_top.specs.Assembling.{AssembleWay, line_refusal}
 use Rattle.mix_top.specs.Assembling.AssembleWay.{assembled, line_refused}
 use Rattle.mix_top.specs.declared.files.Fetched.{Fetched}

@@ -1,10 +1,10 @@
 -- The ways in which a text of lines is assembled.
 use Rattle.std.specs.Prelude.{ℕ, pos, List, codes, Ok, Err}
 use Rattle.mix_bits.specs.declared.isa.Isa.{Isa}
-use Rattle.mix_assemble.specs.Assembling.{IsAssembled}
-use Rattle.mix_assemble.specs.declared.refused.Reason.{Reason}
-use Rattle.mix_assemble.specs.declared.refused.Reason.TheVariants.{Address, Name, Operands}
-use Rattle.mix_assemble.specs.declared.refused.Refused.{Refused}
+use Rattle.mix_text.specs.Assembling.{IsAssembled}
+use Rattle.mix_text.specs.declared.refused.Reason.{Reason}
+use Rattle.mix_text.specs.declared.refused.Reason.TheVariants.{Address, Name, Operands}
+use Rattle.mix_text.specs.declared.refused.Refused.{Refused}
 use Rattle.mix_top.specs.Lines.{Refusal, load_line, refusal}
 use Rattle.mix_top.specs.World.{Beside, Early, Listed}
 

@@ -7,7 +7,7 @@ use Rattle.std.specs.Result.{result_ok}
 use Rattle.mix_io.specs.Streams.{Output}
 use Rattle.switch_frame.specs.declared.program.Program.{Program}
 use Rattle.mix_engine.specs.Start.{start_of}
-use Rattle.mix_list.specs.Listing.{listing}
+use Rattle.mix_text.specs.Listing.{listing}
 use Rattle.mix_load.specs.Load.{load_of}
 use Rattle.mix_load.specs.declared.error.LoadError.{LoadError}
 use Rattle.mix_load.specs.declared.files.Files.{Files}

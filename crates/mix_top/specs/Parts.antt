@@ -6,12 +6,12 @@ use Rattle.mix_io.specs.Streams.{Output}
 use Rattle.mix_io.specs.declared.errors.Failed.{Failed as Failure}
 use Rattle.mix_io.specs.declared.errors.FetchError.{FetchError}
 use Rattle.mix_io.specs.declared.errors.FetchError.TheVariants.{NoMemory as NoRoom, Failed, TooLong}
-use Rattle.dev_rack.specs.Rack.{State}
+use Rattle.mix_io.specs.Rack.{State}
 use Rattle.mixed_machine.specs.Exec.How.{Limited, Exited, Faulted}
 use Rattle.mixed_machine.specs.declared.stop.Stop.{Stop}
 use Rattle.mixed_machine.specs.declared.stop.Stop.TheVariants.{Exit, Fault, Limit, ReadFault, OutFault, TraceFault}
-use Rattle.mix_steps.specs.Beside.{outside_lent, trace_lent}
-use Rattle.mix_steps.specs.declared.outside.Outside.{Outside}
+use Rattle.mix_engine.specs.Beside.{outside_lent, trace_lent}
+use Rattle.mix_engine.specs.declared.outside.Outside.{Outside}
 use Rattle.call_trace.specs.Lines.{end_line}
 use Rattle.job_words.specs.Jobs.{job_in, limit_of, place_in, wanted_among}
 use Rattle.job_words.specs.Words.{name_at}

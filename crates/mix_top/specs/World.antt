@@ -2,7 +2,7 @@
 use Rattle.std.specs.Prelude.{◌≡◌, ℕ, ◌==◌, ◌⊎◌, List, [], ◌++◌, MatchBool, Option, IsSomeAnd}
 use Rattle.mix_io.specs.Counts.{CountRose, CountsStay, Rose}
 use Rattle.mix_io.specs.Streams.{Output, Grows, Breaks, StopsWithin}
-use Rattle.dev_rack.specs.Accounts.{Accounts}
+use Rattle.mix_io.specs.Accounts.{Accounts}
 use Rattle.toolbox.specs.Calls.{Outside}
 
 -- the files of a shelf by their names, where it tells them

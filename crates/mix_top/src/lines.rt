@@ -8,10 +8,10 @@ ghost use Rattle.mix_top.specs.Continuing.{image_refusal};
 
 use itoa::Buffer;
 use job_words::Key;
-use mix_assemble::{Reason, Refused};
 use mix_bits::{File, Line};
 use mix_image::ImageError;
 use mix_load::LoadError;
+use mix_text::{Reason, Refused};
 use pef_head::PefError;
 use pef_reloc::RelocError;
 use rsrc_fork::RsrcError;

@@ -1,8 +1,8 @@
 // A listing of a program, from its files to its last line.
 ghost use Rattle.job_words.specs.Jobs.{IsProperJob};
-ghost use Rattle.mix_list.specs.Listing.{listing};
+ghost use Rattle.mix_text.specs.Listing.{listing};
 ghost use Rattle.mix_load.specs.Load.{AreLoadable};
-ghost use Rattle.mix_steps.specs.Beside.{AreSame};
+ghost use Rattle.mix_engine.specs.Beside.{AreSame};
 ghost use Rattle.mix_io.specs.Streams.{output};
 ghost use Rattle.mix_top.specs.World.{EndsIn, Keep, PutsText};
 ghost use Rattle.mix_top.specs.Ends.{ListsWay};
@@ -11,13 +11,12 @@ ghost use Rattle.mix_top.specs.Parts.{beside_lent};
 use super::close::close_unloaded;
 use super::status::{OUTPUT_FAILED, SUCCESS};
 use big_memory::Ram;
-use dev_rack::Devices;
 use job_words::Job;
 use mix_bits::Isa;
-use mix_io::{Sink, Source};
-use mix_list::list;
+use mix_engine::Outside;
+use mix_io::{Devices, Sink, Source};
 use mix_load::{Files, load};
-use mix_steps::Outside;
+use mix_text::list;
 use std::alloc::Global;
 
 /// Where a listing begins, and how many instructions it has at most.

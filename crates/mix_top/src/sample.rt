@@ -1,6 +1,6 @@
 // The sample, from its run to its line.
 ghost use Rattle.std.specs.Prelude.{◌≡◌, ◌+◌, ◌≤◌, ◌++◌, length};
-ghost use Rattle.mix_steps.specs.Beside.{AreSame};
+ghost use Rattle.mix_engine.specs.Beside.{AreSame};
 ghost use Rattle.mix_io.specs.Streams.{output};
 ghost use Rattle.mix_top.specs.World.{EndsIn, Keep, PutsText};
 ghost use Rattle.mix_top.specs.SampleLine.{counted, exit_text, fault_text, sample_head, sample_line};
@@ -10,11 +10,10 @@ ghost use Rattle.mix_top.specs.Parts.{beside_lent};
 use super::close::close_without_memory;
 use super::status::{FAULTED, LIMIT_REACHED, OUTPUT_FAILED, SUCCESS};
 use call_trace::{End, fault_name};
-use dev_rack::Devices;
 use mix_bits::{Fault, Line};
-use mix_io::{Sink, Source};
+use mix_engine::Outside;
+use mix_io::{Devices, Sink, Source};
 use mix_sample::{Sampled, run_sample};
-use mix_steps::Outside;
 use std::alloc::Global;
 
 /// Runs the sample image, and writes what it did.

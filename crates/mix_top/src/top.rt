@@ -3,7 +3,7 @@ ghost use Rattle.std.specs.String.{string_bytes};
 ghost use Rattle.toolbox.specs.Calls.{outside as outside_of};
 ghost use Rattle.job_words.specs.Jobs.{IsProper, IsProperJob, NamesSave, job_in};
 ghost use Rattle.job_words.specs.Words.{command_of};
-ghost use Rattle.mix_steps.specs.Beside.{AreSame};
+ghost use Rattle.mix_engine.specs.Beside.{AreSame};
 ghost use Rattle.mix_io.specs.Streams.{output};
 ghost use Rattle.mix_top.specs.World.{EndsIn, beside, counting, keeping, world};
 ghost use Rattle.mix_top.specs.Ends.{Ends, FilesWay, saved_by};
@@ -19,10 +19,9 @@ use super::list::{Span, list_files};
 use super::run::run_files;
 use super::sample::write_sample;
 use super::status::BAD_WORDS;
-use dev_rack::Devices;
 use job_words::{Command, file_name, read_words};
-use mix_io::{Keeper, Shelf, Sink, Source};
-use mix_steps::Outside;
+use mix_engine::Outside;
+use mix_io::{Devices, Keeper, Shelf, Sink, Source};
 use std::alloc::Global;
 
 /// All that the program does, over words and six objects of the outside. The answer is the status of the

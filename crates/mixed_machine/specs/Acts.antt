@@ -3,7 +3,7 @@ use Rattle.std.specs.Prelude.{◌≡◌, ℕ, ◌∷◌, List, [], Option, None,
 use Rattle.mix_bits.specs.declared.fault.Fault.{Fault as AFault}
 use Rattle.mix_io.specs.Streams.{Grows, Breaks}
 use Rattle.switch_frame.specs.Records.{Record, isa_of}
-use Rattle.dev_rack.specs.Accounts.{Accounts}
+use Rattle.mix_io.specs.Accounts.{Accounts}
 use Rattle.toolbox.specs.declared.broken.Broken.{Broken}
 use Rattle.toolbox.specs.declared.broken.Broken.TheVariants.{Input, Output, Trace}
 use Rattle.toolbox.specs.Blames.{BlamesOnly}

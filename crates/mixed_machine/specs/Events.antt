@@ -1,7 +1,7 @@
 -- Laws of a run of a machine in memory, one event at a time.
 use Rattle.std.specs.Prelude.{ℕ, ◌+◌, ◌-◌, ◌<◌, ◌≤◌, length}
 use Rattle.mix_bits.specs.declared.fault.Fault.{Fault as AFault}
-use Rattle.dev_rack.specs.Accounts.{Accounts}
+use Rattle.mix_io.specs.Accounts.{Accounts}
 use Rattle.mixed_machine.specs.declared.did.Did.{Did}
 use Rattle.mixed_machine.specs.declared.did.Did.TheVariants.{Next as IsNext, Call, Return, Exit, Fault, ReadFault, OutFault, TraceFault}
 use Rattle.mixed_machine.specs.declared.stop.Stop.{Stop}

@@ -9,8 +9,8 @@ use Rattle.mixed_machine.specs.Exec.How.{Limited}
 use Rattle.mixed_machine.specs.Exec.End.{Back, Ended}
 use Rattle.mixed_machine.specs.Outside.{At, TookAll, ToldAll}
 use Rattle.mixed_machine.specs.Runs.{Runs}
-use Rattle.dev_rack.specs.Accounts.{Accounts}
-use Rattle.dev_rack.specs.Rack.{State as Rack}
+use Rattle.mix_io.specs.Accounts.{Accounts}
+use Rattle.mix_io.specs.Rack.{State as Rack}
 use Rattle.toolbox.specs.Calls.{Taken, answers_since}
 
 -- no steps lead only to where they began

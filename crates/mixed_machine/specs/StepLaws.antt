@@ -1,7 +1,7 @@
 -- Laws of single steps: what a step may change beside the registers, the memory and what is around, and what no trap does.
 use Rattle.std.specs.Prelude.{◌≡◌, ◌≢◌, ℕ, ◌⊎◌, true, List, ◌∷◌, Some}
-use Rattle.host_heap.specs.Space.{Space}
-use Rattle.host_heap.specs.Place.{begins_at, freed, place_for, taken}
+use Rattle.toolbox.specs.Space.{Space}
+use Rattle.toolbox.specs.Place.{begins_at, freed, place_for, taken}
 use Rattle.switch_frame.specs.Records.{Record}
 use Rattle.toolbox.specs.Functions.{trap_number}
 use Rattle.toolbox.specs.Host.{Host, host}

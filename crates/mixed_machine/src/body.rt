@@ -1,7 +1,7 @@
 use big_memory::Ram;
-use host_heap::Heap;
 use m68_isa::Operations;
 use mix_bits::Isa;
+use toolbox::Heap;
 
 /// What a machine keeps beside the registers of the active set. Its suspended callers stand in RAM.
 #[derive(Drop)]

@@ -14,16 +14,16 @@ use Rattle.big_memory.specs.Memory.{Memory, loaded}
 use Rattle.proc_info.specs.declared.bad_info.BadInfo.{BadInfo}
 use Rattle.proc_info.specs.Codes.{bad_info_code, is_dispatched}
 use Rattle.proc_info.specs.Signature.{Signature, signature_of}
-use Rattle.routine_desc.specs.declared.record.BadDesc.{BadDesc}
-use Rattle.routine_desc.specs.declared.record.BadDesc.TheVariants.{Access as IsAccess}
-use Rattle.routine_desc.specs.Codes.{bad_desc_code}
-use Rattle.routine_desc.specs.Layout.{Routine, has_flag, mixed_mode_magic}
-use Rattle.routine_desc.specs.Read.{desc_of}
-use Rattle.routine_desc.specs.Choice.{choice}
+use Rattle.proc_info.specs.declared.record.BadDesc.{BadDesc}
+use Rattle.proc_info.specs.declared.record.BadDesc.TheVariants.{Access as IsAccess}
+use Rattle.proc_info.specs.RefusalCodes.{bad_desc_code}
+use Rattle.proc_info.specs.Layout.{Routine, has_flag, mixed_mode_magic}
+use Rattle.proc_info.specs.Read.{desc_of}
+use Rattle.proc_info.specs.Choice.{choice}
 use Rattle.m68_isa.specs.declared.registers.Regs68.{Regs68}
 use Rattle.ppc_isa.specs.declared.registers.RegsPpc.{RegsPpc}
-use Rattle.args_m68.specs.Gather.{selector_in as selector_in_68k}
-use Rattle.args_ppc.specs.Words.{selector_in as selector_in_ppc}
+use Rattle.call_args.specs.Gather68.{selector_in as selector_in_68k}
+use Rattle.call_args.specs.WordsPpc.{selector_in as selector_in_ppc}
 use Rattle.switch_frame.specs.declared.kind.Kind.{Kind}
 use Rattle.switch_frame.specs.declared.kind.Kind.TheVariants.{PpcToM68}
 use Rattle.switch_frame.specs.Sets.{caller_isa, kind_of}

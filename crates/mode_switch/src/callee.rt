@@ -2,7 +2,7 @@
 ghost use Rattle.std.specs.Prelude.{◌≡◌, ◌≤◌, ◌%◌, ◌^◌, is_some, length};
 ghost use Rattle.proc_info.specs.Codes.{is_dispatched};
 ghost use Rattle.proc_info.specs.Views.{signature};
-ghost use Rattle.args_m68.specs.Gather.{words_of};
+ghost use Rattle.call_args.specs.Gather68.{words_of};
 ghost use Rattle.switch_frame.specs.Records.{isa_of};
 ghost use Rattle.switch_frame.specs.Sets.{callee_isa};
 ghost use Rattle.mode_switch.specs.Callee.{below as below_lem, callee_sp, delivered, fresh, return_sp};
@@ -10,9 +10,8 @@ ghost use Rattle.mode_switch.specs.Views.{crossing};
 ghost use Rattle.mode_switch.specs.Wanted.{passed_selector as passed_selector_lem};
 
 use crate::{Call, Entry};
-use args_m68::{Words, below68, removed68, start_68};
-use args_ppc::{below_ppc, start_ppc};
 use big_memory::Ram;
+use call_args::{Words, below_ppc, below68, removed68, start_68, start_ppc};
 use m68_isa::Regs68;
 use mix_bits::{Isa, onward};
 use ppc_isa::RegsPpc;

@@ -1,19 +1,18 @@
 // What 68K code wants.
 ghost use Rattle.std.specs.Prelude.{◌≡◌};
 ghost use Rattle.proc_info.specs.Views.{signature};
-ghost use Rattle.routine_desc.specs.Views.{routine, routines};
+ghost use Rattle.proc_info.specs.RecordViews.{routine, routines};
 ghost use Rattle.mode_switch.specs.Views.{wanted_of};
 ghost use Rattle.mode_switch.specs.Wanted.{Means, goes_by as goes_by_lem, loaded_or_fault, selector_68k as selector_68k_lem, selector_among_68k, takes_68k as takes_68k_lem, target_of as target_of_lem, wants_68k as wants_68k_lem};
 
 use crate::descriptor::{Asker, wants_desc};
 use crate::records::{call_of, no_record, target_of};
 use crate::{Target, Wanted};
-use args_m68::select68;
 use big_memory::Ram;
+use call_args::select68;
 use m68_isa::Regs68;
 use mix_bits::{Fault, Isa};
-use proc_info::Sig;
-use routine_desc::{Rec, choose_among};
+use proc_info::{Rec, Sig, choose_among};
 
 /// What 68K code wants at a routine descriptor at its pc, with the return address at A7. Refusals come in
 /// this order: the descriptor's, the selector's bytes, no record. It is put in place, since a call is long to copy.

@@ -1,7 +1,7 @@
 // What PowerPC code wants.
 ghost use Rattle.std.specs.Prelude.{◌≡◌};
 ghost use Rattle.proc_info.specs.Views.{signature};
-ghost use Rattle.routine_desc.specs.Views.{routine, routines};
+ghost use Rattle.proc_info.specs.RecordViews.{routine, routines};
 ghost use Rattle.mix_bits.specs.declared.size.Size.TheVariants.{Two};
 ghost use Rattle.big_memory.specs.Memory.{loaded};
 ghost use Rattle.mode_switch.specs.Views.{wanted_of};
@@ -10,12 +10,11 @@ ghost use Rattle.mode_switch.specs.Wanted.{Means, called_by as called_by_lem, se
 use crate::descriptor::{Asker, wants_desc};
 use crate::records::{bad_desc, call_of, no_record};
 use crate::{Call, Target, Wanted};
-use args_ppc::select_ppc;
 use big_memory::Ram;
+use call_args::select_ppc;
 use mix_bits::{Fault, FaultKind, Isa};
 use ppc_isa::RegsPpc;
-use proc_info::{Sig, read};
-use routine_desc::{BadDesc, MIXED_MODE_MAGIC, Rec, choose_among};
+use proc_info::{BadDesc, MIXED_MODE_MAGIC, Rec, Sig, choose_among, read};
 use switch_frame::Kind;
 
 /// What PowerPC code wants by CallUniversalProc with a universal pointer and a procInfo. Refusals come in

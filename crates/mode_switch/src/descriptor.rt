@@ -2,16 +2,16 @@
 ghost use Rattle.std.specs.Prelude.{◌≡◌, ℕ, ◌+◌, ◌≤◌, List, Result, length, Ok};
 ghost use Rattle.mix_bits.specs.declared.fault.Fault.{Fault};
 ghost use Rattle.big_memory.specs.Memory.{Memory};
-ghost use Rattle.routine_desc.specs.Layout.{Routine};
-ghost use Rattle.routine_desc.specs.Read.{Counts};
-ghost use Rattle.routine_desc.specs.Views.{routines};
+ghost use Rattle.proc_info.specs.Layout.{Routine};
+ghost use Rattle.proc_info.specs.Read.{Counts};
+ghost use Rattle.proc_info.specs.RecordViews.{routines};
 ghost use Rattle.mode_switch.specs.Views.{wanted_of};
 ghost use Rattle.mode_switch.specs.Wanted.{Want, settled, wants_desc as wants_desc_lem};
 
 use crate::Wanted;
 use crate::records::bad_desc;
 use big_memory::Ram;
-use routine_desc::{Rec, count_records, read_all};
+use proc_info::{Rec, count_records, read_all};
 
 /// So many records are few: most descriptors have one, and a fat one has two.
 const FEW: u32 = 4;

@@ -3,16 +3,15 @@ ghost use Rattle.std.specs.Prelude.{◌≡◌, ◌&&◌, not};
 ghost use Rattle.mix_bits.specs.Faults.{fault_at};
 ghost use Rattle.mix_bits.specs.declared.fault.FaultKind.TheVariants.{NoRecord};
 ghost use Rattle.proc_info.specs.Codes.{is_dispatched};
-ghost use Rattle.routine_desc.specs.Layout.{has_flag};
-ghost use Rattle.routine_desc.specs.Views.{routine};
+ghost use Rattle.proc_info.specs.Layout.{has_flag};
+ghost use Rattle.proc_info.specs.RecordViews.{routine};
 ghost use Rattle.mode_switch.specs.Views.{crossing, wanted_of};
 ghost use Rattle.mode_switch.specs.Wanted.{bad_desc as bad_desc_lem, call_of_record, or_zero, target_of as target_of_lem};
 ghost use Rattle.mode_switch.specs.Wanted.Want.{Refuses};
 
 use crate::{Call, Target, Wanted};
 use mix_bits::{Fault, FaultKind, Isa};
-use proc_info::Conv;
-use routine_desc::{BadDesc, Rec, RoutineFlags};
+use proc_info::{BadDesc, Conv, Rec, RoutineFlags};
 use switch_frame::Kind;
 
 /// The fault of a descriptor at an address.

@@ -2,7 +2,7 @@
 use Rattle.std.proofs.Common.{◌≡◌, ◌∙◌, refl, sym, ap, ℕ, zero, suc, ◌+◌, ◌<◌, Bool, true, false, ◌||◌, nat_lt, true≢false, arith}
 use Rattle.std.specs.Int.{from_bool}
 use Rattle.std.proofs.lemmas.Bool.Decides.{nat_tests}
-use Rattle.file_fields.specs.Search.{any_below, count_below}
+use Rattle.mix_bits.specs.Search.{any_below, count_below}
 use Rattle.pef_head.specs.Whole.{OnlyBelow}
 
 -- a number below the next bound is below this one, or this one

@@ -4,11 +4,11 @@ use Rattle.std.proofs.Math.Nat.{mul-mod_right}
 use Rattle.std.proofs.lemmas.Bool.Decides.{nat_tests}
 use Rattle.pef_head.specs.declared.loader.Loader.{Loader}
 use Rattle.pef_head.specs.Container.{IsSection, exponent_of, packed_of, offset_of}
-use Rattle.file_fields.specs.Fields.{long_at}
+use Rattle.mix_bits.specs.Fields.{long_at}
 use Rattle.pef_head.specs.Parts.{IsLoadable, relocs_at, section_at}
 use Rattle.pef_head.specs.Places.{is_for, relocation, words_end, words_start}
-use Rattle.file_fields.specs.Search.{◌or◌, refused, least}
-use Rattle.file_fields.proofs.Searches.{fails_below}
+use Rattle.mix_bits.specs.Search.{◌or◌, refused, least}
+use Rattle.mix_bits.proofs.Searches.{fails_below}
 use Rattle.pef_head.proofs.Whole.{instantiable}
 
 slice_length : (bytes : List ℕ) (start end : ℕ) → end ≤ length bytes → length (slice_range bytes start end) ≡ end - start

@@ -3,8 +3,8 @@ use Rattle.std.proofs.Common.{◌≡◌, ◌≢◌, refl, ℕ, ◌<◌, ◌≤�
 use Rattle.std.proofs.lemmas.Bool.Decides.{nat_tests}
 use Rattle.pef_head.specs.declared.loader.Loader.{Loader}
 use Rattle.pef_head.specs.Owners.{AllOwned, IsFirstLost, is_lost, owners}
-use Rattle.file_fields.specs.Search.{least}
-use Rattle.file_fields.proofs.Searches.{least_none, least_first}
+use Rattle.mix_bits.specs.Search.{least}
+use Rattle.mix_bits.proofs.Searches.{least_none, least_first}
 
 module _ (bytes : List ℕ) (l : Loader) where
   owned : (i : ℕ) → owners bytes l l.libraries i ≡ 1 → is_lost bytes l i ≡ false

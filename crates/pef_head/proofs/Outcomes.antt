@@ -2,7 +2,7 @@
 use Rattle.std.proofs.Common.{◌≡◌, ◌≢◌, sym, refl, ℕ, ◌<◌, ◌≤◌, Bool, true, false, ◌&&◌, ◌||◌, ◌==◌, not, nat_lt, nat_le, Option, Some, None, true≢false, eq-eqb, eqb-true, arith}
 use Rattle.std.specs.Option.{option_map}
 use Rattle.std.proofs.lemmas.Bool.Decides.{nat_tests}
-use Rattle.file_fields.specs.Search.{◌or◌, refused}
+use Rattle.mix_bits.specs.Search.{◌or◌, refused}
 
 pub or_none : {A : Type 0} (p q : Option A) → (p or q) ≡ None → (p ≡ None) × (q ≡ None)
 or_none None q h = (refl, h)

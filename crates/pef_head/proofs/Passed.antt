@@ -9,9 +9,9 @@ use Rattle.pef_head.specs.Owners.{is_lost, owners}
 use Rattle.pef_head.specs.Parts.{ImportParts, cut, import_at, import_of}
 use Rattle.pef_head.specs.Read.{IsRead}
 use Rattle.pef_head.specs.Refusals.{entries_refusal, is_bad_relocation, is_nameless_library, is_nameless_symbol, loader_refusal, names_refusal, refusal_of}
-use Rattle.file_fields.specs.Search.{least}
+use Rattle.mix_bits.specs.Search.{least}
 use Rattle.pef_head.proofs.Outcomes.{or_none, map_none, or_false, not_false, not_below, not_other, inner_false, last_false}
-use Rattle.file_fields.proofs.Searches.{fails_below}
+use Rattle.mix_bits.proofs.Searches.{fails_below}
 
 module _ (bytes : List ℕ) where
   pub well_formed : (k : ℕ) → is_bad_section bytes k ≡ false → k < instantiated_count bytes → is_malformed bytes k ≡ false

@@ -6,10 +6,10 @@ use Rattle.pef_head.specs.declared.loader.Loader.{Loader}
 use Rattle.pef_head.specs.Owners.{AreOwned, owners}
 use Rattle.pef_head.specs.Parts.{owner_of}
 use Rattle.pef_head.specs.Places.{holds, symbols_start, symbols_end}
-use Rattle.file_fields.specs.Search.{◌or◌, refused, least, count_below}
+use Rattle.mix_bits.specs.Search.{◌or◌, refused, least, count_below}
 use Rattle.pef_head.specs.Whole.{OnlyBelow}
 use Rattle.pef_head.proofs.Counts.{only_counted}
-use Rattle.file_fields.proofs.Searches.{least_first, least_none}
+use Rattle.mix_bits.proofs.Searches.{least_first, least_none}
 
 module _ (test : ℕ → Bool) (n : ℕ) (one : count_below test n ≡ 1) where
   only : OnlyBelow test n

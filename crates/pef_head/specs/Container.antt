@@ -7,8 +7,8 @@
 -- the total size, the unpacked size, the packed size and the place of the packed bytes, and then bytes
 -- for the kind, the share, the alignment as an exponent of two, and 0.
 use Rattle.std.specs.Prelude.{◌≡◌, false, ℕ, ◌+◌, ◌*◌, ◌^◌, ◌≤◌, ◌<◌, Bool, ◌&&◌, ◌||◌, ◌==◌, not, nat_lt, List, length, slice_index, Option}
-use Rattle.file_fields.specs.Fields.{word_at, long_at}
-use Rattle.file_fields.specs.Search.{least}
+use Rattle.mix_bits.specs.Fields.{word_at, long_at}
+use Rattle.mix_bits.specs.Search.{least}
 
 abbrev pub section_count : List ℕ → ℕ
 section_count bytes = word_at bytes 32

@@ -8,7 +8,7 @@
 -- symbols, 4 bytes each, and that of relocation headers, 12 bytes each.
 use Rattle.std.specs.Prelude.{ℕ, ◌+◌, List, unwrap_or}
 use Rattle.pef_head.specs.declared.loader.Loader.{Loader}
-use Rattle.file_fields.specs.Fields.{long_at}
+use Rattle.mix_bits.specs.Fields.{long_at}
 use Rattle.pef_head.specs.Container.{offset_of, packed_of, loader_section}
 
 -- what the section with this number names, as a loader section

@@ -5,7 +5,7 @@ use Rattle.pef_head.specs.declared.loader.Loader.{Loader}
 use Rattle.pef_head.specs.declared.marks.Marks.{Marks}
 use Rattle.pef_head.specs.Marks.{is_marked}
 use Rattle.pef_head.specs.Places.{holds}
-use Rattle.file_fields.specs.Search.{count_below, least}
+use Rattle.mix_bits.specs.Search.{count_below, least}
 
 -- how many of the first n libraries have the symbol
 abbrev pub owners : List ℕ → Loader → ℕ → ℕ → ℕ

@@ -4,8 +4,8 @@ use Rattle.std.specs.Option.{option_map_or}
 use Rattle.pef_head.specs.declared.loader.Loader.{Loader}
 use Rattle.pef_head.specs.declared.section.Section.{Section}
 use Rattle.pef_head.specs.declared.import.Import.{Import}
-use Rattle.file_fields.specs.Fields.{long_at}
-use Rattle.file_fields.specs.Search.{least}
+use Rattle.mix_bits.specs.Fields.{long_at}
+use Rattle.mix_bits.specs.Search.{least}
 use Rattle.pef_head.specs.Names.{name_at}
 use Rattle.pef_head.specs.Container.{is_pattern, is_uninstantiable, kind_of, total_of, unpacked_of, packed_of, offset_of, exponent_of}
 use Rattle.pef_head.specs.Loader.{loader_of}

@@ -8,8 +8,8 @@
 use Rattle.std.specs.Prelude.{ℕ, ◌+◌, ◌*◌, ◌^◌, ◌≤◌, Bool, ◌&&◌, ◌==◌, nat_lt, nat_le, List, length, slice_range}
 use Rattle.std.specs.List.{list_any}
 use Rattle.pef_head.specs.declared.loader.Loader.{Loader}
-use Rattle.file_fields.specs.Fields.{word_at, three_at, long_at}
-use Rattle.file_fields.specs.Search.{any_below}
+use Rattle.mix_bits.specs.Fields.{word_at, three_at, long_at}
+use Rattle.mix_bits.specs.Search.{any_below}
 
 abbrev pub library : Loader → ℕ → ℕ
 library l j = l.start + 56 + 24 * j

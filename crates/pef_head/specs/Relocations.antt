@@ -4,7 +4,7 @@ use Rattle.pef_head.specs.declared.loader.Loader.{Loader}
 use Rattle.pef_head.specs.declared.marks.Marks.{Marks}
 use Rattle.pef_head.specs.Marks.{is_marked}
 use Rattle.pef_head.specs.Places.{is_for}
-use Rattle.file_fields.specs.Search.{any_below, least}
+use Rattle.mix_bits.specs.Search.{any_below, least}
 
 -- the marks are those of the sections of the first h relocation headers
 abbrev pub Seen : List ℕ → Loader → ℕ → Marks → Type 0

@@ -1,7 +1,7 @@
 -- What makes a file a container, without an order among the rules.
 use Rattle.std.specs.Prelude.{◌≡◌, ◌≢◌, ℕ, ◌+◌, ◌<◌, ◌≤◌, Bool, true, false, List, length, IsSome}
 use Rattle.pef_head.specs.declared.loader.Loader.{Loader}
-use Rattle.file_fields.specs.Fields.{long_at}
+use Rattle.mix_bits.specs.Fields.{long_at}
 use Rattle.pef_head.specs.Container.{section_count, instantiated_count, section_header, kind_of, total_of, unpacked_of, packed_of, offset_of, exponent_of, is_pattern, is_uninstantiable, loader_section}
 use Rattle.pef_head.specs.Loader.{loader_of}
 use Rattle.pef_head.specs.Places.{library, symbol, relocation, symbols_end, holds, relocated, words_end, library_name, symbol_name, has_end}

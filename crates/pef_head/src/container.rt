@@ -1,12 +1,12 @@
 //! A container's header and its section headers.
 ghost use Rattle.std.specs.Prelude.{◌≡◌, ◌+◌, ◌^◌, ◌≤◌, ◌<◌, length, OnOk, IfSome};
 ghost use Rattle.std.specs.Result.{result_err};
-ghost use Rattle.file_fields.specs.Search.{least};
+ghost use Rattle.mix_bits.specs.Search.{least};
 ghost use Rattle.pef_head.specs.Container.{HasHeaders, HasSections, instantiated_count, is_bad_section, is_loader, is_malformed, leaves_file, loader_section, section_count, section_header};
 ghost use Rattle.pef_head.specs.Refusals.{header_refusal, sections_refusal};
 
 use crate::error::PefError;
-use file_fields::{long_at, word_at};
+use mix_bits::{long_at, word_at};
 
 const JOY: u32 = 0x4A6F_7921;
 
@@ -106,7 +106,7 @@ fn is_bad_section(bytes: &[u8], k: u16) -> bool
 }
 
 /// The first section that cannot be loaded.
-#[tactic(auto, using(file_fields::proofs::Searches::least_at))]
+#[tactic(auto, using(mix_bits::proofs::Searches::least_at))]
 fn bad_section(bytes: &[u8], count: u16) -> Option<u16>
     requires { section_header count ≤ length bytes.now }
     ensures is { result ≡ least (is_bad_section bytes.now) count }
@@ -143,7 +143,7 @@ fn is_loader(bytes: &[u8], k: u16) -> bool
 }
 
 /// The number of the first loader section.
-#[tactic(auto, using(file_fields::proofs::Searches::least_at))]
+#[tactic(auto, using(mix_bits::proofs::Searches::least_at))]
 pub fn loader_section(bytes: &[u8], count: u16) -> Option<u16>
     requires { section_header count ≤ length bytes.now }
     ensures is { result ≡ least (is_loader bytes.now) count }

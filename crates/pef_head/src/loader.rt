@@ -8,7 +8,7 @@ ghost use Rattle.pef_head.specs.Refusals.{tables_refusal};
 
 use crate::container::section_header;
 use crate::error::PefError;
-use file_fields::long_at;
+use mix_bits::long_at;
 
 /// What the loader section's header names, and where the section stands.
 #[derive(Clone, Copy)]

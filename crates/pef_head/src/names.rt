@@ -5,7 +5,7 @@ ghost use Rattle.pef_head.specs.Names.{IsNamesEnd, name_at};
 ghost use Rattle.pef_head.specs.Refusals.{names_refusal, is_nameless_library, is_nameless_symbol};
 ghost use Rattle.std.specs.List.{position};
 ghost use Rattle.std.specs.Result.{result_err};
-ghost use Rattle.file_fields.specs.Search.{least};
+ghost use Rattle.mix_bits.specs.Search.{least};
 
 use crate::error::PefError;
 use crate::loader::Loader;
@@ -25,7 +25,7 @@ fn names_end(bytes: &[u8], l: Loader) -> u64
 }
 
 /// The first library whose name has no end.
-#[tactic(auto, using(file_fields::proofs::Searches::least_at))]
+#[tactic(auto, using(mix_bits::proofs::Searches::least_at))]
 fn nameless_library(bytes: &[u8], l: Loader, names_end: u64) -> Option<u32>
     requires tables { HasTables bytes.now l }
     requires end { IsNamesEnd bytes.now l names_end }
@@ -41,7 +41,7 @@ fn nameless_library(bytes: &[u8], l: Loader, names_end: u64) -> Option<u32>
 }
 
 /// The first symbol whose name has no end.
-#[tactic(auto, using(file_fields::proofs::Searches::least_at))]
+#[tactic(auto, using(mix_bits::proofs::Searches::least_at))]
 fn nameless_symbol(bytes: &[u8], l: Loader, names_end: u64) -> Option<u32>
     requires tables { HasTables bytes.now l }
     requires end { IsNamesEnd bytes.now l names_end }

@@ -5,7 +5,7 @@
 ghost use Rattle.std.specs.Prelude.{◌≡◌, ◌+◌, ◌-◌, ◌≤◌, ◌<◌, IfSome};
 ghost use Rattle.pef_head.specs.Places.{HasTables, symbols_end, symbols_start};
 ghost use Rattle.pef_head.specs.Owners.{IsFirstLost, Marked, is_lost, owners};
-ghost use Rattle.file_fields.specs.Search.{least};
+ghost use Rattle.mix_bits.specs.Search.{least};
 
 use crate::loader::Loader;
 use crate::marks::Marks;

@@ -6,7 +6,7 @@ use crate::read::{NO_SECTION, read_head};
 use crate::relocations::{header_for, header_table, relocs_at};
 use crate::section::{Section, section_at};
 use crate::table::owner_table;
-use file_fields::long_at;
+use mix_bits::long_at;
 use std::alloc::{AllocError, Global};
 use std::marker::Model;
 

@@ -2,10 +2,10 @@
 ghost use Rattle.std.specs.Prelude.{◌≡◌, ◌+◌, ◌*◌, ◌^◌, ◌<◌, IfSome};
 ghost use Rattle.pef_head.specs.Places.{HasTables, holds, library, library_name, relocation, symbol, symbol_name, symbols_end, symbols_start};
 ghost use Rattle.pef_head.specs.Refusals.{leaves_symbols};
-ghost use Rattle.file_fields.specs.Search.{least};
+ghost use Rattle.mix_bits.specs.Search.{least};
 
 use crate::loader::Loader;
-use file_fields::{long_at, three_at};
+use mix_bits::{long_at, three_at};
 
 /// The place of a library.
 pub fn library(l: Loader, j: u32) -> u32
@@ -77,7 +77,7 @@ pub fn symbol_name(bytes: &[u8], l: Loader, i: u32) -> u64
 }
 
 /// The first library whose symbols leave the symbol table.
-#[tactic(auto, using(file_fields::proofs::Searches::least_at))]
+#[tactic(auto, using(mix_bits::proofs::Searches::least_at))]
 pub fn bad_library(bytes: &[u8], l: Loader) -> Option<u32>
     requires { HasTables bytes.now l }
     ensures is { result ≡ least (leaves_symbols bytes.now l) l.libraries }

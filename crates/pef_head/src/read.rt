@@ -13,7 +13,7 @@ use crate::names::test_names;
 use crate::owners::lost_symbol;
 use crate::places::{bad_library, library, relocation, symbol};
 use crate::relocations::bad_relocation;
-use file_fields::long_at;
+use mix_bits::long_at;
 
 /// The section number that stands for no section.
 pub const NO_SECTION: u32 = 0xFFFF_FFFF;

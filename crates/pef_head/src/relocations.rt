@@ -5,13 +5,13 @@ ghost use Rattle.pef_head.specs.Relocations.{HasHeadersFor, Seen};
 ghost use Rattle.pef_head.specs.Container.{instantiated_count};
 ghost use Rattle.pef_head.specs.Refusals.{is_bad_relocation};
 ghost use Rattle.pef_head.specs.Parts.{header_for, relocs_at};
-ghost use Rattle.file_fields.specs.Search.{least};
+ghost use Rattle.mix_bits.specs.Search.{least};
 
 use crate::container::instantiated_count;
 use crate::loader::Loader;
 use crate::marks::Marks;
 use crate::places::relocation;
-use file_fields::{long_at, word_at};
+use mix_bits::{long_at, word_at};
 use std::alloc::{AllocError, Global};
 
 /// The section that a header is for.
@@ -70,7 +70,7 @@ fn is_bad_relocation(seen: &mut Marks, bytes: &[u8], l: Loader, h: u32) -> bool
 }
 
 /// The first relocation header that breaks a rule.
-#[tactic(auto, using(file_fields::proofs::Searches::least_at))]
+#[tactic(auto, using(mix_bits::proofs::Searches::least_at))]
 pub fn bad_relocation(bytes: &[u8], l: Loader) -> Option<u32>
     requires { HasTables bytes.now l }
     ensures is { result ≡ least (is_bad_relocation bytes.now l) l.headers }
@@ -86,7 +86,7 @@ pub fn bad_relocation(bytes: &[u8], l: Loader) -> Option<u32>
 }
 
 /// The relocation header of a section. It looks at the headers in turn.
-#[tactic(auto, using(file_fields::proofs::Searches::least_at))]
+#[tactic(auto, using(mix_bits::proofs::Searches::least_at))]
 pub fn header_for(bytes: &[u8], l: Loader, k: u32) -> Option<u32>
     requires { HasTables bytes.now l }
     ensures is { result ≡ header_for bytes.now l k }

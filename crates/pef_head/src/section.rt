@@ -3,7 +3,7 @@ ghost use Rattle.pef_head.specs.Container.{IsSection};
 ghost use Rattle.pef_head.specs.Parts.{parts, section_at};
 
 use crate::container::{PATTERN, section_header};
-use file_fields::long_at;
+use mix_bits::long_at;
 
 /// An instantiated section: one that is loaded.
 #[derive(Clone, Copy, Debug, PartialEq, Eq)]

@@ -6,7 +6,7 @@ use Rattle.std.specs.Prelude.{ℕ, zero, suc, ◌+◌, ◌-◌, ◌*◌, nat_lt,
 use Rattle.std.specs.Result.{is_ok}
 use Rattle.big_memory.specs.Lists.{part}
 use Rattle.big_memory.specs.Memory.{Memory}
-pub use Rattle.file_fields.specs.Fields.{word_at}
+pub use Rattle.mix_bits.specs.Fields.{word_at}
 use Rattle.pef_reloc.specs.declared.error.RelocError.{RelocError}
 use Rattle.pef_reloc.specs.declared.error.RelocError.TheVariants.{Short, Unsupported, RepeatFront}
 use Rattle.pef_reloc.specs.declared.instruction.First.{First}

@@ -5,7 +5,7 @@ ghost use Rattle.pef_reloc.specs.Program.{fits_in, is_span, reading_at, width_at
 use crate::error::RelocError;
 use crate::instruction::{First, Reading};
 use crate::rows::{first_of, whole_of};
-use file_fields::word_at;
+use mix_bits::word_at;
 
 /// How many bytes the instruction has that begins at a place.
 pub fn width_at(words: &[u8], place: usize) -> usize

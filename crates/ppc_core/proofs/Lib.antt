@@ -1,1 +1,5 @@
 pub mod Fetching
+pub mod Order
+pub mod Whole
+pub mod Words
+pub mod Pieces

@@ -2,6 +2,11 @@ ghost use Rattle.big_memory.specs.Steps.{Does};
 ghost use Rattle.ppc_isa.specs.Rows.{decoded};
 ghost use Rattle.ppc_effects.specs.Effects.{runs_decoded};
 
+use super::{
+    load, load_indexed, load_multiple, load_reversed, load_string_immediate, load_string_indexed,
+    store, store_indexed, store_multiple, store_reversed, store_string_immediate,
+    store_string_indexed,
+};
 use big_memory::{Did, Ram, stop};
 use mix_bits::{Fault, FaultKind};
 use ppc_integer::{
@@ -17,11 +22,6 @@ use ppc_integer::{
 use ppc_isa::{
     BranchRegister, CarryUse, ExtendedOperand, ImmediateOp, LoadKind, LogicalOp, MaskUse, OpPpc,
     RegsPpc, ReversedKind, SpecialRegister, StoreKind, UnaryOp, op_of,
-};
-use ppc_storage::{
-    load, load_indexed, load_multiple, load_reversed, load_string_immediate, load_string_indexed,
-    store, store_indexed, store_multiple, store_reversed, store_string_immediate,
-    store_string_indexed,
 };
 
 /// Does what a word says, as the instruction at pc.

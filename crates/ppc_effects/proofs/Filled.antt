@@ -18,7 +18,7 @@ use Rattle.big_memory.specs.Steps.{After}
 use Rattle.big_memory.specs.Steps.After.{Goes, Stops}
 use Rattle.ppc_isa.specs.declared.registers.RegsPpc.{RegsPpc}
 use Rattle.ppc_isa.specs.Valid.{string_length}
-use Rattle.ppc_alu.specs.Xer.{string_length_of}
+use Rattle.ppc_effects.specs.Xer.{string_length_of}
 use Rattle.ppc_effects.specs.File.{base_of, gpr_of, onto_next}
 use Rattle.ppc_effects.specs.Storage.{index_address}
 use Rattle.ppc_effects.specs.StorageLaws.{IndexedStringsFill, IsFilled, StringsFill}

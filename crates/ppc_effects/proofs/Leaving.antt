@@ -13,8 +13,8 @@ use Rattle.ppc_isa.specs.declared.registers.RegsPpc.{RegsPpc}
 use Rattle.ppc_isa.specs.declared.instruction.InstrPpc.{InstrPpc}
 use Rattle.ppc_isa.specs.declared.instruction.InstrPpc.TheVariants.{TrapWordImmediate, Load, Store, LoadMultiple, StoreMultiple, TrapWord, LoadIndexed, StoreIndexed, LoadReversed, StoreReversed, LoadStringImmediate, StoreStringImmediate, LoadStringIndexed, StoreStringIndexed}
 use Rattle.ppc_isa.specs.Rows.{decoded}
-use Rattle.ppc_alu.specs.Traps.{traps_on}
-use Rattle.ppc_alu.specs.Xer.{string_length_of}
+use Rattle.ppc_effects.specs.Traps.{traps_on}
+use Rattle.ppc_effects.specs.Xer.{string_length_of}
 use Rattle.ppc_isa.specs.declared.instruction.LoadKind.{LoadKind}
 use Rattle.ppc_isa.specs.declared.instruction.ReversedKind.{ReversedKind}
 use Rattle.ppc_isa.specs.Valid.{string_length}

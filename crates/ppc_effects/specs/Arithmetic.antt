@@ -9,9 +9,9 @@ use Rattle.ppc_isa.specs.declared.instruction.CarryUse.{CarryUse}
 use Rattle.ppc_isa.specs.declared.instruction.CarryUse.TheVariants.{Plain, Carrying, Extended}
 use Rattle.ppc_isa.specs.declared.instruction.ExtendedOperand.{ExtendedOperand}
 use Rattle.ppc_isa.specs.declared.instruction.ExtendedOperand.TheVariants.{Zero, MinusOne}
-use Rattle.ppc_alu.specs.declared.arith.Arith.{Arith}
-use Rattle.ppc_alu.specs.Results.{added, divided, high_product, multiplied}
-use Rattle.ppc_alu.specs.Xer.{ca_of, with_ca, with_overflow}
+use Rattle.ppc_effects.specs.declared.arith.Arith.{Arith}
+use Rattle.ppc_effects.specs.Results.{added, divided, high_product, multiplied}
+use Rattle.ppc_effects.specs.Xer.{ca_of, with_ca, with_overflow}
 use Rattle.ppc_effects.specs.File.{base_of, complement, gpr_of, recorded, with_gpr, with_result}
 
 -- sixteen bits as a signed number

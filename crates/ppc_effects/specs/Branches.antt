@@ -6,7 +6,7 @@ use Rattle.ppc_isa.specs.declared.registers.RegsPpc.{RegsPpc}
 use Rattle.ppc_isa.specs.declared.instruction.BranchRegister.{BranchRegister}
 use Rattle.ppc_isa.specs.declared.instruction.BranchRegister.TheVariants.{Link, Count}
 use Rattle.ppc_isa.specs.Targets.{branch_target}
-use Rattle.ppc_alu.specs.Condition.{bit_of}
+use Rattle.ppc_effects.specs.Condition.{bit_of}
 
 -- with LK, the link register takes the address of the next instruction
 abbrev pub linked : Bool → RegsPpc → RegsPpc

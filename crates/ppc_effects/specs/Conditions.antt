@@ -2,9 +2,9 @@
 use Rattle.std.specs.Prelude.{ℕ, Bool, if◌then◌else◌}
 use Rattle.ppc_isa.specs.declared.registers.RegsPpc.{RegsPpc}
 use Rattle.ppc_isa.specs.declared.instruction.LogicalOp.{LogicalOp}
-use Rattle.ppc_alu.specs.Condition.{bit_of, combined, compared, field_of, with_bit, with_field}
-use Rattle.ppc_alu.specs.Masks.{field_mask_of, inserted}
-use Rattle.ppc_alu.specs.Xer.{so_of, top_of, without_top}
+use Rattle.ppc_effects.specs.Condition.{bit_of, combined, compared, field_of, with_bit, with_field}
+use Rattle.ppc_effects.specs.Masks.{field_mask_of, inserted}
+use Rattle.ppc_effects.specs.Xer.{so_of, top_of, without_top}
 use Rattle.ppc_effects.specs.File.{gpr_of, with_gpr}
 use Rattle.ppc_effects.specs.Arithmetic.{immediate_of}
 

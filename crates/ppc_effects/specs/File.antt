@@ -2,8 +2,8 @@
 use Rattle.std.specs.Prelude.{ℕ, ◌-◌, ◌^◌, ◌==◌, Bool, true, if◌then◌else◌, slice_index, slice_set}
 use Rattle.mix_bits.specs.Addresses.{onward}
 use Rattle.ppc_isa.specs.declared.registers.RegsPpc.{RegsPpc}
-use Rattle.ppc_alu.specs.Condition.{compared, with_field}
-use Rattle.ppc_alu.specs.Xer.{so_of}
+use Rattle.ppc_effects.specs.Condition.{compared, with_field}
+use Rattle.ppc_effects.specs.Xer.{so_of}
 
 abbrev pub gpr_of : RegsPpc → ℕ → ℕ
 gpr_of r n = slice_index r.gpr n

@@ -10,3 +10,9 @@ pub mod Strings
 pub mod Effects
 pub mod Laws
 pub mod StorageLaws
+pub mod Words
+pub mod Results
+pub mod Masks
+pub mod Condition
+pub mod Xer
+pub mod Traps

@@ -6,8 +6,8 @@ use Rattle.ppc_isa.specs.declared.instruction.MaskUse.{MaskUse}
 use Rattle.ppc_isa.specs.declared.instruction.MaskUse.TheVariants.{Insert, Clear}
 use Rattle.ppc_isa.specs.declared.instruction.ShiftOp.{ShiftOp}
 use Rattle.ppc_isa.specs.declared.instruction.ShiftOp.TheVariants.{Left, Right, RightAlgebraic}
-use Rattle.ppc_alu.specs.Masks.{inserted, mask_of}
-use Rattle.ppc_alu.specs.Results.{shifted, shifted_left, shifted_right}
+use Rattle.ppc_effects.specs.Masks.{inserted, mask_of}
+use Rattle.ppc_effects.specs.Results.{shifted, shifted_left, shifted_right}
 use Rattle.ppc_effects.specs.File.{gpr_of, with_result}
 use Rattle.ppc_effects.specs.Arithmetic.{with_arith}
 

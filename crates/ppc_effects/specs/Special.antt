@@ -4,7 +4,7 @@ use Rattle.std.specs.Prelude.{ℕ}
 use Rattle.ppc_isa.specs.declared.registers.RegsPpc.{RegsPpc}
 use Rattle.ppc_isa.specs.declared.instruction.SpecialRegister.{SpecialRegister}
 use Rattle.ppc_isa.specs.declared.instruction.SpecialRegister.TheVariants.{Xer, Link, Count}
-use Rattle.ppc_alu.specs.Xer.{kept_in_xer}
+use Rattle.ppc_effects.specs.Xer.{kept_in_xer}
 use Rattle.ppc_effects.specs.File.{gpr_of, with_gpr}
 
 abbrev pub special_of : RegsPpc → SpecialRegister → ℕ

@@ -9,7 +9,7 @@ use Rattle.ppc_isa.specs.declared.registers.RegsPpc.{RegsPpc}
 use Rattle.ppc_isa.specs.declared.instruction.InstrPpc.TheVariants.{LoadReversed, StoreReversed, LoadStringImmediate, LoadStringIndexed}
 use Rattle.ppc_isa.specs.declared.instruction.ReversedKind.{ReversedKind}
 use Rattle.ppc_isa.specs.Valid.{string_length}
-use Rattle.ppc_alu.specs.Xer.{string_length_of}
+use Rattle.ppc_effects.specs.Xer.{string_length_of}
 use Rattle.ppc_effects.specs.Effects.{runs}
 use Rattle.ppc_effects.specs.File.{base_of, gpr_of, onto_next, with_gpr}
 use Rattle.ppc_effects.specs.Storage.{index_address, reversed_size}

@@ -16,7 +16,7 @@ use Rattle.big_memory.specs.Steps.{After, after_store}
 use Rattle.big_memory.specs.Steps.After.{Goes, Stops}
 use Rattle.ppc_isa.specs.declared.registers.RegsPpc.{RegsPpc}
 use Rattle.ppc_isa.specs.Valid.{registers_from}
-use Rattle.ppc_alu.specs.Xer.{string_length_of}
+use Rattle.ppc_effects.specs.Xer.{string_length_of}
 use Rattle.ppc_effects.specs.File.{onto_next}
 use Rattle.ppc_effects.specs.Storage.{after_load}
 

@@ -2,8 +2,8 @@ ghost use Rattle.std.specs.Prelude.{◌≡◌, ◌<◌};
 ghost use Rattle.ppc_effects.specs.Arithmetic.{with_arith};
 ghost use Rattle.ppc_effects.specs.File.{onto_next, recorded, with_result};
 
+use super::{Arith, compare, with_cr0, xer_so, xer_with_ca, xer_with_overflow};
 use mix_bits::onward;
-use ppc_alu::{Arith, compare, with_cr0, xer_so, xer_with_ca, xer_with_overflow};
 use ppc_isa::RegsPpc;
 
 /// Puts a result into register `n`, and its comparison with 0 into the first field of the condition

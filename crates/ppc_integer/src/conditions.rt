@@ -2,12 +2,12 @@
 ghost use Rattle.std.specs.Prelude.{◌≡◌, ◌/◌, ◌+◌, ◌*◌, ◌<◌, ◌==◌};
 ghost use Rattle.ppc_isa.specs.Fields.{fields_of};
 ghost use Rattle.ppc_isa.specs.declared.instruction.InstrPpc.TheVariants.{Compare, CompareImmediate, ConditionLogical, MoveConditionField, MoveFromConditionRegister, MoveToConditionFields, MoveXerToConditionField};
-ghost use Rattle.ppc_alu.specs.Condition.{with_field};
+ghost use Rattle.ppc_effects.specs.Condition.{with_field};
 ghost use Rattle.ppc_integer.specs.Alone.{Ends, Runs};
 
 use super::ending::finish;
 use big_memory::Did;
-use ppc_alu::{
+use ppc_effects::{
     compare, cr_bit, cr_field, cr_logic, field_mask, insert, with_cr_bit, with_cr_field, with_cr0,
     xer_so, xer_top, xer_without_top,
 };

@@ -6,8 +6,7 @@ ghost use Rattle.ppc_effects.specs.File.{with_result};
 ghost use Rattle.ppc_integer.specs.Alone.{Ends};
 
 use big_memory::Did;
-use ppc_alu::Arith;
-use ppc_effects::{Sets, advance, put_arith, put_result};
+use ppc_effects::{Arith, Sets, advance, put_arith, put_result};
 use ppc_isa::{RegsPpc, d_of, is_last, is_overflow};
 
 /// Ends a step that changed registers alone: the next instruction follows.

@@ -7,8 +7,7 @@ ghost use Rattle.ppc_integer.specs.Alone.{Runs};
 
 use super::ending::{finish, finish_carrying, finish_result};
 use big_memory::Did;
-use ppc_alu::{insert, rotate_mask, shift_left, shift_right, shift_right_logical};
-use ppc_effects::put_result;
+use ppc_effects::{insert, put_result, rotate_mask, shift_left, shift_right, shift_right_logical};
 use ppc_isa::{MaskUse, RegsPpc, a_of, b_of, d_of, is_last, mask_begin_of, mask_end_of, shift_of};
 
 /// rlwimi and rlwinm.

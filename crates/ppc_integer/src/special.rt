@@ -5,7 +5,7 @@ ghost use Rattle.ppc_integer.specs.Alone.{Ends, Runs};
 
 use super::ending::finish;
 use big_memory::Did;
-use ppc_alu::xer_kept;
+use ppc_effects::xer_kept;
 use ppc_isa::{RegsPpc, SpecialRegister, d_of};
 
 /// mfspr.

@@ -9,7 +9,7 @@ ghost use Rattle.ppc_effects.specs.Effects.{runs, trap_word as trap_word_of};
 use super::ending::finish;
 use big_memory::{Did, stop};
 use mix_bits::{Fault, FaultKind};
-use ppc_alu::traps;
+use ppc_effects::traps;
 use ppc_isa::{RegsPpc, a_of, b_of, d_of, offset_of};
 
 /// tw.

@@ -3,3 +3,8 @@ pub mod Operands
 pub mod Listed
 pub mod Text
 pub mod Laws
+pub mod Reading
+pub mod Spelling
+pub mod Table
+pub mod Assembly
+pub mod AssemblyLaws

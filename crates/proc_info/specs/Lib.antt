@@ -6,3 +6,11 @@ pub mod Views
 pub mod Filling
 pub mod Cut
 pub mod Arguments
+pub mod Layout
+pub mod RecordViews
+pub mod RefusalCodes
+pub mod Read
+pub mod Choice
+pub mod Scans
+pub mod Build
+pub mod Laws

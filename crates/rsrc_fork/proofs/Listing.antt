@@ -12,7 +12,7 @@ use Rattle.rsrc_fork.specs.declared.error.RsrcError.TheVariants.{Short, Overlap,
 use Rattle.rsrc_fork.specs.declared.header.Areas.{Areas}
 use Rattle.rsrc_fork.specs.declared.name.Name.{Name}
 use Rattle.rsrc_fork.specs.declared.references.TypeEntry.{TypeEntry}
-use Rattle.file_fields.specs.Fields.{long_at}
+use Rattle.mix_bits.specs.Fields.{long_at}
 use Rattle.mix_bits.specs.Results.{◌>>=◌}
 use Rattle.rsrc_fork.specs.Outcome.{each_below}
 use Rattle.rsrc_fork.specs.Header.{areas_at, areas_of, list_of}

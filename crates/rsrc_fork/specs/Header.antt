@@ -8,7 +8,7 @@ use Rattle.std.specs.Prelude.{ℕ, ◌+◌, ◌^◌, ◌≤◌, ◌||◌, nat_lt
 use Rattle.rsrc_fork.specs.declared.error.RsrcError.{RsrcError}
 use Rattle.rsrc_fork.specs.declared.error.RsrcError.TheVariants.{Short, Overlap, BadOffset}
 use Rattle.rsrc_fork.specs.declared.header.Areas.{Areas}
-use Rattle.file_fields.specs.Fields.{word_at, long_at}
+use Rattle.mix_bits.specs.Fields.{word_at, long_at}
 
 -- the areas as the header names them
 abbrev pub areas_at : List ℕ → Areas

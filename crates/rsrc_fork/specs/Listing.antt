@@ -2,7 +2,7 @@
 use Rattle.std.specs.Prelude.{◌≡◌, ◌≢◌, ℕ, zero, suc, ◌+◌, ◌*◌, ◌<◌, ◌≤◌, false, List, [], ◌∷◌, ◌++◌, length, map, slice_range, All, AllPairs}
 use Rattle.rsrc_fork.specs.declared.name.Name.{Name}
 use Rattle.rsrc_fork.specs.declared.references.TypeEntry.{TypeEntry}
-use Rattle.file_fields.specs.Fields.{word_at, three_at, long_at}
+use Rattle.mix_bits.specs.Fields.{word_at, three_at, long_at}
 use Rattle.rsrc_fork.specs.Header.{areas_at}
 use Rattle.rsrc_fork.specs.References.{entry_at, id_at, is_compressed, type_count}
 use Rattle.rsrc_fork.specs.Resources.{Resource, named}

@@ -14,7 +14,7 @@ use Rattle.rsrc_fork.specs.declared.error.RsrcError.TheVariants.{BadOffset, Comp
 use Rattle.rsrc_fork.specs.declared.header.Areas.{Areas}
 use Rattle.rsrc_fork.specs.declared.references.TypeEntry.{TypeEntry}
 use Rattle.byteorder.specs.Endian.{twos_complement}
-use Rattle.file_fields.specs.Fields.{word_at, three_at, long_at}
+use Rattle.mix_bits.specs.Fields.{word_at, three_at, long_at}
 use Rattle.rsrc_fork.specs.Header.{areas_of, list_of}
 use Rattle.mix_bits.specs.Results.{◌>>=◌}
 use Rattle.rsrc_fork.specs.Outcome.{each_below}

@@ -2,7 +2,7 @@ ghost use Rattle.std.specs.Prelude.{◌≡◌, ◌+◌, ◌^◌, ◌≤◌, leng
 ghost use Rattle.rsrc_fork.specs.Header.{areas_of, list_of, IsWithin};
 
 use crate::error::RsrcError;
-use file_fields::{long_at, word_at};
+use mix_bits::{long_at, word_at};
 
 /// Where the data and the map stand, as places in the file. Each ends before its `_end`.
 #[derive(Clone, Copy)]

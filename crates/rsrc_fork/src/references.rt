@@ -9,8 +9,8 @@ use crate::error::RsrcError;
 use crate::header::{Areas, areas_of, list_of};
 use crate::name::Name;
 use byteorder::{BigEndian, ByteOrder};
-use file_fields::{long_at, three_at, word_at};
 use indexmap::IndexMap;
+use mix_bits::{long_at, three_at, word_at};
 use std::alloc::Global;
 
 /// How many references a fork may have: as many as fill the largest file, with 12 bytes for each. Types may

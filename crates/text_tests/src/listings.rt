@@ -1,9 +1,8 @@
 // Listings that are assembled where they begin.
 use big_memory::Ram;
-use mix_assemble::{assembly_laws, check_text, put_text};
 use mix_bits::Isa;
 use mix_io::MemSink;
-use mix_list::list;
+use mix_text::{assembly_laws, check_text, list, put_text};
 use std::alloc::Global;
 use std::process::Abort;
 use std::test::Fail;

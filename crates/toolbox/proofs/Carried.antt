@@ -8,8 +8,8 @@ use Rattle.mix_io.specs.Streams.{Output, Grows}
 use Rattle.big_memory.specs.Memory.{Memory, IsRam, IsDoneUnless, copied, copy_refusal}
 use Rattle.big_memory.specs.declared.refusals.Access.{Access}
 use Rattle.big_memory.specs.Stores.{OnlyFree}
-use Rattle.host_heap.specs.Space.{Space}
-use Rattle.dev_rack.specs.Rack.{State}
+use Rattle.toolbox.specs.Space.{Space}
+use Rattle.mix_io.specs.Rack.{State}
 use Rattle.toolbox.specs.declared.values.Operands.{Operands}
 use Rattle.toolbox.specs.declared.values.Results.{Results}
 use Rattle.toolbox.specs.declared.function.Function.{Function}

@@ -8,12 +8,12 @@ use Rattle.std.proofs.lemmas.Bool.{ne_eqb, eq-eqb}
 use Rattle.mix_io.specs.Streams.{Output}
 use Rattle.mix_io.specs.declared.errors.Failed.{Failed as DeviceFailed}
 use Rattle.big_memory.specs.Memory.{Memory}
-use Rattle.host_heap.specs.Space.{Space}
-use Rattle.dev_rack.specs.declared.answers.Answer.{Answer}
-use Rattle.dev_rack.specs.declared.answers.Answer.TheVariants.{Word, Failed, Empty, Full}
-use Rattle.dev_rack.specs.declared.answers.Asked.{Asked}
-use Rattle.dev_rack.specs.Slots.{device_at}
-use Rattle.dev_rack.specs.Rack.{State, Answered, Asks, Ejects, journal_limit}
+use Rattle.toolbox.specs.Space.{Space}
+use Rattle.mix_io.specs.declared.answers.Answer.{Answer}
+use Rattle.mix_io.specs.declared.answers.Answer.TheVariants.{Word, Failed, Empty, Full}
+use Rattle.mix_io.specs.declared.answers.Asked.{Asked}
+use Rattle.mix_io.specs.Slots.{device_at}
+use Rattle.mix_io.specs.Rack.{State, Answered, Asks, Ejects, journal_limit}
 use Rattle.toolbox.specs.declared.values.Operands.{Operands}
 use Rattle.toolbox.specs.declared.values.Results.{Results}
 use Rattle.toolbox.specs.declared.function.Function.{Function}

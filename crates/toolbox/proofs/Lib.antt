@@ -7,3 +7,13 @@ pub mod Puts
 pub mod OneNumber
 pub mod ByName
 pub mod Blaming
+pub mod Fits
+pub mod Lowest
+pub mod Leaving
+pub mod Order
+pub mod Keeps
+pub mod Walk
+pub mod Undo
+pub mod Placing
+pub mod Appending
+pub mod InUse

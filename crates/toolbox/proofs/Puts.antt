@@ -4,8 +4,8 @@ use Rattle.big_memory.specs.declared.refusals.Access.{Access}
 use Rattle.big_memory.specs.declared.refusals.Access.TheVariants.{Outside}
 use Rattle.big_memory.specs.Lists.{part}
 use Rattle.big_memory.specs.Memory.{Memory, with_bytes, in_memory, filled, copied, copy_refusal}
-use Rattle.routine_desc.specs.Build.{image}
-use Rattle.host_heap.specs.Place.{place_for}
+use Rattle.proc_info.specs.Build.{image}
+use Rattle.toolbox.specs.Place.{place_for}
 use Rattle.switch_frame.specs.declared.active.Active.{Active}
 use Rattle.toolbox.specs.declared.values.Operands.{Operands}
 use Rattle.toolbox.specs.declared.function.Function.{Function}

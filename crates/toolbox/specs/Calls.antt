@@ -6,10 +6,10 @@ use Rattle.mix_io.specs.Streams.{Output, Grows, Breaks}
 use Rattle.big_memory.specs.Memory.{Memory, floor_of}
 use Rattle.big_memory.specs.Stores.{OnlyFree}
 use Rattle.switch_frame.specs.declared.active.Active.{Active}
-use Rattle.host_heap.specs.Space.{Space}
-use Rattle.dev_rack.specs.declared.answers.Answer.{Answer}
-use Rattle.dev_rack.specs.Rack.{State}
-use Rattle.dev_rack.specs.Accounts.{Accounts}
+use Rattle.toolbox.specs.Space.{Space}
+use Rattle.mix_io.specs.declared.answers.Answer.{Answer}
+use Rattle.mix_io.specs.Rack.{State}
+use Rattle.mix_io.specs.Accounts.{Accounts}
 use Rattle.toolbox.specs.declared.out.HostOut.{HostOut}
 use Rattle.toolbox.specs.declared.out.HostOut.TheVariants.{Done, Asked, Cross, Exit, Stop, ReadFault, OutFault}
 use Rattle.toolbox.specs.declared.broken.Broken.{Broken}

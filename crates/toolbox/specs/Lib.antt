@@ -8,3 +8,7 @@ pub mod Blames
 pub mod Calls
 pub mod Performs
 pub mod Puts
+pub mod Space
+pub mod Place
+pub mod Sound
+pub mod HeapLaws

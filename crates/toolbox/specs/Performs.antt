@@ -7,10 +7,10 @@ use Rattle.toolbox.specs.declared.outcome.Outcome.{Outcome}
 use Rattle.toolbox.specs.declared.outcome.Outcome.TheVariants.{Given, Asked, Crossed, Left, Refused, ReadFault, OutFault}
 use Rattle.big_memory.specs.Memory.{Memory}
 use Rattle.big_memory.specs.Laws.{NothingIsFree, StoresAreFree, CopiesAreFree}
-use Rattle.host_heap.specs.Space.{Space}
-use Rattle.dev_rack.specs.declared.answers.Answer.{Answer}
-use Rattle.dev_rack.specs.Rack.{State, Asks, Ejects}
-use Rattle.dev_rack.specs.Accounts.{Accounts}
+use Rattle.toolbox.specs.Space.{Space}
+use Rattle.mix_io.specs.declared.answers.Answer.{Answer}
+use Rattle.mix_io.specs.Rack.{State, Asks, Ejects}
+use Rattle.mix_io.specs.Accounts.{Accounts}
 use Rattle.toolbox.specs.Effects.{Around, Resources, Effects, Effect, effect, quiet, results_of}
 use Rattle.toolbox.specs.Effects.Effect.{Gives, Crosses, Leaves, Refuses}
 use Rattle.toolbox.specs.Calls.{Place, GoesOn, Stays, ReadBreaks, PutBreaks, ask_of}

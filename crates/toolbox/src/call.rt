@@ -1,12 +1,13 @@
 ghost use Rattle.std.specs.Prelude.{◌≡◌, ◌<◌, IsTrue, false};
 ghost use Rattle.big_memory.specs.Memory.{Memory};
 ghost use Rattle.big_memory.specs.Stores.{OnlyFree};
-ghost use Rattle.dev_rack.specs.Accounts.{Accounts};
+ghost use Rattle.mix_io.specs.Accounts.{Accounts};
 ghost use Rattle.toolbox.specs.Calls.{Blames, HeapLies, Hosts, KeepsBounds, Outside, host_at, outside, place};
 ghost use Rattle.toolbox.specs.Effects.{Around};
 ghost use Rattle.toolbox.specs.Performs.{resources};
 ghost use Rattle.toolbox.specs.Puts.{puts_of, said_in};
 
+use super::Heap;
 use crate::HostOut;
 use crate::blocks::{dispose, new_block};
 use crate::function::Function;
@@ -16,9 +17,7 @@ use crate::perform::perform;
 use crate::registers::{operands_of, settle};
 use crate::results::of_ask;
 use big_memory::Ram;
-use dev_rack::Devices;
-use host_heap::Heap;
-use mix_io::{Sink, Source};
+use mix_io::{Devices, Sink, Source};
 use switch_frame::Active;
 
 const NEW_PTR: u32 = 4;

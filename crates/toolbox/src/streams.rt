@@ -1,8 +1,8 @@
 // Bytes to the output and from the input.
 ghost use Rattle.std.specs.Prelude.{◌≡◌};
 ghost use Rattle.big_memory.specs.Memory.{Memory};
-ghost use Rattle.dev_rack.specs.Rack.{State};
-ghost use Rattle.host_heap.specs.Space.{Space};
+ghost use Rattle.mix_io.specs.Rack.{State};
+ghost use Rattle.toolbox.specs.Space.{Space};
 ghost use Rattle.mix_io.specs.Calls.{one_more};
 ghost use Rattle.mix_io.specs.Streams.{Output};
 ghost use Rattle.toolbox.specs.Calls.{Input, place, with_input, with_output};

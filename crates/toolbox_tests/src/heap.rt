@@ -2,9 +2,9 @@ ghost use Rattle.std.specs.Prelude.{◌≡◌, ◌≤◌, ◌%◌};
 
 use crate::equal::equal;
 use Step::{Append, Block, Bounds, Count, Free, Get, Place};
-use host_heap::Heap;
 use std::alloc::Global;
 use std::process::Abort;
+use toolbox::Heap;
 
 /// A call and what it is to answer: of `get` the size, of `free` the address, of `place` and `append` both, of `block`
 /// the number.

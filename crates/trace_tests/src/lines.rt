@@ -1,10 +1,9 @@
 // Whole lines, from the descriptions of the machine; and that each is one put.
 use crate::equal::{equal, must};
 use call_trace::{End, put_ask, put_call, put_end, put_ret};
-use dev_rack::Answer;
 use m68_isa::Regs68;
 use mix_bits::{Fault, FaultKind, Isa};
-use mix_io::{Failed, MemSink};
+use mix_io::{Answer, Failed, MemSink};
 use proc_info::{Sig, read};
 use std::alloc::Global;
 use std::process::Abort;

@@ -4,8 +4,7 @@ use crate::case::Case;
 use crate::images::Images;
 use crate::run::{shelf, split};
 use case_words::no_memory;
-use dev_rack::Rack;
-use mix_io::{FileKeep, MemShelf, StdSink, StdSource};
+use mix_io::{FileKeep, MemShelf, Rack, StdSink, StdSource};
 use mix_top::mixed_main;
 use std::io;
 

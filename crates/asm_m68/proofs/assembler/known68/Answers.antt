@@ -1,8 +1,8 @@
 -- The line gives words, so they are those that it spells.
 use Rattle.std.proofs.Common.{sym, ap, ◌∙◌}
-use Rattle.m68_forms.specs.Table.{form_of}
-use Rattle.m68_spelling.specs.Lines.{read_all}
-use Rattle.m68_spelling.specs.Spelling.{spelled}
+use Rattle.m68_text.specs.Table.{form_of}
+use Rattle.asm_m68.specs.Lines.{read_all}
+use Rattle.asm_m68.specs.Spelling.{spelled}
 use Rattle.asm_m68.proofs.Complete.{known_form, known_words}
 use Rattle.asm_m68.proofs.assembler.known68.Goals as goal
 

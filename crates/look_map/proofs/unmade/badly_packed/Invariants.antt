@@ -1,6 +1,6 @@
 -- No section so far is refused.
 use Rattle.std.proofs.Common.{◌≡◌, None}
-use Rattle.file_fields.specs.Search.{least}
+use Rattle.mix_bits.specs.Search.{least}
 use Rattle.look_map.specs.Containers.{is_badly_packed}
 use Rattle.look_map.proofs.unmade.badly_packed.Given as goal
 

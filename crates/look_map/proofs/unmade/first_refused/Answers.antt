@@ -1,7 +1,7 @@
 -- The first section that is refused is the least one.
 use Rattle.std.proofs.Common.{◌≡◌, refl, sym, subst, ℕ, suc, ◌+◌, ◌<◌, Bool, true, false, Some, None, arith}
-use Rattle.file_fields.specs.Search.{least}
-use Rattle.file_fields.proofs.Searches.{least_at}
+use Rattle.mix_bits.specs.Search.{least}
+use Rattle.mix_bits.proofs.Searches.{least_at}
 use Rattle.pef_head.specs.Container.{instantiated_count}
 use Rattle.look_map.specs.Containers.{is_badly_relocated}
 use Rattle.look_map.proofs.unmade.first_refused.Goals as goal

@@ -1,6 +1,6 @@
 -- No section so far is refused, and memory is as large as it was.
 use Rattle.std.proofs.Common.{◌≡◌, ℕ, None, length}
-use Rattle.file_fields.specs.Search.{least}
+use Rattle.mix_bits.specs.Search.{least}
 use Rattle.look_map.specs.Containers.{is_badly_relocated}
 use Rattle.look_map.proofs.unmade.first_refused.Given as goal
 

@@ -1,7 +1,7 @@
 -- What is said of a refusal, by its kind.
 use Rattle.std.proofs.Common.{◌≡◌, sym, subst, ℕ, ◌<◌, List, Option, Result}
 use Rattle.std.specs.Prelude.{IfOk, IfSome}
-use Rattle.file_fields.specs.Search.{least}
+use Rattle.mix_bits.specs.Search.{least}
 use Rattle.pef_reloc.specs.declared.error.RelocError.{RelocError}
 use Rattle.pef_reloc.specs.declared.error.RelocError.TheVariants.{Pattern, Short, Unsupported, OutsideSection, ImportIndex, SectionIndex, RepeatFront, Work}
 use Rattle.look_map.specs.Containers.{IsUnmade, is_badly_packed}

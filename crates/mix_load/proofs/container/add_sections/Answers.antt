@@ -2,7 +2,7 @@ use Rattle.std.proofs.Common.{◌≡◌, ◌+◌, ◌≤◌, ◌&&◌, is_none, 
 use Rattle.std.proofs.lemmas.Result.{err_from_is_err_and}
 use Rattle.big_memory.specs.Memory.{Memory, floor_of}
 use Rattle.pef_head.specs.Container.{instantiated_count}
-use Rattle.file_fields.specs.Search.{refused}
+use Rattle.mix_bits.specs.Search.{refused}
 use Rattle.mix_load.specs.declared.error.LoadError.{LoadError}
 use Rattle.mix_load.specs.declared.error.LoadError.TheVariants.{NoMain}
 use Rattle.mix_load.specs.ContainerImage.{container_image, is_ppc}

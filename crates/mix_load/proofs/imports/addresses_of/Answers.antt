@@ -1,5 +1,5 @@
 use Rattle.std.proofs.Common.{◌≡◌, ◌∷◌, [], ◌++◌, add-one, List, Option, is_none, unwrap_or, ℕ, sym, ap, ◌∙◌, arith}
-use Rattle.file_fields.specs.Search.{refused}
+use Rattle.mix_bits.specs.Search.{refused}
 use Rattle.mix_load.specs.Sections.{address_at, import_addresses}
 use Rattle.mix_load.proofs.imports.addresses_of.Goals as goal
 

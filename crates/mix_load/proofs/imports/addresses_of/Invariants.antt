@@ -1,5 +1,5 @@
 use Rattle.std.proofs.Common.{◌≡◌, length, None}
-use Rattle.file_fields.specs.Search.{least}
+use Rattle.mix_bits.specs.Search.{least}
 use Rattle.mix_load.specs.Sections.{import_addresses, is_missing}
 use Rattle.mix_load.proofs.imports.addresses_of.Given as goal
 

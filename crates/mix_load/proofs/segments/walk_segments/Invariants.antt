@@ -1,5 +1,5 @@
 use Rattle.std.proofs.Common.{◌≡◌, ℕ, ◌<◌, IfSome}
-use Rattle.file_fields.specs.Search.{any_below, least}
+use Rattle.mix_bits.specs.Search.{any_below, least}
 use Rattle.mix_load.specs.Segments.{is_far, is_segment, is_short}
 use Rattle.mix_load.proofs.segments.walk_segments.Given as goal
 

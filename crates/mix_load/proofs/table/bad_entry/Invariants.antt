@@ -1,5 +1,5 @@
 use Rattle.std.proofs.Common.{◌≡◌, None}
-use Rattle.file_fields.specs.Search.{least}
+use Rattle.mix_bits.specs.Search.{least}
 use Rattle.mix_load.specs.Segments.{is_bad_entry}
 use Rattle.mix_load.proofs.table.bad_entry.Given as goal
 

@@ -1,6 +1,6 @@
 -- The commands before are done.
 use Rattle.std.proofs.Common.{length}
-use Rattle.mix_steps.specs.Beside.{AreSame}
+use Rattle.mix_engine.specs.Beside.{AreSame}
 use Rattle.mix_script.specs.Places.{place_beside}
 use Rattle.mix_script.proofs.Telling.{RunningAt}
 use Rattle.mix_script.proofs.run.run_script.Given as goal

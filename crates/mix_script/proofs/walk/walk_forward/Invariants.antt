@@ -1,7 +1,7 @@
 -- So many steps are done.
 use Rattle.std.proofs.Common.{◌≡◌, ◌-◌, ◌≤◌}
 use Rattle.mixed_machine.specs.declared.stop.Stop.TheVariants.{Limit}
-use Rattle.mix_steps.specs.Beside.{AreSame}
+use Rattle.mix_engine.specs.Beside.{AreSame}
 use Rattle.mix_script.specs.Places.{place_beside}
 use Rattle.mix_script.proofs.Walking.{GoingAt}
 use Rattle.mix_script.proofs.walk.walk_forward.Given as goal

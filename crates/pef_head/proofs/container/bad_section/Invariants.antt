@@ -1,6 +1,6 @@
 use Rattle.std.proofs.Common.{◌≡◌, None}
 use Rattle.pef_head.specs.Container.{is_bad_section}
-use Rattle.file_fields.specs.Search.{least}
+use Rattle.mix_bits.specs.Search.{least}
 use Rattle.pef_head.proofs.container.bad_section.Given as goal
 
 abbrev pub invariant-loop-k : goal.invariant-loop-k

@@ -1,7 +1,7 @@
 use Rattle.std.proofs.Common.{◌≡◌, ◌∙◌, sym, ap, ℕ, Option, arith, unwrap_or, subst}
 use Rattle.pef_head.specs.Places.{holds}
 use Rattle.pef_head.specs.Owners.{owners}
-use Rattle.file_fields.proofs.Searches.{least_at, none_counted}
+use Rattle.mix_bits.proofs.Searches.{least_at, none_counted}
 use Rattle.pef_head.proofs.import.owner_of.Goals as goal
 
 pub returns-then-holds-clause-is : goal.returns-then-holds-clause-is

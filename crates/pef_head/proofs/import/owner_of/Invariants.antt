@@ -1,6 +1,6 @@
 use Rattle.std.proofs.Common.{◌≡◌, None}
 use Rattle.pef_head.specs.Places.{holds}
-use Rattle.file_fields.specs.Search.{least}
+use Rattle.mix_bits.specs.Search.{least}
 use Rattle.pef_head.proofs.import.owner_of.Given as goal
 
 abbrev pub invariant-loop-j : goal.invariant-loop-j

@@ -1,6 +1,6 @@
 use Rattle.std.proofs.Common.{◌≡◌, None}
 use Rattle.pef_head.specs.Refusals.{is_nameless_symbol}
-use Rattle.file_fields.specs.Search.{least}
+use Rattle.mix_bits.specs.Search.{least}
 use Rattle.pef_head.proofs.names.nameless_symbol.Given as goal
 
 abbrev pub invariant-loop-i : goal.invariant-loop-i

@@ -1,6 +1,6 @@
 use Rattle.std.proofs.Common.{◌≡◌, None}
 use Rattle.pef_head.specs.Refusals.{leaves_symbols}
-use Rattle.file_fields.specs.Search.{least}
+use Rattle.mix_bits.specs.Search.{least}
 use Rattle.pef_head.proofs.places.bad_library.Given as goal
 
 abbrev pub invariant-loop-j : goal.invariant-loop-j

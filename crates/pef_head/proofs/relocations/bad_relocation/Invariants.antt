@@ -1,7 +1,7 @@
 use Rattle.std.proofs.Common.{◌≡◌, None}
 use Rattle.pef_head.specs.Refusals.{is_bad_relocation}
 use Rattle.pef_head.specs.Relocations.{Seen}
-use Rattle.file_fields.specs.Search.{least}
+use Rattle.mix_bits.specs.Search.{least}
 use Rattle.pef_head.proofs.relocations.bad_relocation.Given as goal
 
 abbrev pub invariant-loop-h : goal.invariant-loop-h

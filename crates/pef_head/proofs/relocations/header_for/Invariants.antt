@@ -1,6 +1,6 @@
 use Rattle.std.proofs.Common.{◌≡◌, None}
 use Rattle.pef_head.specs.Places.{is_for}
-use Rattle.file_fields.specs.Search.{least}
+use Rattle.mix_bits.specs.Search.{least}
 use Rattle.pef_head.proofs.relocations.header_for.Given as goal
 
 abbrev pub invariant-loop-h : goal.invariant-loop-h

@@ -1,5 +1,0 @@
-pub mod Stacks
-pub mod Files
-pub mod Back
-pub mod Given
-pub mod Spots

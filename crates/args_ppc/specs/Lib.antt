@@ -1,5 +1,0 @@
-pub mod Words
-pub mod Deliver
-pub mod Results
-pub mod Laws
-pub mod Apart

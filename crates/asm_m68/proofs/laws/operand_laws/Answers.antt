@@ -1,0 +1,12 @@
+use Rattle.asm_m68.proofs.Places.{special_immediate}
+use Rattle.asm_m68.proofs.Shapes.{some_long, some_size}
+use Rattle.asm_m68.proofs.laws.operand_laws.Goals as goal
+
+pub returns-clause-immediates : goal.returns-clause-immediates
+returns-clause-immediates c = special_immediate
+
+pub returns-clause-sizes : goal.returns-clause-sizes
+returns-clause-sizes c = some_size
+
+pub returns-clause-longs : goal.returns-clause-longs
+returns-clause-longs c = some_long

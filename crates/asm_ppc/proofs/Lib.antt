@@ -1,4 +1,0 @@
-pub mod Texts
-pub mod Rows
-pub mod Complete
-pub mod Printed

@@ -1,6 +1,0 @@
-use Rattle.asm_ppc.specs.Table.{looked_up, table}
-use Rattle.asm_ppc.proofs.table.find.Goals as goal
-
-pub returns : goal.returns
-unfolding looked_up table
-returns c = c.find_in.ensures

@@ -1,5 +1,0 @@
-pub mod Reading
-pub mod Spelling
-pub mod Table
-pub mod Assembly
-pub mod Laws

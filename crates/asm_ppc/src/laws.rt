@@ -1,9 +1,0 @@
-ghost use Rattle.asm_ppc.specs.Laws.{GivenAreNamed, GivesOne, NamesArePrinted, TextsDiffer};
-
-/// What holds of lines, texts and names. It does nothing: the clauses are its point.
-pub fn asm_laws()
-    ensures one { GivesOne }
-    ensures named { GivenAreNamed }
-    ensures differ { TextsDiffer }
-    ensures names { NamesArePrinted }
-{}

@@ -1,3 +1,0 @@
-pub mod Slots
-pub mod Rack
-pub mod Accounts

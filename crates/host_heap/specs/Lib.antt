@@ -1,4 +1,0 @@
-pub mod Space
-pub mod Place
-pub mod Sound
-pub mod Laws

@@ -1,5 +1,0 @@
-pub mod Code
-pub mod Reading
-pub mod Lines
-pub mod Spelling
-pub mod Laws

@@ -1,0 +1,5 @@
+use Rattle.m68_text.proofs.Names.{is_listed}
+use Rattle.m68_text.proofs.laws.form_laws.Goals as goal
+
+pub returns : goal.returns
+returns c = is_listed

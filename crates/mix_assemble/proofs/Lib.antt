@@ -1,8 +1,0 @@
-pub mod Splits
-pub mod Instructions
-pub mod Walks
-pub mod Once
-pub mod OneLines
-pub mod Bytes
-pub mod Listed
-pub mod Back

@@ -1,0 +1,20 @@
+use Rattle.std.proofs.Common.{sym, subst}
+use Rattle.mix_engine.specs.Cores.{IsNumber}
+use Rattle.mix_engine.specs.declared.code.Code.TheVariants.{Next as Goes_on, Leave, Stop, Gate}
+use Rattle.mix_engine.proofs.Advancing.{advances-gate, advances-leave, advances-next, advances-stop, once}
+use Rattle.mix_engine.proofs.advance.advance_once.Goals as goal
+
+pub leave_code-requires-clause-number : goal.leave_code-requires-clause-number
+leave_code-requires-clause-number g c = subst (λ w. IsNumber w c.run_once.new.fault.detail) (sym c.in-Leave.ensures.codes.2) c.in-Leave.ensures.codes.1
+
+pub returns-in-Next-clause-does : goal.returns-in-Next-clause-does
+returns-in-Next-clause-does g c = advances-next c.body_laws.ensures 0 _ _ _ _ _ _ _ (once Goes_on c.run_once.new.fault _ _ _ _ c.in-Next.ensures.codes)
+
+pub returns-in-Stop-clause-does : goal.returns-in-Stop-clause-does
+returns-in-Stop-clause-does g c = advances-stop c.body_laws.ensures 0 _ _ _ _ _ _ _ c.in-Stop.ensures.whole (once Stop c.run_once.new.fault _ _ _ _ c.in-Stop.ensures.codes)
+
+pub returns-in-Gate-clause-does : goal.returns-in-Gate-clause-does
+returns-in-Gate-clause-does g c = advances-gate c.body_laws.ensures 0 _ c.run_once.new.fault _ _ _ _ _ _ _ _ _ _ (once Gate c.run_once.new.fault _ _ _ _ c.in-Gate.ensures.codes) c.leave.ensures
+
+pub returns-in-Leave-clause-does : goal.returns-in-Leave-clause-does
+returns-in-Leave-clause-does g c = advances-leave c.body_laws.ensures 0 _ c.run_once.new.fault _ _ _ _ _ _ _ _ (once Leave c.run_once.new.fault _ _ _ _ c.in-Leave.ensures.codes) c.leave_code.ensures.does

@@ -1,0 +1,262 @@
+// Steps of the host: a call of one of its functions, or a mode switch that code asks for.
+ghost use Rattle.std.specs.Prelude.{◌≡◌, ◌<◌, ◌^◌};
+ghost use Rattle.mix_bits.specs.declared.fault.FaultKind.TheVariants.{NoTrap};
+ghost use Rattle.mix_bits.specs.Faults.{fault_at};
+ghost use Rattle.mix_bits.specs.declared.isa.Isa.TheVariants.{M68 as set_m68};
+ghost use Rattle.switch_frame.specs.Records.{isa_of};
+ghost use Rattle.toolbox.specs.Functions.{trap_number};
+ghost use Rattle.mixed_machine.specs.Acts.{Acts};
+ghost use Rattle.mixed_machine.specs.Host.{hosts, traps_to, universal};
+ghost use Rattle.mixed_machine.specs.Machine.{IsWhole};
+ghost use Rattle.proc_info.specs.Layout.{mixed_mode_magic};
+ghost use Rattle.switch_frame.specs.Files.{pc_of};
+ghost use Rattle.mix_engine.specs.Beside.{AreSame, machine_beside};
+ghost use Rattle.mix_engine.specs.Called.{IsCalled};
+ghost use Rattle.mix_engine.specs.Cores.{IsNumber, leaves_code};
+ghost use Rattle.mix_io.specs.Streams.{output};
+ghost use Rattle.mix_engine.specs.Does.{Does};
+
+use crate::enter::cross;
+use crate::laws::body_laws;
+use crate::outside::Outside;
+use call_trace::put_ask;
+use mix_bits::{Fault, FaultKind};
+use mix_io::{Devices, Sink, Source};
+use mixed_machine::{Body, Did};
+use mode_switch::{Wanted, wants_68k, wants_ppc};
+use proc_info::MIXED_MODE_MAGIC;
+use switch_frame::Active;
+use toolbox::{HostOut, call_heap, host_call, trap_index, trap_laws};
+
+/// How a call of a host function went.
+#[derive(Clone, Copy)]
+pub enum Called {
+    /// It is a step, done or not.
+    Went(Did),
+    /// It goes on into other code, by a universal pointer and the procInfo of the call. Nothing has changed.
+    Cross { pointer: u32, info: u32 },
+}
+
+/// The host goes on: with a word of line A of 68K code, or with a host function of PowerPC code, as the
+/// cell's detail tells.
+#[inline(never)]
+pub fn leave_code<'i, 'o, 't, 'd, I: Source, O: Sink, T: Sink, D: Devices>(
+    body: &mut Body,
+    active: &mut Active,
+    outside: &mut Outside<'i, 'o, 't, 'd, I, O, T, D>,
+    fault: &mut Fault,
+) -> Did
+    requires whole { IsWhole body.old (isa_of active.old) }
+    requires number { IsNumber active.old fault.old.detail }
+    ensures does { Acts (λ s. leaves_code active.old s fault.old.detail) result fault.new
+        (machine_beside I.left I.faults O.held O.faults T.held T.faults D.state body.old active.old outside.old)
+        (machine_beside I.left I.faults O.held O.faults T.held T.faults D.state body.new active.new outside.new) }
+    ensures same { AreSame outside.old outside.new }
+{
+    body_laws();
+    let number = fault.detail;
+    match active {
+        Active::M68(_) => {
+            if number == MIXED_MODE_MAGIC {
+                cross_from_68k(body, active, outside.trace, fault)
+            } else {
+                trap(number, body, active, outside, fault)
+            }
+        }
+        Active::Ppc(_) => call_import(number, body, active, outside, fault),
+    }
+}
+
+/// What 68K code wants at a routine descriptor. This is a call of its own, since traps need none of its room.
+#[inline(never)]
+fn cross_from_68k<T: Sink>(
+    body: &mut Body,
+    active: &mut Active,
+    trace: &mut T,
+    fault: &mut Fault,
+) -> Did
+    requires whole { IsWhole body.old (isa_of active.old) }
+    requires set { isa_of active.old ≡ set_m68 }
+    requires word { fault.old.detail ≡ mixed_mode_magic }
+    ensures { Does (λ s. leaves_code active.old s fault.old.detail) result fault.new body.old body.new active.old active.new
+        (output (T.held trace.old) (T.faults trace.old)) (output (T.held trace.new) (T.faults trace.new)) }
+{
+    body_laws();
+    match active {
+        Active::M68(regs) => {
+            let mut wanted = Wanted::Jumps(0);
+            wants_68k(&body.ram, regs, &mut wanted);
+            cross(body, active, &wanted, trace, fault)
+        }
+        Active::Ppc(_) => unreachable!(),
+    }
+}
+
+/// The trap with this word.
+#[inline(never)]
+fn trap<'i, 'o, 't, 'd, I: Source, O: Sink, T: Sink, D: Devices>(
+    word: u32,
+    body: &mut Body,
+    active: &mut Active,
+    outside: &mut Outside<'i, 'o, 't, 'd, I, O, T, D>,
+    fault: &mut Fault,
+) -> Did
+    requires whole { IsWhole body.old (isa_of active.old) }
+    requires set { isa_of active.old ≡ set_m68 }
+    requires word { word < 2 ^ 16 }
+    ensures does { Acts (λ s. traps_to s word (trap_number word)) result fault.new
+        (machine_beside I.left I.faults O.held O.faults T.held T.faults D.state body.old active.old outside.old)
+        (machine_beside I.left I.faults O.held O.faults T.held T.faults D.state body.new active.new outside.new) }
+    ensures same { AreSame outside.old outside.new }
+{
+    body_laws();
+    trap_laws();
+    match trap_index(word as u16) {
+        Some(index) => call_function(index, body, active, outside, fault),
+        None => no_trap(word, active, fault),
+    }
+}
+
+/// No trap has this word.
+fn no_trap(word: u32, active: &Active, fault: &mut Fault) -> Did
+    ensures did { result ≡ Did.Fault }
+    ensures cell { fault.new ≡ fault_at (pc_of active.now) NoTrap word }
+{
+    *fault = Fault::at(active.pc(), FaultKind::NoTrap, word);
+    Did::Fault
+}
+
+/// Calls a host function for PowerPC code.
+#[inline(never)]
+fn call_import<'i, 'o, 't, 'd, I: Source, O: Sink, T: Sink, D: Devices>(
+    index: u32,
+    body: &mut Body,
+    active: &mut Active,
+    outside: &mut Outside<'i, 'o, 't, 'd, I, O, T, D>,
+    fault: &mut Fault,
+) -> Did
+    requires whole { IsWhole body.old (isa_of active.old) }
+    requires index { index < 16 }
+    ensures does { Acts (λ s. hosts s index) result fault.new
+        (machine_beside I.left I.faults O.held O.faults T.held T.faults D.state body.old active.old outside.old)
+        (machine_beside I.left I.faults O.held O.faults T.held T.faults D.state body.new active.new outside.new) }
+    ensures same { AreSame outside.old outside.new }
+{
+    call_function(index, body, active, outside, fault)
+}
+
+/// Calls a host function: one of the usual functions of the heap at once.
+#[inline(always)]
+fn call_function<'i, 'o, 't, 'd, I: Source, O: Sink, T: Sink, D: Devices>(
+    index: u32,
+    body: &mut Body,
+    active: &mut Active,
+    outside: &mut Outside<'i, 'o, 't, 'd, I, O, T, D>,
+    fault: &mut Fault,
+) -> Did
+    requires whole { IsWhole body.old (isa_of active.old) }
+    requires index { index < 16 }
+    ensures does { Acts (λ s. hosts s index) result fault.new
+        (machine_beside I.left I.faults O.held O.faults T.held T.faults D.state body.old active.old outside.old)
+        (machine_beside I.left I.faults O.held O.faults T.held T.faults D.state body.new active.new outside.new) }
+    ensures same { AreSame outside.old outside.new }
+{
+    body_laws();
+    if call_heap(index, active, &mut body.heap) {
+        Did::Next
+    } else {
+        call_any(index, body, active, outside, fault)
+    }
+}
+
+/// Calls a host function, and goes on into other code where it asks for that.
+#[inline(never)]
+fn call_any<'i, 'o, 't, 'd, I: Source, O: Sink, T: Sink, D: Devices>(
+    index: u32,
+    body: &mut Body,
+    active: &mut Active,
+    outside: &mut Outside<'i, 'o, 't, 'd, I, O, T, D>,
+    fault: &mut Fault,
+) -> Did
+    requires whole { IsWhole body.old (isa_of active.old) }
+    requires index { index < 16 }
+    ensures does { Acts (λ s. hosts s index) result fault.new
+        (machine_beside I.left I.faults O.held O.faults T.held T.faults D.state body.old active.old outside.old)
+        (machine_beside I.left I.faults O.held O.faults T.held T.faults D.state body.new active.new outside.new) }
+    ensures same { AreSame outside.old outside.new }
+{
+    body_laws();
+    match call(index, body, active, outside, fault) {
+        Called::Went(did) => did,
+        Called::Cross { pointer, info } => {
+            cross_at(pointer, info, body, active, outside.trace, fault)
+        }
+    }
+}
+
+/// Calls a host function.
+#[inline(always)]
+fn call<'i, 'o, 't, 'd, I: Source, O: Sink, T: Sink, D: Devices>(
+    index: u32,
+    body: &mut Body,
+    active: &mut Active,
+    outside: &mut Outside<'i, 'o, 't, 'd, I, O, T, D>,
+    fault: &mut Fault,
+) -> Called
+    requires whole { IsWhole body.old (isa_of active.old) }
+    requires index { index < 16 }
+    ensures does { IsCalled index result fault.new
+        (machine_beside I.left I.faults O.held O.faults T.held T.faults D.state body.old active.old outside.old)
+        (machine_beside I.left I.faults O.held O.faults T.held T.faults D.state body.new active.new outside.new) }
+    ensures same { AreSame outside.old outside.new }
+{
+    body_laws();
+    match host_call(
+        index,
+        active,
+        &mut body.ram,
+        &mut body.heap,
+        outside.rack,
+        outside.input,
+        outside.out,
+    ) {
+        HostOut::Done => Called::Went(Did::Next),
+        HostOut::Asked { slot, word, answer } => match put_ask(outside.trace, slot, word, answer) {
+            Ok(()) => Called::Went(Did::Next),
+            Err(_) => Called::Went(Did::TraceFault),
+        },
+        HostOut::Cross { pointer, info } => Called::Cross { pointer, info },
+        HostOut::Exit(code) => Called::Went(Did::Exit(code)),
+        HostOut::Stop(reason) => {
+            *fault = reason;
+            Called::Went(Did::Fault)
+        }
+        HostOut::ReadFault => Called::Went(Did::ReadFault),
+        HostOut::OutFault => Called::Went(Did::OutFault),
+    }
+}
+
+/// Goes on at a universal pointer, with a procInfo.
+#[inline(never)]
+fn cross_at<T: Sink>(
+    pointer: u32,
+    info: u32,
+    body: &mut Body,
+    active: &mut Active,
+    trace: &mut T,
+    fault: &mut Fault,
+) -> Did
+    requires whole { IsWhole body.old (isa_of active.old) }
+    ensures { Does (λ s. universal s s.active pointer info) result fault.new body.old body.new active.old active.new
+        (output (T.held trace.old) (T.faults trace.old)) (output (T.held trace.new) (T.faults trace.new)) }
+{
+    body_laws();
+    match active {
+        Active::M68(_) => cross(body, active, &Wanted::Jumps(pointer), trace, fault),
+        Active::Ppc(regs) => {
+            let mut wanted = Wanted::Jumps(0);
+            wants_ppc(&body.ram, regs, pointer, info, &mut wanted);
+            cross(body, active, &wanted, trace, fault)
+        }
+    }
+}

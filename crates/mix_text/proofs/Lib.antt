@@ -1,0 +1,10 @@
+pub mod Lines
+pub mod Words
+pub mod Splits
+pub mod Instructions
+pub mod Walks
+pub mod Once
+pub mod OneLines
+pub mod Bytes
+pub mod Listed
+pub mod Back

@@ -1,0 +1,6 @@
+pub mod Listing
+pub mod ListingParts
+pub mod Lines
+pub mod Assembling
+pub mod Parts
+pub mod Laws

@@ -1,4 +1,0 @@
-pub mod FieldLemmas
-pub mod MaskLemmas
-pub mod ShiftLemmas
-pub mod SignedLemmas

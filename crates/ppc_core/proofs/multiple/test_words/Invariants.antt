@@ -1,0 +1,5 @@
+use Rattle.ppc_core.specs.Tested.{WordsThere}
+use Rattle.ppc_core.proofs.multiple.test_words.Given as goal
+
+abbrev pub invariant-loop-k : goal.invariant-loop-k
+invariant-loop-k l = WordsThere l.ram l.at l.k

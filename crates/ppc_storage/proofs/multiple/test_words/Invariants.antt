@@ -1,5 +1,0 @@
-use Rattle.ppc_storage.specs.Tested.{WordsThere}
-use Rattle.ppc_storage.proofs.multiple.test_words.Given as goal
-
-abbrev pub invariant-loop-k : goal.invariant-loop-k
-invariant-loop-k l = WordsThere l.ram l.at l.k

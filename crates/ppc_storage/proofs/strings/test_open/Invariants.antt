@@ -1,5 +1,0 @@
-use Rattle.ppc_storage.specs.Tested.{BytesOpen}
-use Rattle.ppc_storage.proofs.strings.test_open.Given as goal
-
-abbrev pub invariant-loop-k : goal.invariant-loop-k
-invariant-loop-k l = BytesOpen l.ram l.at l.k

@@ -1,9 +1,0 @@
-pub mod ChoiceLemmas
-pub mod RecordLemmas
-pub mod Built
-pub mod Chains
-pub mod Signed
-pub mod Held
-pub mod Takes
-pub mod Bytes
-pub mod Bits

@@ -1,4 +1,0 @@
-pub mod Events
-pub mod Laws
-pub mod Pieces
-pub mod Reading
