@@ -61,7 +61,7 @@ fn append_values(
 }
 
 /// A word of a call, cut to a size.
-#[tactic(auto, unfolding(crate::specs::Words::value_at))]
+#[tactic(auto, unfolding(crate::specs::WordsPpc::value_at))]
 fn value(regs: &RegsPpc, ram: &Ram, i: u32, size: Size) -> Result<u32, Access>
     requires { i ≤ 100 }
     ensures { result ≡ value_at regs.now ram.now i size }

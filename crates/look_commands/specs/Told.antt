@@ -2,8 +2,8 @@
 -- what look_end and look_trace write.
 use Rattle.std.specs.Prelude.{◌≡◌, ◌≢◌, ◌+◌, ◌*◌, ◌++◌, ◌⊎◌, ℕ, Bool, true, false, List, [], ◌∷◌, codes, slice_range, Option, Result, Ok, Err}
 use Rattle.std.specs.Io.KnownBytes.{Appends}
-use Rattle.fork_wrap.specs.Forks.{fork_of}
-use Rattle.fork_wrap.specs.declared.fork.Fork.{Fork as AFork}
+use Rattle.rsrc_fork.specs.Forks.{fork_of}
+use Rattle.rsrc_fork.specs.declared.wrapping.ForkPlace.{ForkPlace}
 use Rattle.job_words.specs.declared.job.BadWord.{BadWord}
 use Rattle.job_words.specs.declared.job.Command.{Command}
 use Rattle.job_words.specs.declared.job.Command.TheVariants.{Run}
@@ -48,7 +48,7 @@ WritesWhy words old new status = (status ≡ 0 → (why : Why) × Explains words
 -- the raw fork of a file, which has these bytes
 abbrev pub WritesFork : Option (List ℕ) → Option (List ℕ) → ℕ → Type 0
 WritesFork old new status =
-    (status ≡ 0 → (bytes : List ℕ) × (fork : AFork) × (fork_of bytes ≡ Ok fork) × Appends old new (slice_range bytes fork.start (fork.start + fork.length)))
+    (status ≡ 0 → (bytes : List ℕ) × (fork : ForkPlace) × (fork_of bytes ≡ Ok fork) × Appends old new (slice_range bytes fork.start (fork.start + fork.length)))
     × (status ≢ 2)
 
 -- where the pieces of some files lie, which are loaded by a job

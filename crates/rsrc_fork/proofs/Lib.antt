@@ -5,3 +5,4 @@ pub mod Listing
 pub mod Small
 mod Walk
 pub mod Counts
+pub mod Fronts

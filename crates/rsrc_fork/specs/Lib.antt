@@ -4,3 +4,5 @@ pub mod Resources
 pub mod References
 pub mod Listing
 pub mod Walk
+pub mod Checksum
+pub mod Forks

@@ -1,16 +1,16 @@
 // AppleSingle and AppleDouble: a header of 26 bytes, and an entry of twelve bytes for each part of the file.
 ghost use Rattle.std.specs.Prelude.{◌≡◌, ◌+◌, ◌*◌, ◌^◌, ◌<◌, ◌≤◌, IfOk, IfSome, length};
 ghost use Rattle.std.specs.Option.{option_or};
-ghost use Rattle.fork_wrap.specs.Forks.{apple_fork as fork_in_apple, entry_place as place_of_entry, fork_entry as entry_of_fork, is_fork as names_fork, is_version as is_known_version, listed_fork, named};
+ghost use Rattle.rsrc_fork.specs.Forks.{apple_fork as fork_in_apple, entry_place as place_of_entry, fork_entry as entry_of_fork, is_fork as names_fork, is_version as is_known_version, listed_fork, named};
 
-use crate::fork::{Fork, ForkError, Wrapping, inside};
+use crate::fork::{ForkError, ForkPlace, Wrapping, inside};
 use mix_bits::{long_at, word_at};
 
 /// The number of the entry of a resource fork.
 const RESOURCE_FORK: u32 = 2;
 
 /// The fork of a file with the magic number of AppleSingle or AppleDouble.
-pub fn apple_fork(bytes: &[u8], wrapping: Wrapping) -> Result<Fork, ForkError>
+pub fn apple_fork(bytes: &[u8], wrapping: Wrapping) -> Result<ForkPlace, ForkError>
     requires { length bytes.now < 2 ^ 32 }
     ensures fork { result ≡ fork_in_apple bytes.now wrapping }
     ensures inside { IfOk result (λ fork. fork.start + fork.length ≤ length bytes.now) }
@@ -44,7 +44,7 @@ fn entry_place(k: u16) -> u32
 }
 
 /// The fork that one of the entries names.
-fn listed(bytes: &[u8], wrapping: Wrapping, count: u16) -> Result<Fork, ForkError>
+fn listed(bytes: &[u8], wrapping: Wrapping, count: u16) -> Result<ForkPlace, ForkError>
     requires short { length bytes.now < 2 ^ 32 }
     requires whole { place_of_entry count ≤ length bytes.now }
     ensures fork { result ≡ listed_fork bytes.now wrapping count }

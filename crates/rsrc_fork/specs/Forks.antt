@@ -4,15 +4,15 @@ use Rattle.std.specs.List.{list_all}
 use Rattle.std.specs.Option.{option_or}
 use Rattle.mix_bits.specs.Multiples.{rounded_up}
 use Rattle.mix_bits.specs.Fields.{word_at, long_at}
-use Rattle.fork_wrap.specs.Checksum.{sum_from}
-use Rattle.fork_wrap.specs.declared.fork.Fork.{Fork}
-use Rattle.fork_wrap.specs.declared.fork.ForkError.{ForkError}
-use Rattle.fork_wrap.specs.declared.fork.ForkError.TheVariants.{Unknown, Header, Version, Cut, Forkless}
-use Rattle.fork_wrap.specs.declared.fork.Wrapping.{Wrapping}
-use Rattle.fork_wrap.specs.declared.fork.Wrapping.TheVariants.{Raw, MacBinary, MacBinary2, MacBinary3, AppleSingle, AppleDouble}
+use Rattle.rsrc_fork.specs.Checksum.{sum_from}
+use Rattle.rsrc_fork.specs.declared.wrapping.ForkPlace.{ForkPlace}
+use Rattle.rsrc_fork.specs.declared.wrapping.ForkError.{ForkError}
+use Rattle.rsrc_fork.specs.declared.wrapping.ForkError.TheVariants.{Unknown, Header, Version, Cut, Forkless}
+use Rattle.rsrc_fork.specs.declared.wrapping.Wrapping.{Wrapping}
+use Rattle.rsrc_fork.specs.declared.wrapping.Wrapping.TheVariants.{Raw, MacBinary, MacBinary2, MacBinary3, AppleSingle, AppleDouble}
 
 -- the fork of so many bytes from a place on, where it has some and they lie in the file
-abbrev pub inside : List ℕ → Wrapping → ℕ → ℕ → Result Fork ForkError
+abbrev pub inside : List ℕ → Wrapping → ℕ → ℕ → Result ForkPlace ForkError
 inside bytes wrapping start count =
     if count == 0 then Err (Forkless wrapping)
     else (if nat_lt (length bytes) (start + count) then Err (Cut wrapping)
@@ -40,14 +40,14 @@ abbrev pub fork_entry : List ℕ → ℕ → Option ℕ
 fork_entry bytes zero = None
 fork_entry bytes (suc k) = option_or (fork_entry bytes k) (named k (is_fork bytes k))
 
-abbrev pub at_entry : List ℕ → Wrapping → Option ℕ → Result Fork ForkError
+abbrev pub at_entry : List ℕ → Wrapping → Option ℕ → Result ForkPlace ForkError
 at_entry bytes wrapping None = Err (Forkless wrapping)
 at_entry bytes wrapping (Some k) = inside bytes wrapping (long_at bytes (entry_place k + 4)) (long_at bytes (entry_place k + 8))
 
-abbrev pub listed_fork : List ℕ → Wrapping → ℕ → Result Fork ForkError
+abbrev pub listed_fork : List ℕ → Wrapping → ℕ → Result ForkPlace ForkError
 listed_fork bytes wrapping count = at_entry bytes wrapping (fork_entry bytes count)
 
-abbrev pub apple_fork : List ℕ → Wrapping → Result Fork ForkError
+abbrev pub apple_fork : List ℕ → Wrapping → Result ForkPlace ForkError
 apple_fork bytes wrapping =
     if nat_lt (length bytes) 26 then Err (Cut wrapping)
     else (if not (is_version (long_at bytes 4)) then Err (Version wrapping)
@@ -82,7 +82,7 @@ binary_wrapping bytes = if is_header bytes then level_of bytes else None
 
 -- behind the header of 128 bytes stand a second header, whose length is at 120, and the data fork, whose length is at 83;
 -- each is filled up to a multiple of 128. The length of the resource fork is at 87
-abbrev pub binary_fork : List ℕ → Wrapping → Result Fork ForkError
+abbrev pub binary_fork : List ℕ → Wrapping → Result ForkPlace ForkError
 binary_fork bytes wrapping =
     inside bytes wrapping (128 + rounded_up 128 (word_at bytes 120) + rounded_up 128 (long_at bytes 83)) (long_at bytes 87)
 
@@ -93,22 +93,22 @@ is_raw bytes =
     nat_le (long_at bytes 0 + long_at bytes 8) (length bytes) && nat_le (long_at bytes 4 + long_at bytes 12) (length bytes)
     && nat_le 28 (long_at bytes 12)
 
-abbrev pub raw_or_refusal : List ℕ → Result Fork ForkError
+abbrev pub raw_or_refusal : List ℕ → Result ForkPlace ForkError
 raw_or_refusal bytes =
     if is_raw bytes then Ok (record { wrapping = Raw; start = 0; length = length bytes })
     else (if is_header bytes then Err Header else Err Unknown)
 
-abbrev pub by_binary : List ℕ → Option Wrapping → Result Fork ForkError
+abbrev pub by_binary : List ℕ → Option Wrapping → Result ForkPlace ForkError
 by_binary bytes (Some wrapping) = binary_fork bytes wrapping
 by_binary bytes None = raw_or_refusal bytes
 
-abbrev pub wrapped_fork : List ℕ → Result Fork ForkError
+abbrev pub wrapped_fork : List ℕ → Result ForkPlace ForkError
 wrapped_fork bytes = by_binary bytes (binary_wrapping bytes)
 
-abbrev pub by_apple : List ℕ → Option Wrapping → Result Fork ForkError
+abbrev pub by_apple : List ℕ → Option Wrapping → Result ForkPlace ForkError
 by_apple bytes (Some wrapping) = apple_fork bytes wrapping
 by_apple bytes None = wrapped_fork bytes
 
 -- the fork of a file, or why there is none
-unfoldable pub fork_of : List ℕ → Result Fork ForkError
+unfoldable pub fork_of : List ℕ → Result ForkPlace ForkError
 fork_of bytes = if nat_lt (length bytes) 16 then Err Unknown else by_apple bytes (apple_wrapping (long_at bytes 0))

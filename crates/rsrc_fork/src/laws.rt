@@ -1,5 +1,5 @@
 ghost use Rattle.std.specs.Prelude.{◌≡◌, codes};
-ghost use Rattle.fork_wrap.specs.Checksum.{sum_from};
+ghost use Rattle.rsrc_fork.specs.Checksum.{sum_from};
 
 /// The check value that is published of this check sum, that of nine digits. It does nothing: the clause is its point.
 #[tactic(auto, unfolding(crate::specs::Checksum::shifted))]

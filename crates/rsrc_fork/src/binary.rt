@@ -2,10 +2,10 @@
 // of 128.
 ghost use Rattle.std.specs.Prelude.{◌≡◌, ◌==◌, ◌+◌, ◌^◌, ◌<◌, ◌≤◌, IfOk, IfSome, length};
 ghost use Rattle.std.specs.List.{list_all};
-ghost use Rattle.fork_wrap.specs.Forks.{binary_fork as fork_in_binary, binary_wrapping as wrapping_of_binary, has_sum as has_right_sum, is_first as is_first_version, is_header as is_binary_header, level_of};
+ghost use Rattle.rsrc_fork.specs.Forks.{binary_fork as fork_in_binary, binary_wrapping as wrapping_of_binary, has_sum as has_right_sum, is_first as is_first_version, is_header as is_binary_header, level_of};
 
 use crate::checksum::checksum;
-use crate::fork::{Fork, ForkError, Wrapping, inside};
+use crate::fork::{ForkError, ForkPlace, Wrapping, inside};
 use mix_bits::{long_at, round_up, word_at};
 
 /// `mBIN`, by which MacBinary III is known.
@@ -72,7 +72,7 @@ fn are_zeros(bytes: &[u8]) -> bool
 }
 
 /// The fork of a MacBinary file.
-pub fn binary_fork(bytes: &[u8], wrapping: Wrapping) -> Result<Fork, ForkError>
+pub fn binary_fork(bytes: &[u8], wrapping: Wrapping) -> Result<ForkPlace, ForkError>
     requires long { 128 ≤ length bytes.now }
     requires short { length bytes.now < 2 ^ 32 }
     ensures fork { result ≡ fork_in_binary bytes.now wrapping }

@@ -1,5 +1,5 @@
 ghost use Rattle.std.specs.Prelude.{◌≡◌, ◌+◌, ◌^◌, ◌<◌, ◌≤◌, IfOk, length};
-ghost use Rattle.fork_wrap.specs.Forks.{apple_wrapping as wrapping_of_magic, fork_of, inside as inside_of, is_raw as is_raw_fork, raw_or_refusal as raw_or_refused, wrapped_fork};
+ghost use Rattle.rsrc_fork.specs.Forks.{apple_wrapping as wrapping_of_magic, fork_of, inside as inside_of, is_raw as is_raw_fork, raw_or_refusal as raw_or_refused, wrapped_fork};
 
 use crate::apple::apple_fork;
 use crate::binary::{binary_fork, binary_wrapping, is_header};
@@ -20,7 +20,7 @@ pub enum Wrapping {
 
 /// The place of a raw fork in a file: its first byte, and how many there are.
 #[derive(Clone, Copy, Debug, PartialEq, Eq)]
-pub struct Fork {
+pub struct ForkPlace {
     pub wrapping: Wrapping,
     pub start: u32,
     pub length: u32,
@@ -44,7 +44,7 @@ pub enum ForkError {
 
 /// The fork that a file is or wraps, or why there is none.
 #[tactic(auto, unfolding(crate::specs::Forks::fork_of))]
-pub fn find_fork(bytes: &[u8]) -> Result<Fork, ForkError>
+pub fn find_fork(bytes: &[u8]) -> Result<ForkPlace, ForkError>
     requires { length bytes.now < 2 ^ 32 }
     ensures fork { result ≡ fork_of bytes.now }
     ensures inside { IfOk result (λ fork. fork.start + fork.length ≤ length bytes.now) }
@@ -70,7 +70,7 @@ fn apple_wrapping(magic: u32) -> Option<Wrapping>
 }
 
 /// The fork of a file that is neither AppleSingle nor AppleDouble.
-fn bare_or_binary(bytes: &[u8]) -> Result<Fork, ForkError>
+fn bare_or_binary(bytes: &[u8]) -> Result<ForkPlace, ForkError>
     requires long { 16 ≤ length bytes.now }
     requires short { length bytes.now < 2 ^ 32 }
     ensures fork { result ≡ wrapped_fork bytes.now }
@@ -83,14 +83,14 @@ fn bare_or_binary(bytes: &[u8]) -> Result<Fork, ForkError>
 }
 
 /// The file itself, where it is a raw fork.
-fn raw_or_refusal(bytes: &[u8]) -> Result<Fork, ForkError>
+fn raw_or_refusal(bytes: &[u8]) -> Result<ForkPlace, ForkError>
     requires long { 16 ≤ length bytes.now }
     requires short { length bytes.now < 2 ^ 32 }
     ensures fork { result ≡ raw_or_refused bytes.now }
     ensures inside { IfOk result (λ fork. fork.start + fork.length ≤ length bytes.now) }
 {
     if is_raw(bytes) {
-        Ok(Fork {
+        Ok(ForkPlace {
             wrapping: Wrapping::Raw,
             start: 0,
             length: bytes.len() as u32,
@@ -114,7 +114,12 @@ fn is_raw(bytes: &[u8]) -> bool
 }
 
 /// The fork of so many bytes from a place on, where it lies in the file.
-pub fn inside(bytes: &[u8], wrapping: Wrapping, start: u64, count: u32) -> Result<Fork, ForkError>
+pub fn inside(
+    bytes: &[u8],
+    wrapping: Wrapping,
+    start: u64,
+    count: u32,
+) -> Result<ForkPlace, ForkError>
     requires short { length bytes.now < 2 ^ 32 }
     requires near { start < 2 ^ 40 }
     ensures fork { result ≡ inside_of bytes.now wrapping start count }
@@ -126,7 +131,7 @@ pub fn inside(bytes: &[u8], wrapping: Wrapping, start: u64, count: u32) -> Resul
     if (bytes.len() as u64) < start + u64::from(count) {
         return Err(ForkError::Cut(wrapping));
     }
-    Ok(Fork {
+    Ok(ForkPlace {
         wrapping,
         start: start as u32,
         length: count,

@@ -1,6 +1,6 @@
 // The check sum of a MacBinary header: CRC-CCITT as XMODEM has it.
 ghost use Rattle.std.specs.Prelude.{◌≡◌};
-ghost use Rattle.fork_wrap.specs.Checksum.{fed as fed_with, shifted as shifted_once, shifted_twice as twice_shifted, sum_from};
+ghost use Rattle.rsrc_fork.specs.Checksum.{fed as fed_with, shifted as shifted_once, shifted_twice as twice_shifted, sum_from};
 
 /// The check sum of bytes behind those that gave `sum`.
 pub fn checksum(sum: u16, bytes: &[u8]) -> u16
