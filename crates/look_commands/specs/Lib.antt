@@ -1,2 +1,4 @@
 pub mod Statuses
 pub mod Told
+pub mod Registers
+pub mod Counted

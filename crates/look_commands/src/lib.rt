@@ -3,20 +3,34 @@
 //! `answer` does what words ask for: it opens the files that they name, reads the input of a run, writes texts to the
 //! output, and sentences and traces to the errors. Words that are refused have status 2, and files and machines are
 //! handed on only as the other crates want them: the files of a proper job, and machines that are whole.
+//!
+//! `run_keeping` is one run of the machine, a step at a time, that keeps its last steps; `report` tells the state of a
+//! machine as text: how its run ended, its registers, frames, last steps, stack and heap. The text of the registers is
+//! exactly that of a definition; the rest is told by the calls that the other crates have for it.
 #![tactic(auto)]
 
 mod commands;
 mod files;
+mod frames;
 mod images;
+mod machine;
 mod maps;
+mod memory;
 mod program;
 mod refused;
+mod registers;
+mod run;
 mod runs;
 mod said;
 pub mod status;
+mod step;
+mod steps;
 mod streams;
 mod traces;
 
 pub use commands::answer;
+pub use machine::report;
+pub use run::{Ending, run_keeping};
 pub use said::{print, tell};
+pub use step::Step;
 pub use streams::Streams;

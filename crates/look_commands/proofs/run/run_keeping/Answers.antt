@@ -1,7 +1,7 @@
 -- A step more, or the one at which the run stopped.
 use Rattle.mix_io.proofs.Steps.{accounts-join}
-use Rattle.look_end.proofs.Cuts.{cut-begins, stopped, went-on}
-use Rattle.look_end.proofs.run.run_keeping.Goals as goal
+use Rattle.look_commands.proofs.Cuts.{cut-begins, stopped, went-on}
+use Rattle.look_commands.proofs.run.run_keeping.Goals as goal
 
 pub steps-init : goal.steps-init
 steps-init g c = cut-begins _ c.requires

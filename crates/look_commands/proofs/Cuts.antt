@@ -23,7 +23,7 @@ use Rattle.mixed_machine.specs.Outside.{At}
 use Rattle.mixed_machine.specs.Runs.{OutBroke, Ran, ReadBroke, Runs, Sinks, SinksTook, Stops, TraceBroke, sinks_of}
 use Rattle.mixed_machine.proofs.Machines.{begins-at, cut-goes-on, limit-at, stops-imply}
 use Rattle.mixed_machine.proofs.Runs.{exec-stays, limits-last}
-use Rattle.look_end.specs.Counted.{RanSteps, ends, is_done}
+use Rattle.look_commands.specs.Counted.{RanSteps, ends, is_done}
 
 -- a run of one step that ended with an exit has no step left, and one with a fault has it left
 rests-exit : (b : Bool) (s t : State) (left code : ℕ) → rests b s ≡ Ended (Exited code) t left → left ≡ 0

@@ -9,7 +9,7 @@ ghost use Rattle.mixed_machine.specs.Counts.{Blames};
 ghost use Rattle.mixed_machine.specs.Machine.{IsWhole};
 ghost use Rattle.mixed_machine.specs.Outside.{at};
 ghost use Rattle.mix_io.specs.Streams.{output};
-ghost use Rattle.look_end.specs.Counted.{RanSteps, ends as ends_at, is_done as is_done_at};
+ghost use Rattle.look_commands.specs.Counted.{RanSteps, ends as ends_at, is_done as is_done_at};
 
 use crate::step::{Step, step_at};
 use circular_buffer::HeapCircularBuffer;

@@ -1,6 +1,6 @@
 // The registers of the active set.
 ghost use Rattle.std.specs.Prelude.{◌≡◌, ◌+◌, ◌≤◌, ◌++◌, OnOk, length};
-ghost use Rattle.look_end.specs.Registers.{bank_text, codes_line, flag as flag_of, register_text, registers_text, special_line};
+ghost use Rattle.look_commands.specs.Registers.{bank_text, codes_line, flag as flag_of, register_text, registers_text, special_line};
 
 use look_text::{Piece, add_line};
 use m68_isa::{Ccr, Regs68};

@@ -2,8 +2,8 @@
 use Rattle.toolbox.specs.Calls.{outside as outside_of}
 use Rattle.mixed_machine.specs.Outside.{at}
 use Rattle.mix_io.specs.Streams.{output}
-use Rattle.look_end.proofs.Cuts.{Cut}
-use Rattle.look_end.proofs.run.run_keeping.Given as goal
+use Rattle.look_commands.proofs.Cuts.{Cut}
+use Rattle.look_commands.proofs.run.run_keeping.Given as goal
 
 abbrev pub invariant-steps : goal.invariant-steps
 invariant-steps g l =
