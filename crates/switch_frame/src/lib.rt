@@ -16,8 +16,6 @@ mod kind;
 mod laws;
 mod program;
 mod rooms;
-#[cfg(test)]
-mod tests;
 mod whole;
 
 pub use active::Active;

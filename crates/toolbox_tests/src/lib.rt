@@ -1,4 +1,5 @@
-//! Host calls one by one, for code of both sets, with all that each leaves; and the heap that they stand on.
+//! Host calls one by one, for code of both sets, with all that each leaves; and the heap and the switch frames that they
+//! stand on.
 #![tactic(auto)]
 
 #[cfg(test)]
@@ -11,6 +12,8 @@ mod case;
 mod devices;
 #[cfg(test)]
 mod equal;
+#[cfg(test)]
+mod frames;
 #[cfg(test)]
 mod heap;
 #[cfg(test)]

@@ -1,3 +1,4 @@
+// Switch frames: their layout, the callers that they give back, and where there is room for them.
 ghost use Rattle.std.specs.Prelude.{◌≡◌, ◌+◌, ◌*◌, ◌%◌, ◌^◌, ◌<◌, ◌≤◌, [], length, IfOk, OnOk};
 ghost use Rattle.switch_frame.specs.Calls.{IsCalled};
 ghost use Rattle.switch_frame.specs.Chain.{Chain, Links, records};
@@ -5,14 +6,13 @@ ghost use Rattle.switch_frame.specs.Records.{isa_of};
 ghost use Rattle.switch_frame.specs.Sets.{caller_isa, callee_isa};
 ghost use Rattle.switch_frame.specs.declared.active.Active.{Active};
 
-use crate::frames::depth;
-use crate::{Active, Full, Held, Kind, outer_lo, pop, push, room, top};
 use big_memory::{NoMemory, Ram};
 use m68_isa::{Ccr, Regs68};
 use mix_bits::{Isa, Size};
 use ppc_isa::RegsPpc;
 use std::process::Abort;
 use std::test::Fail;
+use switch_frame::{Active, Full, Held, Kind, depth, outer_lo, pop, push, room, top};
 
 fn memory(rt: &HostRuntime, bytes: u32) -> Result<Ram, NoMemory>
     requires least { 131072 ≤ bytes }
