@@ -3,7 +3,7 @@ ghost use Rattle.std.specs.Prelude.{◌≡◌, ◌+◌, ◌*◌, ◌^◌, ◌<�
 ghost use Rattle.std.specs.Option.{option_or};
 ghost use Rattle.rsrc_fork.specs.Forks.{apple_fork as fork_in_apple, entry_place as place_of_entry, fork_entry as entry_of_fork, is_fork as names_fork, is_version as is_known_version, listed_fork, named};
 
-use crate::fork::{ForkError, ForkPlace, Wrapping, inside};
+use crate::wrapping::{ForkError, ForkPlace, Wrapping, inside};
 use mix_bits::{long_at, word_at};
 
 /// The number of the entry of a resource fork.

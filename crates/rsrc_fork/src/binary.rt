@@ -5,7 +5,7 @@ ghost use Rattle.std.specs.List.{list_all};
 ghost use Rattle.rsrc_fork.specs.Forks.{binary_fork as fork_in_binary, binary_wrapping as wrapping_of_binary, has_sum as has_right_sum, is_first as is_first_version, is_header as is_binary_header, level_of};
 
 use crate::checksum::checksum;
-use crate::fork::{ForkError, ForkPlace, Wrapping, inside};
+use crate::wrapping::{ForkError, ForkPlace, Wrapping, inside};
 use mix_bits::{long_at, round_up, word_at};
 
 /// `mBIN`, by which MacBinary III is known.

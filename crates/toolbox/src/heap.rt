@@ -7,7 +7,7 @@ ghost use Rattle.toolbox.specs.Place.{IsPlace, place_for, can_append, can_place,
 ghost use Rattle.toolbox.specs.Sound.{IsSound};
 
 use crate::block::Block;
-use crate::blocks::{add, can_append, can_place, lowest_fit, remove, rounded};
+use crate::heap_blocks::{add, can_append, can_place, lowest_fit, remove, rounded};
 use std::alloc::{AllocError, Global};
 use std::marker::Model;
 

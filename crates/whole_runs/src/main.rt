@@ -19,20 +19,32 @@
 //! of steps, kept and continued. With `untold` the outside is that of std around an empty input, outputs that
 //! keep nothing, and no device; it tells nothing, so the answer is `NAME | STATUS`.
 //!
+//! A line `look WORDS` has the words of mixedlook, whose files lie where this program is run, and among them words that
+//! speak of the streams, `@KEY=VALUE`: `@input=TEXT` is what the input has, and `@in=N`, `@out=N` and `@errors=N` have the
+//! number of the read of the input, or of the write to the output or the errors, that fails, counted from 1. The input
+//! gives a byte at each read. Of each such case the output is written, for `fork` and `end` in hexadecimal digits, then
+//! the errors, and the status.
+//!
 //! The answers that are stored beside this program were not made by it. They were worked out from the rules
 //! in `docs/`: by hand the addresses, steps and lines of each small program, and by a reader of forks and
 //! containers that was written from `docs/files.md` alone what each file that is cut or changed is refused
-//! for. What the samples of this repository give was worked out from their sources.
+//! for. What the samples of this repository give was worked out from their sources. What mixedlook says is what a reader
+//! of forks, containers, checkpoints and traces says that was written from `docs/` alone, too; where programs run, their
+//! steps were worked out by hand.
 #![tactic(auto)]
 
 mod case;
 mod cut;
 mod images;
+mod look_case;
 mod outside;
 mod run;
+mod streams;
 mod sweep;
 mod tell;
+mod text;
 mod untold;
+mod words;
 
 use case::Case;
 use images::Images;
@@ -49,6 +61,9 @@ fn main(rt: HostRuntime) -> io::Result<()> {
         let text = line.as_str();
         if let Some(named) = text.strip_prefix("file ") {
             images.define(alloc, named)?;
+        } else if let Some(words) = text.strip_prefix("look ") {
+            let told = look_case::told(&rt, words)?;
+            println!(rt; "> {words}\n{told}")?;
         } else if !text.is_empty() && !text.starts_with(';') {
             let told = answer(&rt, &images, text)?;
             println!(rt; "{told}")?;

@@ -2,7 +2,7 @@
 // fail, by their numbers from 1, `out-room=5` and `trace-room=20` for how many bytes a stream holds, `keep=1`,
 // `keep-room=5` and `keep-name=t` for the keeper, and `script=5,-,7` for a device in slot 0 whose second ask
 // fails. Numbers are decimal.
-use case_words::{no_memory, number_or, numbers, value_of};
+use crate::words::{no_memory, number_or, numbers, value_of};
 use mix_io::{MemKeep, MemSink, ScriptDevice};
 use std::alloc::{AllocError, Global};
 use std::io;

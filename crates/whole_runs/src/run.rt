@@ -3,7 +3,7 @@ use crate::case::Case;
 use crate::images::Images;
 use crate::outside::{keeper, scripted, sink};
 use crate::tell::{self, Telling};
-use case_words::{no_memory, numbers, value_of};
+use crate::words::{no_memory, numbers, value_of};
 use mix_io::{
     Asked, Counter, Device, Devices, MemKeep, MemShelf, MemSink, MemSource, Rack, Tape,
     have_distinct_names,

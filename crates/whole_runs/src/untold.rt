@@ -3,7 +3,7 @@
 use crate::case::Case;
 use crate::images::Images;
 use crate::run::{shelf, split};
-use case_words::no_memory;
+use crate::words::no_memory;
 use mix_io::{FileKeep, MemShelf, Rack, StdSink, StdSource};
 use mix_top::mixed_main;
 use std::io;

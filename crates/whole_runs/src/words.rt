@@ -1,7 +1,4 @@
-//! The words `KEY=VALUE` of a case: a line of standard input that says what one of the programs of tests is to do.
-//! Numbers are decimal.
-#![tactic(auto)]
-
+// The words `KEY=VALUE` of a case. Numbers are decimal.
 use mix_io::NoMemory;
 use std::alloc::Global;
 use std::io::{self, ErrorKind};
