@@ -1,3 +1,5 @@
+// What holds of the definitions themselves, for the crates that cite them: each law is a contract, and its body does
+// nothing.
 ghost use Rattle.toolbox.specs.Blames.{BlamedAfterCalm, CalmAtFirst};
 ghost use Rattle.toolbox.specs.Functions.{NumbersAreOwn};
 ghost use Rattle.toolbox.specs.Names.{ImportsAreNumbered, ImportsHaveOneNumber};
@@ -31,8 +33,6 @@ pub fn blame_laws()
     ensures first { CalmAtFirst }
     ensures after { BlamedAfterCalm }
 {}
-
-//! What holds of the definitions themselves, for the crates that cite them: each law is a contract, and its body does nothing.
 
 /// The value `lowest_fit` is the lowest address with room, and None exactly where there is none.
 pub fn lowest_fit_is_lowest()
