@@ -16,7 +16,7 @@ use Rattle.m68_text.specs.Text.{text_of}
 use Rattle.m68_text.specs.declared.form.Form.{Form}
 use Rattle.m68_text.specs.declared.form.Form.TheVariants.{Always, Chosen, Data as DataWord, Far, Near, Registers}
 use Rattle.m68_text.specs.Table.{form_by, form_of, rows_d}
-use Rattle.m68_text.proofs.Names.{is_listed}
+use Rattle.m68_text.proofs.FormNames.{is_listed}
 use Rattle.asm_m68.specs.declared.code.Code68.{Code68}
 use Rattle.asm_m68.specs.declared.line.Parsed.{Parsed}
 use Rattle.asm_m68.specs.SpellingLaws.{AreWords, spelled_by}

@@ -1,4 +1,4 @@
-use Rattle.m68_text.proofs.Names.{is_listed}
+use Rattle.m68_text.proofs.FormNames.{is_listed}
 use Rattle.m68_text.proofs.laws.form_laws.Goals as goal
 
 pub returns : goal.returns

@@ -1,6 +1,6 @@
 use Rattle.std.proofs.Common.{ap, ◌∙◌}
 use Rattle.std.specs.Option.{is_some}
-use Rattle.m68_text.proofs.Names.{is_listed}
+use Rattle.m68_text.proofs.FormNames.{is_listed}
 use Rattle.m68_text.proofs.table.form_of.Goals as goal
 
 pub returns-clause-listed : goal.returns-clause-listed
