@@ -1,4 +1,4 @@
-pub mod Lines
+pub mod ListedLines
 pub mod Words
 pub mod Splits
 pub mod Instructions

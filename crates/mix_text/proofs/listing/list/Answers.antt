@@ -1,7 +1,7 @@
 -- One line after the other.
 use Rattle.std.proofs.Common.{◌+◌, ◌-◌, arith}
 use Rattle.mix_text.specs.Listing.{listed_as}
-use Rattle.mix_text.proofs.Lines.{listing-none, listing-zero, on-err, way-breaks, way-ends, way-on}
+use Rattle.mix_text.proofs.ListedLines.{listing-none, listing-zero, on-err, way-breaks, way-ends, way-on}
 use Rattle.mix_text.proofs.Words.{not-written, written}
 use Rattle.mix_text.proofs.listing.list.Goals as goal
 

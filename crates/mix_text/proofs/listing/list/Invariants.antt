@@ -1,6 +1,6 @@
 use Rattle.std.proofs.Common.{◌-◌}
 use Rattle.mix_io.specs.Streams.{output}
-use Rattle.mix_text.proofs.Lines.{Way}
+use Rattle.mix_text.proofs.ListedLines.{Way}
 use Rattle.mix_text.proofs.listing.list.Given as goal
 
 abbrev pub invariant-lines : goal.invariant-lines
