@@ -9,7 +9,6 @@
 //! from the state that the machine stands for.
 #![tactic(auto)]
 
-mod advance;
 mod call_laws;
 mod code;
 mod cores;
@@ -23,12 +22,13 @@ mod one_step;
 mod outside;
 mod refuse;
 mod runs;
+mod stepping;
 mod turn;
 
-pub use advance::{advance, advance_once};
 pub use machine::{Machine, run};
 pub use mixed_machine::{Body, Stop};
 pub use one_step::{step, step_beside};
 pub use outside::Outside;
 pub use runs::{run_m68, run_ppc};
+pub use stepping::{advance, advance_once};
 pub use turn::Turn;

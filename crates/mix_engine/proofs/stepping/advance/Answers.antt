@@ -1,7 +1,7 @@
 use Rattle.std.proofs.Common.{sym, subst}
 use Rattle.mix_engine.specs.Cores.{IsNumber}
 use Rattle.mix_engine.proofs.Advancing.{advances-gate, advances-leave, advances-next, advances-stop}
-use Rattle.mix_engine.proofs.advance.advance.Goals as goal
+use Rattle.mix_engine.proofs.stepping.advance.Goals as goal
 
 pub leave_code-requires-clause-number : goal.leave_code-requires-clause-number
 leave_code-requires-clause-number g c =

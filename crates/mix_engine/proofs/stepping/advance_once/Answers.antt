@@ -2,7 +2,7 @@ use Rattle.std.proofs.Common.{sym, subst}
 use Rattle.mix_engine.specs.Cores.{IsNumber}
 use Rattle.mix_engine.specs.declared.code.Code.TheVariants.{Next as Goes_on, Leave, Stop, Gate}
 use Rattle.mix_engine.proofs.Advancing.{advances-gate, advances-leave, advances-next, advances-stop, once}
-use Rattle.mix_engine.proofs.advance.advance_once.Goals as goal
+use Rattle.mix_engine.proofs.stepping.advance_once.Goals as goal
 
 pub leave_code-requires-clause-number : goal.leave_code-requires-clause-number
 leave_code-requires-clause-number g c = subst (λ w. IsNumber w c.run_once.new.fault.detail) (sym c.in-Leave.ensures.codes.2) c.in-Leave.ensures.codes.1
