@@ -1,24 +1,29 @@
 use crate::checks::same;
 use mix_bits::{Line, Size, digit, sext, trunc, with_digit, with_low};
 
+/// A value, a size, and what comes of it.
+type Sized = (u32, Size, u32);
+
+const CUT: [Sized; 4] = [
+    (0x1234_5678, Size::Zero, 0),
+    (0x1234_5678, Size::One, 0x78),
+    (0x1234_5678, Size::Two, 0x5678),
+    (0x1234_5678, Size::Four, 0x1234_5678),
+];
+
+const EXTENDED: [Sized; 4] = [
+    (0x7F, Size::One, 0x7F),
+    (0x80, Size::One, 0xFFFF_FF80),
+    (0x1_8000, Size::Two, 0xFFFF_8000),
+    (0x8000_0000, Size::Four, 0x8000_0000),
+];
+
 #[test]
 fn sizes_cut_and_extend(rt: HostRuntime) {
-    let cut = [
-        (0x1234_5678, Size::Zero, 0),
-        (0x1234_5678, Size::One, 0x78),
-        (0x1234_5678, Size::Two, 0x5678),
-        (0x1234_5678, Size::Four, 0x1234_5678),
-    ];
-    for (v, size, wanted) in &cut {
+    for (v, size, wanted) in &CUT {
         same(&rt, trunc(*v, *size), *wanted);
     }
-    let extended = [
-        (0x7F, Size::One, 0x7F),
-        (0x80, Size::One, 0xFFFF_FF80),
-        (0x1_8000, Size::Two, 0xFFFF_8000),
-        (0x8000_0000, Size::Four, 0x8000_0000),
-    ];
-    for (v, size, wanted) in &extended {
+    for (v, size, wanted) in &EXTENDED {
         same(&rt, sext(*v, *size), *wanted);
     }
 }

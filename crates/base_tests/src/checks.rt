@@ -1,8 +1,23 @@
-//! What the tests compare by.
+// What the tests compare by, and make vectors by.
+ghost use Rattle.std.specs.Prelude.{◌≡◌, true};
+
+use std::alloc::Global;
 use std::fmt::Debug;
 use std::process::Abort;
 
+/// This holds. Code behind the call may rely on it.
+pub fn must(rt: &impl Abort, fact: bool)
+    ensures { fact ≡ true }
+{
+    assert!(rt; fact);
+}
+
 /// Fails the test, and shows both, unless it got what was wanted.
-pub fn same<T: PartialEq + Debug + Drop>(rt: &impl Abort, got: T, wanted: T) {
+pub fn same<T: PartialEq + Debug + Copy>(rt: &impl Abort, got: T, wanted: T) {
     assert_eq!(rt; got, wanted);
+}
+
+/// A vector of these items.
+pub fn vector<T: Copy>(rt: &impl Abort, alloc: Global, items: &[T]) -> Vec<T> {
+    items.to_vec(alloc).expect(rt, "no memory")
 }

@@ -1,6 +1,6 @@
 ghost use Rattle.std.specs.Prelude.{◌≡◌, ◌%◌, ◌^◌, ◌<◌, ◌≤◌, length};
 
-use crate::checks::same;
+use crate::checks::{must, same};
 use big_memory::{Access, Did, Ram, leave, refuse, stop};
 use mix_bits::{Fault, FaultKind, Size};
 use std::alloc::Global;
@@ -19,7 +19,7 @@ fn memory(rt: &impl Abort, alloc: Global, bytes: u32) -> Ram
 fn check_len(rt: &impl Abort, ram: &Ram, len: u32)
     ensures { length ram.now.bytes ≡ len }
 {
-    assert_eq!(rt; ram.len(), len);
+    must(rt, ram.len() == len);
 }
 
 /// These bytes stand at `a`.
@@ -53,22 +53,29 @@ fn check_ranges(rt: &impl Abort, ram: &mut Ram, ranges: &[Range]) {
 #[test]
 fn a_guarded_unit_refuses_each_store_that_meets_it(rt: HostRuntime) {
     let mut ram = memory(&rt, rt.alloc(), 0x10_0000);
-    same(&rt, ram.floor(), 0xC_0000);
-    check_len(&rt, &ram, 0x10_0000);
-    ram.guard(0xC_0010, 0xC_0020);
-    let stores = [
-        (0xC_000D, Size::Four, Err(Access::Frame(0xC_000D))),
-        (0xC_000C, Size::Four, Ok(())),
-        (0xC_001F, Size::One, Err(Access::Frame(0xC_001F))),
-        (0xC_0020, Size::One, Ok(())),
-    ];
-    check_stores(&rt, &mut ram, 0x1122_3344, &stores);
-    let refused = Err(Access::Frame(0xC_0000));
-    same(&rt, ram.fill(0xC_0000, 64), refused);
-    same(&rt, ram.copy(0x8000, 0xC_0000, 64), refused);
-    same(&rt, ram.load(0xC_000C, Size::Four), Ok(0x1122_3344));
-    same(&rt, ram.load(0xC_0020, Size::Two), Ok(0x4400));
+    guarded(&rt, &mut ram);
     unguarded(&rt, &mut ram);
+}
+
+/// Stores that meet the unit from $C0010 to $C0020, or lie beside it.
+const STORES_AT_A_GUARD: [Store; 4] = [
+    (0xC_000D, Size::Four, Err(Access::Frame(0xC_000D))),
+    (0xC_000C, Size::Four, Ok(())),
+    (0xC_001F, Size::One, Err(Access::Frame(0xC_001F))),
+    (0xC_0020, Size::One, Ok(())),
+];
+
+/// This unit of a memory of 1024 KiB is guarded.
+fn guarded(rt: &impl Abort, ram: &mut Ram) {
+    same(rt, ram.floor(), 0xC_0000);
+    check_len(rt, ram, 0x10_0000);
+    ram.guard(0xC_0010, 0xC_0020);
+    check_stores(rt, ram, 0x1122_3344, &STORES_AT_A_GUARD);
+    let refused = Err(Access::Frame(0xC_0000));
+    same(rt, ram.fill(0xC_0000, 64), refused);
+    same(rt, ram.copy(0x8000, 0xC_0000, 64), refused);
+    same(rt, ram.load(0xC_000C, Size::Four), Ok(0x1122_3344));
+    same(rt, ram.load(0xC_0020, Size::Two), Ok(0x4400));
 }
 
 /// What is fixed passes the guard, and stays as other stores do once the guard is gone.
@@ -178,29 +185,31 @@ fn ram_whole_guard(rt: &impl Abort, ram: &mut Ram) {
 
 #[test]
 fn the_gate_page_refuses_stores_alone(rt: HostRuntime) {
-    let mut ram = memory(&rt, rt.alloc(), 0x2_0000);
-    let ranges = [
-        (0xFFF, 1, Ok(())),
-        (0xFFF, 2, Err(Access::Gate(0xFFF))),
-        (0x1000, 1, Err(Access::Gate(0x1000))),
-        (0x1FFF, 1, Err(Access::Gate(0x1FFF))),
-        (0x1FFF, 0, Ok(())),
-        (0x2000, 1, Ok(())),
-    ];
-    check_ranges(&rt, &mut ram, &ranges);
-    check_reached(&rt, &mut ram, &ranges);
-    same(
-        &rt,
-        ram.store(0xFFD, Size::Four, 1),
-        Err(Access::Gate(0xFFD)),
-    );
-    same(&rt, ram.store(0xFFC, Size::Four, 1), Ok(()));
-    same(&rt, ram.load(0xFFE, Size::Four), Ok(0x0001_0000));
-    same(
-        &rt,
-        ram.store(0x1FFF, Size::Two, 1),
-        Err(Access::Gate(0x1FFF)),
-    );
+    store_at_gates(&rt, &mut memory(&rt, rt.alloc(), 0x2_0000));
+}
+
+/// Ranges that meet the gate page, or lie beside it.
+const RANGES_AT_GATES: [Range; 6] = [
+    (0xFFF, 1, Ok(())),
+    (0xFFF, 2, Err(Access::Gate(0xFFF))),
+    (0x1000, 1, Err(Access::Gate(0x1000))),
+    (0x1FFF, 1, Err(Access::Gate(0x1FFF))),
+    (0x1FFF, 0, Ok(())),
+    (0x2000, 1, Ok(())),
+];
+
+/// Stores that meet the gate page, or lie beside it.
+const STORES_AT_GATES: [Store; 3] = [
+    (0xFFD, Size::Four, Err(Access::Gate(0xFFD))),
+    (0xFFC, Size::Four, Ok(())),
+    (0x1FFF, Size::Two, Err(Access::Gate(0x1FFF))),
+];
+
+fn store_at_gates(rt: &impl Abort, ram: &mut Ram) {
+    check_ranges(rt, ram, &RANGES_AT_GATES);
+    check_reached(rt, ram, &RANGES_AT_GATES);
+    check_stores(rt, ram, 1, &STORES_AT_GATES);
+    same(rt, ram.load(0xFFE, Size::Four), Ok(0x0001_0000));
 }
 
 /// A copy of the gate page into each range is answered so, and each range is read.
@@ -213,40 +222,56 @@ fn check_reached(rt: &impl Abort, ram: &mut Ram, ranges: &[Range]) {
 
 #[test]
 fn a_copy_goes_over_an_overlap_both_ways(rt: HostRuntime) {
-    let mut ram = memory(&rt, rt.alloc(), 0x2_0000);
-    check_len(&rt, &ram, 0x2_0000);
+    copy_over(&rt, &mut memory(&rt, rt.alloc(), 0x2_0000));
+}
+
+/// Six letters are copied up by two places, and down by one.
+fn copy_over(rt: &impl Abort, ram: &mut Ram) {
+    check_len(rt, ram, 0x2_0000);
     ram.fix(0x4000, b"abcdef");
-    same(&rt, ram.copy(0x4000, 0x4002, 6), Ok(()));
-    check_bytes(&rt, &ram, 0x4000, b"ababcdef");
-    same(&rt, ram.copy(0x4002, 0x4001, 6), Ok(()));
-    check_bytes(&rt, &ram, 0x4000, b"aabcdeff");
+    same(rt, ram.copy(0x4000, 0x4002, 6), Ok(()));
+    check_bytes(rt, ram, 0x4000, b"ababcdef");
+    same(rt, ram.copy(0x4002, 0x4001, 6), Ok(()));
+    check_bytes(rt, ram, 0x4000, b"aabcdeff");
 }
 
 #[test]
 fn longs_are_stored_all_or_none(rt: HostRuntime) {
-    let mut ram = memory(&rt, rt.alloc(), 0x2_0000);
-    let rows: [(u32, &[u32], Result<(), Access>); 4] = [
-        (0x4000, &[0x0102_0304, 0x0506_0708], Ok(())),
-        (0xFF8, &[1, 2, 3], Err(Access::Gate(0x1000))),
-        (0xFFFF_FFFC, &[1, 2], Err(Access::Outside(0xFFFF_FFFC))),
-        (0xFFFF_FFFC, &[], Ok(())),
-    ];
-    for (a, longs, wanted) in &rows {
-        same(&rt, ram.store_longs(*a, longs), *wanted);
+    store_longs(&rt, &mut memory(&rt, rt.alloc(), 0x2_0000));
+}
+
+/// A place, longs, and what a store of them answers there.
+type Longs = (u32, &'static [u32], Result<(), Access>);
+
+/// Longs that fit, and longs across an edge.
+const LONGS: [Longs; 4] = [
+    (0x4000, &[0x0102_0304, 0x0506_0708], Ok(())),
+    (0xFF8, &[1, 2, 3], Err(Access::Gate(0x1000))),
+    (0xFFFF_FFFC, &[1, 2], Err(Access::Outside(0xFFFF_FFFC))),
+    (0xFFFF_FFFC, &[], Ok(())),
+];
+
+fn store_longs(rt: &impl Abort, ram: &mut Ram) {
+    for (a, longs, wanted) in &LONGS {
+        same(rt, ram.store_longs(*a, longs), *wanted);
     }
-    check_bytes(&rt, &ram, 0x4000, b"\x01\x02\x03\x04\x05\x06\x07\x08");
-    same(&rt, ram.load_long(0xFF8), Ok(0));
+    check_bytes(rt, ram, 0x4000, b"\x01\x02\x03\x04\x05\x06\x07\x08");
+    same(rt, ram.load_long(0xFF8), Ok(0));
 }
 
 #[test]
 fn words_and_bytes_are_stored_cut(rt: HostRuntime) {
-    let mut ram = memory(&rt, rt.alloc(), 0x2_0000);
-    same(&rt, ram.store_long(0x4000, 0x0102_0304), Ok(()));
-    same(&rt, ram.store_word(0x4001, 0xAABB_CCDD), Ok(()));
-    same(&rt, ram.store_byte(0x4004, 0xEEFF), Ok(()));
-    same(&rt, ram.load_word(0x4000), Ok(0x01CC));
-    same(&rt, ram.load_byte(0x4004), Ok(0xFF));
-    same(&rt, ram.store_long(0x1FFF, 1), Err(Access::Gate(0x1FFF)));
+    store_cut(&rt, &mut memory(&rt, rt.alloc(), 0x2_0000));
+}
+
+/// A long, a word and a byte, one over the other.
+fn store_cut(rt: &impl Abort, ram: &mut Ram) {
+    same(rt, ram.store_long(0x4000, 0x0102_0304), Ok(()));
+    same(rt, ram.store_word(0x4001, 0xAABB_CCDD), Ok(()));
+    same(rt, ram.store_byte(0x4004, 0xEEFF), Ok(()));
+    same(rt, ram.load_word(0x4000), Ok(0x01CC));
+    same(rt, ram.load_byte(0x4004), Ok(0xFF));
+    same(rt, ram.store_long(0x1FFF, 1), Err(Access::Gate(0x1FFF)));
 }
 
 /// A fault in the cell: what it is, where, and its detail.

@@ -1,16 +1,16 @@
 // What no clause says: that the calls succeed with ample memory, and that the adapters reach the outside.
 ghost use Rattle.std.specs.Prelude.{◌≤◌, IfOk};
 
-use crate::checks::same;
+use crate::checks::{must, same, vector};
+use crate::rack::{counter, script};
 use mix_io::{
-    Counter, Device, Failed, FetchError, FileKeep, FileShelf, Keeper, MemKeep, MemShelf, MemSink,
-    MemSource, ScriptDevice, Shelf, Sink, Source, StdSink, StdSource, Tape, have_distinct_names,
+    Device, Failed, FetchError, FileKeep, FileShelf, Keeper, MemKeep, MemShelf, MemSink, MemSource,
+    Shelf, Sink, Source, StdSink, StdSource, Tape, have_distinct_names,
 };
-use std::alloc::{AllocError, Global};
+use std::alloc::Global;
 use std::io::{self, Read, Write};
 use std::process::Abort;
 use std::rt::Files;
-use std::test::Fail;
 use std::{fs, process};
 
 /// A device is asked the same word again and again, and answers so.
@@ -20,27 +20,34 @@ fn check_device(rt: &impl Abort, mut device: Box<dyn Device>, answers: &[Result<
     }
 }
 
-#[test]
-fn devices_answer(rt: HostRuntime) -> Result<(), Fail> {
-    let alloc = rt.alloc();
-    let script = ScriptDevice::new(alloc, [Some(9), None].to_vec(alloc)?)?;
-    let answers = [Ok(9), Err(Failed), Err(Failed)];
-    check_device(&rt, Box::new(alloc, script)?, &answers);
-    let totals = [Ok(0xffff_fffd), Ok(0xffff_fffa), Ok(0xffff_fff7)];
-    check_device(&rt, Box::new(alloc, Counter::new(alloc)?)?, &totals);
-    let held = [Ok(0), Ok(1), Ok(2)];
-    check_device(&rt, Box::new(alloc, Tape::new(alloc)?)?, &held);
-    Ok(())
+/// A tape that holds no word yet.
+fn tape(rt: &impl Abort, alloc: Global) -> Box<Tape> {
+    let tape = Tape::new(alloc).expect(rt, "no tape");
+    Box::new(alloc, tape).expect(rt, "no device")
 }
 
 #[test]
-fn a_tape_is_full_at_its_1025th_ask(rt: HostRuntime) -> Result<(), Fail> {
-    let mut tape = Tape::new(rt.alloc())?;
+fn devices_answer(rt: HostRuntime) {
+    let alloc = rt.alloc();
+    let answers = [Ok(9), Err(Failed), Err(Failed)];
+    check_device(&rt, script(&rt, alloc, &[Some(9), None]), &answers);
+    let totals = [Ok(0xffff_fffd), Ok(0xffff_fffa), Ok(0xffff_fff7)];
+    check_device(&rt, counter(&rt, alloc), &totals);
+    let held = [Ok(0), Ok(1), Ok(2)];
+    check_device(&rt, tape(&rt, alloc), &held);
+}
+
+#[test]
+fn a_tape_is_full_at_its_1025th_ask(rt: HostRuntime) {
+    fill_tape(&rt, &mut *tape(&rt, rt.alloc()));
+}
+
+/// A tape is asked as often as it has room for, and once more.
+fn fill_tape(rt: &impl Abort, tape: &mut Tape) {
     for held in 0..1024 {
-        same(&rt, tape.ask(7), Ok(held));
+        same(rt, tape.ask(7), Ok(held));
     }
-    same(&rt, tape.ask(7), Err(Failed));
-    Ok(())
+    same(rt, tape.ask(7), Err(Failed));
 }
 
 /// What a take gives.
@@ -53,52 +60,67 @@ fn check_takes<S: Source>(rt: &impl Abort, source: &mut S, takes: &[Taken]) {
     }
 }
 
+const SOURCE_TAKES: [Taken; 4] = [Ok(Some(b'h')), Err(Failed), Ok(Some(b'i')), Ok(None)];
+
 #[test]
-fn a_source_in_memory(rt: HostRuntime) -> Result<(), Fail> {
-    let fails = [2].to_vec(rt.alloc())?;
-    let mut source = MemSource::new(b"hi".to_vec(rt.alloc())?, fails);
-    let takes = [Ok(Some(b'h')), Err(Failed), Ok(Some(b'i')), Ok(None)];
-    check_takes(&rt, &mut source, &takes);
-    Ok(())
+fn a_source_in_memory(rt: HostRuntime) {
+    let alloc = rt.alloc();
+    let fails = vector(&rt, alloc, &[2]);
+    let mut source = MemSource::new(vector(&rt, alloc, b"hi"), fails);
+    check_takes(&rt, &mut source, &SOURCE_TAKES);
 }
 
-/// A piece is put again and again: each answer, and what the sink then holds.
-fn check_puts(rt: &impl Abort, sink: &mut MemSink, puts: &[(Result<(), Failed>, &[u8])]) {
+/// The answer to a put, and what the sink then holds.
+type Put = (Result<(), Failed>, &'static [u8]);
+
+/// A piece is put again and again.
+fn check_puts(rt: &impl Abort, sink: &mut MemSink, puts: &[Put]) {
     for (put, held) in puts {
         same(rt, sink.put(b"abc"), *put);
         same(rt, sink.held(), *held);
     }
 }
 
+/// A sink of six bytes that fails at its second call.
+fn sink(rt: &impl Abort, alloc: Global) -> MemSink {
+    let fails = vector(rt, alloc, &[2]);
+    MemSink::new(alloc, 6, fails).expect(rt, "no sink")
+}
+
+const PUTS: [Put; 4] = [
+    (Ok(()), b"abc"),
+    (Err(Failed), b"abc"),
+    (Ok(()), b"abcabc"),
+    (Err(Failed), b"abcabc"),
+];
+
 #[test]
-fn a_sink_in_memory(rt: HostRuntime) -> Result<(), Fail> {
-    let fails = [2].to_vec(rt.alloc())?;
-    let mut sink = MemSink::new(rt.alloc(), 6, fails)?;
-    let puts: [(Result<(), Failed>, &[u8]); 4] = [
-        (Ok(()), b"abc"),
-        (Err(Failed), b"abc"),
-        (Ok(()), b"abcabc"),
-        (Err(Failed), b"abcabc"),
-    ];
-    check_puts(&rt, &mut sink, &puts);
-    Ok(())
+fn a_sink_in_memory(rt: HostRuntime) {
+    check_puts(&rt, &mut sink(&rt, rt.alloc()), &PUTS);
+}
+
+fn string(rt: &impl Abort, alloc: Global, text: &str) -> String {
+    String::from_str(alloc, text).expect(rt, "no string")
 }
 
 /// A shelf that holds two files, `F` with one byte and `G` with four, and fails at its fourth call.
-fn shelf(rt: &impl Abort, alloc: Global) -> Result<MemShelf, Fail> {
-    let (names, contents) = (names(alloc)?, contents(alloc)?);
-    assert!(rt; names.len() == contents.len() && have_distinct_names(&names));
-    Ok(MemShelf::new(names, contents, [4].to_vec(alloc)?))
+fn shelf(rt: &impl Abort, alloc: Global) -> MemShelf {
+    let (names, contents) = (names(rt, alloc), contents(rt, alloc));
+    must(rt, names.len() == contents.len());
+    must(rt, have_distinct_names(&names));
+    MemShelf::new(names, contents, vector(rt, alloc, &[4]))
 }
 
-fn names(alloc: Global) -> Result<Vec<String>, Fail> {
-    let first = String::from_str(alloc, "F")?;
-    Ok(vec![in alloc; first, String::from_str(alloc, "G")?]?)
+fn names(rt: &impl Abort, alloc: Global) -> Vec<String> {
+    let first = string(rt, alloc, "F");
+    let second = string(rt, alloc, "G");
+    vec![in alloc; first, second].expect(rt, "no names")
 }
 
-fn contents(alloc: Global) -> Result<Vec<Vec<u8>>, Fail> {
-    let first = b"H".to_vec(alloc)?;
-    Ok(vec![in alloc; first, b"long".to_vec(alloc)?]?)
+fn contents(rt: &impl Abort, alloc: Global) -> Vec<Vec<u8>> {
+    let first = vector(rt, alloc, b"H");
+    let second = vector(rt, alloc, b"long");
+    vec![in alloc; first, second].expect(rt, "no files")
 }
 
 /// The bytes of a file that is fetched, or why it is not.
@@ -113,10 +135,12 @@ fn check_fetch<S: Shelf>(
     limit: u32,
     wanted: Fetched,
 ) {
-    match shelf.fetch(alloc, name, limit) {
-        Ok(file) => same(rt, Ok(file.as_slice()), wanted),
-        Err(error) => same(rt, Err(error), wanted),
-    }
+    let fetched = shelf.fetch(alloc, name, limit);
+    let found = match &fetched {
+        Ok(file) => Ok(file.as_slice()),
+        Err(error) => Err(*error),
+    };
+    same(rt, found, wanted);
 }
 
 /// A name, how many bytes a fetch may give, and what it gives.
@@ -128,24 +152,33 @@ fn check_fetches<S: Shelf>(rt: &impl Abort, alloc: Global, shelf: &mut S, fetche
     }
 }
 
+const FETCHES: [Fetch<'static>; 5] = [
+    ("F", 3, Ok(b"H")),
+    ("G", 3, Err(FetchError::TooLong(3))),
+    ("E", 3, Err(FetchError::Failed)),
+    ("F", 3, Err(FetchError::Failed)),
+    ("G", 4, Ok(b"long")),
+];
+
 #[test]
-fn a_shelf_in_memory(rt: HostRuntime) -> Result<(), Fail> {
-    let mut shelf = shelf(&rt, rt.alloc())?;
-    let fetches: [Fetch; 5] = [
-        ("F", 3, Ok(b"H")),
-        ("G", 3, Err(FetchError::TooLong(3))),
-        ("E", 3, Err(FetchError::Failed)),
-        ("F", 3, Err(FetchError::Failed)),
-        ("G", 4, Ok(b"long")),
-    ];
-    check_fetches(&rt, rt.alloc(), &mut shelf, &fetches);
-    Ok(())
+fn a_shelf_in_memory(rt: HostRuntime) {
+    let mut shelf = shelf(&rt, rt.alloc());
+    check_fetches(&rt, rt.alloc(), &mut shelf, &FETCHES);
 }
 
-/// The path of a file of this run.
-fn temporary(rt: &HostRuntime, name: &str) -> Result<String, AllocError> {
-    let id = process::id(rt.process());
-    format!(in rt.alloc(); "/tmp/mix_io-{name}{id}")
+/// The path of a file of the process with this number.
+fn temporary(rt: &impl Abort, alloc: Global, id: u32, name: &str) -> String {
+    format!(in alloc; "/tmp/mix_io-{name}{id}").expect(rt, "no path")
+}
+
+/// Writes a file of the system.
+fn write<R: Abort + Files>(rt: &R, path: &str, file: &[u8]) {
+    fs::write(rt, path, file).expect(rt, "no file is written");
+}
+
+/// Removes a file of the system.
+fn remove<R: Abort + Files>(rt: &R, path: &str) {
+    fs::remove_file(rt, path).expect(rt, "no file is removed");
 }
 
 /// A file is fetched before it is there, whole, with a byte too many, and when it is gone again.
@@ -154,33 +187,32 @@ fn check_file<R: Abort + Files + AllocGlobal, S: Shelf>(
     shelf: &mut S,
     path: &str,
     file: &[u8],
-) -> Result<(), Fail> {
-    assert!(rt; 0 < file.len() && file.len() <= 10_000);
+) {
+    must(rt, 0 < file.len() && file.len() <= 10_000);
     let size = file.len() as u32;
     let missing = Err(FetchError::Failed);
     check_fetch(rt, rt.alloc(), shelf, path, size, missing);
-    fs::write(rt, path, file)?;
+    write(rt, path, file);
     check_fetch(rt, rt.alloc(), shelf, path, size, Ok(file));
     let too_long = Err(FetchError::TooLong(size - 1));
     check_fetch(rt, rt.alloc(), shelf, path, size - 1, too_long);
-    fs::remove_file(rt, path)?;
+    remove(rt, path);
     check_fetch(rt, rt.alloc(), shelf, path, size, missing);
-    Ok(())
 }
 
 #[test]
-fn files_of_the_system(rt: HostRuntime) -> Result<(), Fail> {
-    let path = temporary(&rt, "")?;
-    check_file(&rt, &mut FileShelf::new(&rt), path.as_str(), b"hello")
+fn files_of_the_system_in_one_chunk_and_in_several(rt: HostRuntime) {
+    let id = process::id(rt.process());
+    let path = temporary(&rt, rt.alloc(), id, "");
+    fetch_files(&rt, path.as_str());
 }
 
-/// A file that takes several reads, of which the last is full or not; and a shelf that failed before it.
-#[test]
-fn a_file_of_several_chunks(rt: HostRuntime) -> Result<(), Fail> {
-    let path = temporary(&rt, "chunks-")?;
-    let mut shelf = FileShelf::new(&rt);
-    check_size(&rt, &mut shelf, path.as_str(), 8192)?;
-    check_size(&rt, &mut shelf, path.as_str(), 10_000)
+/// A file of one read; and files that take several, of which the last is full or not.
+fn fetch_files<R: Abort + Files + AllocGlobal>(rt: &R, path: &str) {
+    let mut shelf = FileShelf::new(rt);
+    check_file(rt, &mut shelf, path, b"hello");
+    check_size(rt, &mut shelf, path, 8192);
+    check_size(rt, &mut shelf, path, 10_000);
 }
 
 /// A file of so many bytes.
@@ -189,18 +221,19 @@ fn check_size<R: Abort + Files + AllocGlobal, S: Shelf>(
     shelf: &mut S,
     path: &str,
     size: u32,
-) -> Result<(), Fail> {
-    let file = every_byte(rt.alloc(), size)?;
-    check_file(rt, shelf, path, &file)
+) {
+    let file = every_byte(rt, rt.alloc(), size);
+    check_file(rt, shelf, path, &file);
 }
 
 /// So many bytes, which go through all values again and again.
-fn every_byte(alloc: Global, size: u32) -> Result<Vec<u8>, AllocError> {
-    (0..size).map(|at| (at % 256) as u8).collect(alloc)
+fn every_byte(rt: &impl Abort, alloc: Global, size: u32) -> Vec<u8> {
+    let bytes = (0..size).map(|at| (at % 256) as u8).collect(alloc);
+    bytes.expect(rt, "no bytes")
 }
 
 /// A name to keep four bytes by, the answer, and what is kept then.
-type Keep<'a> = (&'a str, Result<(), Failed>, &'a [u8]);
+type Keep = (&'static str, Result<(), Failed>, &'static [u8]);
 
 fn check_keeps(rt: &impl Abort, keeper: &mut MemKeep, keeps: &[Keep]) {
     for (name, answer, kept) in keeps {
@@ -210,22 +243,22 @@ fn check_keeps(rt: &impl Abort, keeper: &mut MemKeep, keeps: &[Keep]) {
 }
 
 /// A keeper of six bytes by the name `s`, which fails at its second call.
-fn keeper(alloc: Global) -> Result<MemKeep, Fail> {
-    let fails = [2].to_vec(alloc)?;
-    Ok(MemKeep::new(alloc, String::from_str(alloc, "s")?, 6, fails)?)
+fn keeper(rt: &impl Abort, alloc: Global) -> MemKeep {
+    let fails = vector(rt, alloc, &[2]);
+    let name = string(rt, alloc, "s");
+    MemKeep::new(alloc, name, 6, fails).expect(rt, "no keeper")
 }
 
+const KEEPS: [Keep; 4] = [
+    ("s", Ok(()), b"abcd"),
+    ("s", Err(Failed), b"abcd"),
+    ("t", Err(Failed), b"abcd"),
+    ("s", Err(Failed), b"abcdab"),
+];
+
 #[test]
-fn a_keeper_in_memory(rt: HostRuntime) -> Result<(), Fail> {
-    let mut keeper = keeper(rt.alloc())?;
-    let keeps: [Keep; 4] = [
-        ("s", Ok(()), b"abcd"),
-        ("s", Err(Failed), b"abcd"),
-        ("t", Err(Failed), b"abcd"),
-        ("s", Err(Failed), b"abcdab"),
-    ];
-    check_keeps(&rt, &mut keeper, &keeps);
-    Ok(())
+fn a_keeper_in_memory(rt: HostRuntime) {
+    check_keeps(&rt, &mut keeper(&rt, rt.alloc()), &KEEPS);
 }
 
 /// A piece is kept, and the file then holds this.
@@ -235,47 +268,40 @@ fn check_piece<R: Abort + Files + AllocGlobal, K: Keeper>(
     path: &str,
     piece: &str,
     held: &str,
-) -> Result<(), Fail> {
+) {
     same(rt, keeper.keep(path, piece.as_bytes()), Ok(()));
-    let text = fs::read_to_string(rt, path)?;
+    let text = fs::read_to_string(rt, path).expect(rt, "no text");
     same(rt, text.as_str(), held);
-    Ok(())
 }
 
 #[test]
-fn a_file_that_is_kept_piece_after_piece(rt: HostRuntime) -> Result<(), Fail> {
-    let path = temporary(&rt, "kept-")?;
-    keep_pieces(&rt, &mut FileKeep::new(&rt), path.as_str())
+fn files_of_the_system_are_kept_or_cannot_be(rt: HostRuntime) {
+    let id = process::id(rt.process());
+    let path = temporary(&rt, rt.alloc(), id, "kept-");
+    let folder = temporary(&rt, rt.alloc(), id, "folder-");
+    keep_files(&rt, path.as_str(), folder.as_str());
 }
 
-fn keep_pieces<R: Abort + Files + AllocGlobal, K: Keeper>(
-    rt: &R,
-    keeper: &mut K,
-    path: &str,
-) -> Result<(), Fail> {
-    fs::write(rt, path, b"what was there before, and is longer")?;
-    check_piece(rt, keeper, path, "front ", "front ")?;
-    check_piece(rt, keeper, path, "", "front ")?;
-    check_piece(rt, keeper, path, "and back", "front and back")?;
-    fs::remove_file(rt, path)?;
-    Ok(())
+/// Each by a keeper of its own: a file that is kept piece after piece, one in a folder that is not there, and then
+/// is, and one that takes no byte.
+fn keep_files<R: Abort + Files + AllocGlobal>(rt: &R, path: &str, folder: &str) {
+    keep_pieces(rt, &mut FileKeep::new(rt), path);
+    keep_in_folder(rt, &mut FileKeep::new(rt), folder);
+    keep_nothing(rt, &mut FileKeep::new(rt));
 }
 
-#[test]
-fn a_file_that_cannot_be_kept(rt: HostRuntime) -> Result<(), Fail> {
-    let folder = temporary(&rt, "folder-")?;
-    keep_in_folder(&rt, &mut FileKeep::new(&rt), folder.as_str())
+fn keep_pieces<R: Abort + Files + AllocGlobal, K: Keeper>(rt: &R, keeper: &mut K, path: &str) {
+    write(rt, path, b"what was there before, and is longer");
+    check_piece(rt, keeper, path, "front ", "front ");
+    check_piece(rt, keeper, path, "", "front ");
+    check_piece(rt, keeper, path, "and back", "front and back");
+    remove(rt, path);
 }
 
 /// A file in a folder that is not there, and then is.
-fn keep_in_folder<R: Abort + Files + AllocGlobal, K: Keeper>(
-    rt: &R,
-    keeper: &mut K,
-    folder: &str,
-) -> Result<(), Fail> {
-    let path = format!(in rt.alloc(); "{folder}/kept")?;
-    same(rt, keeper.keep(path.as_str(), b"piece"), Err(Failed));
-    keep_within(rt, keeper, folder, path.as_str())
+fn keep_in_folder<R: Abort + Files + AllocGlobal, K: Keeper>(rt: &R, keeper: &mut K, folder: &str) {
+    let path = format!(in rt.alloc(); "{folder}/kept").expect(rt, "no path");
+    keep_within(rt, keeper, folder, path.as_str());
 }
 
 fn keep_within<R: Abort + Files + AllocGlobal, K: Keeper>(
@@ -283,20 +309,18 @@ fn keep_within<R: Abort + Files + AllocGlobal, K: Keeper>(
     keeper: &mut K,
     folder: &str,
     path: &str,
-) -> Result<(), Fail> {
-    fs::create_dir(rt, folder)?;
-    check_piece(rt, keeper, path, "piece", "piece")?;
-    fs::remove_file(rt, path)?;
-    fs::remove_dir(rt, folder)?;
-    Ok(())
+) {
+    same(rt, keeper.keep(path, b"piece"), Err(Failed));
+    fs::create_dir(rt, folder).expect(rt, "no folder is made");
+    check_piece(rt, keeper, path, "piece", "piece");
+    remove(rt, path);
+    fs::remove_dir(rt, folder).expect(rt, "no folder is removed");
 }
 
 /// A device that takes no byte: its file opens, and each write to it fails.
-#[test]
-fn a_full_device_keeps_nothing(rt: HostRuntime) {
-    let mut full = FileKeep::new(&rt);
-    same(&rt, full.keep("/dev/full", b"piece"), Err(Failed));
-    same(&rt, full.keep("/dev/full", b"piece"), Err(Failed));
+fn keep_nothing<K: Keeper>(rt: &impl Abort, keeper: &mut K) {
+    same(rt, keeper.keep("/dev/full", b"piece"), Err(Failed));
+    same(rt, keeper.keep("/dev/full", b"piece"), Err(Failed));
 }
 
 #[test]
@@ -364,8 +388,18 @@ fn a_stream_that_breaks(rt: HostRuntime) {
     let mut source = StdSource::new(Breaking { left: 1 });
     check_takes(&rt, &mut source, &[Ok(Some(0)), Err(Failed)]);
     let mut sink = StdSink::new(Breaking { left: 3 });
-    same(&rt, sink.put(b"four"), Ok(()));
-    same(&rt, sink.put(b"four"), Err(Failed));
+    put_twice(&rt, &mut sink, b"four", [Ok(()), Err(Failed)]);
+}
+
+/// A piece is put twice, and these are the answers.
+fn put_twice<S: Sink>(
+    rt: &impl Abort,
+    sink: &mut S,
+    piece: &[u8],
+    answers: [Result<(), Failed>; 2],
+) {
+    same(rt, sink.put(piece), answers[0]);
+    same(rt, sink.put(piece), answers[1]);
 }
 
 /// Passes at most seven bytes at a time, and breaks at its third call alone.
@@ -411,15 +445,14 @@ impl<W: Write + Drop> Write for Limping<W> {
 }
 
 #[test]
-fn each_byte_comes_in_after_a_failure(rt: HostRuntime) -> Result<(), Fail> {
-    let bytes = every_byte(rt.alloc(), 512)?;
-    check_bytes(&rt, &bytes);
-    Ok(())
+fn each_byte_comes_in_after_a_failure(rt: HostRuntime) {
+    let bytes = every_byte(&rt, rt.alloc(), 512);
+    let mut source = StdSource::new(Limping::over(bytes.as_slice()));
+    check_bytes(&rt, &mut source, &bytes);
 }
 
 /// These bytes come in, with a failure before the third.
-fn check_bytes(rt: &impl Abort, bytes: &[u8]) {
-    let mut source = StdSource::new(Limping::over(bytes));
+fn check_bytes<S: Source>(rt: &impl Abort, source: &mut S, bytes: &[u8]) {
     for (at, byte) in bytes.iter().enumerate() {
         if at == 2 {
             same(rt, source.take(), Err(Failed));
@@ -430,11 +463,10 @@ fn check_bytes(rt: &impl Abort, bytes: &[u8]) {
 }
 
 #[test]
-fn a_long_piece_goes_out_after_a_failure(rt: HostRuntime) -> Result<(), Fail> {
-    let piece = every_byte(rt.alloc(), 10_000)?;
-    let held = put_twice(&rt, rt.alloc(), &piece);
+fn a_long_piece_goes_out_after_a_failure(rt: HostRuntime) {
+    let piece = every_byte(&rt, rt.alloc(), 10_000);
+    let held = limp(&rt, rt.alloc(), &piece);
     check_held(&rt, &held, &piece);
-    Ok(())
 }
 
 /// What two calls passed of the first piece, and the second piece.
@@ -446,11 +478,10 @@ fn check_held(rt: &impl Abort, held: &[u8], piece: &[u8]) {
 }
 
 /// What goes out where a piece is put, which fails at the third call, and is put again.
-fn put_twice(rt: &impl Abort, alloc: Global, piece: &[u8]) -> Vec<u8> {
+fn limp(rt: &impl Abort, alloc: Global, piece: &[u8]) -> Vec<u8> {
     let mut held = Vec::new(alloc);
     let mut sink = StdSink::new(Limping::over(&mut held));
-    same(rt, sink.put(piece), Err(Failed));
-    same(rt, sink.put(piece), Ok(()));
+    put_twice(rt, &mut sink, piece, [Err(Failed), Ok(())]);
     drop(sink);
     held
 }
