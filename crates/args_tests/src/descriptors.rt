@@ -54,43 +54,41 @@ fn is_refused(rt: &impl Abort, ram: &mut Ram, at: u32, byte: u8, wanted: BadDesc
     equal(rt, at, refusal(ram, AT), Some(wanted));
 }
 
-/// The same for each change.
-fn are_refused(rt: &impl Abort, ram: &mut Ram, rows: &[(u32, u8, BadDesc)]) {
-    for (at, byte, wanted) in rows {
+/// The place of a byte, what it is changed to, and why the descriptor is then refused.
+const CHANGES: [(u32, u8, BadDesc); 17] = [
+    (0, 0xAB, BadDesc::Magic),
+    (2, 6, BadDesc::Version),
+    (7, 1, BadDesc::Reserved),
+    (8, 1, BadDesc::Reserved),
+    (10, 1, BadDesc::Count),
+    (11, 64, BadDesc::Count),
+    (16, 1, BadDesc::Reserved),
+    (27, 1, BadDesc::Reserved),
+    (17, 2, BadDesc::Isa),
+    (17, 0x11, BadDesc::Isa),
+    (19, 2, BadDesc::Flags),
+    (19, 0x20, BadDesc::Flags),
+    (18, 1, BadDesc::Flags),
+    (15, 0x3F, BadDesc::Info(BadInfo::Convention)),
+    (35, 0xF1, BadDesc::Mixed),
+    (35, 0x30, BadDesc::Mixed),
+    (11, 63, BadDesc::Info(BadInfo::Gap)),
+];
+
+/// Each change is refused, and so are a descriptor without its header and one without its record.
+fn are_refused(rt: &impl Abort, ram: &mut Ram) {
+    for (at, byte, wanted) in &CHANGES {
         is_refused(rt, ram, *at, *byte, *wanted);
     }
+    let outside = Some(BadDesc::Access);
+    equal(rt, "no header", refusal(ram, 131_064), outside);
+    put(ram, 131_060, &FAT[..12]);
+    equal(rt, "no record", refusal(ram, 131_060), outside);
 }
 
 #[test]
 fn fields_are_tested_in_their_order(rt: HostRuntime) {
-    let mut ram = memory(&rt, rt.alloc());
-    are_refused(
-        &rt,
-        &mut ram,
-        &[
-            (0, 0xAB, BadDesc::Magic),
-            (2, 6, BadDesc::Version),
-            (7, 1, BadDesc::Reserved),
-            (8, 1, BadDesc::Reserved),
-            (10, 1, BadDesc::Count),
-            (11, 64, BadDesc::Count),
-            (16, 1, BadDesc::Reserved),
-            (27, 1, BadDesc::Reserved),
-            (17, 2, BadDesc::Isa),
-            (17, 0x11, BadDesc::Isa),
-            (19, 2, BadDesc::Flags),
-            (19, 0x20, BadDesc::Flags),
-            (18, 1, BadDesc::Flags),
-            (15, 0x3F, BadDesc::Info(BadInfo::Convention)),
-            (35, 0xF1, BadDesc::Mixed),
-            (35, 0x30, BadDesc::Mixed),
-            (11, 63, BadDesc::Info(BadInfo::Gap)),
-        ],
-    );
-    let outside = Some(BadDesc::Access);
-    equal(&rt, "no header", refusal(&ram, 131_064), outside);
-    put(&mut ram, 131_060, &FAT[..12]);
-    equal(&rt, "no record", refusal(&ram, 131_060), outside);
+    are_refused(&rt, &mut memory(&rt, rt.alloc()));
 }
 
 #[test]
@@ -129,16 +127,21 @@ fn is_rec(rt: &impl Abort, ram: &Ram, number: usize, isa: Isa, flags: u32, targe
     equal(rt, "CFM-68K code", rec.cfm, cfm);
 }
 
+/// Stores a descriptor of 64 records.
+fn put_records(ram: &mut Ram) {
+    put(ram, AT, &FAT[..12]);
+    let mut place = AT + 12;
+    for _ in 0..64 {
+        put(ram, place, &FAT[32..]);
+        place = place.wrapping_add(20);
+    }
+    put(ram, AT + 11, &[63]);
+}
+
 #[test]
 fn as_many_records_as_a_descriptor_may_have(rt: HostRuntime) {
     let mut ram = memory(&rt, rt.alloc());
-    put(&mut ram, AT, &FAT[..12]);
-    let mut place = AT + 12;
-    for _ in 0..64 {
-        put(&mut ram, place, &FAT[32..]);
-        place = place.wrapping_add(20);
-    }
-    put(&mut ram, AT + 11, &[63]);
+    put_records(&mut ram);
     counts(&rt, &ram, 64);
     is_rec(&rt, &ram, 63, Isa::Ppc, 0, 0x1_0060, false);
 }
@@ -149,32 +152,47 @@ fn builds(rt: &impl Abort, ram: &mut Ram, m68: Option<u32>, isa: u8, target: u32
     equal(rt, "building", made, Ok(()));
 }
 
+/// Builds descriptors of one routine, of two and of one of CFM-68K code.
+fn builds_all(rt: &impl Abort, ram: &mut Ram) {
+    builds(rt, ram, None, 1, 0x1_0040);
+    counts(rt, ram, 1);
+    is_rec(rt, ram, 0, Isa::Ppc, 0, 0x1_0040, false);
+    builds(rt, ram, Some(0x1_0058), 1, 0x1_0060);
+    counts(rt, ram, 2);
+    is_rec(rt, ram, 0, Isa::M68, 0, 0x1_0058, false);
+    is_rec(rt, ram, 1, Isa::Ppc, 0, 0x1_0060, false);
+    builds(rt, ram, None, 0x10, 0x1_0040);
+    counts(rt, ram, 1);
+    is_rec(rt, ram, 0, Isa::M68, 0, 0x1_0040, true);
+}
+
+/// Where none can be built.
+fn builds_nothing(rt: &impl Abort, ram: &mut Ram) {
+    let outside = build(ram, 131_064, 0x31, None, 1, 0);
+    equal(rt, "outside", outside, Err(Access::Outside(131_064)));
+    let gate = build(ram, 0x0FF0, 0x31, None, 1, 0);
+    equal(rt, "the gate page", gate, Err(Access::Gate(0x0FF0)));
+}
+
 #[test]
 fn descriptors_are_built_and_read_back(rt: HostRuntime) {
     let mut ram = memory(&rt, rt.alloc());
-    builds(&rt, &mut ram, None, 1, 0x1_0040);
-    counts(&rt, &ram, 1);
-    is_rec(&rt, &ram, 0, Isa::Ppc, 0, 0x1_0040, false);
-    builds(&rt, &mut ram, Some(0x1_0058), 1, 0x1_0060);
-    counts(&rt, &ram, 2);
-    is_rec(&rt, &ram, 0, Isa::M68, 0, 0x1_0058, false);
-    is_rec(&rt, &ram, 1, Isa::Ppc, 0, 0x1_0060, false);
-    builds(&rt, &mut ram, None, 0x10, 0x1_0040);
-    counts(&rt, &ram, 1);
-    is_rec(&rt, &ram, 0, Isa::M68, 0, 0x1_0040, true);
-    let outside = build(&mut ram, 131_064, 0x31, None, 1, 0);
-    equal(&rt, "outside", outside, Err(Access::Outside(131_064)));
-    let gate = build(&mut ram, 0x0FF0, 0x31, None, 1, 0);
-    equal(&rt, "the gate page", gate, Err(Access::Gate(0x0FF0)));
+    builds_all(&rt, &mut ram);
+    builds_nothing(&rt, &mut ram);
+}
+
+/// Stores a descriptor whose only record has a relative target.
+fn put_relative(ram: &mut Ram) {
+    put(ram, AT, &FAT);
+    put(ram, AT + 11, &[0]);
+    put(ram, AT + 19, &[1]);
+    put(ram, AT + 20, &[0, 0, 0, 0x20]);
 }
 
 #[test]
 fn a_relative_target_is_counted_from_the_descriptor(rt: HostRuntime) {
     let mut ram = memory(&rt, rt.alloc());
-    put(&mut ram, AT, &FAT);
-    put(&mut ram, AT + 11, &[0]);
-    put(&mut ram, AT + 19, &[1]);
-    put(&mut ram, AT + 20, &[0, 0, 0, 0x20]);
+    put_relative(&mut ram);
     is_rec(&rt, &ram, 0, Isa::M68, 1, 0x1_0040, false);
 }
 

@@ -141,12 +141,16 @@ fn finds(
     regs
 }
 
+/// The arguments are delivered to Pascal code, which removes them.
+fn finds_pascal(rt: &impl Abort, ram: &mut Ram) {
+    let sig = signature(rt, 0xE60);
+    let _ = finds(rt, ram, &sig, None, &ON_THE_STACK);
+    equal(rt, "removed", removed68(&sig, false), 12);
+}
+
 #[test]
 fn pascal_parameters_stand_last_first_with_bytes_in_front_of_their_words(rt: HostRuntime) {
-    let mut ram = memory(&rt, rt.alloc());
-    let sig = signature(&rt, 0xE60);
-    let _ = finds(&rt, &mut ram, &sig, None, &ON_THE_STACK);
-    equal(&rt, "removed", removed68(&sig, false), 12);
+    finds_pascal(&rt, &mut memory(&rt, rt.alloc()));
 }
 
 /// The arguments are delivered to C code, with this word in D0.
@@ -168,17 +172,23 @@ fn c_values_are_the_last_bytes_of_longs(rt: HostRuntime) {
     finds_longs(&rt, &mut ram, 0x39A9, Some(SELECTOR), 0x1234);
 }
 
+/// The arguments in D1, A0 and A3.
+static IN_REGISTERS: Found<'static> = Found {
+    d: [0, 0xFF, 0, 0, 0, 0, 0, 0],
+    a: [0x6677, 0, 0, 0x8899_AABB, 0],
+    stack: b"\x00\x00\x10\x08",
+};
+
+/// The arguments are delivered in registers.
+fn finds_registers(rt: &impl Abort, ram: &mut Ram) {
+    let sig = signature(rt, 0x03F2_2A22);
+    let _ = finds(rt, ram, &sig, None, &IN_REGISTERS);
+    equal(rt, "popped", popped(&sig), 4);
+}
+
 #[test]
 fn register_arguments_are_the_low_bytes_of_their_registers(rt: HostRuntime) {
-    let mut ram = memory(&rt, rt.alloc());
-    let sig = signature(&rt, 0x03F2_2A22);
-    let wanted = Found {
-        d: [0, 0xFF, 0, 0, 0, 0, 0, 0],
-        a: [0x6677, 0, 0, 0x8899_AABB, 0],
-        stack: b"\x00\x00\x10\x08",
-    };
-    let _ = finds(&rt, &mut ram, &sig, None, &wanted);
-    equal(&rt, "popped", popped(&sig), 4);
+    finds_registers(&rt, &mut memory(&rt, rt.alloc()));
 }
 
 /// The arguments and the selector are delivered so, and the selector comes back too.
@@ -193,15 +203,9 @@ fn finds_selector(rt: &impl Abort, ram: &mut Ram, info: u32, wanted: &Found, rem
 #[test]
 fn a_selector_is_in_d0_or_d1_or_above_the_return_address(rt: HostRuntime) {
     let mut ram = memory(&rt, rt.alloc());
-    let mut in_d0 = ON_THE_STACK;
-    in_d0.d[0] = 0x1234;
-    finds_selector(&rt, &mut ram, 0x39A8, &in_d0, 12);
-    let mut in_d1 = ON_THE_STACK;
-    in_d1.d[1] = 0x1234;
-    finds_selector(&rt, &mut ram, 0x39AC, &in_d1, 12);
-    let mut on_stack = ON_THE_STACK;
-    on_stack.stack = b"\x00\x00\x10\x08\x12\x34\x88\x99\xAA\xBB\x66\x77\xFF\x00\x00\x00";
-    finds_selector(&rt, &mut ram, 0x39AE, &on_stack, 14);
+    finds_selector(&rt, &mut ram, 0x39A8, &IN_D0, 12);
+    finds_selector(&rt, &mut ram, 0x39AC, &IN_D1, 12);
+    finds_selector(&rt, &mut ram, 0x39AE, &ABOVE_THE_ADDRESS, 14);
 }
 
 /// How many bytes a callee finds below the end of its stack, without a selector and with one, and how many it
@@ -215,30 +219,36 @@ fn sizes(sig: &Sig) -> (u32, u32, u32, u32) {
     )
 }
 
-#[test]
-fn a_selector_that_is_not_passed_counts_for_the_caller_alone(rt: HostRuntime) {
-    let mut ram = memory(&rt, rt.alloc());
-    let sig = signature(&rt, 0x39AE);
-    let regs = delivered(&rt, &sig, &VALUES, None, &mut ram);
-    stands(&rt, &ram, regs.a[7], PASCAL);
-    equal(&rt, "the sizes", sizes(&sig), (14, 16, 12, 14));
+/// The arguments are delivered to dispatched code without a selector.
+fn finds_no_selector(rt: &impl Abort, ram: &mut Ram) {
+    let sig = signature(rt, 0x39AE);
+    let regs = delivered(rt, &sig, &VALUES, None, ram);
+    stands(rt, ram, regs.a[7], PASCAL);
+    equal(rt, "the sizes", sizes(&sig), (14, 16, 12, 14));
 }
 
-/// Thirteen arguments are delivered, and come back.
+#[test]
+fn a_selector_that_is_not_passed_counts_for_the_caller_alone(rt: HostRuntime) {
+    finds_no_selector(&rt, &mut memory(&rt, rt.alloc()));
+}
+
+/// Thirteen arguments.
+const THIRTEEN: [u32; 13] = [1, 2, 3, 4, 5, 6, 7, 8, 9, 10, 11, 12, 0xFFFF_FFFF];
+
+/// They are delivered, and come back.
 fn thirteen_come_back(rt: &impl Abort, ram: &mut Ram, info: u32) {
-    let values = [1, 2, 3, 4, 5, 6, 7, 8, 9, 10, 11, 12, 0xFFFF_FFFF];
     let sig = signature(rt, info);
-    let regs = delivered(rt, &sig, &values, None, ram);
+    let regs = delivered(rt, &sig, &THIRTEEN, None, ram);
     equal(rt, "A7", regs.a[7], LO - 56);
-    comes_back(rt, &sig, &regs, ram, &values);
+    comes_back(rt, &sig, &regs, ram, &THIRTEEN);
 }
 
 #[test]
 fn thirteen_parameters_come_back(rt: HostRuntime) {
+    equal(&rt, "popped", popped(&signature(&rt, 0xFFFF_FFC0)), 56);
     let mut ram = memory(&rt, rt.alloc());
     thirteen_come_back(&rt, &mut ram, 0xFFFF_FFC0);
     thirteen_come_back(&rt, &mut ram, 0xFFFF_FFC1);
-    equal(&rt, "popped", popped(&signature(&rt, 0xFFFF_FFC0)), 56);
 }
 
 #[test]
@@ -358,16 +368,21 @@ fn guard(rt: &impl Abort, ram: &mut Ram) {
     ram.guard(0x1_9000, 0x1_9010);
 }
 
+/// Results are stored beside the ends of memory, the gate page and the guarded unit, or are refused.
+fn stores_results(rt: &impl Abort, ram: &mut Ram) {
+    let sig = signature(rt, 0x30);
+    is_stored(rt, ram, &sig, 0x1_FFF8);
+    is_refused(rt, ram, &sig, 0x1_FFFA, Access::Outside(0x1_FFFE));
+    is_refused(rt, ram, &sig, 0xFFE, Access::Gate(0x1002));
+    is_refused(rt, ram, &sig, 0x1_8FFA, Access::Frame(0x1_8FFE));
+    is_stored(rt, ram, &sig, 0x1_8FF8);
+    let loaded = result68(&sig, &caller_at(0x1_FFFE), ram);
+    equal(rt, "outside", loaded, Err(Access::Outside(0x1_FFFE)));
+}
+
 #[test]
 fn a_pascal_result_is_stored_as_a_store_is(rt: HostRuntime) {
     let mut ram = memory(&rt, rt.alloc());
     guard(&rt, &mut ram);
-    let sig = signature(&rt, 0x30);
-    is_stored(&rt, &mut ram, &sig, 0x1_FFF8);
-    is_refused(&rt, &mut ram, &sig, 0x1_FFFA, Access::Outside(0x1_FFFE));
-    is_refused(&rt, &mut ram, &sig, 0xFFE, Access::Gate(0x1002));
-    is_refused(&rt, &mut ram, &sig, 0x1_8FFA, Access::Frame(0x1_8FFE));
-    is_stored(&rt, &mut ram, &sig, 0x1_8FF8);
-    let loaded = result68(&sig, &caller_at(0x1_FFFE), &ram);
-    equal(&rt, "outside", loaded, Err(Access::Outside(0x1_FFFE)));
+    stores_results(&rt, &mut ram);
 }

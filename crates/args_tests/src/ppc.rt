@@ -83,31 +83,43 @@ fn finds_words(rt: &impl Abort, ram: &mut Ram, info: u32) {
     stands_at(rt, ram, LO, &[0xEE; 16]);
 }
 
-#[test]
-fn words_are_cut_and_a_selector_comes_first(rt: HostRuntime) {
-    let mut ram = memory(&rt, rt.alloc());
+/// Words alone, and words behind a selector.
+fn finds_all(rt: &impl Abort, ram: &mut Ram) {
     for info in [0xE60, 0xE61, 0x03F2_2A22] {
-        finds_words(&rt, &mut ram, info);
+        finds_words(rt, ram, info);
     }
     for info in [0x39A8, 0x39A9, 0x39AC, 0x39AE] {
-        finds(&rt, &mut ram, info, Some(SELECTOR));
-        finds(&rt, &mut ram, info, None);
+        finds(rt, ram, info, Some(SELECTOR));
+        finds(rt, ram, info, None);
     }
 }
 
 #[test]
+fn words_are_cut_and_a_selector_comes_first(rt: HostRuntime) {
+    finds_all(&rt, &mut memory(&rt, rt.alloc()));
+}
+
+/// Thirteen arguments.
+const THIRTEEN: [u32; 13] = [1, 2, 3, 4, 5, 6, 7, 8, 9, 10, 11, 12, 0xFFFF_FFFF];
+
+/// Those of them that stand in the frame.
+const BEHIND: &[u8] =
+    b"\x00\x00\x00\x09\x00\x00\x00\x0A\x00\x00\x00\x0B\x00\x00\x00\x0C\xFF\xFF\xFF\xFF";
+
+/// Thirteen arguments are delivered in eight registers and a frame.
+fn finds_thirteen(rt: &impl Abort, ram: &mut Ram) {
+    let sig = signature(rt, 0xFFFF_FFC0);
+    let regs = delivered(rt, &sig, &THIRTEEN, None, ram);
+    holds(rt, regs, LO - 80, [1, 2, 3, 4, 5, 6, 7, 8]);
+    stands_at(rt, ram, LO - 80, &[0; 56]);
+    stands_at(rt, ram, LO - 24, BEHIND);
+    stands_at(rt, ram, LO - 4, &[0; 4]);
+    stands_at(rt, ram, LO - 96, &[0xEE; 16]);
+}
+
+#[test]
 fn words_behind_the_eighth_stand_in_the_frame(rt: HostRuntime) {
-    let mut ram = memory(&rt, rt.alloc());
-    let values = [1, 2, 3, 4, 5, 6, 7, 8, 9, 10, 11, 12, 0xFFFF_FFFF];
-    let sig = signature(&rt, 0xFFFF_FFC0);
-    let regs = delivered(&rt, &sig, &values, None, &mut ram);
-    holds(&rt, regs, LO - 80, [1, 2, 3, 4, 5, 6, 7, 8]);
-    stands_at(&rt, &ram, LO - 80, &[0; 56]);
-    let behind =
-        b"\x00\x00\x00\x09\x00\x00\x00\x0A\x00\x00\x00\x0B\x00\x00\x00\x0C\xFF\xFF\xFF\xFF";
-    stands_at(&rt, &ram, LO - 24, behind);
-    stands_at(&rt, &ram, LO - 4, &[0; 4]);
-    stands_at(&rt, &ram, LO - 96, &[0xEE; 16]);
+    finds_thirteen(&rt, &mut memory(&rt, rt.alloc()));
 }
 
 /// The registers of a caller with its stack at an address, and 100 to 107 from r3 on.
@@ -138,19 +150,25 @@ fn selects(rt: &impl Abort, sig: &Sig, wanted: u32) {
     );
 }
 
+/// Thirteen bytes, of which all but six are in the frame.
+const BYTES: [u32; 13] = [102, 103, 104, 105, 106, 107, 0xAA, 0, 0, 0, 0, 0, 0];
+
+/// Callers pass thirteen bytes, and three words behind a selector; and one has its stack at the end of memory.
+fn callers_pass(rt: &impl Abort, ram: &mut Ram) {
+    let stored = ram.store(0x1_F038, Size::Four, 0x1AA);
+    equal(rt, "the store", stored, Ok(()));
+    let bytes = signature(rt, 0x5555_5570);
+    passes(rt, ram, &bytes, 13, &BYTES);
+    let sig = signature(rt, 0x39AE);
+    selects(rt, &sig, 102);
+    passes(rt, ram, &sig, 3, &[103, 104, 105, 0]);
+    let refused = gather_ppc(&bytes, &caller(0x1_FFC8), ram).err();
+    equal(rt, "outside", refused, Some(Access::Outside(0x2_0000)));
+}
+
 #[test]
 fn callers_words_begin_behind_the_pointer_and_the_procinfo(rt: HostRuntime) {
-    let mut ram = memory(&rt, rt.alloc());
-    let stored = ram.store(0x1_F038, Size::Four, 0x1AA);
-    equal(&rt, "the store", stored, Ok(()));
-    let bytes = signature(&rt, 0x5555_5570);
-    let wanted = [102, 103, 104, 105, 106, 107, 0xAA, 0, 0, 0, 0, 0, 0];
-    passes(&rt, &ram, &bytes, 13, &wanted);
-    let sig = signature(&rt, 0x39AE);
-    selects(&rt, &sig, 102);
-    passes(&rt, &ram, &sig, 3, &[103, 104, 105, 0]);
-    let refused = gather_ppc(&bytes, &caller(0x1_FFC8), &ram).err();
-    equal(&rt, "outside", refused, Some(Access::Outside(0x2_0000)));
+    callers_pass(&rt, &mut memory(&rt, rt.alloc()));
 }
 
 /// By this procInfo a result is found so in r3, and put there so.
