@@ -1,10 +1,10 @@
 ghost use Rattle.std.specs.Prelude.{◌≤◌, ◌^◌, length};
 
-use crate::checks::same;
+use crate::changes::{Change, changed};
+use crate::equal::{equal, must};
 use pef_head::{Import, Pef, PefError, Section};
 use std::alloc::Global;
 use std::process::Abort;
-use std::test::Fail;
 
 /// A program that writes `H`: code, data that is relocated, and an import. The loader section stands at
 /// 156, its library at 212, its symbol at 236, its relocation header at 240 and its strings at 256.
@@ -69,102 +69,126 @@ const LIBRARIES: [u8; 189] = [
     0x41, 0x00, 0x42, 0x00, 0x78, 0x00, 0x79, 0x7A, 0x00,
 ];
 
-/// The program, with another byte at a place.
-fn program_with(rt: &impl Abort, place: usize, byte: u8) -> [u8; 272] {
-    let mut file = PROGRAM;
-    assert!(rt; place < 272);
-    file[place] = byte;
-    file
+/// What a container says.
+#[derive(Clone, Copy)]
+enum Fact<'a> {
+    /// How many sections are loaded, and how many symbols are imported.
+    Counts(u32, u32),
+    /// A section, by its number.
+    Holds(u32, Section<'a>),
+    Main(Option<(u32, u32)>),
+    /// The relocations of a section.
+    Relocs(u32, &'a [u8]),
+    /// An imported symbol, by its number.
+    Imports(u32, Import<'a>),
+    /// The library of each symbol.
+    Owners(&'a [u32]),
+    /// The relocation header of each section.
+    Headers(&'a [Option<u32>]),
 }
 
-/// The container of two libraries, with another byte at a place.
-fn libraries_with(rt: &impl Abort, place: usize, byte: u8) -> [u8; 189] {
-    let mut file = LIBRARIES;
-    assert!(rt; place < 189);
-    file[place] = byte;
-    file
+/// A container with these changes is read, and says this.
+fn reads(rt: &impl Abort, alloc: Global, container: &[u8], changes: &[Change], facts: &[Fact]) {
+    must(rt, container.len() <= 272);
+    let file = changed(rt, container, changes);
+    let pef = Pef::read(&file[..container.len()]).expect(rt, "no container");
+    for fact in facts {
+        says(rt, alloc, &pef, *fact);
+    }
 }
 
-/// A section that is there.
-fn section<'a>(rt: &impl Abort, pef: &Pef<'a>, k: u32) -> Section<'a> {
-    assert!(rt; k < pef.sections());
-    pef.section(k)
+fn says(rt: &impl Abort, alloc: Global, pef: &Pef, fact: Fact) {
+    match fact {
+        Fact::Counts(sections, imports) => {
+            let found = (pef.sections(), pef.imports());
+            equal(rt, "the counts", found, (sections, imports));
+        }
+        Fact::Holds(k, wanted) => {
+            must(rt, k < pef.sections());
+            let found = pef.section(k);
+            equal(rt, "a section", found, wanted);
+            equal(rt, "pattern data", found.is_pattern(), wanted.kind == 2);
+        }
+        Fact::Main(wanted) => equal(rt, "main", pef.main(), wanted),
+        Fact::Relocs(k, wanted) => {
+            must(rt, k < pef.sections());
+            equal(rt, "the relocations", pef.relocs(k), wanted);
+        }
+        Fact::Imports(i, wanted) => {
+            must(rt, i < pef.imports());
+            equal(rt, "a symbol", pef.import(i), wanted);
+        }
+        Fact::Owners(wanted) => has_owners(rt, alloc, pef, wanted),
+        Fact::Headers(wanted) => has_headers(rt, alloc, pef, wanted),
+    }
 }
 
-/// The relocations of a section that is there.
-fn relocs<'a>(rt: &impl Abort, pef: &Pef<'a>, k: u32) -> &'a [u8] {
-    assert!(rt; k < pef.sections());
-    pef.relocs(k)
+fn has_owners(rt: &impl Abort, alloc: Global, pef: &Pef, wanted: &[u32]) {
+    let owners = pef.owners(alloc).expect(rt, "no memory");
+    equal(rt, "the libraries", owners.as_slice(), wanted);
 }
 
-/// An import that is there.
-fn import<'a>(rt: &impl Abort, pef: &Pef<'a>, i: u32) -> Import<'a> {
-    assert!(rt; i < pef.imports());
-    pef.import(i)
+fn has_headers(rt: &impl Abort, alloc: Global, pef: &Pef, wanted: &[Option<u32>]) {
+    let headers = pef.reloc_headers(alloc).expect(rt, "no memory");
+    equal(rt, "the headers", headers.as_slice(), wanted);
 }
 
-/// The container is refused so, with this byte at this place or cut there.
-fn check_refused(rt: &impl Abort, place: usize, file: &[u8], wanted: PefError)
+/// A container is refused so; `what` tells it from others.
+fn is_refused(rt: &impl Abort, what: usize, file: &[u8], wanted: PefError)
     requires { length file.now ≤ 2 ^ 24 }
 {
-    same(rt, (place, Pef::read(file).err()), (place, Some(wanted)));
+    equal(rt, what, Pef::read(file).err(), Some(wanted));
 }
 
-/// A place, the byte that stands there, and the refusal.
-type Field = (usize, u8, PefError);
+/// A place, the bytes that are put there, and the refusal.
+type Refusal = (usize, &'static [u8], PefError);
 
-/// The program is refused so for each byte.
-fn check_fields(rt: &impl Abort, fields: &[Field]) {
-    for (place, byte, wanted) in fields {
-        let file = program_with(rt, *place, *byte);
-        check_refused(rt, *place, &file, *wanted);
+/// The container is refused so with each change.
+fn are_refused(rt: &impl Abort, container: &[u8], rows: &[Refusal]) {
+    must(rt, container.len() <= 272);
+    for (place, bytes, wanted) in rows {
+        let file = changed(rt, container, &[(*place, *bytes)]);
+        is_refused(rt, *place, &file[..container.len()], *wanted);
     }
 }
 
 #[test]
-fn reads_a_program(rt: HostRuntime) -> Result<(), PefError> {
-    let file = PROGRAM;
-    let pef = Pef::read(&file)?;
-    same(&rt, (pef.sections(), pef.imports()), (2, 1));
+fn reads_a_program(rt: HostRuntime) {
     let code = Section {
         kind: 0,
         total: 20,
         unpacked: 20,
         align: 16,
-        bytes: &file[124..144],
+        bytes: &PROGRAM[124..144],
     };
     let data = Section {
         kind: 1,
         total: 32,
         unpacked: 12,
         align: 4,
-        bytes: &file[144..156],
+        bytes: &PROGRAM[144..156],
     };
-    same(&rt, section(&rt, &pef, 0), code);
-    same(&rt, section(&rt, &pef, 1), data);
-    same(&rt, section(&rt, &pef, 1).is_pattern(), false);
-    same(&rt, pef.main(), Some((1, 4)));
-    same(&rt, relocs(&rt, &pef, 0), b"".as_slice());
-    same(
-        &rt,
-        relocs(&rt, &pef, 1),
-        [0x60, 0x00, 0x46, 0x00].as_slice(),
-    );
     let put_byte = Import {
         library: b"HostLib",
         name: b"PutByte",
         weak: false,
     };
-    same(&rt, import(&rt, &pef, 0), put_byte);
-    Ok(())
+    let facts = [
+        Fact::Counts(2, 1),
+        Fact::Holds(0, code),
+        Fact::Holds(1, data),
+        Fact::Main(Some((1, 4))),
+        Fact::Relocs(0, b""),
+        Fact::Relocs(1, &[0x60, 0x00, 0x46, 0x00]),
+        Fact::Imports(0, put_byte),
+        Fact::Owners(&[0]),
+        Fact::Headers(&[None, Some(0)]),
+    ];
+    reads(&rt, rt.alloc(), &PROGRAM, &[], &facts);
 }
 
 #[test]
-fn reads_libraries_in_any_order(rt: HostRuntime) -> Result<(), PefError> {
-    let file = LIBRARIES;
-    let pef = Pef::read(&file)?;
-    same(&rt, (pef.sections(), pef.imports()), (0, 2));
-    same(&rt, pef.main(), None);
+fn reads_libraries_in_any_order(rt: HostRuntime) {
     let first = Import {
         library: b"B",
         name: b"x",
@@ -175,9 +199,53 @@ fn reads_libraries_in_any_order(rt: HostRuntime) -> Result<(), PefError> {
         name: b"yz",
         weak: false,
     };
-    same(&rt, import(&rt, &pef, 0), first);
-    same(&rt, import(&rt, &pef, 1), second);
-    Ok(())
+    let facts = [
+        Fact::Counts(0, 2),
+        Fact::Main(None),
+        Fact::Imports(0, first),
+        Fact::Imports(1, second),
+        Fact::Owners(&[1, 0]),
+        Fact::Headers(&[]),
+    ];
+    reads(&rt, rt.alloc(), &LIBRARIES, &[], &facts);
+}
+
+#[test]
+fn reads_a_library_without_symbols(rt: HostRuntime) {
+    // A has none, B has both
+    let changes: [Change; 2] = [(139, &[0]), (163, &[2])];
+    let second = Import {
+        library: b"B",
+        name: b"yz",
+        weak: false,
+    };
+    let facts = [Fact::Counts(0, 2), Fact::Imports(1, second)];
+    reads(&rt, rt.alloc(), &LIBRARIES, &changes, &facts);
+}
+
+#[test]
+fn reads_what_the_rules_allow(rt: HostRuntime) {
+    // pattern data of another packed size; an alignment of 4096; main in section 65535
+    let changes: [Change; 4] = [(92, &[2]), (87, &[5]), (94, &[12]), (158, &[0xFF, 0xFF])];
+    let pattern = Section {
+        kind: 2,
+        total: 32,
+        unpacked: 12,
+        align: 4096,
+        bytes: &PROGRAM[144..149],
+    };
+    let facts = [Fact::Holds(1, pattern), Fact::Main(Some((65535, 4)))];
+    reads(&rt, rt.alloc(), &PROGRAM, &changes, &facts);
+}
+
+#[test]
+fn reads_two_relocation_headers(rt: HostRuntime) {
+    // a second header at 252, for section 0 and then for section 1 again
+    let changes: [Change; 2] = [(191, &[2]), (252, &[0; 12])];
+    let facts = [Fact::Relocs(0, b""), Fact::Relocs(1, &[0; 4])];
+    reads(&rt, rt.alloc(), &PROGRAM, &changes, &facts);
+    let file = changed(&rt, &PROGRAM, &changes);
+    are_refused(&rt, &file, &[(253, &[1], PefError::Loader(252))]);
 }
 
 #[test]
@@ -189,185 +257,95 @@ fn refuses_each_cut(rt: HostRuntime) {
             144..156 => PefError::Section(1),
             _ => PefError::Section(2),
         };
-        check_refused(&rt, len, &PROGRAM[..len], wanted);
+        is_refused(&rt, len, &PROGRAM[..len], wanted);
     }
 }
+
+static BAD_HEADERS: &[Refusal] = &[
+    (0, b"K", PefError::Magic),
+    (7, b"F", PefError::Magic),
+    (8, b"m", PefError::Architecture),
+    (15, &[2], PefError::Version),
+    (12, &[1], PefError::Version),
+    // 65283 sections; the loader section is instantiated, alone and with one that is not there
+    (32, &[0xFF], PefError::Short(272)),
+    (35, &[3], PefError::Section(2)),
+    (35, &[4], PefError::Section(2)),
+    // code: as the loader, debug, exception and traceback; an alignment of 2^13; a total or an
+    // unpacked size that is smaller; another packed size; bytes behind the file
+    (64, &[4], PefError::Section(0)),
+    (64, &[5], PefError::Section(0)),
+    (64, &[7], PefError::Section(0)),
+    (64, &[8], PefError::Section(0)),
+    (64, &[0xFF], PefError::Section(0)),
+    (66, &[13], PefError::Section(0)),
+    (51, &[19], PefError::Section(0)),
+    (55, &[19], PefError::Section(0)),
+    (59, &[19], PefError::Section(0)),
+    (60, &[0xFF], PefError::Section(0)),
+    // data: a larger unpacked size, within the total
+    (83, &[13], PefError::Section(1)),
+    // the loader section's bytes leave the file; it is no loader section
+    (115, &[0x75], PefError::Section(2)),
+    (120, &[5], PefError::NoLoader),
+];
 
 #[test]
 fn refuses_bad_headers(rt: HostRuntime) {
-    let fields = [
-        (0, b'K', PefError::Magic),
-        (7, b'F', PefError::Magic),
-        (8, b'm', PefError::Architecture),
-        (15, 2, PefError::Version),
-        (12, 1, PefError::Version),
-        // 65283 sections; the loader section is instantiated, alone and with one that is not there
-        (32, 0xFF, PefError::Short(272)),
-        (35, 3, PefError::Section(2)),
-        (35, 4, PefError::Section(2)),
-        // code: as the loader, debug, exception and traceback; an alignment of 2^13; a total or an
-        // unpacked size that is smaller; another packed size; bytes behind the file
-        (64, 4, PefError::Section(0)),
-        (64, 5, PefError::Section(0)),
-        (64, 7, PefError::Section(0)),
-        (64, 8, PefError::Section(0)),
-        (64, 0xFF, PefError::Section(0)),
-        (66, 13, PefError::Section(0)),
-        (51, 19, PefError::Section(0)),
-        (55, 19, PefError::Section(0)),
-        (59, 19, PefError::Section(0)),
-        (60, 0xFF, PefError::Section(0)),
-        // data: a larger unpacked size, within the total
-        (83, 13, PefError::Section(1)),
-        // the loader section's bytes leave the file; it is no loader section
-        (115, 0x75, PefError::Section(2)),
-        (120, 5, PefError::NoLoader),
-    ];
-    check_fields(&rt, &fields);
+    are_refused(&rt, &PROGRAM, BAD_HEADERS);
 }
+
+static BAD_LOADER_SECTIONS: &[Refusal] = &[
+    // 55 bytes; four libraries; 2^24 symbols more, and 4294967295; ten relocation headers
+    (115, &[55], PefError::Loader(156)),
+    (183, &[4], PefError::Loader(212)),
+    (184, &[1], PefError::Loader(236)),
+    (184, &[0xFF; 4], PefError::Loader(236)),
+    (191, &[10], PefError::Loader(240)),
+    // the library's symbols: two, from 1 on, and none
+    (227, &[2], PefError::Loader(212)),
+    (231, &[1], PefError::Loader(212)),
+    (227, &[0], PefError::Loader(236)),
+    // relocations of section 2; eleven words; words at 20; an area far away
+    (241, &[2], PefError::Loader(240)),
+    (247, &[11], PefError::Loader(240)),
+    (251, &[20], PefError::Loader(240)),
+    (192, &[0xFF], PefError::Loader(240)),
+    // names behind the section; names without a zero byte
+    (215, &[16], PefError::Name(212)),
+    (239, &[16], PefError::Name(236)),
+    (271, b"!", PefError::Name(236)),
+    (196, &[0xFF], PefError::Name(212)),
+    (164, &[0], PefError::Init),
+];
 
 #[test]
 fn refuses_bad_loader_sections(rt: HostRuntime) {
-    let fields = [
-        // 55 bytes; four libraries; 2^24 symbols more; ten relocation headers
-        (115, 55, PefError::Loader(156)),
-        (183, 4, PefError::Loader(212)),
-        (184, 1, PefError::Loader(236)),
-        (191, 10, PefError::Loader(240)),
-        // the library's symbols: two, from 1 on, and none
-        (227, 2, PefError::Loader(212)),
-        (231, 1, PefError::Loader(212)),
-        (227, 0, PefError::Loader(236)),
-        // relocations of section 2; eleven words; words at 20; an area far away
-        (241, 2, PefError::Loader(240)),
-        (247, 11, PefError::Loader(240)),
-        (251, 20, PefError::Loader(240)),
-        (192, 0xFF, PefError::Loader(240)),
-        // names behind the section; names without a zero byte
-        (215, 16, PefError::Name(212)),
-        (239, 16, PefError::Name(236)),
-        (271, b'!', PefError::Name(236)),
-        (196, 0xFF, PefError::Name(212)),
-        (164, 0, PefError::Init),
-    ];
-    check_fields(&rt, &fields);
+    are_refused(&rt, &PROGRAM, BAD_LOADER_SECTIONS);
 }
 
-#[test]
-fn refuses_4294967295_symbols(rt: HostRuntime) {
-    let mut file = PROGRAM;
-    for place in 184..188 {
-        file[place] = 0xFF;
-    }
-    same(&rt, Pef::read(&file).err(), Some(PefError::Loader(236)));
-}
+static BAD_LIBRARIES: &[Refusal] = &[
+    // B has both symbols; B has symbol 1, as A has; A has none
+    (163, &[2], PefError::Loader(176)),
+    (167, &[1], PefError::Loader(172)),
+    (139, &[0], PefError::Loader(176)),
+];
 
 #[test]
 fn refuses_symbols_of_no_library_or_two(rt: HostRuntime) {
-    let fields = [
-        // B has both symbols; B has symbol 1, as A has; A has none
-        (163, 2, PefError::Loader(176)),
-        (167, 1, PefError::Loader(172)),
-        (139, 0, PefError::Loader(176)),
-    ];
-    for (place, byte, wanted) in &fields {
-        let file = libraries_with(&rt, *place, *byte);
-        check_refused(&rt, *place, &file, *wanted);
-    }
+    are_refused(&rt, &LIBRARIES, BAD_LIBRARIES);
 }
 
 #[test]
-fn reads_a_library_without_symbols(rt: HostRuntime) -> Result<(), PefError> {
-    let mut file = libraries_with(&rt, 139, 0);
-    file[163] = 2;
-    let pef = Pef::read(&file)?;
-    same(&rt, pef.imports(), 2);
-    same(&rt, import(&rt, &pef, 1).library, b"B".as_slice());
-    Ok(())
-}
-
-#[test]
-fn reads_what_the_rules_allow(rt: HostRuntime) -> Result<(), PefError> {
-    // pattern data of another packed size; an alignment of 4096; main in section 65535
-    let mut file = program_with(&rt, 92, 2);
-    file[87] = 5;
-    file[94] = 12;
-    file[158] = 0xFF;
-    file[159] = 0xFF;
-    let pef = Pef::read(&file)?;
-    let pattern = section(&rt, &pef, 1);
-    same(&rt, (pattern.kind, pattern.align), (2, 4096));
-    same(&rt, pattern.bytes, &file[144..149]);
-    same(&rt, pef.main(), Some((65535, 4)));
-    Ok(())
-}
-
-#[test]
-fn takes_the_first_loader_section(rt: HostRuntime) {
+fn tells_the_first_of_two_faults(rt: HostRuntime) {
     // section 1 is a loader section too, of 12 bytes
-    let mut file = program_with(&rt, 92, 4);
-    file[35] = 1;
-    same(&rt, Pef::read(&file).err(), Some(PefError::Loader(144)));
-}
-
-#[test]
-fn counts_missing_sections_last(rt: HostRuntime) {
+    let file = changed(&rt, &PROGRAM, &[(92, &[4])]);
+    are_refused(&rt, &file, &[(35, &[1], PefError::Loader(144))]);
     // no loader section, and one section more than there are
-    let mut file = program_with(&rt, 35, 4);
-    file[120] = 6;
-    file[107] = 0x74;
-    file[111] = 0x74;
-    same(&rt, Pef::read(&file).err(), Some(PefError::Section(3)));
-}
-
-#[test]
-fn reads_two_relocation_headers(rt: HostRuntime) -> Result<(), PefError> {
-    // a second header at 252, for section 0 and then for section 1 again
-    let mut file = program_with(&rt, 191, 2);
-    for place in 252..264 {
-        file[place] = 0;
-    }
-    let pef = Pef::read(&file)?;
-    same(&rt, relocs(&rt, &pef, 0), b"".as_slice());
-    same(&rt, relocs(&rt, &pef, 1), &file[252..256]);
-    file[253] = 1;
-    same(&rt, Pef::read(&file).err(), Some(PefError::Loader(252)));
-    Ok(())
-}
-
-/// The library of each symbol, and the relocation header of each section.
-fn check_tables(
-    rt: &impl Abort,
-    alloc: Global,
-    file: &[u8],
-    owners: &[u32],
-    headers: &[Option<u32>],
-) -> Result<(), Fail>
-    requires { length file.now ≤ 2 ^ 24 }
-{
-    let pef = Pef::read(file)?;
-    same(rt, pef.owners(alloc)?.as_slice(), owners);
-    same(rt, pef.reloc_headers(alloc)?.as_slice(), headers);
-    Ok(())
-}
-
-#[test]
-fn tables_of_libraries_and_relocations(rt: HostRuntime) -> Result<(), Fail> {
-    check_tables(&rt, rt.alloc(), &LIBRARIES, &[1, 0], &[])?;
-    check_tables(&rt, rt.alloc(), &PROGRAM, &[0], &[None, Some(0)])
-}
-
-#[test]
-fn tests_names_before_the_init_section(rt: HostRuntime) {
-    let mut file = program_with(&rt, 164, 0);
-    file[271] = b'!';
-    same(&rt, Pef::read(&file).err(), Some(PefError::Name(236)));
-}
-
-#[test]
-fn shows_refusals(rt: HostRuntime) -> Result<(), std::alloc::AllocError> {
-    let text = format!(in rt.alloc(); "{}", PefError::Name(236))?;
-    let wanted = "the name of what stands at 236 has no end";
-    same(&rt, text.as_str(), wanted);
-    Ok(())
+    let changes: [Change; 3] = [(120, &[6]), (107, &[0x74]), (111, &[0x74])];
+    let file = changed(&rt, &PROGRAM, &changes);
+    are_refused(&rt, &file, &[(35, &[4], PefError::Section(3))]);
+    // a name without a zero byte, and an initialization routine
+    let file = changed(&rt, &PROGRAM, &[(271, b"!")]);
+    are_refused(&rt, &file, &[(164, &[0], PefError::Name(236))]);
 }

@@ -1,9 +1,9 @@
-use crate::checks::same;
+// Forks made by hand.
+use crate::changes::{Change, changed};
+use crate::equal::{equal, must};
 use rsrc_fork::{Fork, RsrcError};
 use std::alloc::Global;
-use std::ops::Range;
 use std::process::Abort;
-use std::test::Fail;
 
 const CODE: u32 = 0x434F_4445;
 
@@ -54,8 +54,8 @@ pub type Get<'a> = (u32, i16, Option<&'a [u8]>);
 /// The fork gives these.
 fn check_gets(rt: &impl Abort, fork: &Fork, gets: &[Get]) {
     for (kind, id, wanted) in gets {
-        let got = (*kind, *id, fork.get(*kind, *id));
-        same(rt, got, (*kind, *id, *wanted));
+        let found = (*kind, *id, fork.get(*kind, *id));
+        equal(rt, "a resource", found, (*kind, *id, *wanted));
     }
 }
 
@@ -64,62 +64,83 @@ pub type Next = (u32, i16, Option<i16>);
 
 fn check_nexts(rt: &impl Abort, fork: &Fork, nexts: &[Next]) {
     for (kind, after, next) in nexts {
-        let got = (*kind, *after, fork.ids(*kind, *after));
-        same(rt, got, (*kind, *after, *next));
+        let found = (*kind, *after, fork.ids(*kind, *after));
+        equal(rt, "an id", found, (*kind, *after, *next));
     }
 }
 
 /// The file is a fork that gives these.
-pub fn check_fork(
-    rt: &impl Abort,
-    alloc: Global,
-    file: &[u8],
-    gets: &[Get],
-    nexts: &[Next],
-) -> Result<(), RsrcError> {
-    assert!(rt; file.len() <= 0x100_0000);
-    let fork = Fork::read(alloc, file)?;
+pub fn check_fork(rt: &impl Abort, alloc: Global, file: &[u8], gets: &[Get], nexts: &[Next]) {
+    must(rt, file.len() <= 0x100_0000);
+    let fork = Fork::read(alloc, file).expect(rt, "no fork");
     check_gets(rt, &fork, gets);
     check_nexts(rt, &fork, nexts);
-    Ok(())
 }
 
 /// A file of so many bytes is refused so.
 pub fn check_refused(rt: &impl Abort, alloc: Global, file: &[u8], wanted: RsrcError) {
-    assert!(rt; file.len() <= 0x100_0000);
+    must(rt, file.len() <= 0x100_0000);
     let refusal = Fork::read(alloc, file).err();
-    same(rt, (file.len(), refusal), (file.len(), Some(wanted)));
+    equal(rt, file.len(), refusal, Some(wanted));
+}
+
+/// A fork with these changes gives these.
+fn gives(
+    rt: &impl Abort,
+    alloc: Global,
+    fork: &[u8],
+    changes: &[Change],
+    gets: &[Get],
+    nexts: &[Next],
+) {
+    must(rt, fork.len() <= 272);
+    let file = changed(rt, fork, changes);
+    check_fork(rt, alloc, &file[..fork.len()], gets, nexts);
+}
+
+/// A place, the bytes that are put there, and the refusal.
+type Refusal = (usize, &'static [u8], RsrcError);
+
+/// A fork with these changes is refused so with each further one.
+fn are_refused(rt: &impl Abort, alloc: Global, fork: &[u8], changes: &[Change], rows: &[Refusal]) {
+    must(rt, fork.len() <= 272);
+    let base = changed(rt, fork, changes);
+    for (place, bytes, wanted) in rows {
+        let file = changed(rt, &base, &[(*place, *bytes)]);
+        check_refused(rt, alloc, &file[..fork.len()], *wanted);
+    }
 }
 
 #[test]
-fn reads_a_program(rt: HostRuntime) -> Result<(), RsrcError> {
-    let file = PROGRAM;
+fn reads_a_program(rt: HostRuntime) {
     let gets = [
-        (CODE, 0, Some(&file[20..44])),
-        (CODE, 1, Some(&file[48..58])),
+        (CODE, 0, Some(&PROGRAM[20..44])),
+        (CODE, 1, Some(&PROGRAM[48..58])),
         (CODE, 2, None),
         (ICON, 0, None),
     ];
     let nexts = [(CODE, -1, Some(0)), (CODE, 0, Some(1)), (CODE, 1, None)];
-    check_fork(&rt, rt.alloc(), &file, &gets, &nexts)
+    check_fork(&rt, rt.alloc(), &PROGRAM, &gets, &nexts);
 }
 
+static GETS_OF_TYPES: &[Get] = &[
+    (ICON, 3, Some(b"a")),
+    (ICON, -1, Some(b"bc")),
+    (STR, 3, Some(b"")),
+    (STR, -1, None),
+];
+
+static NEXTS_OF_TYPES: &[Next] = &[
+    (ICON, -32768, Some(-1)),
+    (ICON, -1, Some(3)),
+    (ICON, 3, None),
+    (STR, -1, Some(3)),
+    (CODE, -32768, None),
+];
+
 #[test]
-fn reads_several_types(rt: HostRuntime) -> Result<(), RsrcError> {
-    let gets: [Get; 4] = [
-        (ICON, 3, Some(b"a")),
-        (ICON, -1, Some(b"bc")),
-        (STR, 3, Some(b"")),
-        (STR, -1, None),
-    ];
-    let nexts = [
-        (ICON, -32768, Some(-1)),
-        (ICON, -1, Some(3)),
-        (ICON, 3, None),
-        (STR, -1, Some(3)),
-        (CODE, -32768, None),
-    ];
-    check_fork(&rt, rt.alloc(), &TYPES, &gets, &nexts)
+fn reads_several_types(rt: HostRuntime) {
+    check_fork(&rt, rt.alloc(), &TYPES, GETS_OF_TYPES, NEXTS_OF_TYPES);
 }
 
 #[test]
@@ -134,80 +155,53 @@ fn refuses_each_cut(rt: HostRuntime) {
     }
 }
 
-/// The places of some bytes, what stands there in place of them, and the refusal.
-type Field = (Range<usize>, u8, RsrcError);
-
-/// The program's fork is refused so where some of its bytes are replaced by another.
-fn check_field(rt: &impl Abort, alloc: Global, field: &Field) {
-    let (places, byte, wanted) = field;
-    let mut file = PROGRAM;
-    for place in places.start..places.end {
-        assert!(rt; place < 120);
-        file[place] = *byte;
-    }
-    check_refused(rt, alloc, &file, *wanted);
-}
+static BAD_FIELDS: &[Refusal] = &[
+    // the data ends behind the file; the map has 27 bytes; the data ends in the map
+    (0, &[1], RsrcError::BadOffset(0)),
+    (15, &[27], RsrcError::BadOffset(0)),
+    (11, &[43], RsrcError::Overlap),
+    // the type list leaves the map, or its count is the last word of it
+    (83, &[61], RsrcError::BadOffset(82)),
+    (83, &[60], RsrcError::BadOffset(120)),
+    // the map ends in the last reference; a third reference; 65536 references; references far away
+    (15, &[61], RsrcError::BadOffset(108)),
+    (93, &[2], RsrcError::BadOffset(120)),
+    (92, &[0xFF; 2], RsrcError::BadOffset(120)),
+    (94, &[1], RsrcError::BadOffset(352)),
+    // data at a high place; a length of one byte too many
+    (101, &[0xFF; 3], RsrcError::BadOffset(96)),
+    (47, &[11], RsrcError::BadOffset(108)),
+    // CODE 1 is compressed; CODE 0 and CODE 1 come twice
+    (112, &[1], RsrcError::Compressed(CODE, 1)),
+    (109, &[0], RsrcError::Twice(CODE, 0)),
+    (97, &[1], RsrcError::Twice(CODE, 1)),
+];
 
 #[test]
 fn refuses_each_bad_field(rt: HostRuntime) {
-    let fields = [
-        // the data ends behind the file; the map has 27 bytes; the data ends in the map
-        (0..1, 1, RsrcError::BadOffset(0)),
-        (15..16, 27, RsrcError::BadOffset(0)),
-        (11..12, 43, RsrcError::Overlap),
-        // the type list leaves the map, or its count is the last word of it
-        (83..84, 61, RsrcError::BadOffset(82)),
-        (83..84, 60, RsrcError::BadOffset(120)),
-        // the map ends in the last reference; a third reference; 65536 references; references far away
-        (15..16, 61, RsrcError::BadOffset(108)),
-        (93..94, 2, RsrcError::BadOffset(120)),
-        (92..94, 0xFF, RsrcError::BadOffset(120)),
-        (94..95, 1, RsrcError::BadOffset(352)),
-        // data at a high place; a length of one byte too many
-        (101..104, 0xFF, RsrcError::BadOffset(96)),
-        (47..48, 11, RsrcError::BadOffset(108)),
-        // CODE 1 is compressed; CODE 0 and CODE 1 come twice
-        (112..113, 1, RsrcError::Compressed(CODE, 1)),
-        (109..110, 0, RsrcError::Twice(CODE, 0)),
-        (97..98, 1, RsrcError::Twice(CODE, 1)),
-    ];
-    for field in &fields {
-        check_field(&rt, rt.alloc(), field);
-    }
+    are_refused(&rt, rt.alloc(), &PROGRAM, &[], BAD_FIELDS);
 }
 
 #[test]
-fn reads_what_the_rules_allow(rt: HostRuntime) -> Result<(), RsrcError> {
-    // no type; other attributes; a shorter resource
-    let mut file = PROGRAM;
-    file[86] = 0xFF;
-    file[87] = 0xFF;
-    check_fork(&rt, rt.alloc(), &file, &[], &[(CODE, -1, None)])?;
-
-    let mut file = PROGRAM;
-    file[112] = 0xFE;
-    file[47] = 9;
-    let gets = [(CODE, 1, Some(&file[48..57]))];
-    check_fork(&rt, rt.alloc(), &file, &gets, &[])
+fn reads_what_the_rules_allow(rt: HostRuntime) {
+    let alloc = rt.alloc();
+    // no type
+    let nexts = [(CODE, -1, None)];
+    gives(&rt, alloc, &PROGRAM, &[(86, &[0xFF; 2])], &[], &nexts);
+    // other attributes; a shorter resource
+    let changes: [Change; 2] = [(112, &[0xFE]), (47, &[9])];
+    let gets = [(CODE, 1, Some(&PROGRAM[48..57]))];
+    gives(&rt, alloc, &PROGRAM, &changes, &gets, &[]);
 }
+
+static TWICE: &[Refusal] = &[
+    // compressed too, and then far away too
+    (112, &[1], RsrcError::Compressed(CODE, 0)),
+    (112, &[1, 0xFF, 0xFF, 0xFF], RsrcError::BadOffset(108)),
+];
 
 #[test]
 fn tests_the_data_first_and_the_name_last(rt: HostRuntime) {
-    // CODE 0 twice, and then compressed too, and then far away too
-    let mut file = PROGRAM;
-    file[109] = 0;
-    file[112] = 1;
-    check_refused(&rt, rt.alloc(), &file, RsrcError::Compressed(CODE, 0));
-    for place in 113..116 {
-        file[place] = 0xFF;
-    }
-    check_refused(&rt, rt.alloc(), &file, RsrcError::BadOffset(108));
-}
-
-#[test]
-fn shows_refusals(rt: HostRuntime) -> Result<(), Fail> {
-    let text = format!(in rt.alloc(); "{}", RsrcError::Twice(CODE, -1))?;
-    let wanted = "the resource -1 of type 0x434f4445 comes twice";
-    same(&rt, text.as_str(), wanted);
-    Ok(())
+    // CODE 0 twice
+    are_refused(&rt, rt.alloc(), &PROGRAM, &[(109, &[0])], TWICE);
 }

@@ -2,12 +2,18 @@
 #![tactic(auto)]
 
 #[cfg(test)]
-mod checks;
+mod changes;
 #[cfg(test)]
 mod container;
+#[cfg(test)]
+mod equal;
 #[cfg(test)]
 mod fork;
 #[cfg(test)]
 mod relocations;
 #[cfg(test)]
 mod shared;
+#[cfg(test)]
+mod texts;
+#[cfg(test)]
+mod unpacking;
