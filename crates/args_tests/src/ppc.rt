@@ -1,33 +1,11 @@
 // Arguments and results in PowerPC code.
-use crate::bench::{equal, memory, must, signature};
+use crate::bench::{LO, SELECTOR, VALUES, equal, memory, must, signature, words};
 use big_memory::{Access, Ram};
-use call_args::{
-    Words, below_ppc, deliver_ppc, gather_ppc, put_result_ppc, result_ppc, select_ppc,
-};
+use call_args::{below_ppc, deliver_ppc, gather_ppc, put_result_ppc, result_ppc, select_ppc};
 use mix_bits::Size;
 use ppc_isa::RegsPpc;
 use proc_info::Sig;
 use std::process::Abort;
-
-/// Where the stacks of callees end.
-const LO: u32 = 0x1_FF00;
-
-/// Three arguments of a byte, a word and a long, with more above them.
-const VALUES: [u32; 3] = [0x1122_33FF, 0x4455_6677, 0x8899_AABB];
-
-/// The selector that dispatched callees are passed; two bytes of it count.
-const SELECTOR: u32 = 0xABCD_1234;
-
-/// Words of some values.
-fn words(rt: &impl Abort, values: &[u32]) -> Words {
-    let mut value = [0; 13];
-    must(rt, values.len() <= 13);
-    value[..values.len()].copy_from_slice(values);
-    Words {
-        count: values.len() as u8,
-        value,
-    }
-}
 
 /// Gives a callee its stack below `LO` in memory full of ones, and answers its registers.
 fn delivered(
