@@ -1,9 +1,12 @@
--- What is sign extended stays so: computed over all words.
-use Rattle.std.proofs.Common.{ℕ, ◌≡◌, ◌^◌, ◌<◌, true, ◌==◌, refl}
+-- What is sign extended stays so: computed over all words, and of a byte over all bytes.
+use Rattle.std.proofs.Common.{ℕ, ◌≡◌, ◌^◌, ◌%◌, ◌<◌, true, ◌==◌, refl, ap, subst, arith}
+use Rattle.std.specs.Int.{cast_unsigned, w32}
+use Rattle.std.proofs.Math.Nat.{mod-mod}
 use Rattle.std.proofs.lemmas.Bool.{eqb-true}
+use Rattle.std.proofs.lemmas.Nat.{mod_below}
 use Rattle.mix_bits.specs.Ranges.{every}
 use Rattle.mix_bits.proofs.Every.{every_at}
-use Rattle.mix_bits.specs.Sizes.{sign_extended}
+use Rattle.mix_bits.specs.Sizes.{sign_extended, signed_below}
 use Rattle.mix_bits.specs.declared.size.Size.TheVariants.{One, Two}
 
 words_stay : every 16 0 (λ w. sign_extended (sign_extended w Two) Two == sign_extended w Two) ≡ true
@@ -12,14 +15,24 @@ words_stay = refl
 pub word_twice : (w : ℕ) → w < 2 ^ 16 → sign_extended (sign_extended w Two) Two ≡ sign_extended w Two
 word_twice w below = eqb-true _ _ (every_at 16 (λ v. sign_extended (sign_extended v Two) Two == sign_extended v Two) w words_stay below)
 
-bytes_stay : every 16 0 (λ w. sign_extended (sign_extended w One) One == sign_extended w One) ≡ true
+-- a byte alone decides
+low_alone : (w : ℕ) → sign_extended (w % 256) One ≡ sign_extended w One
+low_alone w = ap (λ t. cast_unsigned w32 (signed_below 256 t)) (mod-mod w 256)
+
+bytes_stay : every 8 0 (λ b. sign_extended (sign_extended b One) One == sign_extended b One) ≡ true
 bytes_stay = refl
 
-pub byte_twice : (w : ℕ) → w < 2 ^ 16 → sign_extended (sign_extended w One) One ≡ sign_extended w One
-byte_twice w below = eqb-true _ _ (every_at 16 (λ v. sign_extended (sign_extended v One) One == sign_extended v One) w bytes_stay below)
+byte_stays : (b : ℕ) → b < 2 ^ 8 → sign_extended (sign_extended b One) One ≡ sign_extended b One
+byte_stays b below = eqb-true _ _ (every_at 8 (λ v. sign_extended (sign_extended v One) One == sign_extended v One) b bytes_stay below)
 
-bytes_are_words : every 16 0 (λ w. sign_extended (sign_extended w One) Two == sign_extended w One) ≡ true
+pub byte_twice : (w : ℕ) → w < 2 ^ 16 → sign_extended (sign_extended w One) One ≡ sign_extended w One
+byte_twice w below = subst (λ v. sign_extended v One ≡ v) (low_alone w) (byte_stays (w % 256) (mod_below w 256 (omega arith)))
+
+bytes_are_words : every 8 0 (λ b. sign_extended (sign_extended b One) Two == sign_extended b One) ≡ true
 bytes_are_words = refl
 
+byte_is_word : (b : ℕ) → b < 2 ^ 8 → sign_extended (sign_extended b One) Two ≡ sign_extended b One
+byte_is_word b below = eqb-true _ _ (every_at 8 (λ v. sign_extended (sign_extended v One) Two == sign_extended v One) b bytes_are_words below)
+
 pub byte_as_word : (w : ℕ) → w < 2 ^ 16 → sign_extended (sign_extended w One) Two ≡ sign_extended w One
-byte_as_word w below = eqb-true _ _ (every_at 16 (λ v. sign_extended (sign_extended v One) Two == sign_extended v One) w bytes_are_words below)
+byte_as_word w below = subst (λ v. sign_extended v Two ≡ v) (low_alone w) (byte_is_word (w % 256) (mod_below w 256 (omega arith)))

@@ -22,3 +22,4 @@ pub mod Modes
 pub mod Widths
 pub mod Needs
 pub mod Operations
+pub mod Lines

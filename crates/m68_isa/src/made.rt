@@ -9,6 +9,7 @@ ghost use Rattle.m68_isa.specs.Moves.{moved_of};
 ghost use Rattle.m68_isa.specs.Miscellaneous.{extension as extension_lem};
 ghost use Rattle.m68_isa.specs.Made.{made as made_lem};
 ghost use Rattle.m68_isa.specs.Fits.{Fits};
+ghost use Rattle.m68_isa.specs.Lines.{IsFromLine4, IsFromLine5, IsFromLine9};
 ghost use Rattle.m68_isa.specs.Fields.{HasFound, HasRegisters};
 ghost use Rattle.m68_isa.specs.Extended.{IsByte, IsExtendedEa, IsExtendedFound, IsWord};
 
@@ -163,18 +164,14 @@ fn extended_byte(word: u32) -> u32
     byte_of(word)
 }
 
-/// The instruction of an operation.
+/// The instruction of an operation: of one in the lines 0 to 3 of the manual's table, of a refused one, or of one further down.
 pub fn made(op: Op68, word: u32, words: &[u16]) -> Found
     requires { Fits op word }
     ensures value { result ≡ made_lem op (first_of word) words.now }
     ensures fields { HasFound result }
     ensures extended { IsExtendedFound result }
 {
-    let size = size_of(word);
     let transfer = transfer_size_of(word);
-    let address = long_or_word_of(word);
-    let memory = is_in_memory(word);
-    let condition = condition_of(word) as u8;
     let (upper, lower) = (upper_of(word) as u8, lower_of(word) as u8);
     match op {
         Op68::Ori => immediate(ImmediateOp::Ori, word, words),
@@ -198,6 +195,26 @@ pub fn made(op: Op68, word: u32, words: &[u16]) -> Found
             one!(word, words, Size::Two, from => Movea { size: Size::Two, from, to: upper }),
         Op68::MoveaLong =>
             one!(word, words, Size::Four, from => Movea { size: Size::Four, from, to: upper }),
+        Op68::Privileged => Found::Privileged,
+        Op68::Illegal => Found::Illegal,
+        Op68::LineA => Found::Illegal,
+        Op68::LineF => Found::Illegal,
+        _ => in_line_4(op, word, words),
+    }
+}
+
+/// The same in line 4, or further down.
+fn in_line_4(op: Op68, word: u32, words: &[u16]) -> Found
+    requires fits { Fits op word }
+    requires line { IsFromLine4 op }
+    ensures value { result ≡ made_lem op (first_of word) words.now }
+    ensures fields { HasFound result }
+    ensures extended { IsExtendedFound result }
+{
+    let size = size_of(word);
+    let transfer = transfer_size_of(word);
+    let (upper, lower) = (upper_of(word) as u8, lower_of(word) as u8);
+    match op {
         Op68::Negx => one!(word, words, size, to => Negx { size, to }),
         Op68::Clr => one!(word, words, size, to => Clr { size, to }),
         Op68::Neg => one!(word, words, size, to => Neg { size, to }),
@@ -232,6 +249,23 @@ pub fn made(op: Op68, word: u32, words: &[u16]) -> Found
         Op68::Jmp => one!(word, words, Size::Four, to => Jmp { to }),
         Op68::Chk => one!(word, words, Size::Two, bound => Chk { bound, register: upper }),
         Op68::Lea => one!(word, words, Size::Four, from => Lea { from, to: upper }),
+        _ => in_lines_5_to_8(op, word, words),
+    }
+}
+
+/// The same in the lines 5 to 8, or further down.
+fn in_lines_5_to_8(op: Op68, word: u32, words: &[u16]) -> Found
+    requires fits { Fits op word }
+    requires line { IsFromLine5 op }
+    ensures value { result ≡ made_lem op (first_of word) words.now }
+    ensures fields { HasFound result }
+    ensures extended { IsExtendedFound result }
+{
+    let size = size_of(word);
+    let memory = is_in_memory(word);
+    let condition = condition_of(word) as u8;
+    let (upper, lower) = (upper_of(word) as u8, lower_of(word) as u8);
+    match op {
         Op68::Addq =>
             one!(word, words, size, to => Addq { size, number: quick_of(word) as u8, to }),
         Op68::Subq =>
@@ -257,6 +291,23 @@ pub fn made(op: Op68, word: u32, words: &[u16]) -> Found
             one!(word, words, Size::Two, by => Div { signed: false, by, register: upper }),
         Op68::Divs => one!(word, words, Size::Two, by => Div { signed: true, by, register: upper }),
         Op68::Sbcd => words!(1 => Sbcd { memory, from: lower, to: upper }),
+        _ => in_lines_9_to_e(op, word, words),
+    }
+}
+
+/// The same in the lines 9 to E.
+fn in_lines_9_to_e(op: Op68, word: u32, words: &[u16]) -> Found
+    requires fits { Fits op word }
+    requires line { IsFromLine9 op }
+    ensures value { result ≡ made_lem op (first_of word) words.now }
+    ensures fields { HasFound result }
+    ensures extended { IsExtendedFound result }
+{
+    let size = size_of(word);
+    let address = long_or_word_of(word);
+    let memory = is_in_memory(word);
+    let (upper, lower) = (upper_of(word) as u8, lower_of(word) as u8);
+    match op {
         Op68::SubToRegister =>
             one!(word, words, size, operand => Sub { size, to_memory: false, register: upper, operand }),
         Op68::SubToMemory =>
@@ -287,9 +338,6 @@ pub fn made(op: Op68, word: u32, words: &[u16]) -> Found
             words!(1 => Shift { op: register_shift_of(word), left: is_left(word), size, count: shift_count_of(word), register: lower }),
         Op68::ShiftMemory =>
             one!(word, words, Size::Two, to => ShiftMemory { op: memory_shift_of(word), left: is_left(word), to }),
-        Op68::Privileged => Found::Privileged,
-        Op68::Illegal => Found::Illegal,
-        Op68::LineA => Found::Illegal,
-        Op68::LineF => Found::Illegal,
+        _ => unreachable!(),
     }
 }
