@@ -3,10 +3,10 @@ ghost use Rattle.std.specs.Prelude.{◌≡◌, ◌≤◌, IfOk, Ok, length};
 ghost use Rattle.switch_frame.specs.Program.{IsProgram};
 ghost use Rattle.switch_frame.specs.Records.{isa_of};
 ghost use Rattle.mixed_machine.specs.Machine.{IsWhole, callers_of, flat};
-ghost use Rattle.mix_sample.specs.Samples.{IsSample, CountedRun, Steps, nothing, sample_program, sample_ram, sample_steps};
+ghost use Rattle.mix_top.specs.Samples.{IsSample, CountedRun, Steps, nothing, sample_program, sample_ram, sample_steps};
 
+use super::image::sample;
 use super::nothing::{NoDevices, NoInput, Nowhere};
-use super::sample;
 use super::sampled::Sampled;
 use call_trace::End;
 use mix_bits::{Isa, NoMemory};

@@ -1,6 +1,6 @@
 -- How the run of one step stopped.
-use Rattle.mix_sample.proofs.Alone.{alone-exits, alone-faults, alone-goes}
-use Rattle.mix_sample.proofs.run.step_alone.Goals as goal
+use Rattle.mix_top.proofs.Alone.{alone-exits, alone-faults, alone-goes}
+use Rattle.mix_top.proofs.sample_run.step_alone.Goals as goal
 
 pub returns-in-Exit-clause-step : goal.returns-in-Exit-clause-step
 returns-in-Exit-clause-step c = alone-exits _ _ _ _ c.in-Exit.code c.in-Exit.ensures.run

@@ -13,7 +13,7 @@ use Rattle.mixed_machine.specs.Exec.How.{Exited, Faulted, Limited}
 use Rattle.mixed_machine.specs.Machine.{flat}
 use Rattle.mixed_machine.specs.Outside.{At, TookAll, ToldAll, at}
 use Rattle.mixed_machine.specs.Runs.{Runs, Stops, sinks_of}
-use Rattle.mix_sample.specs.Samples.{Steps, nothing}
+use Rattle.mix_top.specs.Samples.{Steps, nothing}
 use Rattle.call_trace.specs.declared.end.End.TheVariants.{Exit as ExitEnd, Fault as FaultEnd, Limit as LimitEnd}
 
 -- the machine, with nothing outside

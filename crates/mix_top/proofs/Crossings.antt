@@ -10,7 +10,7 @@ use Rattle.mixed_machine.specs.State.{State}
 use Rattle.mixed_machine.specs.Crossings.{Counting, gives_up_frame, makes_frame}
 use Rattle.mixed_machine.specs.Machine.{callers_of, flat}
 use Rattle.mixed_machine.proofs.Crossings.{count-exits, count-faults, count-goes_on, count-limit}
-use Rattle.mix_sample.specs.Samples.{CountedRun, Steps, nothing}
+use Rattle.mix_top.specs.Samples.{CountedRun, Steps, nothing}
 use Rattle.call_trace.specs.declared.end.End.TheVariants.{Exit, Fault, Limit}
 use Rattle.mixed_machine.specs.Endings.{end_of}
 use Rattle.mixed_machine.specs.Exec.{How}

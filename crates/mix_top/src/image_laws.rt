@@ -1,4 +1,4 @@
-ghost use Rattle.mix_sample.specs.Laws.{HasSampleBytes};
+ghost use Rattle.mix_top.specs.ImageLaws.{HasSampleBytes};
 
 /// What follows from the definition of the sample image. It does nothing: the clause is its point.
 pub fn sample_laws()

@@ -13,8 +13,8 @@ use Rattle.mixed_machine.specs.Crossings.{Counted}
 use Rattle.mix_engine.specs.Start.{start_of}
 use Rattle.mix_load.specs.Load.{load_of}
 use Rattle.mix_load.specs.declared.error.LoadError.{LoadError}
-use Rattle.mix_sample.specs.Sample.{sample_files}
-use Rattle.mix_sample.specs.declared.sampled.Sampled.{Sampled}
+use Rattle.mix_top.specs.Sample.{sample_files}
+use Rattle.mix_top.specs.declared.sampled.Sampled.{Sampled}
 
 -- no input, no device and no answer
 abbrev pub nothing : Around

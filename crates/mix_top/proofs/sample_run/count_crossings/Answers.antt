@@ -1,8 +1,8 @@
 -- Each step goes on, or ends the run.
 use Rattle.std.proofs.Common.{arith, refl}
 use Rattle.mixed_machine.proofs.Crossings.{count-begins}
-use Rattle.mix_sample.proofs.Counting.{counting-on, ran-all, ran-exits, ran-faults}
-use Rattle.mix_sample.proofs.run.count_crossings.Goals as goal
+use Rattle.mix_top.proofs.Crossings.{counting-on, ran-all, ran-exits, ran-faults}
+use Rattle.mix_top.proofs.sample_run.count_crossings.Goals as goal
 
 pub steps-init : goal.steps-init
 steps-init c = record { whole = c.requires; counting = count-begins _ _ }

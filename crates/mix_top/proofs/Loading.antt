@@ -17,9 +17,9 @@ use Rattle.mix_load.specs.Outcome.{unless}
 use Rattle.mix_bits.specs.declared.file.File.TheVariants.{Flat, Pef, Rsrc}
 use Rattle.mix_load.specs.declared.error.LoadError.TheVariants.{NoMemory, Empty, Rsrc as NoFork, NoCode, Far, JumpTable, Pef as NoHead, TooLarge, Reloc, Unresolved, NoMain}
 use Rattle.mix_load.specs.Start.{program_of}
-use Rattle.mix_sample.specs.Sample.{sample_files, sample_image}
-use Rattle.mix_sample.proofs.Images.{length-sample}
-use Rattle.mix_sample.specs.Samples.{sample_program}
+use Rattle.mix_top.specs.Sample.{sample_files, sample_image}
+use Rattle.mix_top.proofs.Images.{length-sample}
+use Rattle.mix_top.specs.Samples.{sample_program}
 
 -- the room that the image has, in RAM of the least size and of each other
 room : (len size : ℕ) → 131072 ≤ len → size ≡ 236 → too_large (len - len / 4) (program_start + size) ≡ None

@@ -2,7 +2,7 @@
 ghost use Rattle.std.specs.Prelude.{◌≡◌, ◌+◌, ◌≤◌, IfOk, length};
 ghost use Rattle.byteorder.specs.Endian.{big_bytes};
 ghost use Rattle.big_memory.specs.Lists.{put};
-ghost use Rattle.mix_sample.specs.Sample.{sample_files, sample_image};
+ghost use Rattle.mix_top.specs.Sample.{sample_files, sample_image};
 
 use big_memory::NoMemory;
 use byteorder::{BigEndian, ByteOrder};

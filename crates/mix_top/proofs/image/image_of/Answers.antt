@@ -3,9 +3,9 @@ use Rattle.std.proofs.Common.{◌∙◌, ap}
 use Rattle.byteorder.specs.Endian.{big_bytes}
 use Rattle.big_memory.specs.Lists.{put}
 use Rattle.big_memory.specs.Numbers.{bytes_of_longs}
-use Rattle.mix_sample.specs.Sample.{sample_image}
-use Rattle.mix_sample.specs.declared.image.TheConstants.{DESCRIPTOR, HALF_68K, HALF_PPC, VECTOR}
-use Rattle.mix_sample.proofs.image.image_of.Goals as goal
+use Rattle.mix_top.specs.Sample.{sample_image}
+use Rattle.mix_top.specs.declared.image.TheConstants.{DESCRIPTOR, HALF_68K, HALF_PPC, VECTOR}
+use Rattle.mix_top.proofs.image.image_of.Goals as goal
 
 pub returns : goal.returns
 unfolding sample_image bytes_of_longs

@@ -1,7 +1,7 @@
 -- The machine starts as its program does.
 use Rattle.std.proofs.Common.{subst}
-use Rattle.mix_sample.specs.Samples.{CountedRun, nothing}
-use Rattle.mix_sample.proofs.run.run_in.Goals as goal
+use Rattle.mix_top.specs.Samples.{CountedRun, nothing}
+use Rattle.mix_top.proofs.sample_run.run_in.Goals as goal
 
 pub returns : goal.returns
 returns c =

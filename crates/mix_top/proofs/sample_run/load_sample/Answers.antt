@@ -1,6 +1,6 @@
 -- The image is loaded, unless there is no memory.
-use Rattle.mix_sample.proofs.Loading.{only-memory, sample-loadable, sample-loaded}
-use Rattle.mix_sample.proofs.run.load_sample.Goals as goal
+use Rattle.mix_top.proofs.Loading.{only-memory, sample-loadable, sample-loaded}
+use Rattle.mix_top.proofs.sample_run.load_sample.Goals as goal
 
 pub load-requires-clause-files : goal.load-requires-clause-files
 load-requires-clause-files c = sample-loadable c.args.n c.args.depth _ c.in_ok-files.ensures

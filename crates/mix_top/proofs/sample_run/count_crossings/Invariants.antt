@@ -2,8 +2,8 @@
 use Rattle.switch_frame.specs.Records.{isa_of}
 use Rattle.mixed_machine.specs.Crossings.{Counting}
 use Rattle.mixed_machine.specs.Machine.{IsWhole, flat}
-use Rattle.mix_sample.specs.Samples.{nothing}
-use Rattle.mix_sample.proofs.run.count_crossings.Given as goal
+use Rattle.mix_top.specs.Samples.{nothing}
+use Rattle.mix_top.proofs.sample_run.count_crossings.Given as goal
 
 abbrev pub decreases-steps : goal.decreases-steps
 decreases-steps l = l.left
