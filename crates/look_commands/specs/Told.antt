@@ -11,13 +11,13 @@ use Rattle.job_words.specs.declared.job.Job.{Job}
 use Rattle.job_words.specs.Words.{command_of}
 use Rattle.look_map.specs.Maps.{files_text, start_text}
 use Rattle.look_text.specs.Info.{info_of}
-use Rattle.look_words.specs.Looks.{look_of, run_words}
-use Rattle.look_words.specs.Sentences.{why_text}
-use Rattle.look_words.specs.Whys.{Explains}
-use Rattle.look_words.specs.declared.look.Look.{Look}
-use Rattle.look_words.specs.declared.look.Look.TheVariants.{Info, Trace, Picture, Fork, Map, End, Image, Words}
-use Rattle.look_words.specs.declared.look.Refusal.{Refusal}
-use Rattle.look_words.specs.declared.why.Why.{Why}
+use Rattle.look_text.specs.Looks.{look_of, run_words}
+use Rattle.look_text.specs.Sentences.{why_text}
+use Rattle.look_text.specs.Whys.{Explains}
+use Rattle.look_text.specs.declared.look.Look.{Look}
+use Rattle.look_text.specs.declared.look.Look.TheVariants.{Info, Trace, Picture, Fork, Map, End, Image, Words}
+use Rattle.look_text.specs.declared.look.Refusal.{Refusal}
+use Rattle.look_text.specs.declared.why.Why.{Why}
 use Rattle.mix_load.specs.declared.files.Files.{Files}
 use Rattle.mix_load.specs.Load.{load_of}
 use Rattle.mix_load.specs.Segments.{id_count}

@@ -2,9 +2,9 @@
 ghost use Rattle.std.specs.Prelude.{◌≡◌, ◌≢◌, ◌^◌, ◌<◌, ◌++◌, IfOk, codes, length, map};
 ghost use Rattle.std.specs.String.{string_bytes};
 ghost use Rattle.look_text.specs.Info.{info_of};
-ghost use Rattle.look_words.specs.Sentences.{why_text as why_of};
-ghost use Rattle.look_words.specs.Whys.{Explains};
-ghost use Rattle.look_words.specs.declared.why.Why.{Why};
+ghost use Rattle.look_text.specs.Sentences.{why_text as why_of};
+ghost use Rattle.look_text.specs.Whys.{Explains};
+ghost use Rattle.look_text.specs.declared.why.Why.{Why};
 ghost use Rattle.look_commands.specs.Told.{Answers, Writes, WritesFork, WritesWhy, behind};
 
 use crate::files::{fetch, name_at};
@@ -16,8 +16,7 @@ use crate::said::{print, say, tell};
 use crate::status::{BAD_WORDS, NO_MEMORY, REFUSED};
 use crate::streams::Streams;
 use crate::traces::{Shape, trace};
-use look_text::info_text;
-use look_words::{Look, Refusal, explain, read_look, refusal_text, why_text};
+use look_text::{Look, Refusal, explain, info_text, read_look, refusal_text, why_text};
 use mix_bits::NoMemory;
 use rsrc_fork::find_fork;
 use std::alloc::Global;

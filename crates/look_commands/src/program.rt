@@ -3,7 +3,7 @@ ghost use Rattle.std.specs.Prelude.{◌≡◌, ◌⊎◌, IfErr, IfOk, Ok, is_so
 ghost use Rattle.std.specs.String.{string_bytes};
 ghost use Rattle.job_words.specs.Jobs.{IsProperJob};
 ghost use Rattle.job_words.specs.Words.{command_of};
-ghost use Rattle.look_words.specs.Looks.{run_words as run_words_of};
+ghost use Rattle.look_text.specs.Looks.{run_words as run_words_of};
 ghost use Rattle.look_commands.specs.Told.{IsLost, is_run};
 ghost use Rattle.mix_load.specs.Load.{AreLoadable, IsSmall};
 
@@ -11,7 +11,7 @@ use crate::files::{fetch, name_at};
 use crate::said::say;
 use crate::status::{BAD_WORDS, NO_MEMORY};
 use job_words::{Command, Job, read_words};
-use look_words::{explain, run_words, why_text};
+use look_text::{explain, run_words, why_text};
 use mix_bits::NoMemory;
 use mix_load::{FileBytes, Files as Program};
 use std::alloc::Global;

@@ -3,7 +3,7 @@ ghost use Rattle.std.specs.Prelude.{◌≡◌, ◌<◌, ◌^◌};
 ghost use Rattle.mix_bits.specs.declared.isa.Isa.TheVariants.{M68, Ppc};
 ghost use Rattle.big_memory.specs.Map.{host_functions};
 ghost use Rattle.m68_effects.specs.Step.{stepped as stepped_68k};
-ghost use Rattle.ppc_effects.specs.Effects.{stepped as stepped_ppc};
+ghost use Rattle.ppc_integer.specs.Effects.{stepped as stepped_ppc};
 ghost use Rattle.m68_core.specs.Fetch.{places_of as places_68k};
 ghost use Rattle.ppc_core.specs.Fetch.{places_of};
 ghost use Rattle.mixed_machine.specs.Machine.{IsWhole, seen_of};
@@ -14,7 +14,7 @@ use big_memory::Did;
 use m68_isa::Regs68;
 use mix_bits::Fault;
 use mixed_machine::Body;
-use ppc_effects::effect_laws;
+use ppc_integer::effect_laws;
 use ppc_isa::RegsPpc;
 
 /// An instruction of 68K code.

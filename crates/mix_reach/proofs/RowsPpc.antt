@@ -13,14 +13,14 @@ use Rattle.big_memory.specs.Steps.After.{Goes, Leaves as LeavesSet, Stops}
 use Rattle.ppc_isa.specs.declared.registers.RegsPpc.{RegsPpc}
 use Rattle.ppc_isa.specs.declared.instruction.InstrPpc.{InstrPpc}
 use Rattle.ppc_isa.specs.declared.instruction.InstrPpc.TheVariants.{TrapWordImmediate, MultiplyLowImmediate, SubtractFromImmediateCarrying, CompareImmediate, AddImmediateCarrying, AddImmediate, BranchConditional, Branch, RotateLeftImmediate, RotateLeft, LogicalImmediate, Load, Store, LoadMultiple, StoreMultiple, MoveConditionField, BranchConditionalToRegister, ConditionLogical, InstructionSynchronize, Add, AddExtended, SubtractFrom, SubtractFromExtended, Negate, MultiplyLow, MultiplyHigh, Divide, Logical, Unary, Shift, ShiftRightAlgebraicImmediate, Compare, TrapWord, LoadIndexed, StoreIndexed, LoadReversed, StoreReversed, LoadStringImmediate, StoreStringImmediate, LoadStringIndexed, StoreStringIndexed, MoveFromConditionRegister, MoveToConditionFields, MoveXerToConditionField, MoveFromSpecial, MoveToSpecial, Synchronize}
-use Rattle.ppc_effects.specs.Traps.{traps_on}
+use Rattle.ppc_integer.specs.Traps.{traps_on}
 use Rattle.ppc_isa.specs.Valid.{string_length}
-use Rattle.ppc_effects.specs.Xer.{string_length_of}
-use Rattle.ppc_effects.specs.Arithmetic.{immediate_of}
-use Rattle.ppc_effects.specs.Effects.{runs, trap_word}
-use Rattle.ppc_effects.specs.File.{base_of, gpr_of}
-use Rattle.ppc_effects.specs.Storage.{after_load, index_address, load_size, offset_address, reversed_size, store_size}
-use Rattle.ppc_effects.specs.Strings.{fills, in_order, load_byte, load_word, store_byte, string_byte}
+use Rattle.ppc_integer.specs.Xer.{string_length_of}
+use Rattle.ppc_integer.specs.Arithmetic.{immediate_of}
+use Rattle.ppc_integer.specs.Effects.{runs, trap_word}
+use Rattle.ppc_integer.specs.File.{base_of, gpr_of}
+use Rattle.ppc_integer.specs.Storage.{after_load, index_address, load_size, offset_address, reversed_size, store_size}
+use Rattle.ppc_integer.specs.Strings.{fills, in_order, load_byte, load_word, store_byte, string_byte}
 use Rattle.mix_reach.specs.declared.reach.Reach.{Reach}
 use Rattle.mix_reach.specs.Ranges.{Beside, nothing, range}
 use Rattle.mix_reach.specs.RowsPpc.{stores, string_at}

@@ -28,8 +28,8 @@ use Rattle.m68_ea.specs.Words.{words_at}
 use Rattle.m68_effects.specs.Parts.{Effect, after}
 use Rattle.m68_effects.specs.Rows.{effect as effect_68k}
 use Rattle.m68_effects.specs.Step.{runs_decoded as runs_decoded_68k, stepped as stepped_68k}
-use Rattle.ppc_effects.specs.Effects.{at_gate_page, runs as runs_ppc, runs_decoded as runs_decoded_ppc, stepped as stepped_ppc}
-use Rattle.ppc_effects.specs.Storage.{after_load}
+use Rattle.ppc_integer.specs.Effects.{at_gate_page, runs as runs_ppc, runs_decoded as runs_decoded_ppc, stepped as stepped_ppc}
+use Rattle.ppc_integer.specs.Storage.{after_load}
 use Rattle.proc_info.specs.declared.param.Param.{Param}
 use Rattle.proc_info.specs.Signature.{Signature, signature_in}
 use Rattle.proc_info.specs.Build.{image}

@@ -5,9 +5,9 @@ use Rattle.ppc_isa.specs.declared.registers.RegsPpc.{RegsPpc}
 use Rattle.ppc_isa.specs.declared.instruction.InstrPpc.{InstrPpc}
 use Rattle.ppc_isa.specs.declared.instruction.InstrPpc.TheVariants.{Store, StoreIndexed, StoreMultiple, StoreReversed, StoreStringImmediate, StoreStringIndexed}
 use Rattle.ppc_isa.specs.Valid.{string_length}
-use Rattle.ppc_effects.specs.Xer.{string_length_of}
-use Rattle.ppc_effects.specs.File.{base_of}
-use Rattle.ppc_effects.specs.Storage.{index_address, offset_address}
+use Rattle.ppc_integer.specs.Xer.{string_length_of}
+use Rattle.ppc_integer.specs.File.{base_of}
+use Rattle.ppc_integer.specs.Storage.{index_address, offset_address}
 use Rattle.mix_reach.specs.declared.reach.Reach.{Reach}
 use Rattle.mix_reach.specs.Ranges.{nothing, range}
 

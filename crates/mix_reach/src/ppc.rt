@@ -2,14 +2,14 @@
 ghost use Rattle.std.specs.Prelude.{◌≡◌};
 ghost use Rattle.ppc_isa.specs.Fields.{fields_of};
 ghost use Rattle.ppc_isa.specs.Rows.{decoded};
-ghost use Rattle.ppc_effects.specs.Storage.{index_address as index_address_of, offset_address as offset_address_of};
+ghost use Rattle.ppc_integer.specs.Storage.{index_address as index_address_of, offset_address as offset_address_of};
 ghost use Rattle.mix_reach.specs.Ranges.{range as range_of, stored_at};
 ghost use Rattle.mix_reach.specs.RowsPpc.{string_at as string_at_of};
 ghost use Rattle.mix_reach.specs.Steps.{word_decoded};
 
 use crate::reach::{Reach, range};
 use mix_bits::onward;
-use ppc_effects::{base, xer_string_length};
+use ppc_integer::{base, xer_string_length};
 use ppc_isa::{OpPpc, RegsPpc, a_of, b_of, offset_of, op_of, shift_of, string_length};
 
 /// Where the instruction of a word stores, if it is done; None where it stores nowhere.

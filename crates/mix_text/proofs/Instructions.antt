@@ -5,11 +5,11 @@ use Rattle.std.proofs.lemmas.List.{length-drop, take_all}
 use Rattle.mix_bits.specs.declared.isa.Isa.{Isa}
 use Rattle.mix_bits.specs.Names.{name_of}
 use Rattle.m68_text.specs.Listed.{is_name as is_name_68k}
-use Rattle.asm_m68.specs.declared.code.Code68.{Code68}
-use Rattle.asm_m68.specs.Code.{kept}
-use Rattle.asm_m68.specs.Assembly.{answer, Gives as Gives68k}
-use Rattle.asm_m68.specs.declared.assembler.AsmError.{AsmError as Error68k}
-use Rattle.asm_m68.specs.declared.assembler.AsmError.TheVariants.{Name as Name68k, Operands as Operands68k}
+use Rattle.mix_text.specs.declared.code.Code68.{Code68}
+use Rattle.mix_text.specs.Code.{kept}
+use Rattle.mix_text.specs.Assembly.{answer, Gives as Gives68k}
+use Rattle.mix_text.specs.declared.assembler.AsmError.{AsmError as Error68k}
+use Rattle.mix_text.specs.declared.assembler.AsmError.TheVariants.{Name as Name68k, Operands as Operands68k}
 use Rattle.ppc_text.specs.Listed.{is_name as is_name_ppc}
 use Rattle.ppc_text.specs.Assembly.{Gives as GivesPpc}
 use Rattle.ppc_text.specs.declared.assembler.AsmError.{AsmError as ErrorPpc}

@@ -16,10 +16,10 @@ use Rattle.m68_isa.specs.declared.instructions.Decoded68.TheVariants.{Op, LineA,
 use Rattle.m68_ea.specs.Words.{words_at}
 use Rattle.m68_text.specs.Laws.{NamesAreListed}
 use Rattle.m68_text.specs.Text.{text_of}
-use Rattle.asm_m68.specs.SpellingLaws.{AreWords}
-use Rattle.asm_m68.specs.Assembly.{count_of}
-use Rattle.asm_m68.proofs.Prefix.{none_missing}
-use Rattle.asm_m68.proofs.TakenBack.{first_given}
+use Rattle.mix_text.specs.SpellingLaws.{AreWords}
+use Rattle.mix_text.specs.Assembly.{count_of}
+use Rattle.mix_text.proofs.Prefix.{none_missing}
+use Rattle.mix_text.proofs.TakenBack.{first_given}
 use Rattle.ppc_text.specs.Text.{word_text}
 use Rattle.mix_text.specs.Listing.{Listed, bytes_68k, instruction, listed_ppc, listed_as}
 use Rattle.mix_text.specs.Assembling.{IsInstruction}

@@ -6,8 +6,8 @@ use Rattle.mix_bits.specs.declared.isa.Isa.{Isa}
 use Rattle.mix_bits.specs.declared.isa.Isa.TheVariants.{M68, Ppc}
 use Rattle.mix_bits.specs.Names.{name_of}
 use Rattle.m68_text.specs.Listed.{is_name as is_name_68k}
-use Rattle.asm_m68.specs.Assembly.{Gives as Gives68k}
-use Rattle.asm_m68.proofs.Complete.{given_named as named_68k, gives_one as one_68k}
+use Rattle.mix_text.specs.Assembly.{Gives as Gives68k}
+use Rattle.mix_text.proofs.Complete.{given_named as named_68k, gives_one as one_68k}
 use Rattle.ppc_text.specs.Listed.{is_name as is_name_ppc}
 use Rattle.ppc_text.specs.Assembly.{Gives as GivesPpc}
 use Rattle.ppc_text.proofs.Complete.{given_named as named_ppc, gives_one as one_ppc}

@@ -5,7 +5,7 @@ use Rattle.mix_bits.specs.declared.isa.Isa.{Isa}
 use Rattle.mix_bits.specs.declared.isa.Isa.TheVariants.{M68, Ppc}
 use Rattle.mix_bits.specs.Names.{name_of}
 use Rattle.m68_text.specs.Listed.{is_name as is_name_68k}
-use Rattle.asm_m68.specs.Assembly.{Gives as Gives68k}
+use Rattle.mix_text.specs.Assembly.{Gives as Gives68k}
 use Rattle.ppc_text.specs.Listed.{is_name as is_name_ppc}
 use Rattle.ppc_text.specs.Assembly.{Gives as GivesPpc}
 use Rattle.mix_text.specs.Lines.{address_in, is_silent, lines_of}

@@ -4,3 +4,10 @@ pub mod Lines
 pub mod Assembling
 pub mod Parts
 pub mod Laws
+pub mod Assembly
+pub mod AssemblerLaws
+pub mod Code
+pub mod Reading
+pub mod Operands
+pub mod Spelling
+pub mod SpellingLaws

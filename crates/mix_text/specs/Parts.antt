@@ -2,8 +2,8 @@
 use Rattle.std.specs.Prelude.{ℕ, ◌≡◌, suc, ◌==◌, List, [], ◌∷◌, ◌++◌, take, drop, if◌then◌else◌, Ok}
 use Rattle.mix_bits.specs.declared.isa.Isa.{Isa}
 use Rattle.mix_io.specs.Streams.{Output, Grows}
-use Rattle.asm_m68.specs.declared.assembler.AsmError.{AsmError as Error68k}
-use Rattle.asm_m68.specs.declared.assembler.AsmError.TheVariants.{Name as Name68k, Operands as Operands68k}
+use Rattle.mix_text.specs.declared.assembler.AsmError.{AsmError as Error68k}
+use Rattle.mix_text.specs.declared.assembler.AsmError.TheVariants.{Name as Name68k, Operands as Operands68k}
 use Rattle.ppc_text.specs.declared.assembler.AsmError.{AsmError as ErrorPpc}
 use Rattle.ppc_text.specs.declared.assembler.AsmError.TheVariants.{Name as NamePpc, Operands as OperandsPpc}
 use Rattle.mix_text.specs.Assembling.{IsAssembled, IsGiven, IsInstruction}

@@ -5,8 +5,8 @@ ghost use Rattle.mix_text.specs.Parts.{GivesBytes, SpellsBytes, reason_68k as re
 
 use super::lines::{address_in, is_silent};
 use super::refused::Reason;
+use super::{AsmError as Error68k, assemble68, known68};
 use arrayvec::ArrayVec;
-use asm_m68::{AsmError as Error68k, assemble68, known68};
 use mix_bits::Isa;
 use ppc_text::{AsmError as ErrorPpc, assemble_ppc, known_ppc};
 

@@ -3,3 +3,7 @@ pub mod Fetching
 pub mod Joining
 pub mod Ways
 pub mod Debugging
+pub mod Alone
+pub mod Loading
+pub mod Crossings
+pub mod Images

@@ -29,7 +29,7 @@ use Rattle.job_words.specs.declared.job.Command.{Command}
 use Rattle.job_words.specs.declared.job.Command.TheVariants.{Run, List as Lists, Sample, Assemble, Continue, Debug}
 use Rattle.call_trace.specs.declared.end.End.{End}
 use Rattle.call_trace.specs.declared.end.End.TheVariants.{Exit as ExitEnd, Fault as FaultEnd, Limit as LimitEnd}
-use Rattle.mix_sample.specs.declared.sampled.Sampled.{Sampled}
+use Rattle.mix_top.specs.declared.sampled.Sampled.{Sampled}
 use Rattle.std.specs.Option.{option_and_then, option_map}
 use Rattle.std.specs.Result.{result_ok}
 use Rattle.job_words.specs.declared.job.Job.{Job}

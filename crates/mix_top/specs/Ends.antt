@@ -11,10 +11,10 @@ use Rattle.mix_text.specs.Listing.{listing}
 use Rattle.mix_load.specs.Load.{load_of}
 use Rattle.mix_load.specs.declared.error.LoadError.{LoadError}
 use Rattle.mix_load.specs.declared.files.Files.{Files}
-use Rattle.mix_sample.specs.Samples.{IsSample, sample_ram, sample_steps}
+use Rattle.mix_top.specs.Samples.{IsSample, sample_ram, sample_steps}
 use Rattle.call_trace.specs.declared.end.End.{End}
 use Rattle.call_trace.specs.declared.end.End.TheVariants.{Exit as ExitEnd, Fault as FaultEnd, Limit as LimitEnd}
-use Rattle.mix_sample.specs.declared.sampled.Sampled.{Sampled}
+use Rattle.mix_top.specs.declared.sampled.Sampled.{Sampled}
 use Rattle.mix_script.specs.Scripts.{script_of}
 use Rattle.mix_script.specs.declared.command.Command.{Command as Commanded}
 use Rattle.job_words.specs.Jobs.{limit_of, save_in, wants}

@@ -10,3 +10,6 @@ pub mod Debugging
 pub mod Ends
 pub mod Laws
 pub mod Parts
+pub mod Samples
+pub mod Sample
+pub mod ImageLaws

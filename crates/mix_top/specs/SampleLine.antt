@@ -2,7 +2,7 @@
 use Rattle.std.specs.Prelude.{ℕ, List, ◌++◌, codes, decimal}
 use Rattle.mix_bits.specs.declared.fault.Fault.{Fault}
 use Rattle.call_trace.specs.Names.{fault_name}
-use Rattle.mix_sample.specs.declared.sampled.Sampled.{Sampled}
+use Rattle.mix_top.specs.declared.sampled.Sampled.{Sampled}
 
 -- how it ended
 abbrev pub exit_text : ℕ → List ℕ

@@ -9,11 +9,11 @@ ghost use Rattle.mix_top.specs.Parts.{beside_lent};
 
 use super::close::close_without_memory;
 use super::status::{FAULTED, LIMIT_REACHED, OUTPUT_FAILED, SUCCESS};
+use super::{Sampled, run_sample};
 use call_trace::{End, fault_name};
 use mix_bits::{Fault, Line};
 use mix_engine::Outside;
 use mix_io::{Devices, Sink, Source};
-use mix_sample::{Sampled, run_sample};
 use std::alloc::Global;
 
 /// Runs the sample image, and writes what it did.

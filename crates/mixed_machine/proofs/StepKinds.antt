@@ -8,7 +8,7 @@ use Rattle.big_memory.specs.Memory.{Memory, copied, copy_refusal, in_memory}
 use Rattle.big_memory.specs.Steps.{After}
 use Rattle.big_memory.specs.Steps.After.{Goes as GoesOn, Leaves as LeavesSet, Stops as StopsAt}
 use Rattle.m68_effects.specs.Step.{stepped as stepped_68k}
-use Rattle.ppc_effects.specs.Effects.{stepped as stepped_ppc}
+use Rattle.ppc_integer.specs.Effects.{stepped as stepped_ppc}
 use Rattle.proc_info.specs.Signature.{Signature, signature_in}
 use Rattle.proc_info.specs.Layout.{mixed_mode_magic}
 use Rattle.switch_frame.specs.declared.active.Active.{Active}

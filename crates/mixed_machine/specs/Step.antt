@@ -7,7 +7,7 @@ use Rattle.big_memory.specs.Map.{is_gate, in_gate_page}
 use Rattle.big_memory.specs.Steps.{After}
 use Rattle.big_memory.specs.Steps.After.{Goes as GoesOn, Leaves, Stops}
 use Rattle.m68_effects.specs.Step.{stepped as stepped_68k}
-use Rattle.ppc_effects.specs.Effects.{stepped as stepped_ppc}
+use Rattle.ppc_integer.specs.Effects.{stepped as stepped_ppc}
 use Rattle.switch_frame.specs.declared.active.Active.{Active}
 use Rattle.switch_frame.specs.declared.active.Active.TheVariants.{M68, Ppc}
 use Rattle.mixed_machine.specs.State.{State, seen, with_seen, with_active}

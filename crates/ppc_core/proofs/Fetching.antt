@@ -15,7 +15,7 @@ use Rattle.big_memory.specs.Steps.{Does}
 use Rattle.big_memory.specs.Steps.After.{Stops}
 use Rattle.ppc_isa.specs.declared.registers.RegsPpc.{RegsPpc}
 use Rattle.ppc_isa.specs.Rows.{decoded}
-use Rattle.ppc_effects.specs.Effects.{at_gate_page, runs_decoded, stepped}
+use Rattle.ppc_integer.specs.Effects.{at_gate_page, runs_decoded, stepped}
 use Rattle.ppc_core.specs.Fetch.{Fetches, IsOfWord}
 
 -- a step that stops

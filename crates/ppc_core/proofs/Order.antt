@@ -10,7 +10,7 @@ use Rattle.big_memory.specs.declared.refusals.Access.{Access}
 use Rattle.big_memory.specs.Memory.{Memory, IsRam, loaded, refusal, stored}
 use Rattle.big_memory.specs.Stores.{OnlyFree, stored_value, stored_unless}
 use Rattle.big_memory.proofs.Free.{free_joins, free_ram, free_refusals, nothing_free, stores_free}
-use Rattle.ppc_effects.specs.Strings.{in_order, load_byte, load_word, store_byte, string_byte, with_string_byte}
+use Rattle.ppc_integer.specs.Strings.{in_order, load_byte, load_word, store_byte, string_byte, with_string_byte}
 use Rattle.ppc_core.specs.Tested.{BytesOpen, BytesThere, WordsThere}
 
 pub order-zero : {A : Type 0} (access : A → ℕ → Result A Access) (start : A) → in_order access start 0 ≡ Ok start

@@ -8,7 +8,7 @@ use Rattle.mix_bits.specs.declared.size.Size.TheVariants.{Four}
 use Rattle.big_memory.specs.Memory.{Memory, IsRam, loaded}
 use Rattle.big_memory.specs.Numbers.{long_at, longs_at}
 use Rattle.big_memory.proofs.Numbers.{length_of_longs, loads_long, long_of_longs}
-use Rattle.ppc_effects.specs.Strings.{in_order, load_word}
+use Rattle.ppc_integer.specs.Strings.{in_order, load_word}
 use Rattle.ppc_core.proofs.Order.{order-zero, word-more}
 
 -- the registers when so many of them are loaded

@@ -18,7 +18,7 @@ use Rattle.big_memory.specs.Stores.{OnlyFree}
 use Rattle.big_memory.proofs.Free.{free_refusals}
 use Rattle.big_memory.proofs.Guarded.{free_from_test, passes, refusal-none, test_from_free}
 use Rattle.big_memory.proofs.Lists.{put-append}
-use Rattle.ppc_effects.specs.Strings.{in_order, load_byte, string_byte, with_string_byte}
+use Rattle.ppc_integer.specs.Strings.{in_order, load_byte, string_byte, with_string_byte}
 use Rattle.ppc_core.specs.Tested.{BytesOpen, BytesThere}
 use Rattle.ppc_core.proofs.Order.{Stored, byte-more, byte-open, stored-more}
 

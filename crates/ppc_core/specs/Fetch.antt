@@ -8,7 +8,7 @@ use Rattle.big_memory.specs.Memory.{Memory}
 use Rattle.big_memory.specs.Steps.After.{Leaves, Stops}
 use Rattle.ppc_isa.specs.declared.registers.RegsPpc.{RegsPpc}
 use Rattle.ppc_isa.specs.Rows.{decoded}
-use Rattle.ppc_effects.specs.Effects.{runs_decoded, stepped}
+use Rattle.ppc_integer.specs.Effects.{runs_decoded, stepped}
 
 -- how many instructions fit into memory from the end of the gate page on
 abbrev pub places_of : Memory → ℕ

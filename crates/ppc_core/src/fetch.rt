@@ -4,7 +4,7 @@ ghost use Rattle.std.specs.Bool.{OnTrue};
 ghost use Rattle.big_memory.specs.Map.{gate_page_end, host_code as host_code_of};
 ghost use Rattle.big_memory.specs.Memory.{Memory};
 ghost use Rattle.big_memory.specs.Steps.{Does};
-ghost use Rattle.ppc_effects.specs.Effects.{at_gate_page as at_gate_page_of};
+ghost use Rattle.ppc_integer.specs.Effects.{at_gate_page as at_gate_page_of};
 ghost use Rattle.ppc_isa.specs.declared.registers.RegsPpc.{RegsPpc};
 ghost use Rattle.ppc_core.specs.Fetch.{Fetches, IsOfWord, places_of};
 
@@ -35,7 +35,7 @@ pub fn is_plain(pc: u32, ram: &Ram, places: u32) -> bool
 
 /// The word at pc, which plainly can be fetched.
 #[inline(always)]
-#[tactic(auto, unfolding(ppc_effects::specs::Effects::stepped))]
+#[tactic(auto, unfolding(ppc_integer::specs::Effects::stepped))]
 pub fn plain_word(regs: &RegsPpc, ram: &Ram) -> u32
     requires aligned { regs.now.pc % 4 ≡ 0 }
     requires outside { gate_page_end ≤ regs.now.pc }
@@ -49,7 +49,7 @@ pub fn plain_word(regs: &RegsPpc, ram: &Ram) -> u32
 /// stops.
 #[cold]
 #[inline(never)]
-#[tactic(auto, unfolding(ppc_effects::specs::Effects::stepped))]
+#[tactic(auto, unfolding(ppc_integer::specs::Effects::stepped))]
 pub fn fetch(pc: u32, ram: &Ram, fault: &mut Fault) -> Did
     ensures { (r : RegsPpc) → r.pc ≡ pc → Fetches result fault.new r ram.now }
 {

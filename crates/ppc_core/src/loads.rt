@@ -2,13 +2,13 @@
 ghost use Rattle.std.specs.Prelude.{◌≡◌};
 ghost use Rattle.big_memory.specs.Steps.{Does};
 ghost use Rattle.ppc_isa.specs.Fields.{fields_of};
-ghost use Rattle.ppc_effects.specs.Effects.{runs};
-ghost use Rattle.ppc_effects.specs.Storage.{load as load_of, load_size as load_size_of, load_value as load_value_of};
+ghost use Rattle.ppc_integer.specs.Effects.{runs};
+ghost use Rattle.ppc_integer.specs.Storage.{load as load_of, load_size as load_size_of, load_value as load_value_of};
 ghost use Rattle.ppc_isa.specs.declared.instruction.InstrPpc.TheVariants.{Load, LoadIndexed};
 
 use big_memory::{Did, Ram, refuse};
 use mix_bits::{Fault, Size, sext};
-use ppc_effects::{advance, index_address, offset_address};
+use ppc_integer::{advance, index_address, offset_address};
 use ppc_isa::{LoadKind, RegsPpc, a_of, d_of};
 
 /// lwz, lbz, lhz and lha, and with `update` lwzu, lbzu, lhzu and lhau.

@@ -3,14 +3,14 @@ ghost use Rattle.std.specs.Prelude.{◌≡◌, ◌+◌, ◌-◌, ◌*◌, ◌<�
 ghost use Rattle.big_memory.specs.Memory.{IsRam};
 ghost use Rattle.big_memory.specs.Steps.{Does};
 ghost use Rattle.ppc_isa.specs.Fields.{fields_of};
-ghost use Rattle.ppc_effects.specs.Effects.{runs};
-ghost use Rattle.ppc_effects.specs.Strings.{in_order, load_multiple as load_multiple_of, load_word};
+ghost use Rattle.ppc_integer.specs.Effects.{runs};
+ghost use Rattle.ppc_integer.specs.Strings.{in_order, load_multiple as load_multiple_of, load_word};
 ghost use Rattle.ppc_isa.specs.declared.instruction.InstrPpc.TheVariants.{LoadMultiple, StoreMultiple};
 ghost use Rattle.ppc_core.specs.Tested.{WordsTested, WordsThere};
 
 use big_memory::{Access, Did, Ram, refuse};
 use mix_bits::{Fault, onward};
-use ppc_effects::{advance, offset_address};
+use ppc_integer::{advance, offset_address};
 use ppc_isa::{RegsPpc, d_of};
 
 /// lmw.

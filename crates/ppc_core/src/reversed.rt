@@ -2,15 +2,15 @@
 ghost use Rattle.std.specs.Prelude.{◌≡◌, ◌^◌, ◌<◌};
 ghost use Rattle.big_memory.specs.Steps.{Does};
 ghost use Rattle.ppc_isa.specs.Fields.{fields_of};
-ghost use Rattle.ppc_effects.specs.Effects.{runs};
-ghost use Rattle.ppc_effects.specs.Storage.{reversed as reversed_of, reversed_size};
+ghost use Rattle.ppc_integer.specs.Effects.{runs};
+ghost use Rattle.ppc_integer.specs.Storage.{reversed as reversed_of, reversed_size};
 ghost use Rattle.ppc_isa.specs.declared.instruction.InstrPpc.TheVariants.{LoadReversed, StoreReversed};
 ghost use Rattle.big_memory.specs.Memory.{loaded};
 ghost use Rattle.big_memory.specs.Stores.{Stores, stored_value};
 
 use big_memory::{Access, Did, Ram, refuse};
 use mix_bits::Fault;
-use ppc_effects::{advance, index_address};
+use ppc_integer::{advance, index_address};
 use ppc_isa::{RegsPpc, ReversedKind, d_of};
 
 /// lwbrx and lhbrx.

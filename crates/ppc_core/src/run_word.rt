@@ -1,6 +1,6 @@
 ghost use Rattle.big_memory.specs.Steps.{Does};
 ghost use Rattle.ppc_isa.specs.Rows.{decoded};
-ghost use Rattle.ppc_effects.specs.Effects.{runs_decoded};
+ghost use Rattle.ppc_integer.specs.Effects.{runs_decoded};
 
 use super::{
     load, load_indexed, load_multiple, load_reversed, load_string_immediate, load_string_indexed,

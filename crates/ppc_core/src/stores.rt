@@ -2,14 +2,14 @@
 ghost use Rattle.std.specs.Prelude.{◌≡◌};
 ghost use Rattle.big_memory.specs.Steps.{Does};
 ghost use Rattle.ppc_isa.specs.Fields.{fields_of};
-ghost use Rattle.ppc_effects.specs.Effects.{runs};
-ghost use Rattle.ppc_effects.specs.Storage.{store as store_of, store_size as store_size_of, updated};
+ghost use Rattle.ppc_integer.specs.Effects.{runs};
+ghost use Rattle.ppc_integer.specs.Storage.{store as store_of, store_size as store_size_of, updated};
 ghost use Rattle.ppc_isa.specs.declared.instruction.InstrPpc.TheVariants.{Store, StoreIndexed};
-ghost use Rattle.ppc_effects.specs.File.{onto_next};
+ghost use Rattle.ppc_integer.specs.File.{onto_next};
 
 use big_memory::{Did, Ram, refuse};
 use mix_bits::{Fault, Size};
-use ppc_effects::{advance, index_address, offset_address};
+use ppc_integer::{advance, index_address, offset_address};
 use ppc_isa::{RegsPpc, StoreKind, a_of, d_of};
 
 /// stw, stb and sth, and with `update` stwu, stbu and sthu.

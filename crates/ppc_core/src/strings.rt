@@ -3,15 +3,15 @@ ghost use Rattle.std.specs.Prelude.{◌≡◌, ◌+◌, ◌-◌, ◌*◌, ◌/�
 ghost use Rattle.big_memory.specs.Memory.{IsRam};
 ghost use Rattle.big_memory.specs.Steps.{Does};
 ghost use Rattle.ppc_isa.specs.Fields.{fields_of};
-ghost use Rattle.ppc_effects.specs.Effects.{runs};
+ghost use Rattle.ppc_integer.specs.Effects.{runs};
 ghost use Rattle.big_memory.specs.Stores.{OnlyFree};
-ghost use Rattle.ppc_effects.specs.Strings.{fills as fills_lem, in_order, load_byte, load_string as load_string_of, store_byte, store_string as store_string_of, string_byte as string_byte_of, with_string_byte};
+ghost use Rattle.ppc_integer.specs.Strings.{fills as fills_lem, in_order, load_byte, load_string as load_string_of, store_byte, store_string as store_string_of, string_byte as string_byte_of, with_string_byte};
 ghost use Rattle.ppc_isa.specs.declared.instruction.InstrPpc.TheVariants.{LoadStringImmediate, LoadStringIndexed, StoreStringImmediate, StoreStringIndexed};
 ghost use Rattle.ppc_core.specs.Tested.{BytesOpen, BytesTested, BytesThere, OpenTested};
 
 use big_memory::{Access, Did, Ram, refuse, stop};
 use mix_bits::{Fault, FaultKind, Size, digit, onward, with_digit};
-use ppc_effects::{advance, base, index_address, xer_string_length};
+use ppc_integer::{advance, base, index_address, xer_string_length};
 use ppc_isa::{RegsPpc, a_of, b_of, d_of, is_filled, shift_of, string_length};
 
 /// lswi.

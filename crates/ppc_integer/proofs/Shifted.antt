@@ -2,7 +2,7 @@
 use Rattle.std.proofs.Common.{◌≡◌, ℕ, zero, suc, ◌*◌, ◌/◌, ◌%◌, ◌^◌, ◌+◌, ◌-◌, ◌<◌, ◌==◌, arith, ap, ◌∙◌, refl, pow-add}
 use Rattle.std.proofs.lemmas.Nat.{pow_pos}
 use Rattle.std.proofs.Math.Nat.{mul-div-mul_right}
-use Rattle.ppc_effects.specs.Branches.{is_same}
+use Rattle.ppc_integer.specs.Branches.{is_same}
 
 -- the top bit of 32
 halves : (x : ℕ) → x % 4294967296 / 2147483648 ≡ x / 2147483648 % 2

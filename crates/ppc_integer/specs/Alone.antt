@@ -6,7 +6,7 @@ use Rattle.big_memory.specs.Steps.{Does}
 use Rattle.big_memory.specs.declared.steps.Did.{Did}
 use Rattle.ppc_isa.specs.declared.instruction.InstrPpc.{InstrPpc}
 use Rattle.ppc_isa.specs.declared.registers.RegsPpc.{RegsPpc}
-use Rattle.ppc_effects.specs.Effects.{goes_on, runs}
+use Rattle.ppc_integer.specs.Effects.{goes_on, runs}
 
 -- a call that does the instruction of a word, from registers r to registers next
 abbrev pub Runs : InstrPpc → ℕ → Did → RegsPpc → RegsPpc → Type 0

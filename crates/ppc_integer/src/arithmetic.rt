@@ -1,16 +1,16 @@
 // Sums, differences, products and quotients.
 ghost use Rattle.std.specs.Prelude.{◌≡◌, ◌/◌, ◌==◌};
 ghost use Rattle.ppc_isa.specs.Fields.{fields_of};
-ghost use Rattle.ppc_effects.specs.Results.{added};
-ghost use Rattle.ppc_effects.specs.File.{gpr_of};
-ghost use Rattle.ppc_effects.specs.Arithmetic.{carry_into as carry_into_of, operand_of, sets_ca as sets_ca_of, with_arith};
+ghost use Rattle.ppc_integer.specs.Results.{added};
+ghost use Rattle.ppc_integer.specs.File.{gpr_of};
+ghost use Rattle.ppc_integer.specs.Arithmetic.{carry_into as carry_into_of, operand_of, sets_ca as sets_ca_of, with_arith};
 ghost use Rattle.ppc_isa.specs.declared.instruction.InstrPpc.TheVariants.{Add, AddExtended, AddImmediate, AddImmediateCarrying, Divide, MultiplyHigh, MultiplyLow, MultiplyLowImmediate, Negate, SubtractFrom, SubtractFromExtended, SubtractFromImmediateCarrying};
 ghost use Rattle.ppc_integer.specs.Alone.{Ends, Runs};
 
 use super::ending::{finish, finish_carrying, finish_overflow, finish_result};
+use super::{add3, base, divide, mul_high, mul_low, xer_ca};
 use big_memory::Did;
 use mix_bits::onward;
-use ppc_effects::{add3, base, divide, mul_high, mul_low, xer_ca};
 use ppc_isa::{
     CarryUse, ExtendedOperand, RegsPpc, a_of, b_of, d_of, is_last, is_overflow, low_of, offset_of,
 };

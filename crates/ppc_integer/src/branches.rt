@@ -4,13 +4,13 @@ ghost use Rattle.mix_bits.specs.Digits.{digit_of};
 ghost use Rattle.ppc_isa.specs.Fields.{fields_of};
 ghost use Rattle.ppc_isa.specs.Made.{displacement_of};
 ghost use Rattle.ppc_isa.specs.declared.instruction.InstrPpc.TheVariants.{Branch, BranchConditional, BranchConditionalToRegister};
-ghost use Rattle.ppc_effects.specs.Condition.{bit_of};
-ghost use Rattle.ppc_effects.specs.Branches.{branch_where, condition_allows as condition_allows_of, count_allows, counted, is_same, leaves_count as leaves_count_of};
+ghost use Rattle.ppc_integer.specs.Condition.{bit_of};
+ghost use Rattle.ppc_integer.specs.Branches.{branch_where, condition_allows as condition_allows_of, count_allows, counted, is_same, leaves_count as leaves_count_of};
 ghost use Rattle.ppc_integer.specs.Alone.{Runs};
 
+use super::cr_bit;
 use big_memory::Did;
 use mix_bits::{aligned, onward};
-use ppc_effects::cr_bit;
 use ppc_isa::{
     BranchRegister, RegsPpc, a_of, branch_target, d_of, far_displacement_of, is_absolute, is_last,
     near_displacement_of,

@@ -2,15 +2,15 @@
 ghost use Rattle.std.specs.Prelude.{◌≡◌, ◌/◌, ◌+◌, ◌*◌, ◌<◌, ◌==◌};
 ghost use Rattle.ppc_isa.specs.Fields.{fields_of};
 ghost use Rattle.ppc_isa.specs.declared.instruction.InstrPpc.TheVariants.{Compare, CompareImmediate, ConditionLogical, MoveConditionField, MoveFromConditionRegister, MoveToConditionFields, MoveXerToConditionField};
-ghost use Rattle.ppc_effects.specs.Condition.{with_field};
+ghost use Rattle.ppc_integer.specs.Condition.{with_field};
 ghost use Rattle.ppc_integer.specs.Alone.{Ends, Runs};
 
 use super::ending::finish;
-use big_memory::Did;
-use ppc_effects::{
+use super::{
     compare, cr_bit, cr_field, cr_logic, field_mask, insert, with_cr_bit, with_cr_field, with_cr0,
     xer_so, xer_top, xer_without_top,
 };
+use big_memory::Did;
 use ppc_isa::{
     LogicalOp, RegsPpc, a_of, b_of, d_of, field_of, from_field_of, low_of, mask_of, offset_of,
 };

@@ -1,12 +1,12 @@
 // How steps end that change registers alone.
 ghost use Rattle.std.specs.Prelude.{◌<◌, ◌/◌, ◌==◌, true, false};
 ghost use Rattle.ppc_isa.specs.Fields.{fields_of};
-ghost use Rattle.ppc_effects.specs.Arithmetic.{with_arith};
-ghost use Rattle.ppc_effects.specs.File.{with_result};
+ghost use Rattle.ppc_integer.specs.Arithmetic.{with_arith};
+ghost use Rattle.ppc_integer.specs.File.{with_result};
 ghost use Rattle.ppc_integer.specs.Alone.{Ends};
 
+use super::{Arith, Sets, advance, put_arith, put_result};
 use big_memory::Did;
-use ppc_effects::{Arith, Sets, advance, put_arith, put_result};
 use ppc_isa::{RegsPpc, d_of, is_last, is_overflow};
 
 /// Ends a step that changed registers alone: the next instruction follows.

@@ -1,7 +1,7 @@
 // Logic of words.
 ghost use Rattle.std.specs.Prelude.{◌≡◌, ◌^◌, ◌<◌};
 ghost use Rattle.ppc_isa.specs.Fields.{fields_of};
-ghost use Rattle.ppc_effects.specs.Logical.{combined_immediate, combined_words, records as records_of, unary_of};
+ghost use Rattle.ppc_integer.specs.Logical.{combined_immediate, combined_words, records as records_of, unary_of};
 ghost use Rattle.ppc_isa.specs.declared.instruction.InstrPpc.TheVariants.{Logical, LogicalImmediate, Unary};
 ghost use Rattle.ppc_integer.specs.Alone.{Runs};
 

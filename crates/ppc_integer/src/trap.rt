@@ -4,12 +4,12 @@ ghost use Rattle.big_memory.specs.Steps.{Does};
 ghost use Rattle.ppc_isa.specs.Fields.{fields_of};
 ghost use Rattle.ppc_isa.specs.declared.instruction.InstrPpc.TheVariants.{TrapWord, TrapWordImmediate};
 ghost use Rattle.ppc_isa.specs.declared.registers.RegsPpc.{RegsPpc};
-ghost use Rattle.ppc_effects.specs.Effects.{runs, trap_word as trap_word_of};
+ghost use Rattle.ppc_integer.specs.Effects.{runs, trap_word as trap_word_of};
 
 use super::ending::finish;
+use super::traps;
 use big_memory::{Did, stop};
 use mix_bits::{Fault, FaultKind};
-use ppc_effects::traps;
 use ppc_isa::{RegsPpc, a_of, b_of, d_of, offset_of};
 
 /// tw.

@@ -1,5 +1,5 @@
 // Lines that are no rows of a text, and the calls that assemble a text at once.
-use asm_m68::reassembled68;
+use mix_text::reassembled68;
 use ppc_text::{AsmError, assemble_ppc, reassembled};
 use std::test::Fail;
 
@@ -16,7 +16,7 @@ fn long_lines(rt: HostRuntime) -> Result<(), Fail> {
 
 #[test]
 fn texts_are_taken_back(rt: HostRuntime) {
-    asm_m68::asm_laws();
+    mix_text::asm_laws();
     ppc_text::asm_laws();
     match reassembled68(&[0xAA80], 0x10000) {
         Ok(code) => assert_eq!(rt; code.words, [0xAA80, 0, 0, 0, 0]),

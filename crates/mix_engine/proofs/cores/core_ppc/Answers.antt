@@ -1,7 +1,7 @@
 use Rattle.std.proofs.Common.{subst}
 use Rattle.mix_bits.specs.declared.isa.Isa.TheVariants.{Ppc}
 use Rattle.big_memory.specs.Steps.{Does}
-use Rattle.ppc_effects.specs.Effects.{stepped}
+use Rattle.ppc_integer.specs.Effects.{stepped}
 use Rattle.mix_engine.proofs.Codes.{host-number}
 use Rattle.mix_engine.proofs.Instructions.{core-steps}
 use Rattle.mix_engine.proofs.cores.core_ppc.Goals as goal

@@ -2,7 +2,7 @@ use Rattle.std.proofs.Common.{◌≡◌, ℕ, ◌∙◌, ◌*◌, ap, sym, arith
 use Rattle.mix_bits.specs.Addresses.{onward}
 use Rattle.mix_bits.specs.declared.size.Size.TheVariants.{Four}
 use Rattle.big_memory.specs.Memory.{loaded}
-use Rattle.ppc_effects.specs.Strings.{load_word}
+use Rattle.ppc_integer.specs.Strings.{load_word}
 use Rattle.ppc_core.proofs.Order.{order-zero, word-more}
 use Rattle.ppc_core.proofs.multiple.load_words.Goals as goal
 use Rattle.ppc_core.proofs.multiple.load_words.Goals.{in-Ok, in_default}

@@ -1,5 +1,5 @@
 use Rattle.std.proofs.Common.{◌≡◌, Ok}
-use Rattle.ppc_effects.specs.Strings.{in_order, load_word}
+use Rattle.ppc_integer.specs.Strings.{in_order, load_word}
 use Rattle.ppc_core.proofs.multiple.load_words.Given as goal
 
 abbrev pub invariant-loop-k : goal.invariant-loop-k

@@ -2,7 +2,7 @@ use Rattle.std.proofs.Common.{◌≡◌, ℕ, ◌*◌, ◌/◌, ◌∙◌, ap, s
 use Rattle.mix_bits.specs.Addresses.{onward}
 use Rattle.mix_bits.specs.declared.size.Size.TheVariants.{One}
 use Rattle.big_memory.specs.Memory.{loaded}
-use Rattle.ppc_effects.specs.Strings.{in_order, load_byte}
+use Rattle.ppc_integer.specs.Strings.{in_order, load_byte}
 use Rattle.ppc_core.proofs.Order.{byte-more}
 use Rattle.ppc_core.proofs.strings.load_bytes.Goals as goal
 use Rattle.ppc_core.proofs.strings.load_bytes.Goals.{in-Ok, in_default}

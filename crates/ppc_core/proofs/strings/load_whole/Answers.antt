@@ -3,7 +3,7 @@ use Rattle.std.proofs.lemmas.List.{length-set}
 use Rattle.std.specs.Prelude.{slice_set}
 use Rattle.mix_bits.specs.Addresses.{onward}
 use Rattle.big_memory.specs.Numbers.{long_at}
-use Rattle.ppc_effects.specs.Strings.{in_order, load_byte}
+use Rattle.ppc_integer.specs.Strings.{in_order, load_byte}
 use Rattle.ppc_core.proofs.Order.{order-zero}
 use Rattle.ppc_core.proofs.Words.{word-inside, word-loaded}
 use Rattle.ppc_core.proofs.strings.load_whole.Goals as goal

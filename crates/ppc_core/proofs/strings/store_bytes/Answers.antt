@@ -2,7 +2,7 @@ use Rattle.std.proofs.Common.{◌≡◌, ◌+◌, ◌*◌, ◌/◌, ◌∙◌, a
 use Rattle.mix_bits.specs.Addresses.{onward}
 use Rattle.mix_bits.specs.declared.size.Size.TheVariants.{One}
 use Rattle.big_memory.specs.Memory.{refusal, stored}
-use Rattle.ppc_effects.specs.Strings.{string_byte}
+use Rattle.ppc_integer.specs.Strings.{string_byte}
 use Rattle.ppc_core.proofs.Order.{Stored, byte-open, stored-more}
 use Rattle.ppc_core.proofs.strings.store_bytes.Goals as goal
 

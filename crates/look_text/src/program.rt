@@ -1,0 +1,135 @@
+// The words of the commands that load a program: mixedrun judges most of them.
+ghost use Rattle.std.specs.Prelude.{◌≡◌, ◌+◌, ◌^◌, ◌<◌, ◌≤◌, ◌++◌, ◌∷◌, [], if◌then◌else◌, not, IfOk, OnOk, filter, length, map};
+ghost use Rattle.std.specs.String.{string_bytes};
+ghost use Rattle.look_text.specs.Looks.{end_of, has_key as has_key_by, is_last as is_last_by, is_unmapped as is_unmapped_by, last_given, last_in, map_of, run_words as run_words_of};
+
+use super::look::{Key, Look, Refusal};
+use mix_bits::{NoMemory, read_decimal};
+use std::alloc::Global;
+
+/// How many of the last steps are told, if nothing is said of it.
+const FEW: u32 = 16;
+
+/// How many of them can be told.
+const MOST: u32 = 1000;
+
+/// The words with which mixedrun runs the program that the words of `map` or `end` name.
+pub fn run_words(alloc: Global, words: &[String]) -> Result<Vec<String>, NoMemory>
+    ensures { IfOk result (λ run. map string_bytes run.items ≡ run_words_of (map string_bytes words.now)) }
+{
+    let mut run = Vec::new(alloc);
+    run.push(String::from_str(alloc, "run")?)?;
+    if let [_, rest @ ..] = words {
+        add_words(&mut run, rest)?;
+    }
+    Ok(run)
+}
+
+fn add_words(run: &mut Vec<String>, words: &[String]) -> Result<(), NoMemory>
+    ensures { OnOk result (map string_bytes run.new.items ≡ map string_bytes run.old.items ++ filter (λ word. not (is_last_by word)) (map string_bytes words.now)) }
+{
+    match words {
+        [] => Ok(()),
+        [word, rest @ ..] => {
+            add_word(run, word)?;
+            add_words(run, rest)
+        }
+    }
+}
+
+fn add_word(run: &mut Vec<String>, word: &String) -> Result<(), NoMemory>
+    ensures { OnOk result (map string_bytes run.new.items ≡ map string_bytes run.old.items ++ (if is_last_by (string_bytes word.now) then [] else string_bytes word.now ∷ [])) }
+{
+    if !is_last(word.as_str()) {
+        run.push(word.clone()?)?;
+    }
+    Ok(())
+}
+
+/// Reads the words of `map` from a place on.
+pub fn read_map(place: usize, words: &[String]) -> Result<Look, Refusal>
+    requires { place + length words.now < 2 ^ 64 }
+    ensures { result ≡ map_of place (map string_bytes words.now) }
+{
+    match words {
+        [] => Ok(Look::Map),
+        [word, rest @ ..] => {
+            if is_unmapped(word.as_str()) {
+                Err(Refusal::Unknown(place))
+            } else {
+                read_map(place + 1, rest)
+            }
+        }
+    }
+}
+
+/// Reads the words of `end` from a place on, where those before gave a number of steps or none.
+pub fn read_end(place: usize, words: &[String], last: Option<u32>) -> Result<Look, Refusal>
+    requires { place + length words.now < 2 ^ 64 }
+    ensures { result ≡ end_of place (map string_bytes words.now) last }
+{
+    match words {
+        [] => Ok(Look::End(last.unwrap_or(FEW))),
+        [word, rest @ ..] => {
+            if has_key(word.as_str(), "save") {
+                Err(Refusal::Unknown(place))
+            } else if is_last(word.as_str()) {
+                let count = give_last(place, word.as_str(), last)?;
+                read_end(place + 1, rest, Some(count))
+            } else {
+                read_end(place + 1, rest, last)
+            }
+        }
+    }
+}
+
+/// The number of steps in a word, unless one before gave it.
+fn give_last(place: usize, word: &str, last: Option<u32>) -> Result<u32, Refusal>
+    ensures { result ≡ last_given place word.now last }
+{
+    match last {
+        Some(_) => Err(Refusal::Twice(place)),
+        None => read_last(place, word),
+    }
+}
+
+fn read_last(place: usize, word: &str) -> Result<u32, Refusal>
+    ensures { result ≡ last_given place word.now None }
+{
+    match word.split_once('=') {
+        Some((_, value)) => kept_last(place, read_decimal(value.as_bytes())),
+        None => kept_last(place, read_decimal(b"")),
+    }
+}
+
+fn kept_last(place: usize, count: Option<u32>) -> Result<u32, Refusal>
+    ensures { result ≡ last_in place count }
+{
+    match count {
+        Some(count) if count <= MOST => Ok(count),
+        _ => Err(Refusal::Value(place, Key::Last)),
+    }
+}
+
+/// Whether a word is none of `map`'s, though of a run's.
+fn is_unmapped(word: &str) -> bool
+    ensures { result ≡ is_unmapped_by word.now }
+{
+    has_key(word, "steps") || has_key(word, "save") || is_last(word)
+}
+
+fn is_last(word: &str) -> bool
+    ensures { result ≡ is_last_by word.now }
+{
+    has_key(word, "last")
+}
+
+/// Whether a word has a key.
+fn has_key(word: &str, key: &str) -> bool
+    ensures { result ≡ has_key_by key.now word.now }
+{
+    match word.split_once('=') {
+        Some((found, _)) => found == key,
+        None => false,
+    }
+}

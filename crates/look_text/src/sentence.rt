@@ -1,0 +1,197 @@
+// Sentences about words.
+ghost use Rattle.std.specs.Prelude.{◌≡◌, ◌++◌, IfOk, codes, map};
+ghost use Rattle.std.specs.String.{string_bytes};
+ghost use Rattle.look_text.specs.Sentences.{before_text, key_wants as key_wants_text, missing_text, needs_of, of_word, program_needs_of, refusal_text as refusal_of, unknown_text, value_text, why_text as why_of};
+ghost use Rattle.look_text.specs.Whys.{at_place};
+
+use crate::label::Label;
+use crate::look::{Key, Refusal};
+use crate::why::{Why, word_in};
+use mix_bits::NoMemory;
+use std::alloc::{AllocError, Global};
+
+/// Why mixedlook refuses words, in a sentence.
+pub fn refusal_text(alloc: Global, words: &[String], refusal: Refusal) -> Result<String, NoMemory>
+    ensures { IfOk result (λ text. string_bytes text ≡ refusal_of (map string_bytes words.now) refusal) }
+{
+    Ok(refusal_sentence(alloc, words, refusal)?)
+}
+
+fn refusal_sentence(alloc: Global, words: &[String], refusal: Refusal) -> Result<String, AllocError>
+    ensures { IfOk result (λ text. string_bytes text ≡ refusal_of (map string_bytes words.now) refusal) }
+{
+    match refusal {
+        Refusal::Empty => String::from_str(alloc, "a command is missing"),
+        Refusal::Command => {
+            let word = word_at(words, 0);
+            format!(in alloc; "{word} is no command")
+        }
+        Refusal::Unknown(place) => {
+            let word = word_at(words, place);
+            format!(in alloc; "{word} is no KEY=VALUE of this command")
+        }
+        Refusal::Twice(place) => {
+            let word = word_at(words, place);
+            format!(in alloc; "{word}: the key stands twice")
+        }
+        Refusal::Value(place, key) => {
+            let (word, wants) = (word_at(words, place), key_wants(key));
+            format!(in alloc; "{word}: wants {wants}")
+        }
+        Refusal::Missing(key) => {
+            let (text, wants) = (key.text(), key_wants(key));
+            format!(in alloc; "{text}= is missing, {wants}")
+        }
+    }
+}
+
+/// What a key of mixedlook wants.
+#[tactic(auto, using(crate::proofs::Ranges::written))]
+fn key_wants(key: Key) -> &'static str
+    ensures { result.now ≡ key_wants_text key }
+{
+    match key {
+        Key::Word => "eight upper-case hexadecimal digits",
+        Key::File => "the name of a file",
+        Key::Names => "the name of a file with the output of nm",
+        Key::Image => "the name of a file that mixedrun kept",
+        Key::Last => "a number from 0 to 1000, in decimal without a leading zero",
+    }
+}
+
+/// Why mixedrun refuses words, in a sentence.
+pub fn why_text(alloc: Global, words: &[String], why: Why) -> Result<String, NoMemory>
+    ensures { IfOk result (λ text. string_bytes text ≡ why_of (map string_bytes words.now) why) }
+{
+    Ok(why_sentence(alloc, words, why)?)
+}
+
+fn why_sentence(alloc: Global, words: &[String], why: Why) -> Result<String, AllocError>
+    ensures { IfOk result (λ text. string_bytes text ≡ why_of (map string_bytes words.now) why) }
+{
+    let command = word_at(words, 0);
+    match why {
+        Why::Taken => String::from_str(alloc, "mixedrun takes these words"),
+        Why::Empty => String::from_str(
+            alloc,
+            "no word: the first one is a command, run, continue, list, sample, assemble or debug",
+        ),
+        Why::Command => command_sentence(alloc, command),
+        Why::Missing => missing_sentence(alloc, command),
+        Why::Keyless(place) => keyless_sentence(alloc, place, word_at(words, place as usize)),
+        Why::Key(place, label) => {
+            key_sentence(alloc, place, word_at(words, place as usize), command, label)
+        }
+        Why::Value(place, label) => {
+            value_sentence(alloc, place, word_at(words, place as usize), label)
+        }
+        Why::Again(place, label) => {
+            again_sentence(alloc, place, word_at(words, place as usize), label)
+        }
+    }
+}
+
+/// That the first word is no command.
+fn command_sentence(alloc: Global, word: &str) -> Result<String, AllocError>
+    ensures { IfOk result (λ text. string_bytes text ≡ codes "word 0, " ++ (word.now ++ codes ", is no command: run, continue, list, sample, assemble or debug")) }
+{
+    format!(in alloc;
+        "word 0, {word}, is no command: run, continue, list, sample, assemble or debug"
+    )
+}
+
+/// That the word at a place has no key.
+fn keyless_sentence(alloc: Global, place: u32, word: &str) -> Result<String, AllocError>
+    ensures { IfOk result (λ text. string_bytes text ≡ of_word place word.now (codes ", has no key of mixedrun and an equals sign in front")) }
+{
+    format!(in alloc; "word {place}, {word}, has no key of mixedrun and an equals sign in front")
+}
+
+/// That the word at a place has a value that is none of its key's.
+fn value_sentence(alloc: Global, place: u32, word: &str, label: Label) -> Result<String, AllocError>
+    ensures { IfOk result (λ text. string_bytes text ≡ of_word place word.now (value_text label)) }
+{
+    let (key, wants) = (label.text(), label.wants());
+    format!(in alloc; "word {place}, {word}: {key} wants {wants}")
+}
+
+/// That the word at a place cannot stand behind those before.
+fn again_sentence(alloc: Global, place: u32, word: &str, label: Label) -> Result<String, AllocError>
+    ensures { IfOk result (λ text. string_bytes text ≡ of_word place word.now (codes ": " ++ before_text label)) }
+{
+    let before = before(label);
+    format!(in alloc; "word {place}, {word}: {before}")
+}
+
+/// That a command needs a word more.
+fn missing_sentence(alloc: Global, command: &str) -> Result<String, AllocError>
+    ensures { IfOk result (λ text. string_bytes text ≡ missing_text command.now) }
+{
+    let needs = needs(command);
+    format!(in alloc; "a word is missing: {command} needs {needs}")
+}
+
+/// That a command does not know the key of the word at a place.
+fn key_sentence(
+    alloc: Global,
+    place: u32,
+    word: &str,
+    command: &str,
+    label: Label,
+) -> Result<String, AllocError>
+    ensures { IfOk result (λ text. string_bytes text ≡ of_word place word.now (unknown_text command.now label)) }
+{
+    let key = label.text();
+    format!(in alloc; "word {place}, {word}: {command} has no key {key}")
+}
+
+/// What stands before a word that is good alone.
+fn before(label: Label) -> &'static str
+    ensures { result.now ≡ before_text label }
+{
+    match label {
+        Label::Flat => "flat, rsrc or pef stands before it, and flat stands alone",
+        Label::Rsrc => "rsrc or flat stands before it, and flat stands alone",
+        Label::Pef => "pef or flat stands before it, and flat stands alone",
+        _ => "its key stands before it",
+    }
+}
+
+/// What a command of mixedrun needs.
+fn needs(command: &str) -> &'static str
+    ensures { result.now ≡ needs_of command.now }
+{
+    if command == "sample" {
+        "n=N and depth=D"
+    } else if command == "assemble" {
+        "set=SET, text=FILE and at=ADDRESS"
+    } else if command == "continue" {
+        "image=FILE"
+    } else {
+        program_needs(command)
+    }
+}
+
+/// What a command needs that loads a program.
+fn program_needs(command: &str) -> &'static str
+    ensures { result.now ≡ program_needs_of command.now }
+{
+    if command == "list" {
+        "at=ADDRESS, count=N, and the file of the main set: flat=FILE, rsrc=FILE, or pef=FILE for main=ppc"
+    } else if command == "debug" {
+        "script=FILE, and the file of the main set: flat=FILE, rsrc=FILE, or pef=FILE for main=ppc"
+    } else {
+        "the file of the main set: flat=FILE, rsrc=FILE, or pef=FILE for main=ppc"
+    }
+}
+
+/// The word at a place, or nothing behind the last one.
+fn word_at(words: &[String], place: usize) -> &str
+    ensures { result.now ≡ at_place (map string_bytes words.now) place }
+{
+    if place < words.len() {
+        word_in(words, place)
+    } else {
+        ""
+    }
+}

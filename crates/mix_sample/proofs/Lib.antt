@@ -1,4 +1,0 @@
-pub mod Alone
-pub mod Loading
-pub mod Counting
-pub mod Images

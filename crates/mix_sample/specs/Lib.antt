@@ -1,3 +1,0 @@
-pub mod Samples
-pub mod Sample
-pub mod Laws

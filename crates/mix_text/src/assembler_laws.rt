@@ -1,0 +1,25 @@
+ghost use Rattle.mix_text.specs.AssemblerLaws.{GivenAreNamed, GivesOne, NamesArePrinted, NoneIsMissing, TextsDiffer, TextsGive};
+ghost use Rattle.mix_text.specs.SpellingLaws.{LongOrWordIsAny, SizeIsAny, SpecialIsImmediate, TextsSpell, WordsSpell};
+
+/// What holds of lines, texts and names. It does nothing: the clauses are its point.
+pub fn asm_laws()
+    ensures one { GivesOne }
+    ensures named { GivenAreNamed }
+    ensures texts { TextsGive }
+    ensures whole { NoneIsMissing }
+    ensures differ { TextsDiffer }
+    ensures names { NamesArePrinted }
+{}
+
+/// What holds of the texts of instructions. It does nothing: the clauses are its point.
+pub fn spelling_laws()
+    ensures instructions { TextsSpell }
+    ensures words { WordsSpell }
+{}
+
+/// What holds of immediates, and of the sizes that first words name. It does nothing, either.
+pub fn operand_laws()
+    ensures immediates { SpecialIsImmediate }
+    ensures sizes { SizeIsAny }
+    ensures longs { LongOrWordIsAny }
+{}

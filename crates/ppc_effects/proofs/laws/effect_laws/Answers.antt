@@ -1,5 +1,0 @@
-use Rattle.ppc_effects.proofs.Leaving.{leaves-at_host}
-use Rattle.ppc_effects.proofs.laws.effect_laws.Goals as goal
-
-pub returns : goal.returns
-returns c = leaves-at_host

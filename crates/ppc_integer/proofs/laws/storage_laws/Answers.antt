@@ -1,0 +1,11 @@
+use Rattle.ppc_integer.proofs.Filled.{indexed_strings_fill, strings_fill}
+use Rattle.ppc_integer.proofs.Reversed.{loads_little, reverses_back}
+use Rattle.ppc_integer.proofs.laws.storage_laws.Goals as goal
+
+pub returns : goal.returns
+returns c = record {
+  strings = strings_fill;
+  indexed = indexed_strings_fill;
+  little = loads_little;
+  reversed = reverses_back;
+}

@@ -1,0 +1,17 @@
+ghost use Rattle.ppc_integer.specs.Laws.{LeavesAtHostCode};
+ghost use Rattle.ppc_integer.specs.StorageLaws.{IndexedStringsFill, LoadsLittle, ReversesBack, StringsFill};
+
+/// What holds of every step. It does nothing: the clause is its point.
+///
+/// No instruction leaves the set; a step leaves it only at the code address of a host function.
+pub fn effect_laws()
+    ensures { LeavesAtHostCode }
+{}
+
+/// What loads and stores of strings, and of bytes in the other order, do. It does nothing: the clauses are its point.
+pub fn storage_laws()
+    ensures strings { StringsFill }
+    ensures indexed { IndexedStringsFill }
+    ensures little { LoadsLittle }
+    ensures reversed { ReversesBack }
+{}
