@@ -9,7 +9,7 @@ use crate::streams::Streams;
 use look_trace::{LookError, Names, write_picture, write_tree};
 use std::alloc::Global;
 use std::fs;
-use std::io::{self, BufReader, BufWriter, Read, Write};
+use std::io::{self, BufRead, BufReader, BufWriter, Read, Write};
 use std::rt::Files;
 
 /// Why a trace was not told to its end.
@@ -54,10 +54,21 @@ fn write<F: Files, W: Write>(
 ) -> Result<(), Untold> {
     let names = names_of(alloc, files, words, names)?;
     let trace = open(alloc, files, words, file)?;
+    write_named(alloc, trace, &names, shape, out)
+}
+
+/// Writes a trace with these names.
+fn write_named<R: BufRead + Drop, W: Write>(
+    alloc: Global,
+    trace: R,
+    names: &Names,
+    shape: Shape,
+    out: &mut W,
+) -> Result<(), Untold> {
     let mut out = BufWriter::new(alloc, out).map_err(no_memory)?;
     let done = match shape {
-        Shape::Tree => write_tree(alloc, trace, &names, &mut out),
-        Shape::Picture => write_picture(alloc, trace, &names, &mut out),
+        Shape::Tree => write_tree(alloc, trace, names, &mut out),
+        Shape::Picture => write_picture(alloc, trace, names, &mut out),
     };
     finish(done, out.flush())
 }

@@ -72,25 +72,26 @@ pub fn write_picture<R: BufRead + Drop, W: Write>(
     names: &Names,
     out: &mut W,
 ) -> Result<(), LookError> {
-    let picture = draw(alloc, trace, names)?;
-    write(out, &picture.head()?)?;
-    write(out, &picture.bars)?;
-    write(out, &picture.texts)?;
-    write(out, b"</svg>\n")
-}
-
-/// The picture of a trace.
-fn draw<R: BufRead + Drop>(alloc: Global, trace: R, names: &Names) -> Result<Picture, LookError> {
     let mut reading = Reading::new(alloc, trace);
     let mut picture = Picture::new(alloc);
+    draw_events(&mut reading, names, &mut picture)?;
+    picture.finish()?;
+    picture.write(out)
+}
+
+/// Draws each event.
+fn draw_events<R: BufRead + Drop>(
+    reading: &mut Reading<R>,
+    names: &Names,
+    picture: &mut Picture,
+) -> Result<(), LookError> {
     for _ in 0..u64::MAX {
         let Some(event) = reading.next()? else {
             break;
         };
         picture.add_event(reading.text(), &event, names)?;
     }
-    picture.finish()?;
-    Ok(picture)
+    Ok(())
 }
 
 impl Picture {
@@ -116,10 +117,14 @@ impl Picture {
         }
         let name = name_of(self.alloc, event, names)?;
         let text = tree_line(self.alloc, 0, &name, line, event)?;
+        self.add_row(event, &text)
+    }
+
+    fn add_row(&mut self, event: &Event, text: &[u8]) -> Result<(), LookError> {
         match event {
-            Event::Called(call) => self.begin(call, &text)?,
-            Event::Returned(_, _) => self.end(&text)?,
-            _ => self.add_label(self.inside(), &text)?,
+            Event::Called(call) => self.begin(call, text)?,
+            Event::Returned(_, _) => self.end(text)?,
+            _ => self.add_label(self.inside(), text)?,
         }
         self.row = self.row.saturating_add(1);
         Ok(())
@@ -177,6 +182,14 @@ impl Picture {
         add_text(&mut self.texts, x, self.row, text)?;
         self.right = self.right.max(end_of(x, text.len()));
         Ok(())
+    }
+
+    /// Writes the file.
+    fn write<W: Write>(&self, out: &mut W) -> Result<(), LookError> {
+        write(out, &self.head()?)?;
+        write(out, &self.bars)?;
+        write(out, &self.texts)?;
+        write(out, b"</svg>\n")
     }
 
     /// The front of the file, which has its size.

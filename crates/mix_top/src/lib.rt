@@ -19,13 +19,14 @@ mod lines;
 mod list;
 mod nothing;
 mod run;
-mod sample;
 mod sample_run;
 mod sampled;
+mod sampling;
 /// What the status of a call tells.
 pub mod status;
 mod top;
 
+pub use image::sample;
 pub use image_laws::sample_laws;
 pub use laws::checkpoint_laws;
 pub use sample_run::run_sample;

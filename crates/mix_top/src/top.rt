@@ -17,7 +17,7 @@ use super::files::{Fetched, bytes_of, fetch_files};
 use super::lines::words_text;
 use super::list::{Span, list_files};
 use super::run::run_files;
-use super::sample::write_sample;
+use super::sampling::write_sample;
 use super::status::BAD_WORDS;
 use job_words::{Command, file_name, read_words};
 use mix_engine::Outside;

@@ -2,7 +2,7 @@
 use Rattle.std.proofs.Common.{None, refl}
 use Rattle.mix_top.specs.Ends.SampleWay.{no_room, sample_ran}
 use Rattle.mix_top.proofs.Ways.{accounted-sample, ends-memory}
-use Rattle.mix_top.proofs.sample.write_sample.Goals as goal
+use Rattle.mix_top.proofs.sampling.write_sample.Goals as goal
 
 pub returns-in-Ok-clause-ends : goal.returns-in-Ok-clause-ends
 returns-in-Ok-clause-ends g c = λ k.

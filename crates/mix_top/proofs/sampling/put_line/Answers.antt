@@ -1,6 +1,6 @@
 -- The output failed at the line.
 use Rattle.mix_top.proofs.Counting.{puts-broke}
-use Rattle.mix_top.proofs.sample.put_line.Goals as goal
+use Rattle.mix_top.proofs.sampling.put_line.Goals as goal
 
 pub returns-in-Err : goal.returns-in-Err
 returns-in-Err g c =
