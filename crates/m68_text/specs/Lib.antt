@@ -5,3 +5,4 @@ pub mod Text
 pub mod Laws
 pub mod Table
 pub mod FormLaws
+pub mod Lines

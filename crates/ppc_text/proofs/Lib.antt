@@ -4,3 +4,4 @@ pub mod Texts
 pub mod Rows
 pub mod Complete
 pub mod Printed
+mod OpcodesWhole

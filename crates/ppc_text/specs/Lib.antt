@@ -8,3 +8,4 @@ pub mod Spelling
 pub mod Table
 pub mod Assembly
 pub mod AssemblyLaws
+pub mod Opcodes

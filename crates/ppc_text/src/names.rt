@@ -1,5 +1,6 @@
 ghost use Rattle.std.specs.Prelude.{◌≡◌, ◌+◌, ◌≤◌, ◌++◌, codes, length};
 ghost use Rattle.ppc_text.specs.Names.{branch_marks as branch_marks_of, branch_name as branch_name_of, carry_name, extended_name, immediate_name as immediate_name_of, letter as letter_of, load_name as load_name_of, load_reversed_name as load_reversed_name_of, logical_name as logical_name_of, name, overflow_marks as overflow_marks_of, rotate_name as rotate_name_of, shift_name as shift_name_of, store_name as store_name_of, store_reversed_name as store_reversed_name_of, unary_name as unary_name_of, update};
+ghost use Rattle.ppc_text.specs.Opcodes.{IsOfOpcode31};
 
 use ppc_isa::{
     BranchRegister, CarryUse, ExtendedOperand, ImmediateOp, InstrPpc, LoadKind, LogicalOp, MaskUse,
@@ -259,6 +260,17 @@ pub fn name_of(i: InstrPpc) -> Name
         ),
         InstrPpc::ConditionLogical { op, .. } => named("cr", logical_name(op)),
         InstrPpc::InstructionSynchronize => whole("isync"),
+        _ => name_of_opcode_31(i),
+    }
+}
+
+/// The same of an instruction of opcode 31.
+fn name_of_opcode_31(i: InstrPpc) -> Name
+    requires { IsOfOpcode31 i }
+    ensures text { result.stem.now ++ result.ending.now ≡ name i }
+    ensures short { length result.stem.now + length result.ending.now ≤ 8 }
+{
+    match i {
         InstrPpc::Add { carry, oe, rc, .. } => named(sum_name(carry), overflow_marks(oe, rc)),
         InstrPpc::AddExtended {
             operand,
@@ -306,5 +318,6 @@ pub fn name_of(i: InstrPpc) -> Name
         InstrPpc::MoveFromSpecial { .. } => whole("mfspr"),
         InstrPpc::MoveToSpecial { .. } => whole("mtspr"),
         InstrPpc::Synchronize => whole("sync"),
+        _ => unreachable!(),
     }
 }

@@ -2,6 +2,7 @@ ghost use Rattle.std.specs.Prelude.{◌≡◌, [], ◌∷◌, if◌then◌else�
 ghost use Rattle.ppc_isa.specs.Targets.{branch_target as branch_target_of};
 ghost use Rattle.ppc_text.specs.Operands.{listed, operands, special_number};
 ghost use Rattle.ppc_text.specs.declared.operand.Operand.TheVariants.{Displaced as DisplacedOf, Number as NumberOf, Register as RegisterOf, Signed as SignedOf, Target as TargetOf};
+ghost use Rattle.ppc_text.specs.Opcodes.{IsOfOpcode31};
 
 use super::operand::Operand::{self, Displaced, Number, Register, Signed, Target};
 use super::operand::Operands;
@@ -165,6 +166,16 @@ pub fn operands_ppc(i: InstrPpc, at: u32) -> Operands
             number(b),
         ),
         InstrPpc::InstructionSynchronize => Operands::None,
+        _ => operands_of_opcode_31(i, at),
+    }
+}
+
+/// The same of an instruction of opcode 31.
+fn operands_of_opcode_31(i: InstrPpc, at: u32) -> Operands
+    requires { IsOfOpcode31 i }
+    ensures { listed result ≡ operands i at }
+{
+    match i {
         InstrPpc::Add { d, a, b, .. } => three_registers(d, a, b),
         InstrPpc::AddExtended { d, a, .. } => two_registers(d, a),
         InstrPpc::SubtractFrom { d, a, b, .. } => three_registers(d, a, b),
@@ -205,5 +216,6 @@ pub fn operands_ppc(i: InstrPpc, at: u32) -> Operands
         InstrPpc::MoveFromSpecial { d, register } => Operands::Two(Register(d), special(register)),
         InstrPpc::MoveToSpecial { register, s } => Operands::Two(special(register), Register(s)),
         InstrPpc::Synchronize => Operands::None,
+        _ => unreachable!(),
     }
 }
