@@ -26,16 +26,28 @@ pub fn report(
 {
     let mut text = Vec::new(alloc);
     if let Some(ending) = ending {
-        add_ending(&mut text, ending)?;
-        add_steps(&mut text, steps, ending.done)?;
+        add_run(&mut text, ending, steps)?;
     }
-    add_line(&mut text, &[Piece::Text("next: ")])?;
-    add_step(&mut text, &step_at(machine))?;
-    add_registers(&mut text, &machine.active)?;
-    add_frames(alloc, &mut text, &machine.body.ram, machine.body.top, 1)?;
-    add_stack(&mut text, &machine.body.ram, machine.active.sp())?;
-    add_heap(&mut text, &machine.body.heap)?;
+    add_machine(alloc, &mut text, machine)?;
     Ok(text)
+}
+
+/// Appends how a run ended, and its last steps.
+fn add_run(text: &mut Vec<u8>, ending: Ending, steps: &[Step]) -> Result<(), NoMemory> {
+    add_ending(text, ending)?;
+    add_steps(text, steps, ending.done)
+}
+
+/// Appends the machine as it is.
+fn add_machine(alloc: Global, text: &mut Vec<u8>, machine: &Machine) -> Result<(), NoMemory>
+    requires { IsWhole machine.now.body (isa_of machine.now.active) }
+{
+    add_line(text, &[Piece::Text("next: ")])?;
+    add_step(text, &step_at(machine))?;
+    add_registers(text, &machine.active)?;
+    add_frames(alloc, text, &machine.body.ram, machine.body.top, 1)?;
+    add_stack(text, &machine.body.ram, machine.active.sp())?;
+    add_heap(text, &machine.body.heap)
 }
 
 /// Appends how a run ended, and after how many steps.

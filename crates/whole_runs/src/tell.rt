@@ -68,13 +68,23 @@ fn without_limit(alloc: Global, text: &str) -> Result<String, AllocError> {
 /// All that a run gave: `NAME | STATUS | OUTPUT | TRACE | JOURNAL | INPUT LEFT`, with `-` for nothing.
 fn all(alloc: Global, name: &str, run: &mut Run) -> Result<String, AllocError> {
     let mut text = String::from_str(alloc, name)?;
+    add_all(alloc, &mut text, run)?;
+    Ok(text)
+}
+
+/// Adds all that a run gave to the name of its case.
+fn add_all(alloc: Global, text: &mut String, run: &mut Run) -> Result<(), AllocError> {
     let status = run.status;
     write!(text, " | {status}")?;
-    add_field(&mut text, &bytes_text(alloc, run.out.held())?)?;
-    add_field(&mut text, &lines_text(alloc, run.trace.held())?)?;
-    add_field(&mut text, &asks_text(alloc, &run.asks)?)?;
-    add_field(&mut text, &left_text(alloc, &mut run.input)?)?;
-    Ok(text)
+    add_answer(text, bytes_text(alloc, run.out.held()))?;
+    add_answer(text, lines_text(alloc, run.trace.held()))?;
+    add_answer(text, asks_text(alloc, &run.asks))?;
+    add_answer(text, left_text(alloc, &mut run.input))
+}
+
+/// Adds a field to a line, if there was memory for it.
+fn add_answer(line: &mut String, text: Result<String, AllocError>) -> Result<(), AllocError> {
+    add_field(line, text?.as_str())
 }
 
 /// Adds what was kept, if anything was: ` | LENGTH NAME`, with the name of a file of the same bytes.
