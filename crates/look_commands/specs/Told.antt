@@ -1,5 +1,5 @@
 -- What the output holds behind a command, and its status, by the words. Where a command is not said here, its output is
--- what look_end and look_trace write.
+-- what the runs, images and traces write.
 use Rattle.std.specs.Prelude.{◌≡◌, ◌≢◌, ◌+◌, ◌*◌, ◌++◌, ◌⊎◌, ℕ, Bool, true, false, List, [], ◌∷◌, codes, slice_range, Option, Result, Ok, Err}
 use Rattle.std.specs.Io.KnownBytes.{Appends}
 use Rattle.rsrc_fork.specs.Forks.{fork_of}
