@@ -66,7 +66,7 @@ fn start<F: Files, E: Write>(
     }
 }
 
-/// Runs a machine over the streams and its devices.
+/// Runs a machine over the streams, with a counter in slot 0 and a tape in slot 1, as mixedrun does.
 fn run<R: Read, W: Write, E: Write>(
     alloc: Global,
     machine: &mut Machine,
@@ -79,15 +79,10 @@ fn run<R: Read, W: Write, E: Write>(
     requires { IsWhole machine.old.body (isa_of machine.old.active) }
     ensures { IfOk result (λ status. status ≢ 2) }
 {
-    let mut rack = devices(alloc)?;
-    run_beside(alloc, machine, steps, last, input, out, errors, &mut rack)
-}
-
-/// A counter in slot 0 and a tape in slot 1, as mixedrun has them.
-fn devices(alloc: Global) -> Result<Rack, NoMemory> {
     let counter: Box<dyn Device> = Box::new(alloc, Counter::new(alloc)?)?;
     let tape: Box<dyn Device> = Box::new(alloc, Tape::new(alloc)?)?;
-    Ok(Rack::new(alloc, vec![in alloc; counter, tape]?)?)
+    let mut rack = Rack::new(alloc, vec![in alloc; counter, tape]?)?;
+    run_beside(alloc, machine, steps, last, input, out, errors, &mut rack)
 }
 
 /// Runs a machine over streams and devices, and keeps its last steps.

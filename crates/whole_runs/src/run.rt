@@ -67,14 +67,19 @@ impl Run {
         tell::told(alloc, images, case.name, self, telling)
     }
 
-    /// Runs a case beside its devices.
+    /// Runs a case beside its devices: a counter or a script in slot 0, and a tape in slot 1.
     fn beside_devices(
         &mut self,
         alloc: Global,
         case: Case,
         files: &mut MemShelf,
     ) -> io::Result<()> {
-        let mut rack = devices(alloc, case.outside)?;
+        let tape: Box<dyn Device> = Box::new(alloc, Tape::new(alloc).map_err(no_memory)?)?;
+        let device: Box<dyn Device> = match value_of(case.outside, "script") {
+            Some(answers) => Box::new(alloc, scripted(alloc, answers)?)?,
+            None => Box::new(alloc, Counter::new(alloc).map_err(no_memory)?)?,
+        };
+        let mut rack = Rack::new(alloc, vec![in alloc; device, tape]?).map_err(no_memory)?;
         self.beside(alloc, case, files, &mut rack)
     }
 
@@ -144,21 +149,6 @@ impl Run {
             rack,
             &mut self.keep,
         );
-    }
-}
-
-/// The devices of a case: a counter or a script in slot 0, and a tape in slot 1.
-fn devices(alloc: Global, outside: &str) -> io::Result<Rack> {
-    let tape: Box<dyn Device> = Box::new(alloc, Tape::new(alloc).map_err(no_memory)?)?;
-    let first = first_device(alloc, outside)?;
-    Rack::new(alloc, vec![in alloc; first, tape]?).map_err(no_memory)
-}
-
-/// A script, if the case has one, or else a counter.
-fn first_device(alloc: Global, outside: &str) -> io::Result<Box<dyn Device>> {
-    match value_of(outside, "script") {
-        Some(answers) => Ok(Box::new(alloc, scripted(alloc, answers)?)?),
-        None => Ok(Box::new(alloc, Counter::new(alloc).map_err(no_memory)?)?),
     }
 }
 
