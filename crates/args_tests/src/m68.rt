@@ -1,7 +1,7 @@
 // Arguments and results in 68K code.
 use crate::bench::{LO, SELECTOR, VALUES, equal, memory, must, signature, words};
 use big_memory::{Access, Ram};
-use call_args::{
+use mode_switch::{
     below68, deliver68, gather68, popped, put_result68, removed68, result68, select68,
 };
 use m68_isa::{Ccr, Regs68};

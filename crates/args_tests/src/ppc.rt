@@ -1,7 +1,7 @@
 // Arguments and results in PowerPC code.
 use crate::bench::{LO, SELECTOR, VALUES, equal, memory, must, signature, words};
 use big_memory::{Access, Ram};
-use call_args::{below_ppc, deliver_ppc, gather_ppc, put_result_ppc, result_ppc, select_ppc};
+use mode_switch::{below_ppc, deliver_ppc, gather_ppc, put_result_ppc, result_ppc, select_ppc};
 use mix_bits::Size;
 use ppc_isa::RegsPpc;
 use proc_info::Sig;

@@ -8,7 +8,7 @@ use Rattle.proc_info.specs.Signature.{Signature, signature_of}
 use Rattle.proc_info.specs.declared.bad_info.BadInfo.{BadInfo}
 use Rattle.proc_info.specs.declared.conv.Conv.{Conv}
 use Rattle.proc_info.specs.declared.param.Param.{Param}
-use Rattle.call_args.specs.Places68.{next_base, place_of, result_place, route_of, selector_place, selector_width, widths}
+use Rattle.mode_switch.specs.Places68.{next_base, place_of, result_place, route_of, selector_place, selector_width, widths}
 use Rattle.look_text.specs.Places.{place_text, ppc_place}
 use Rattle.look_text.specs.Words.{conv_name, rule_text, size_name}
 

@@ -1,9 +1,9 @@
 -- The places of a call's values, in words.
 use Rattle.std.specs.Prelude.{ℕ, ◌+◌, ◌*◌, nat_lt, List, ◌++◌, codes, decimal, if◌then◌else◌}
-use Rattle.call_args.specs.declared.m68_places.Flag.{Flag}
-use Rattle.call_args.specs.declared.m68_places.Flag.TheVariants.{Carry, Overflow, IsZero, Negative, Extend}
-use Rattle.call_args.specs.declared.m68_places.Place.{Place}
-use Rattle.call_args.specs.declared.m68_places.Place.TheVariants.{Stack, Data, Address, Condition}
+use Rattle.mode_switch.specs.declared.m68_places.Flag.{Flag}
+use Rattle.mode_switch.specs.declared.m68_places.Flag.TheVariants.{Carry, Overflow, IsZero, Negative, Extend}
+use Rattle.mode_switch.specs.declared.m68_places.Place.{Place}
+use Rattle.mode_switch.specs.declared.m68_places.Place.TheVariants.{Stack, Data, Address, Condition}
 
 abbrev pub flag_text : Flag → List ℕ
 flag_text Carry = codes "condition bit C"

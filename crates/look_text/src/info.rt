@@ -1,7 +1,7 @@
 // A procInfo word in words.
 ghost use Rattle.std.specs.Prelude.{◌≡◌, ◌+◌, ◌*◌, ◌≤◌, ◌++◌, IfOk, OnOk, codes, length};
 ghost use Rattle.proc_info.specs.Views.{signature};
-ghost use Rattle.call_args.specs.Places68.{next_base as base_behind, result_place, route_of, selector_place, selector_width as width_of_selector};
+ghost use Rattle.mode_switch.specs.Places68.{next_base as base_behind, result_place, route_of, selector_place, selector_width as width_of_selector};
 ghost use Rattle.look_text.specs.Info.{first_word as first_of, info_of, marked_place, param_text, params_text, ppc_text, result_text, selector_text, signed_text, unsigned_text};
 ghost use Rattle.look_text.specs.Places.{place_text};
 

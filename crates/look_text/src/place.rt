@@ -1,7 +1,7 @@
 // Where 68K code and PowerPC code have the values of a call.
 ghost use Rattle.std.specs.Prelude.{◌≡◌, ◌+◌, ◌*◌, ◌<◌, ◌≤◌, ◌++◌, OnOk, decimal, length};
-ghost use Rattle.call_args.specs.Places68.{place_numbered, place_of, result_place, route_of, selector_place, width as width_of, widths as widths_of};
-ghost use Rattle.call_args.specs.declared.m68_places.Place.TheVariants.{Stack};
+ghost use Rattle.mode_switch.specs.Places68.{place_numbered, place_of, result_place, route_of, selector_place, width as width_of, widths as widths_of};
+ghost use Rattle.mode_switch.specs.declared.m68_places.Place.TheVariants.{Stack};
 ghost use Rattle.look_text.specs.Places.{place_text, ppc_place};
 
 use super::pieces::{add, add_dec};

@@ -34,15 +34,15 @@ use Rattle.proc_info.specs.declared.param.Param.{Param}
 use Rattle.proc_info.specs.Signature.{Signature, signature_in}
 use Rattle.proc_info.specs.Build.{image}
 use Rattle.proc_info.specs.Layout.{mixed_mode_magic}
-use Rattle.call_args.specs.declared.m68_places.Place.{Place}
-use Rattle.call_args.specs.declared.m68_places.Place.TheVariants.{Data, Address}
-use Rattle.call_args.specs.declared.m68_places.Route.{Route}
-use Rattle.call_args.specs.declared.m68_places.Route.TheVariants.{PascalStack, CStack, Registers}
-use Rattle.call_args.specs.Gather68.{values_at as values_at_68k}
-use Rattle.call_args.specs.Places68.{next_base, place_of, result_place, route_of, widths}
-use Rattle.call_args.specs.Results68.{after_call, with_result as with_result_68k}
-use Rattle.call_args.specs.Values68.{Given as Given68, above_sp, put_at, value_at as value_at_68k}
-use Rattle.call_args.specs.WordsPpc.{value_at as value_at_ppc, values_at as values_at_ppc}
+use Rattle.mode_switch.specs.declared.m68_places.Place.{Place}
+use Rattle.mode_switch.specs.declared.m68_places.Place.TheVariants.{Data, Address}
+use Rattle.mode_switch.specs.declared.m68_places.Route.{Route}
+use Rattle.mode_switch.specs.declared.m68_places.Route.TheVariants.{PascalStack, CStack, Registers}
+use Rattle.mode_switch.specs.Gather68.{values_at as values_at_68k}
+use Rattle.mode_switch.specs.Places68.{next_base, place_of, result_place, route_of, widths}
+use Rattle.mode_switch.specs.Results68.{after_call, with_result as with_result_68k}
+use Rattle.mode_switch.specs.Values68.{Given as Given68, above_sp, put_at, value_at as value_at_68k}
+use Rattle.mode_switch.specs.WordsPpc.{value_at as value_at_ppc, values_at as values_at_ppc}
 use Rattle.switch_frame.specs.declared.active.Active.{Active}
 use Rattle.switch_frame.specs.declared.active.Active.TheVariants.{M68, Ppc}
 use Rattle.switch_frame.specs.declared.full.Full.{Full}

@@ -4,10 +4,10 @@ use Rattle.std.proofs.lemmas.List.{places, get_or-set_same, get_or-set_other}
 use Rattle.mix_bits.specs.declared.isa.Isa.TheVariants.{M68 as set_m68, Ppc as set_ppc}
 use Rattle.big_memory.specs.Lists.{put}
 use Rattle.big_memory.proofs.Lists.{length-put}
-use Rattle.call_args.proofs.Stacks68 as stacks_68k
-use Rattle.call_args.proofs.Back68.{begins-at-stack}
-use Rattle.call_args.specs.DeliverPpc.{callee_words, registers_with}
-use Rattle.call_args.proofs.FramesPpc as frames_ppc
+use Rattle.mode_switch.proofs.Stacks68 as stacks_68k
+use Rattle.mode_switch.proofs.Back68.{begins-at-stack}
+use Rattle.mode_switch.specs.DeliverPpc.{callee_words, registers_with}
+use Rattle.mode_switch.proofs.FramesPpc as frames_ppc
 use Rattle.mode_switch.specs.Laws.{BeginsAtItsStack, FillsItsStack, IsOfItsSet}
 
 pub fills-stack : FillsItsStack

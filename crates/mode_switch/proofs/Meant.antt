@@ -20,8 +20,8 @@ use Rattle.proc_info.proofs.Held.{holds-records, infos-signed, records-alike}
 use Rattle.proc_info.proofs.Takes.{takes-record}
 use Rattle.m68_isa.specs.declared.registers.Regs68.{Regs68}
 use Rattle.ppc_isa.specs.declared.registers.RegsPpc.{RegsPpc}
-use Rattle.call_args.specs.Gather68.{selector_in as selector_in_68k}
-use Rattle.call_args.specs.WordsPpc.{selector_in as selector_in_ppc}
+use Rattle.mode_switch.specs.Gather68.{selector_in as selector_in_68k}
+use Rattle.mode_switch.specs.WordsPpc.{selector_in as selector_in_ppc}
 use Rattle.switch_frame.specs.Sets.{caller_isa, kind_of}
 use Rattle.mode_switch.specs.declared.wanted.Target.{Target}
 use Rattle.mode_switch.specs.declared.wanted.Target.TheVariants.{Code, Vector}

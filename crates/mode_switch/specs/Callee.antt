@@ -4,9 +4,9 @@ use Rattle.mix_bits.specs.declared.isa.Isa.{Isa}
 use Rattle.mix_bits.specs.declared.isa.Isa.TheVariants.{M68 as set_m68, Ppc as set_ppc}
 use Rattle.big_memory.specs.Memory.{Memory, with_bytes}
 use Rattle.proc_info.specs.Signature.{Signature}
-use Rattle.call_args.specs.Deliver68.{below as below_68k, callee_registers as registers_68k, stack_of as stack_68k}
-use Rattle.call_args.specs.Results68.{removed as removed_68k}
-use Rattle.call_args.specs.DeliverPpc.{below as below_ppc, callee_registers as registers_ppc, callee_words, frame_of}
+use Rattle.mode_switch.specs.Deliver68.{below as below_68k, callee_registers as registers_68k, stack_of as stack_68k}
+use Rattle.mode_switch.specs.Results68.{removed as removed_68k}
+use Rattle.mode_switch.specs.DeliverPpc.{below as below_ppc, callee_registers as registers_ppc, callee_words, frame_of}
 use Rattle.switch_frame.specs.declared.active.Active.{Active}
 use Rattle.switch_frame.specs.declared.active.Active.TheVariants.{M68, Ppc}
 use Rattle.mode_switch.specs.declared.passed.Entry.{Entry}

@@ -4,3 +4,16 @@ pub mod Callee
 pub mod Returned
 pub mod Views
 pub mod Laws
+pub mod Places68
+pub mod Values68
+pub mod Gather68
+pub mod Deliver68
+pub mod Results68
+pub mod Laws68
+pub mod ResultLaws68
+pub mod Apart68
+pub mod WordsPpc
+pub mod DeliverPpc
+pub mod ResultsPpc
+pub mod LawsPpc
+pub mod ApartPpc

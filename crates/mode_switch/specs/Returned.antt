@@ -5,8 +5,8 @@ use Rattle.big_memory.specs.declared.refusals.Access.{Access}
 use Rattle.big_memory.specs.Memory.{Memory}
 use Rattle.big_memory.specs.Stores.{OnlyFree}
 use Rattle.proc_info.specs.Signature.{Signature}
-use Rattle.call_args.specs.Results68.{result_in as result_in_68k, with_result as with_result_68k}
-use Rattle.call_args.specs.ResultsPpc.{result_in as result_in_ppc, with_result as with_result_ppc}
+use Rattle.mode_switch.specs.Results68.{result_in as result_in_68k, with_result as with_result_68k}
+use Rattle.mode_switch.specs.ResultsPpc.{result_in as result_in_ppc, with_result as with_result_ppc}
 use Rattle.switch_frame.specs.declared.active.Active.{Active}
 use Rattle.switch_frame.specs.declared.active.Active.TheVariants.{M68, Ppc}
 use Rattle.switch_frame.specs.Records.{isa_of}

@@ -2,7 +2,7 @@
 use Rattle.std.specs.Prelude.{ℕ, List, Result, Ok, Err}
 use Rattle.big_memory.specs.declared.refusals.Access.{Access}
 use Rattle.proc_info.specs.Views.{signature}
-use Rattle.call_args.specs.Gather68.{words_of}
+use Rattle.mode_switch.specs.Gather68.{words_of}
 use Rattle.switch_frame.specs.declared.active.Active.{Active}
 use Rattle.switch_frame.specs.Files.{at_pc}
 use Rattle.mode_switch.specs.declared.wanted.Call.{Call}

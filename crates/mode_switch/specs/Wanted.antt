@@ -22,8 +22,8 @@ use Rattle.proc_info.specs.Read.{desc_of}
 use Rattle.proc_info.specs.Choice.{choice}
 use Rattle.m68_isa.specs.declared.registers.Regs68.{Regs68}
 use Rattle.ppc_isa.specs.declared.registers.RegsPpc.{RegsPpc}
-use Rattle.call_args.specs.Gather68.{selector_in as selector_in_68k}
-use Rattle.call_args.specs.WordsPpc.{selector_in as selector_in_ppc}
+use Rattle.mode_switch.specs.Gather68.{selector_in as selector_in_68k}
+use Rattle.mode_switch.specs.WordsPpc.{selector_in as selector_in_ppc}
 use Rattle.switch_frame.specs.declared.kind.Kind.{Kind}
 use Rattle.switch_frame.specs.declared.kind.Kind.TheVariants.{PpcToM68}
 use Rattle.switch_frame.specs.Sets.{caller_isa, kind_of}

@@ -2,7 +2,7 @@
 ghost use Rattle.std.specs.Prelude.{◌≡◌, ◌≤◌, ◌%◌, ◌^◌, is_some, length};
 ghost use Rattle.proc_info.specs.Codes.{is_dispatched};
 ghost use Rattle.proc_info.specs.Views.{signature};
-ghost use Rattle.call_args.specs.Gather68.{words_of};
+ghost use Rattle.mode_switch.specs.Gather68.{words_of};
 ghost use Rattle.switch_frame.specs.Records.{isa_of};
 ghost use Rattle.switch_frame.specs.Sets.{callee_isa};
 ghost use Rattle.mode_switch.specs.Callee.{below as below_lem, callee_sp, delivered, fresh, return_sp};
@@ -11,7 +11,7 @@ ghost use Rattle.mode_switch.specs.Wanted.{passed_selector as passed_selector_le
 
 use crate::{Call, Entry};
 use big_memory::Ram;
-use call_args::{Words, below_ppc, below68, removed68, start_68, start_ppc};
+use crate::{Words, below_ppc, below68, removed68, start_68, start_ppc};
 use m68_isa::Regs68;
 use mix_bits::{Isa, onward};
 use ppc_isa::RegsPpc;

@@ -9,7 +9,7 @@ use crate::descriptor::{Asker, wants_desc};
 use crate::records::{call_of, no_record, target_of};
 use crate::{Target, Wanted};
 use big_memory::Ram;
-use call_args::select68;
+use crate::select68;
 use m68_isa::Regs68;
 use mix_bits::{Fault, Isa};
 use proc_info::{Rec, Sig, choose_among};

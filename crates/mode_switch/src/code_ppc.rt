@@ -11,7 +11,7 @@ use crate::descriptor::{Asker, wants_desc};
 use crate::records::{bad_desc, call_of, no_record};
 use crate::{Call, Target, Wanted};
 use big_memory::Ram;
-use call_args::select_ppc;
+use crate::select_ppc;
 use mix_bits::{Fault, FaultKind, Isa};
 use ppc_isa::RegsPpc;
 use proc_info::{BadDesc, MIXED_MODE_MAGIC, Rec, Sig, choose_among, read};

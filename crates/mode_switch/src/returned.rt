@@ -4,7 +4,7 @@ ghost use Rattle.proc_info.specs.Views.{signature};
 ghost use Rattle.mode_switch.specs.Returned.{GivesBack, Puts, given_back, put_result as put_result_lem, result_at as result_at_lem};
 
 use big_memory::{Access, Ram, memory_laws};
-use call_args::{put_result_ppc, put_result68, result_ppc, result68};
+use crate::{put_result_ppc, put_result68, result_ppc, result68};
 use proc_info::Sig;
 use switch_frame::Active;
 
