@@ -7,8 +7,8 @@ use Rattle.mix_bits.specs.Results.{◌>>=◌}
 use Rattle.m68_isa.specs.declared.registers.Regs68.{Regs68}
 use Rattle.m68_isa.specs.declared.ea.Ea.{Ea}
 use Rattle.big_memory.specs.Memory.{Memory}
-use Rattle.m68_ea.specs.Places.{backward, with_address}
-use Rattle.m68_ea.specs.Operands.{sourced}
+use Rattle.m68_effects.specs.Places.{backward, with_address}
+use Rattle.m68_effects.specs.Operands.{sourced}
 use Rattle.m68_effects.specs.Parts.{Effect, goes_on}
 use Rattle.m68_arithmetic.specs.declared.ways.Way.{Way}
 use Rattle.m68_arithmetic.specs.declared.ways.Way.TheVariants.{Onward, Backward}

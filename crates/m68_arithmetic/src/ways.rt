@@ -1,7 +1,7 @@
 ghost use Rattle.std.specs.Prelude.{◌≡◌};
 ghost use Rattle.m68_arithmetic.specs.Parts.{away as away_of};
 
-use m68_ea::backward;
+use m68_effects::backward;
 use mix_bits::onward;
 
 /// Which way an address goes.

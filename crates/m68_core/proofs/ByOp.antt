@@ -15,7 +15,7 @@ use Rattle.m68_isa.specs.declared.op.Op68.TheVariants.{Ori, Andi, Subi, Addi, Eo
 use Rattle.m68_isa.specs.Made.{made}
 use Rattle.m68_isa.specs.Needs.{OpLaws, whole}
 use Rattle.big_memory.specs.Memory.{Memory}
-use Rattle.m68_ea.specs.Words.{words_at}
+use Rattle.m68_effects.specs.Words.{words_at}
 use Rattle.m68_effects.specs.Ops.{by_op, runs_made}
 use Rattle.m68_effects.specs.Step.{stops, runs_decoded, stepped}
 use Rattle.m68_core.specs.Edge.{IsFirst, IsThere, TellsShort}

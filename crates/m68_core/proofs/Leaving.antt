@@ -16,7 +16,7 @@ use Rattle.big_memory.specs.declared.steps.Did.TheVariants.{Leave}
 use Rattle.big_memory.specs.Memory.{Memory}
 use Rattle.big_memory.specs.Steps.{After, Does}
 use Rattle.big_memory.specs.Steps.After.{Leaves, Stops}
-use Rattle.m68_ea.specs.Words.{words_at}
+use Rattle.m68_effects.specs.Words.{words_at}
 use Rattle.m68_effects.specs.Parts.{Effect, after}
 use Rattle.m68_effects.specs.Step.{runs_decoded, stepped}
 

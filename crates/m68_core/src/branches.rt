@@ -9,7 +9,7 @@ ghost use Rattle.m68_isa.specs.Targets.{branch_target as target_of};
 ghost use Rattle.m68_isa.specs.Fits.{Fits};
 
 use big_memory::{Did, Ram};
-use m68_ea::{extended_word, go_on, long_at, push, push_if_open};
+use m68_effects::{extended_word, go_on, long_at, push, push_if_open};
 use m68_isa::{Op68, Regs68, branch_target, byte_of, condition_of, holds, lower_of};
 use mix_bits::{Fault, Size, onward, with_low};
 

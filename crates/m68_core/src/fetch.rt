@@ -2,13 +2,13 @@
 ghost use Rattle.std.specs.Prelude.{◌≡◌, ◌+◌, ◌%◌, ◌^◌, ◌<◌, ◌≤◌, length};
 ghost use Rattle.std.specs.Bool.{OnTrue};
 ghost use Rattle.big_memory.specs.Map.{gate_page_end};
-ghost use Rattle.m68_ea.specs.Words.{words_at};
+ghost use Rattle.m68_effects.specs.Words.{words_at};
 ghost use Rattle.m68_core.specs.Edge.{IsFirst, IsThere};
 ghost use Rattle.m68_core.specs.Fetch.{places_of};
 
 use big_memory::{GATE_PAGE_END, Ram};
 use byteorder::{BigEndian, ByteOrder};
-use m68_ea::word_laws;
+use m68_effects::word_laws;
 
 /// At how many even addresses, from the end of the gate page on, five words lie in memory, which is as many as an
 /// instruction can have.

@@ -5,7 +5,7 @@ ghost use Rattle.m68_isa.specs.Fits.{Fits};
 
 use super::branches::call;
 use big_memory::{Did, Ram};
-use m68_ea::{control, extended_word, pop};
+use m68_effects::{control, extended_word, pop};
 use m68_isa::{Ccr, Op68, Regs68, lower_of, mode_of};
 use mix_bits::{Fault, Size, onward};
 

@@ -12,7 +12,7 @@ ghost use Rattle.m68_effects.specs.Shifts.{count_of as count_in, shift as shift_
 
 use big_memory::{Did, Ram};
 use m68_alu::shift;
-use m68_ea::{find, go_on, put, value};
+use m68_effects::{find, go_on, put, value};
 use m68_isa::{
     Op68, Regs68, ShiftCount, ShiftOp, is_left, is_long, lower_of, memory_shift_of, mode_of,
     register_shift_of, shift_count_of, size_bits_of,

@@ -1,6 +1,6 @@
 ghost use Rattle.std.specs.Prelude.{◌≡◌, ◌%◌, ◌<◌, ◌^◌};
 ghost use Rattle.big_memory.specs.Steps.{Does};
-ghost use Rattle.m68_ea.specs.Words.{words_at};
+ghost use Rattle.m68_effects.specs.Words.{words_at};
 ghost use Rattle.m68_effects.specs.Step.{stepped};
 ghost use Rattle.m68_isa.specs.Decode.{operation};
 ghost use Rattle.m68_isa.specs.First.{first_of};
@@ -14,7 +14,7 @@ use super::fetch::{is_plain, plain_word};
 use super::laws::step_law;
 use super::words::is_short;
 use big_memory::{Did, Ram, stop};
-use m68_ea::read_words;
+use m68_effects::read_words;
 use m68_isa::{Op68, Operations, Regs68, op_of};
 use mix_bits::{Fault, FaultKind, onward};
 

@@ -4,7 +4,7 @@ ghost use Rattle.m68_effects.specs.Ops.{by_op};
 ghost use Rattle.m68_isa.specs.Fits.{Fits};
 
 use big_memory::{Did, Ram, leave, stop};
-use m68_ea::go_on;
+use m68_effects::go_on;
 use m68_isa::{Op68, Regs68, trap_of};
 use mix_bits::{Fault, FaultKind};
 

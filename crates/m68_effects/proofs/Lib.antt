@@ -4,3 +4,7 @@ pub mod Called
 pub mod Stood
 pub mod Refilled
 pub mod Restored
+pub mod Fetch
+pub mod Back
+pub mod Tried
+pub mod Reading

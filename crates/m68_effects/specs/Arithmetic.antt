@@ -19,8 +19,8 @@ use Rattle.m68_alu.specs.Sizes.{is_negative, result_flags}
 use Rattle.m68_alu.specs.Sums.{sum, sum_with_x, difference, difference_with_x, compared}
 use Rattle.m68_alu.specs.Products.{multiplied, divided, long_multiplied, long_divided}
 use Rattle.big_memory.specs.Memory.{Memory}
-use Rattle.m68_ea.specs.Places.{backward, with_data, with_address}
-use Rattle.m68_ea.specs.Operands.{sourced}
+use Rattle.m68_effects.specs.Places.{backward, with_data, with_address}
+use Rattle.m68_effects.specs.Operands.{sourced}
 use Rattle.mix_bits.specs.Addresses.{onward}
 use Rattle.m68_effects.specs.Parts.{Effect, goes_on, vector, with_ccr, with_result, changed, either_way, pairwise}
 

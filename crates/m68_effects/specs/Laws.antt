@@ -12,7 +12,7 @@ use Rattle.m68_isa.specs.declared.instructions.Instr68.TheVariants.{Move, Movea,
 use Rattle.m68_alu.specs.Sizes.{result_flags}
 use Rattle.big_memory.specs.Memory.{Memory, loaded}
 use Rattle.big_memory.specs.Numbers.{AreLongs}
-use Rattle.m68_ea.specs.Places.{address_of, with_address}
+use Rattle.m68_effects.specs.Places.{address_of, with_address}
 use Rattle.m68_effects.specs.Parts.{Effect, goes_on, with_ccr}
 use Rattle.m68_effects.specs.Rows.{effect}
 

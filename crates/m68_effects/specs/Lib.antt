@@ -13,3 +13,10 @@ pub mod Ops
 pub mod Operations
 pub mod Laws
 pub mod MovemLaws
+pub mod Places
+pub mod Accesses
+pub mod Words
+pub mod Operands
+pub mod Finds
+pub mod Usual
+pub mod OperandLaws

@@ -16,7 +16,7 @@ use Rattle.m68_alu.specs.Decimal.{decimal_added, decimal_subtracted}
 use Rattle.m68_alu.specs.Logical.{combination}
 use Rattle.big_memory.specs.Memory.{Memory}
 use Rattle.big_memory.specs.Steps.{After}
-use Rattle.m68_ea.specs.Words.{words_at}
+use Rattle.m68_effects.specs.Words.{words_at}
 use Rattle.m68_effects.specs.declared.operation.Operation.{Operation}
 use Rattle.m68_effects.specs.declared.operation.Operation.TheVariants.{Add, Addx, Sub, Subx, Neg, Negx, Abcd, Sbcd, Nbcd, And, Or, Eor, Not}
 use Rattle.m68_effects.specs.Logic.{complement}

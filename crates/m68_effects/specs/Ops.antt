@@ -12,7 +12,7 @@ use Rattle.m68_isa.specs.Made.{made}
 use Rattle.big_memory.specs.Memory.{Memory}
 use Rattle.big_memory.specs.Steps.{After}
 use Rattle.big_memory.specs.Steps.After.{Leaves}
-use Rattle.m68_ea.specs.Words.{words_at}
+use Rattle.m68_effects.specs.Words.{words_at}
 use Rattle.m68_effects.specs.Rows.{runs}
 use Rattle.m68_effects.specs.Step.{stops}
 

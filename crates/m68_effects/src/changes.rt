@@ -5,14 +5,14 @@ ghost use Rattle.m68_isa.specs.First.{first_of, size_of};
 ghost use Rattle.m68_isa.specs.Fits.{IsChangeable};
 ghost use Rattle.m68_isa.specs.Operands.{immediate_at as immediate_at_of, immediate_words as immediate_words_of, operand_at};
 ghost use Rattle.big_memory.specs.Steps.{Does};
-ghost use Rattle.m68_ea.specs.Finds.{IsAt};
-ghost use Rattle.m68_ea.specs.Usual.{Tries};
-ghost use Rattle.m68_ea.specs.Words.{words_at};
+ghost use Rattle.m68_effects.specs.Finds.{IsAt};
+ghost use Rattle.m68_effects.specs.Usual.{Tries};
+ghost use Rattle.m68_effects.specs.Words.{words_at};
 ghost use Rattle.m68_effects.specs.Operations.{changed_at, changed_by};
 
 use super::operation::{Operation, apply, set_flags};
 use big_memory::{Did, Ram};
-use m68_ea::{data_address, find, find_usual, go_on, immediate_at, put, put_usual, value};
+use crate::{data_address, find, find_usual, go_on, immediate_at, put, put_usual, value};
 use m68_isa::{Regs68, immediate_words, is_long, lower_of, mode_of, size_bits_of, upper_of};
 use mix_bits::{Fault, Size, trunc, with_low};
 

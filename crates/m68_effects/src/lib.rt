@@ -3,14 +3,30 @@
 //! takes its result.
 #![tactic(auto)]
 
+mod accesses;
 mod changes;
 mod laws;
+mod operand_laws;
+mod operands;
 mod operation;
+mod places;
 mod registers;
+mod stack;
+mod usual;
+mod words;
 
+pub use accesses::{load, read_at, store, write_at};
 pub use changes::{
     change, change_by_immediate, change_by_register, change_operand, change_register, change_sized,
 };
 pub use laws::effect_laws;
+pub use operand_laws::{tried_laws, word_laws};
+pub use operands::{Target, control, data_address, find, put, source, value};
 pub use operation::{Operation, apply, set_flags};
+pub use places::{Place68, backward, place};
 pub use registers::{take_operand, take_register};
+pub use stack::{pop, push, push_if_open};
+pub use usual::{Usual, find_usual, put_usual, usual_or_immediate, usual_source, usual_write};
+pub use words::{
+    extended_word, go_on, has_five, immediate_at, is_second_good, long_at, read_words, word_at,
+};

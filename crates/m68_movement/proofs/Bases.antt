@@ -16,8 +16,8 @@ use Rattle.m68_isa.specs.declared.operand.Operand.{Operand}
 use Rattle.m68_isa.specs.declared.registers.Regs68.{Regs68}
 use Rattle.m68_isa.specs.Operands.{operand_at}
 use Rattle.big_memory.specs.Memory.{Memory}
-use Rattle.m68_ea.specs.Places.{address_of}
-use Rattle.m68_ea.specs.Finds.{FindsControl}
+use Rattle.m68_effects.specs.Places.{address_of}
+use Rattle.m68_effects.specs.Finds.{FindsControl}
 use Rattle.m68_effects.specs.Multiple.{movem_to_memory, movem_onto}
 use Rattle.m68_effects.specs.Ops.{runs_made}
 use Rattle.m68_effects.specs.Parts.{after}

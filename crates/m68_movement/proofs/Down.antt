@@ -6,7 +6,7 @@ use Rattle.mix_bits.specs.Sizes.{bytes_of}
 use Rattle.big_memory.specs.Laws.{PassesWithin}
 use Rattle.big_memory.specs.Memory.{Memory, IsRam, refusal, stored}
 use Rattle.big_memory.specs.Stores.{OnlyFree}
-use Rattle.m68_ea.specs.Places.{backward}
+use Rattle.m68_effects.specs.Places.{backward}
 use Rattle.m68_effects.specs.Multiple.{stored_down}
 use Rattle.m68_movement.specs.Along.{CanStore}
 

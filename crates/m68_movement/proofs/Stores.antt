@@ -14,8 +14,8 @@ use Rattle.big_memory.specs.Laws.{FreeJoins, FreeKeepsRam, FreeKeepsRefusals, St
 use Rattle.big_memory.specs.Memory.{Memory, IsRam, refusal, stored}
 use Rattle.big_memory.specs.Stores.{stored_value}
 use Rattle.big_memory.proofs.Longs.{size-bytes}
-use Rattle.m68_ea.specs.Places.{backward}
-use Rattle.m68_ea.specs.Operands.{stored_at}
+use Rattle.m68_effects.specs.Places.{backward}
+use Rattle.m68_effects.specs.Operands.{stored_at}
 use Rattle.m68_effects.specs.Multiple.{stored_along, stored_down}
 use Rattle.m68_movement.specs.Along.{CanStore, CanStoreAll}
 

@@ -7,8 +7,8 @@ use Rattle.mix_bits.specs.declared.fault.Fault.{Fault}
 use Rattle.m68_isa.specs.declared.registers.Regs68.{Regs68}
 use Rattle.big_memory.specs.Memory.{Memory, stored}
 use Rattle.big_memory.specs.Stores.{OnlyFree}
-use Rattle.m68_ea.specs.Operands.{stored_at}
-use Rattle.m68_ea.specs.Places.{backward}
+use Rattle.m68_effects.specs.Operands.{stored_at}
+use Rattle.m68_effects.specs.Places.{backward}
 use Rattle.m68_effects.specs.Multiple.{stored_along, stored_down, loaded_along, listed, register_of, span_of}
 
 -- a value can be stored at an address, or why not

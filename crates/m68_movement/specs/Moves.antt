@@ -9,7 +9,7 @@ use Rattle.m68_isa.specs.Moves.{move_mode}
 use Rattle.m68_isa.specs.Operands.{operand_at}
 use Rattle.big_memory.specs.Memory.{Memory}
 use Rattle.big_memory.specs.Steps.{After}
-use Rattle.m68_ea.specs.Words.{words_at}
+use Rattle.m68_effects.specs.Words.{words_at}
 use Rattle.m68_effects.specs.Ops.{runs_made}
 
 -- a move of this size from an operand to another one, each a mode and a register

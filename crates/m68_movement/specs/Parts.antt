@@ -7,7 +7,7 @@ use Rattle.m68_isa.specs.declared.operand.Operand.{Operand}
 use Rattle.big_memory.specs.Memory.{Memory}
 use Rattle.big_memory.specs.Stores.{OnlyFree}
 use Rattle.mix_bits.specs.Results.{◌>>=◌}
-use Rattle.m68_ea.specs.Operands.{put_into, unless_illegal}
+use Rattle.m68_effects.specs.Operands.{put_into, unless_illegal}
 use Rattle.m68_effects.specs.Parts.{Effect, goes_on, pushed}
 
 -- an operand e that is found, and a value that is written there; what can't be done has changed nothing

@@ -9,17 +9,17 @@ ghost use Rattle.m68_isa.specs.Moves.{move_mode};
 ghost use Rattle.m68_isa.specs.Operands.{operand_at};
 ghost use Rattle.m68_isa.specs.Rows.{taken};
 ghost use Rattle.big_memory.specs.Steps.{Does};
-ghost use Rattle.m68_ea.specs.Finds.{IsAt};
-ghost use Rattle.m68_ea.specs.Operands.{sourced};
-ghost use Rattle.m68_ea.specs.Usual.{Tries};
-ghost use Rattle.m68_ea.specs.Words.{words_at};
+ghost use Rattle.m68_effects.specs.Finds.{IsAt};
+ghost use Rattle.m68_effects.specs.Operands.{sourced};
+ghost use Rattle.m68_effects.specs.Usual.{Tries};
+ghost use Rattle.m68_effects.specs.Words.{words_at};
 ghost use Rattle.m68_effects.specs.Ops.{by_op, runs_made};
 ghost use Rattle.m68_movement.specs.Moves.{moved, moves};
 
 use super::parts::write;
 use big_memory::{Did, Ram, stop};
 use m68_alu::set_result_flags;
-use m68_ea::{
+use m68_effects::{
     data_address, go_on, is_second_good, source, usual_or_immediate, usual_source, usual_write,
 };
 use m68_isa::{Op68, Regs68, lower_of, mode_of, move_mode_of, upper_of};

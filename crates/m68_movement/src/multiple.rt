@@ -5,7 +5,7 @@ ghost use Rattle.mix_bits.specs.declared.size.Size.TheVariants.{Zero};
 ghost use Rattle.big_memory.specs.Memory.{in_memory, refusal};
 ghost use Rattle.big_memory.specs.Steps.{Does};
 ghost use Rattle.big_memory.specs.Stores.{OnlyFree};
-ghost use Rattle.m68_ea.specs.Places.{backward as backward_of};
+ghost use Rattle.m68_effects.specs.Places.{backward as backward_of};
 ghost use Rattle.m68_effects.specs.Multiple.{listed, movem_before, movem_onto, register_of, loaded_along, span_of, stored_down, with_register};
 ghost use Rattle.m68_effects.specs.Ops.{by_op};
 ghost use Rattle.m68_effects.specs.Parts.{after};
@@ -15,7 +15,7 @@ ghost use Rattle.m68_movement.specs.Along.{Loads, StoresOpen};
 use super::along::{store_along, store_down};
 use arrayvec::ArrayVec;
 use big_memory::{Did, Ram, memory_laws};
-use m68_ea::{backward, control, go_on, load, word_at};
+use m68_effects::{backward, control, go_on, load, word_at};
 use m68_isa::{Op68, Regs68, lower_of, mode_of, transfer_size_of};
 use mix_bits::{Fault, Size, digit, onward, sext};
 

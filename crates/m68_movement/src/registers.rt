@@ -9,7 +9,7 @@ ghost use Rattle.m68_effects.specs.Ops.{by_op, runs_made};
 
 use big_memory::{Did, Ram};
 use m68_alu::set_result_flags;
-use m68_ea::go_on;
+use m68_effects::go_on;
 use m68_isa::{Exchange, Op68, Regs68, byte_of, exchange_of, lower_of, size_bits_of, upper_of};
 use mix_bits::{Fault, Size, sext, trunc, with_low};
 

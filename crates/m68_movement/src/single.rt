@@ -9,15 +9,15 @@ ghost use Rattle.m68_isa.specs.Fits.{Fits};
 ghost use Rattle.m68_isa.specs.Operands.{operand_at};
 ghost use Rattle.m68_isa.specs.Rows.{taken};
 ghost use Rattle.big_memory.specs.Steps.{Does};
-ghost use Rattle.m68_ea.specs.Finds.{IsAt};
-ghost use Rattle.m68_ea.specs.Usual.{Tries};
-ghost use Rattle.m68_ea.specs.Words.{words_at};
+ghost use Rattle.m68_effects.specs.Finds.{IsAt};
+ghost use Rattle.m68_effects.specs.Usual.{Tries};
+ghost use Rattle.m68_effects.specs.Words.{words_at};
 ghost use Rattle.m68_effects.specs.Ops.{by_op, runs_made};
 
 use super::parts::write;
 use big_memory::{Did, Ram};
 use m68_alu::set_result_flags;
-use m68_ea::{data_address, find, go_on, load, put, source, usual_source, value};
+use m68_effects::{data_address, find, go_on, load, put, source, usual_source, value};
 use m68_isa::{Op68, Regs68, condition_of, holds, is_long, lower_of, mode_of, size_bits_of};
 use mix_bits::{Fault, Size, with_low};
 

@@ -7,7 +7,7 @@ ghost use Rattle.m68_effects.specs.Ops.{by_op};
 
 use super::parts::write;
 use big_memory::{Did, Ram};
-use m68_ea::{go_on, immediate_at, source};
+use m68_effects::{go_on, immediate_at, source};
 use m68_isa::{Ccr, LogicOp, Op68, Regs68, logic_op_of, lower_of, mode_of};
 use mix_bits::{Fault, Size};
 

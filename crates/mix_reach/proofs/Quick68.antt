@@ -28,11 +28,11 @@ use Rattle.m68_isa.specs.Moves.{move_mode, moved_of}
 use Rattle.m68_isa.specs.Operands.{extended_word, immediate_at, immediate_words, long_at, operand_at, plain as plain_operand}
 use Rattle.m68_isa.specs.Rows.{taken}
 use Rattle.mix_bits.specs.declared.fault.Fault.{Fault}
-use Rattle.m68_ea.specs.declared.operands.Target.{Target}
-use Rattle.m68_ea.specs.declared.places.Place68.{Place68}
-use Rattle.m68_ea.specs.Finds.{Finds}
-use Rattle.m68_ea.specs.Places.{placed}
-use Rattle.m68_ea.specs.Words.{words_at}
+use Rattle.m68_effects.specs.declared.operands.Target.{Target}
+use Rattle.m68_effects.specs.declared.places.Place68.{Place68}
+use Rattle.m68_effects.specs.Finds.{Finds}
+use Rattle.m68_effects.specs.Places.{placed}
+use Rattle.m68_effects.specs.Words.{words_at}
 use Rattle.big_memory.specs.Memory.{Memory}
 use Rattle.mix_reach.specs.declared.reach.Reach.{Reach}
 use Rattle.mix_reach.specs.Ranges.{nothing, plain}

@@ -34,8 +34,8 @@ use Rattle.m68_alu.specs.declared.quotients.Quotient.{Quotient}
 use Rattle.m68_alu.specs.declared.quotients.Quotient.TheVariants.{ByZero, Overflow, Done}
 use Rattle.m68_alu.specs.declared.quotients.LongQuotient.{LongQuotient}
 use Rattle.m68_alu.specs.declared.quotients.LongQuotient.TheVariants.{ByZero as LongByZero, Overflow as LongOverflow, Done as LongDone}
-use Rattle.m68_ea.specs.Places.{address_of, backward, placed, with_address}
-use Rattle.m68_ea.specs.Operands.{put_into, sourced, stored_at}
+use Rattle.m68_effects.specs.Places.{address_of, backward, placed, with_address}
+use Rattle.m68_effects.specs.Operands.{put_into, sourced, stored_at}
 use Rattle.m68_effects.specs.Arithmetic.{addq, is_out, long_quotient_into, quotient_into, subq}
 use Rattle.m68_effects.specs.Bits.{bit_done, bit_place, bit_size}
 use Rattle.m68_effects.specs.Control.{bcc, called, counted, dbcc}

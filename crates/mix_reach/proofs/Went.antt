@@ -24,7 +24,7 @@ use Rattle.big_memory.specs.Memory.{Memory, copied, copy_refusal, filled, floor_
 use Rattle.big_memory.specs.Stores.{stored_value}
 use Rattle.big_memory.specs.Steps.{After}
 use Rattle.big_memory.specs.Steps.After.{Goes as GoesOn, Leaves as LeavesSet, Stops as StopsAt}
-use Rattle.m68_ea.specs.Words.{words_at}
+use Rattle.m68_effects.specs.Words.{words_at}
 use Rattle.m68_effects.specs.Parts.{Effect, after}
 use Rattle.m68_effects.specs.Rows.{effect as effect_68k}
 use Rattle.m68_effects.specs.Step.{runs_decoded as runs_decoded_68k, stepped as stepped_68k}

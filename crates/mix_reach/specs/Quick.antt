@@ -8,7 +8,7 @@ use Rattle.m68_isa.specs.declared.op.Op68.TheVariants.{Ori, Andi, Subi, Addi, Eo
 use Rattle.m68_isa.specs.First.{First, long_or_word, size_of}
 use Rattle.m68_isa.specs.Moves.{move_mode}
 use Rattle.m68_isa.specs.Operands.{immediate_words, operand_at}
-use Rattle.m68_ea.specs.Places.{backward, placed}
+use Rattle.m68_effects.specs.Places.{backward, placed}
 use Rattle.mix_reach.specs.declared.reach.Reach.{Reach}
 use Rattle.mix_reach.specs.Rows68.{below, into}
 

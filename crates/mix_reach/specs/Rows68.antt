@@ -10,9 +10,9 @@ use Rattle.m68_isa.specs.declared.ea.Ea.{Ea}
 use Rattle.m68_isa.specs.declared.ea.Ea.TheVariants.{Pre}
 use Rattle.m68_isa.specs.declared.instructions.Instr68.{Instr68}
 use Rattle.m68_isa.specs.declared.instructions.Instr68.TheVariants.{Immediate, BitByRegister, BitByNumber, Movep, Move, Negx, Clr, Neg, Not, MoveFromSr, Nbcd, Pea, MovemToMemory, Tas, Link, Jsr, Addq, Subq, Scc, Bcc, Or, Sbcd, Sub, Subx, Eor, And, Abcd, Add, Addx, ShiftMemory}
-use Rattle.m68_ea.specs.declared.places.Place68.{Place68}
-use Rattle.m68_ea.specs.declared.places.Place68.TheVariants.{Mem}
-use Rattle.m68_ea.specs.Places.{address_of, backward, placed}
+use Rattle.m68_effects.specs.declared.places.Place68.{Place68}
+use Rattle.m68_effects.specs.declared.places.Place68.TheVariants.{Mem}
+use Rattle.m68_effects.specs.Places.{address_of, backward, placed}
 use Rattle.m68_effects.specs.Bits.{bit_size}
 use Rattle.m68_effects.specs.Parts.{partner}
 use Rattle.mix_reach.specs.declared.reach.Reach.{Reach}

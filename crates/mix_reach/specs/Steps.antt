@@ -11,7 +11,7 @@ use Rattle.m68_isa.specs.declared.instructions.Decoded68.TheVariants.{Op, LineA}
 use Rattle.m68_isa.specs.declared.op.Op68.{Op68}
 use Rattle.m68_isa.specs.First.{First}
 use Rattle.m68_isa.specs.Decode.{decoded as decoded_68k, read}
-use Rattle.m68_ea.specs.Words.{words_at}
+use Rattle.m68_effects.specs.Words.{words_at}
 use Rattle.ppc_isa.specs.declared.registers.RegsPpc.{RegsPpc}
 use Rattle.ppc_isa.specs.declared.instruction.InstrPpc.{InstrPpc}
 use Rattle.ppc_isa.specs.Rows.{decoded as decoded_ppc}

@@ -2,15 +2,15 @@
 ghost use Rattle.std.specs.Prelude.{◌≡◌, ◌<◌};
 ghost use Rattle.m68_isa.specs.Decode.{decoded};
 ghost use Rattle.m68_isa.specs.Fields.{HasDecoded, HasFields, HasRegisters};
-ghost use Rattle.m68_ea.specs.Places.{address_of as address_of_operand};
-ghost use Rattle.m68_ea.specs.Words.{words_at};
+ghost use Rattle.m68_effects.specs.Places.{address_of as address_of_operand};
+ghost use Rattle.m68_effects.specs.Words.{words_at};
 ghost use Rattle.m68_effects.specs.Bits.{bit_size as bit_size_of};
 ghost use Rattle.m68_effects.specs.Parts.{partner as partner_of};
 ghost use Rattle.mix_reach.specs.Rows68.{at_place as at_place_of, behind as behind_of, below as below_of, if_into as if_into_of, into as into_of, links as links_of, pushes as pushes_of, several as several_of, stores as stores_of};
 
 use crate::reach::{Reach, nothing, range};
 use big_memory::Ram;
-use m68_ea::{Place68, backward, place};
+use m68_effects::{Place68, backward, place};
 use m68_isa::{Decoded68, Ea, Instr68, Regs68, decode68};
 use mix_bits::{Size, onward};
 

@@ -4,7 +4,7 @@ ghost use Rattle.m68_isa.specs.Decode.{decoded};
 ghost use Rattle.m68_isa.specs.Moves.{move_mode};
 ghost use Rattle.m68_isa.specs.Operands.{immediate_words};
 ghost use Rattle.m68_isa.specs.First.{first_of};
-ghost use Rattle.m68_ea.specs.Words.{words_at};
+ghost use Rattle.m68_effects.specs.Words.{words_at};
 ghost use Rattle.mix_reach.specs.Quick.{Changes, ChangesBy, IsInto, Moves, Saves, keeps_memory as keeps_memory_by};
 ghost use Rattle.mix_reach.specs.Ranges.{nothing as nothing_of, plain as plain_of};
 ghost use Rattle.mix_reach.specs.Steps.{Tells, TellsBy, decoded_stores};
@@ -12,7 +12,7 @@ ghost use Rattle.mix_reach.specs.Steps.{Tells, TellsBy, decoded_stores};
 use crate::m68::{at_place, below, links, pushes};
 use crate::reach::{Reach, nothing};
 use big_memory::Ram;
-use m68_ea::{backward, find, word_at};
+use m68_effects::{backward, find, word_at};
 use m68_isa::{
     Op68, Operations, Regs68, lower_of, mode_of, move_mode_of, size_of, transfer_size_of, upper_of,
 };

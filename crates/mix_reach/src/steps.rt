@@ -8,7 +8,7 @@ ghost use Rattle.mix_reach.specs.Ranges.{IsTold, nothing as nothing_of, plain as
 ghost use Rattle.mix_reach.specs.Steps.{decoded_stores as decoded_stores_of, frame_given_up as frame_given_up_of, frame_made as frame_made_of, host_stores as host_stores_of, next_stores as next_stores_of, reach, word_stores as word_stores_of};
 ghost use Rattle.big_memory.specs.Memory.{loaded};
 ghost use Rattle.m68_isa.specs.Decode.{decoded};
-ghost use Rattle.m68_ea.specs.Words.{words_at};
+ghost use Rattle.m68_effects.specs.Words.{words_at};
 ghost use Rattle.mix_bits.specs.declared.size.Size.TheVariants.{Four};
 ghost use Rattle.switch_frame.specs.declared.active.Active.TheVariants.{M68, Ppc};
 
@@ -16,7 +16,7 @@ use crate::quick::quick_stores;
 use crate::reach::{Reach, Stores, Told, filling, nothing, plain, range, stored_at};
 use crate::{m68, ppc, quick};
 use big_memory::{Ram, host_code, in_gate_page};
-use m68_ea::has_five;
+use m68_effects::has_five;
 use m68_isa::{Decoded68, Operations, Regs68};
 use mix_bits::onward;
 use ppc_isa::RegsPpc;

@@ -10,7 +10,7 @@ use Rattle.big_memory.specs.declared.refusals.Access.TheVariants.{Outside}
 use Rattle.big_memory.specs.Lists.{part}
 use Rattle.big_memory.specs.Memory.{IsRam, Memory, in_memory, loaded}
 use Rattle.big_memory.specs.Numbers.{AreBytes, number_at}
-use Rattle.m68_ea.specs.Words.{word_and, words_from}
+use Rattle.m68_effects.specs.Words.{word_and, words_from}
 use Rattle.mix_text.specs.SpellingLaws.{AreWords}
 use Rattle.mix_text.specs.Assembling.{long_bytes, word_bytes}
 

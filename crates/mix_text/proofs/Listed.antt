@@ -13,7 +13,7 @@ use Rattle.big_memory.specs.Numbers.{AreBytes}
 use Rattle.m68_isa.specs.Decode.{decoded}
 use Rattle.m68_isa.specs.declared.instructions.Decoded68.{Decoded68}
 use Rattle.m68_isa.specs.declared.instructions.Decoded68.TheVariants.{Op, LineA, LineF, Privileged, Illegal, Short}
-use Rattle.m68_ea.specs.Words.{words_at}
+use Rattle.m68_effects.specs.Words.{words_at}
 use Rattle.m68_text.specs.Laws.{NamesAreListed}
 use Rattle.m68_text.specs.Text.{text_of}
 use Rattle.mix_text.specs.SpellingLaws.{AreWords}

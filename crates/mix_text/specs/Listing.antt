@@ -11,7 +11,7 @@ use Rattle.big_memory.specs.Memory.{Memory, loaded}
 use Rattle.m68_isa.specs.Decode.{decoded}
 use Rattle.m68_isa.specs.declared.instructions.Decoded68.{Decoded68}
 use Rattle.m68_isa.specs.declared.instructions.Decoded68.TheVariants.{Op, LineA, LineF, Privileged, Illegal, Short}
-use Rattle.m68_ea.specs.Words.{words_at}
+use Rattle.m68_effects.specs.Words.{words_at}
 use Rattle.m68_text.specs.Text.{text_of}
 use Rattle.ppc_text.specs.Text.{word_text}
 

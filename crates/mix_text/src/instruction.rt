@@ -3,12 +3,12 @@ ghost use Rattle.std.specs.Prelude.{◌≡◌, ◌≤◌, ℕ, [], length};
 ghost use Rattle.mix_bits.specs.declared.size.Size.TheVariants.{Four};
 ghost use Rattle.big_memory.specs.Memory.{loaded};
 ghost use Rattle.m68_isa.specs.Fields.{HasWords};
-ghost use Rattle.m68_ea.specs.Words.{words_at};
+ghost use Rattle.m68_effects.specs.Words.{words_at};
 ghost use Rattle.mix_text.specs.Listing.{bytes_68k, instruction, listed_68k, listed_ppc};
 ghost use Rattle.mix_text.specs.ListingParts.{Writes};
 
 use big_memory::Ram;
-use m68_ea::read_words;
+use m68_effects::read_words;
 use m68_isa::{Decoded68, decode68};
 use m68_text::text68;
 use mix_bits::{Isa, Line};

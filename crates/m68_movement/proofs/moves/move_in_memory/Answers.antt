@@ -1,4 +1,4 @@
-use Rattle.m68_ea.proofs.Tried.{then_by_others}
+use Rattle.m68_effects.proofs.Tried.{then_by_others}
 use Rattle.m68_movement.specs.Moves.{moves}
 use Rattle.m68_movement.proofs.moves.move_in_memory.Goals as goal
 

@@ -1,5 +1,5 @@
 use Rattle.std.proofs.Common.{sym, ◌∙◌}
-use Rattle.m68_ea.specs.Words.{words_at}
+use Rattle.m68_effects.specs.Words.{words_at}
 use Rattle.mix_reach.specs.Ranges.{nothing}
 use Rattle.mix_reach.proofs.Quick68.{none_told, told}
 use Rattle.mix_reach.proofs.quick.is_still.Goals as goal

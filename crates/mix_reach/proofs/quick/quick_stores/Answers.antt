@@ -1,5 +1,5 @@
 use Rattle.std.proofs.Common.{ap, sym, ◌∙◌}
-use Rattle.m68_ea.specs.Words.{words_at}
+use Rattle.m68_effects.specs.Words.{words_at}
 use Rattle.mix_reach.specs.Ranges.{plain}
 use Rattle.mix_reach.proofs.Quick68.{by_first, none_told, told}
 use Rattle.mix_reach.proofs.quick.quick_stores.Goals as goal

@@ -1,4 +1,0 @@
-pub mod Fetch
-pub mod Back
-pub mod Tried
-pub mod Reading

@@ -1,0 +1,11 @@
+ghost use Rattle.m68_effects.specs.OperandLaws.{OthersDo, WordsLie};
+
+/// What follows from the definitions of a step that is tried. It does nothing: the clause is its point.
+pub fn tried_laws()
+    ensures { OthersDo }
+{}
+
+/// What follows of the words of an instruction from where it lies. It does nothing: the clause is its point.
+pub fn word_laws()
+    ensures { WordsLie }
+{}
