@@ -3,9 +3,9 @@ use Rattle.std.proofs.Common.{◌≡◌, ℕ, List, Option, Some, None, refl, sy
 use Rattle.std.specs.Prelude.{IfSome, IfNone, IsSome}
 use Rattle.mix_bits.specs.declared.isa.Isa.{Isa}
 use Rattle.mix_bits.specs.declared.isa.Isa.TheVariants.{M68, Ppc}
-use Rattle.job_words.specs.Drafts.{main_file}
-use Rattle.job_words.specs.Jobs.{IsProperJob}
-use Rattle.job_words.specs.declared.job.Job.{Job}
+use Rattle.mix_io.specs.Drafts.{main_file}
+use Rattle.mix_io.specs.Jobs.{IsProperJob}
+use Rattle.mix_io.specs.declared.job.Job.{Job}
 use Rattle.mix_load.specs.Load.{AreLoadable, IsAlone, IsSmall}
 use Rattle.switch_frame.specs.Records.{isa_of}
 use Rattle.mixed_machine.specs.Machine.{IsWhole}

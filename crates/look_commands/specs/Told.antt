@@ -4,11 +4,11 @@ use Rattle.std.specs.Prelude.{◌≡◌, ◌≢◌, ◌+◌, ◌*◌, ◌++◌, 
 use Rattle.std.specs.Io.KnownBytes.{Appends}
 use Rattle.rsrc_fork.specs.Forks.{fork_of}
 use Rattle.rsrc_fork.specs.declared.wrapping.ForkPlace.{ForkPlace}
-use Rattle.job_words.specs.declared.job.BadWord.{BadWord}
-use Rattle.job_words.specs.declared.job.Command.{Command}
-use Rattle.job_words.specs.declared.job.Command.TheVariants.{Run}
-use Rattle.job_words.specs.declared.job.Job.{Job}
-use Rattle.job_words.specs.Words.{command_of}
+use Rattle.mix_io.specs.declared.job.BadWord.{BadWord}
+use Rattle.mix_io.specs.declared.job.Command.{Command}
+use Rattle.mix_io.specs.declared.job.Command.TheVariants.{Run}
+use Rattle.mix_io.specs.declared.job.Job.{Job}
+use Rattle.mix_io.specs.Words.{command_of}
 use Rattle.look_map.specs.Maps.{files_text, start_text}
 use Rattle.look_text.specs.Info.{info_of}
 use Rattle.look_text.specs.Looks.{look_of, run_words}

@@ -1,6 +1,6 @@
 // Where the pieces of a program lie.
 ghost use Rattle.std.specs.Prelude.{◌≡◌, ◌≢◌, ◌⊎◌};
-ghost use Rattle.job_words.specs.Jobs.{IsProperJob};
+ghost use Rattle.mix_io.specs.Jobs.{IsProperJob};
 ghost use Rattle.mix_load.specs.Load.{AreLoadable, IsSmall};
 ghost use Rattle.look_commands.specs.Told.{IsMapOf};
 
@@ -8,7 +8,7 @@ use crate::program::{Request, fetch_files};
 use crate::said::{print, say_bytes};
 use crate::status::{NO_MEMORY, REFUSED, SUCCESS};
 use crate::streams::Streams;
-use job_words::Job;
+use mix_io::Job;
 use look_map::{Mapped, map_program, refusal_text};
 use mix_bits::NoMemory;
 use mix_load::{Files as Program, LoadError};

@@ -1,8 +1,8 @@
 // The program that words name: its words for mixedrun, its job and its files.
 ghost use Rattle.std.specs.Prelude.{◌≡◌, ◌⊎◌, IfErr, IfOk, Ok, is_some, false, map};
 ghost use Rattle.std.specs.String.{string_bytes};
-ghost use Rattle.job_words.specs.Jobs.{IsProperJob};
-ghost use Rattle.job_words.specs.Words.{command_of};
+ghost use Rattle.mix_io.specs.Jobs.{IsProperJob};
+ghost use Rattle.mix_io.specs.Words.{command_of};
 ghost use Rattle.look_text.specs.Looks.{run_words as run_words_of};
 ghost use Rattle.look_commands.specs.Told.{IsLost, is_run};
 ghost use Rattle.mix_load.specs.Load.{AreLoadable, IsSmall};
@@ -10,7 +10,7 @@ ghost use Rattle.mix_load.specs.Load.{AreLoadable, IsSmall};
 use crate::files::{fetch, name_at};
 use crate::said::say;
 use crate::status::{BAD_WORDS, NO_MEMORY};
-use job_words::{Command, Job, read_words};
+use mix_io::{Command, Job, read_words};
 use look_text::{explain, run_words, why_text};
 use mix_bits::NoMemory;
 use mix_load::{FileBytes, Files as Program};

@@ -2,7 +2,7 @@
 ghost use Rattle.std.specs.Prelude.{◌≡◌, ◌≢◌, IfErr, IfOk};
 ghost use Rattle.switch_frame.specs.Records.{isa_of};
 ghost use Rattle.mixed_machine.specs.Machine.{IsWhole};
-ghost use Rattle.job_words.specs.Jobs.{IsProperJob};
+ghost use Rattle.mix_io.specs.Jobs.{IsProperJob};
 ghost use Rattle.look_commands.specs.Statuses.{status_at};
 ghost use Rattle.look_commands.specs.Told.{IsLost};
 

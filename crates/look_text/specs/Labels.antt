@@ -2,10 +2,10 @@
 use Rattle.std.specs.Prelude.{ℕ, List, [], ◌∷◌, codes, if◌then◌else◌, Option, Some, None}
 use Rattle.std.specs.Str.{bytes_eq}
 use Rattle.mix_bits.specs.declared.file.File.TheVariants.{Flat as flat_file, Rsrc as rsrc_file, Pef as pef_file}
-use Rattle.job_words.specs.Settings.{has_equals, key_in, text_of as name_text}
-use Rattle.job_words.specs.declared.job.Key.TheVariants.{Program, Image as image_file, Text as text_file, Script as script_file}
-use Rattle.job_words.specs.declared.setting.Name.{Name}
-use Rattle.job_words.specs.declared.setting.Name.TheVariants.{File, Main as main_name, Ram as ram_name, Steps as steps_name, At as at_name, Count as count_name, Calls as calls_name, Depth as depth_name, CodeSet as set_name, Save as save_name}
+use Rattle.mix_io.specs.Settings.{has_equals, key_in, text_of as name_text}
+use Rattle.mix_io.specs.declared.job.Key.TheVariants.{Program, Image as image_file, Text as text_file, Script as script_file}
+use Rattle.mix_io.specs.declared.setting.Name.{Name}
+use Rattle.mix_io.specs.declared.setting.Name.TheVariants.{File, Main as main_name, Ram as ram_name, Steps as steps_name, At as at_name, Count as count_name, Calls as calls_name, Depth as depth_name, CodeSet as set_name, Save as save_name}
 use Rattle.look_text.specs.declared.label.Label.{Label}
 use Rattle.look_text.specs.declared.label.Label.TheVariants.{Flat, Rsrc, Pef, Main, Ram, Steps, Save, At, Count, Calls, Depth, CodeSet, Text, Image, Script}
 

@@ -4,7 +4,7 @@ use Rattle.std.specs.Option.{ok_or}
 use Rattle.std.specs.Str.{bytes_eq}
 use Rattle.mix_bits.specs.Numbers.{decimal_number, hexadecimal_number}
 use Rattle.mix_bits.specs.Results.{◌>>=◌}
-use Rattle.job_words.specs.Settings.{has_equals, key_in, value_in}
+use Rattle.mix_io.specs.Settings.{has_equals, key_in, value_in}
 use Rattle.look_text.specs.declared.look.Draft.{Draft}
 use Rattle.look_text.specs.declared.look.Key.{Key}
 use Rattle.look_text.specs.declared.look.Key.TheVariants.{Word, File, Names, Image as image_key, Last}

@@ -1,8 +1,8 @@
 -- Why mixedrun refuses words, by what job_words says of the command with one word alone.
 use Rattle.std.specs.Prelude.{ℕ, ◌==◌, Bool, false, List, [], ◌∷◌, Result, Ok, Err}
-use Rattle.job_words.specs.declared.job.BadWord.{BadWord}
-use Rattle.job_words.specs.declared.job.Command.{Command}
-use Rattle.job_words.specs.Words.{command_of}
+use Rattle.mix_io.specs.declared.job.BadWord.{BadWord}
+use Rattle.mix_io.specs.declared.job.Command.{Command}
+use Rattle.mix_io.specs.Words.{command_of}
 
 abbrev pub is_bad_at : ℕ → Result Command BadWord → Bool
 is_bad_at place (Ok command) = false

@@ -1,8 +1,8 @@
 -- What the key of a word wants: the values that job_words takes for it, and their kind in words.
 use Rattle.std.specs.Prelude.{ℕ, ◌≡◌, ◌++◌, List, codes, decimal, Option}
 use Rattle.mix_bits.specs.Numbers.{decimal_number, hexadecimal_number}
-use Rattle.job_words.specs.Settings.{named_by, number_in, number_within, set_of, value_of}
-use Rattle.job_words.specs.declared.setting.Value.{Value}
+use Rattle.mix_io.specs.Settings.{named_by, number_in, number_within, set_of, value_of}
+use Rattle.mix_io.specs.declared.setting.Value.{Value}
 use Rattle.look_text.specs.declared.label.Label.{Label}
 use Rattle.look_text.specs.declared.label.Label.TheVariants.{Flat, Rsrc, Pef, Main, Ram, Steps, Save, At, Count, Calls, Depth, CodeSet, Text, Image, Script}
 use Rattle.look_text.specs.Labels.{name_of}

@@ -1,6 +1,6 @@
 -- What is true of the words where mixedrun refuses them for a reason.
 use Rattle.std.specs.Prelude.{ℕ, ◌≡◌, ◌≤◌, true, false, List, [], length, slice_index_or, Some, None, IsOk, Err}
-use Rattle.job_words.specs.Words.{bad_at, command_of}
+use Rattle.mix_io.specs.Words.{bad_at, command_of}
 use Rattle.look_text.specs.Labels.{example, label_of}
 use Rattle.look_text.specs.Reasons.{is_refused}
 use Rattle.look_text.specs.declared.why.Why.{Why}

@@ -2,7 +2,7 @@
 ghost use Rattle.std.specs.Prelude.{◌≡◌, IfOk};
 ghost use Rattle.look_text.specs.Reasons.{is_refused};
 
-use job_words::read_words;
+use mix_io::read_words;
 use mix_bits::NoMemory;
 use std::alloc::Global;
 

@@ -1,12 +1,12 @@
 ghost use Rattle.std.specs.Prelude.{◌≡◌, ◌<◌, IfOk, length, map};
 ghost use Rattle.std.specs.String.{string_bytes};
-ghost use Rattle.job_words.specs.Words.{bad_at, command_of};
+ghost use Rattle.mix_io.specs.Words.{bad_at, command_of};
 ghost use Rattle.look_text.specs.Labels.{label_in, label_of as label_of_word};
 ghost use Rattle.look_text.specs.Whys.{Explains, ExplainsWord, at_place};
 
 use crate::ask::is_refused;
 use crate::label::Label;
-use job_words::read_words;
+use mix_io::read_words;
 use mix_bits::NoMemory;
 use std::alloc::Global;
 

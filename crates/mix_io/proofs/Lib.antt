@@ -4,3 +4,8 @@ pub mod Streams
 pub mod Seen
 pub mod Heard
 pub mod Steps
+pub mod Keys
+pub mod Held
+pub mod Asked
+pub mod Moves
+mod Proper

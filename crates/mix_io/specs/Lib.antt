@@ -10,3 +10,9 @@ pub mod Streams
 pub mod Slots
 pub mod Rack
 pub mod Accounts
+pub mod Settings
+pub mod Drafts
+pub mod Jobs
+pub mod Words
+pub mod Asks
+pub mod JobLaws

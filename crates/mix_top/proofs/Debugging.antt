@@ -16,7 +16,7 @@ use Rattle.mix_script.specs.Plays.{Plays}
 use Rattle.mix_script.specs.declared.command.Command.{Command}
 use Rattle.toolbox.specs.declared.broken.Broken.{Broken}
 use Rattle.mix_top.specs.World.{Accounted, Beside, EndsIn, Keep, beside}
-use Rattle.job_words.specs.declared.job.Job.{Job}
+use Rattle.mix_io.specs.declared.job.Job.{Job}
 use Rattle.mix_load.specs.declared.files.Files.{Files}
 use Rattle.mix_script.specs.Scripts.{script_of}
 use Rattle.mix_top.specs.Ends.{DebugWay}

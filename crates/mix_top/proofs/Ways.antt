@@ -22,19 +22,19 @@ use Rattle.toolbox.specs.declared.broken.Broken.TheVariants.{Input, Output as Br
 use Rattle.mixed_machine.specs.declared.stop.Stop.{Stop}
 use Rattle.mixed_machine.specs.declared.stop.Stop.TheVariants.{Exit, Fault, Limit, ReadFault, OutFault, TraceFault}
 use Rattle.std.specs.Prelude.{IfNone, IfSome, IsSome}
-use Rattle.job_words.specs.Drafts.{main_file}
-use Rattle.job_words.specs.Jobs.{IsProperJob, job_in, keys_in_order, limit_of, place_in}
-use Rattle.job_words.specs.Words.{bad_at, command_of, name_at}
-use Rattle.job_words.specs.declared.job.Command.{Command}
-use Rattle.job_words.specs.declared.job.Command.TheVariants.{Run, List as Lists, Sample, Assemble, Continue, Debug}
+use Rattle.mix_io.specs.Drafts.{main_file}
+use Rattle.mix_io.specs.Jobs.{IsProperJob, job_in, keys_in_order, limit_of, place_in}
+use Rattle.mix_io.specs.Words.{bad_at, command_of, name_at}
+use Rattle.mix_io.specs.declared.job.Command.{Command}
+use Rattle.mix_io.specs.declared.job.Command.TheVariants.{Run, List as Lists, Sample, Assemble, Continue, Debug}
 use Rattle.call_trace.specs.declared.end.End.{End}
 use Rattle.call_trace.specs.declared.end.End.TheVariants.{Exit as ExitEnd, Fault as FaultEnd, Limit as LimitEnd}
 use Rattle.mix_top.specs.declared.sampled.Sampled.{Sampled}
 use Rattle.std.specs.Option.{option_and_then, option_map}
 use Rattle.std.specs.Result.{result_ok}
-use Rattle.job_words.specs.declared.job.Job.{Job}
-use Rattle.job_words.specs.declared.job.Key.{Key}
-use Rattle.job_words.specs.declared.job.Key.TheVariants.{Program as OfProgram, Image, Text, Script}
+use Rattle.mix_io.specs.declared.job.Job.{Job}
+use Rattle.mix_io.specs.declared.job.Key.{Key}
+use Rattle.mix_io.specs.declared.job.Key.TheVariants.{Program as OfProgram, Image, Text, Script}
 use Rattle.mix_load.specs.Load.{AreLoadable, HasMain, IsAlone, IsSmall, load_of}
 use Rattle.mix_load.specs.Outcome.{Gives}
 use Rattle.mix_load.specs.declared.files.Files.{Files}

@@ -17,12 +17,12 @@ use Rattle.call_trace.specs.declared.end.End.TheVariants.{Exit as ExitEnd, Fault
 use Rattle.mix_top.specs.declared.sampled.Sampled.{Sampled}
 use Rattle.mix_script.specs.Scripts.{script_of}
 use Rattle.mix_script.specs.declared.command.Command.{Command as Commanded}
-use Rattle.job_words.specs.Jobs.{limit_of, save_in, wants}
-use Rattle.job_words.specs.Words.{bad_at, command_of, name_at}
-use Rattle.job_words.specs.declared.job.Command.{Command}
-use Rattle.job_words.specs.declared.job.Command.TheVariants.{Run, List as Lists, Sample, Assemble, Continue, Debug}
-use Rattle.job_words.specs.declared.job.Job.{Job}
-use Rattle.job_words.specs.declared.job.Key.{Key}
+use Rattle.mix_io.specs.Jobs.{limit_of, save_in, wants}
+use Rattle.mix_io.specs.Words.{bad_at, command_of, name_at}
+use Rattle.mix_io.specs.declared.job.Command.{Command}
+use Rattle.mix_io.specs.declared.job.Command.TheVariants.{Run, List as Lists, Sample, Assemble, Continue, Debug}
+use Rattle.mix_io.specs.declared.job.Job.{Job}
+use Rattle.mix_io.specs.declared.job.Key.{Key}
 use Rattle.mix_top.specs.Lines.{Refusal, memory_line, words_line, fetch_line, load_line, long_file as long_refusal, load_refusal}
 use Rattle.mix_top.specs.World.{Beside, Contents, World, Early, Accounted, HasExceeded, HasFailed, NoneRose, Listed, OnlyPuts, PutsText}
 use Rattle.mix_top.specs.Running.{MachineRan}

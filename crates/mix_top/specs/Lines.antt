@@ -3,9 +3,9 @@ use Rattle.std.specs.Prelude.{ℕ, ℤ, pos, List, ◌++◌, codes, Option, None
 use Rattle.std.specs.Fmt.{signed_decimal}
 use Rattle.mix_bits.specs.declared.file.File.{File}
 use Rattle.mix_bits.specs.declared.file.File.TheVariants.{Flat, Rsrc, Pef}
-use Rattle.job_words.specs.Settings.{key_text}
-use Rattle.job_words.specs.declared.job.Key.{Key}
-use Rattle.job_words.specs.declared.job.Key.TheVariants.{Program, Image, Text, Script}
+use Rattle.mix_io.specs.Settings.{key_text}
+use Rattle.mix_io.specs.declared.job.Key.{Key}
+use Rattle.mix_io.specs.declared.job.Key.TheVariants.{Program, Image, Text, Script}
 use Rattle.rsrc_fork.specs.declared.error.RsrcError.{RsrcError}
 use Rattle.rsrc_fork.specs.declared.error.RsrcError.TheVariants.{NoMemory as NoForkMemory, Short as ForkShort, Overlap, BadOffset, Twice, Compressed}
 use Rattle.pef_head.specs.declared.error.PefError.{PefError}

@@ -13,11 +13,11 @@ use Rattle.mixed_machine.specs.declared.stop.Stop.TheVariants.{Exit, Fault, Limi
 use Rattle.mix_engine.specs.Beside.{outside_lent, trace_lent}
 use Rattle.mix_engine.specs.declared.outside.Outside.{Outside}
 use Rattle.call_trace.specs.Lines.{end_line}
-use Rattle.job_words.specs.Jobs.{job_in, limit_of, place_in, wanted_among}
-use Rattle.job_words.specs.Words.{name_at}
-use Rattle.job_words.specs.declared.job.Command.{Command}
-use Rattle.job_words.specs.declared.job.Key.{Key}
-use Rattle.job_words.specs.declared.job.Key.TheVariants.{Program, Image, Text, Script}
+use Rattle.mix_io.specs.Jobs.{job_in, limit_of, place_in, wanted_among}
+use Rattle.mix_io.specs.Words.{name_at}
+use Rattle.mix_io.specs.declared.job.Command.{Command}
+use Rattle.mix_io.specs.declared.job.Key.{Key}
+use Rattle.mix_io.specs.declared.job.Key.TheVariants.{Program, Image, Text, Script}
 use Rattle.mix_load.specs.Load.{AreLoadable}
 use Rattle.mix_load.specs.declared.files.Files.{Files}
 use Rattle.mix_engine.specs.declared.machine.Machine.{Machine}

@@ -1,7 +1,7 @@
 // A script of the debugger over a program, from its first line to its last one.
 ghost use Rattle.std.specs.Prelude.{◌≡◌, ◌≤◌, None, Some, length};
 ghost use Rattle.mix_load.specs.Load.{AreLoadable};
-ghost use Rattle.job_words.specs.Jobs.{IsProperJob};
+ghost use Rattle.mix_io.specs.Jobs.{IsProperJob};
 ghost use Rattle.switch_frame.specs.Program.{IsProgram};
 ghost use Rattle.switch_frame.specs.Records.{isa_of};
 ghost use Rattle.mixed_machine.specs.Machine.{IsWhole, flat};
@@ -15,7 +15,7 @@ ghost use Rattle.mix_top.specs.Parts.{beside_lent};
 use super::close::{close, close_unloaded, close_without_memory};
 use super::lines::script_text;
 use super::status::{INPUT_FAILED, NOT_LOADED, OUTPUT_FAILED, SUCCESS, TRACE_FAILED};
-use job_words::Job;
+use mix_io::Job;
 use mix_debug::Debug;
 use mix_engine::{Machine, Outside};
 use mix_io::{Devices, Sink, Source};

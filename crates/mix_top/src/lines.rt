@@ -7,7 +7,7 @@ ghost use Rattle.mix_top.specs.Assembling.{line_refusal, reason_name as reason_n
 ghost use Rattle.mix_top.specs.Continuing.{image_refusal};
 
 use itoa::Buffer;
-use job_words::Key;
+use mix_io::Key;
 use mix_bits::{File, Line};
 use mix_image::ImageError;
 use mix_load::LoadError;

@@ -1,5 +1,5 @@
 // A listing of a program, from its files to its last line.
-ghost use Rattle.job_words.specs.Jobs.{IsProperJob};
+ghost use Rattle.mix_io.specs.Jobs.{IsProperJob};
 ghost use Rattle.mix_text.specs.Listing.{listing};
 ghost use Rattle.mix_load.specs.Load.{AreLoadable};
 ghost use Rattle.mix_engine.specs.Beside.{AreSame};
@@ -11,7 +11,7 @@ ghost use Rattle.mix_top.specs.Parts.{beside_lent};
 use super::close::close_unloaded;
 use super::status::{OUTPUT_FAILED, SUCCESS};
 use big_memory::Ram;
-use job_words::Job;
+use mix_io::Job;
 use mix_bits::Isa;
 use mix_engine::Outside;
 use mix_io::{Devices, Sink, Source};

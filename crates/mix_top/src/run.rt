@@ -1,7 +1,7 @@
 // A program from its files to its end, and a machine from where it is to its end.
 ghost use Rattle.std.specs.Prelude.{option_copied};
 ghost use Rattle.mix_load.specs.Load.{AreLoadable};
-ghost use Rattle.job_words.specs.Jobs.{IsProperJob};
+ghost use Rattle.mix_io.specs.Jobs.{IsProperJob};
 ghost use Rattle.switch_frame.specs.Program.{IsProgram};
 ghost use Rattle.switch_frame.specs.Records.{isa_of};
 ghost use Rattle.mixed_machine.specs.Machine.{IsWhole, flat};
@@ -14,7 +14,7 @@ ghost use Rattle.mix_top.specs.Parts.{beside_lent};
 use super::checkpoint::{due, keep_machine};
 use super::close::{close_unloaded, close_without_memory, finish};
 use super::status::NOT_KEPT;
-use job_words::Job;
+use mix_io::Job;
 use mix_engine::{Machine, Outside, run};
 use mix_io::{Devices, Keeper, Sink, Source};
 use mix_load::{Files, load};

@@ -10,20 +10,20 @@ use Rattle.std.proofs.lemmas.Bool.Decides.{nat_tests}
 use Rattle.mix_bits.specs.declared.isa.Isa.{Isa}
 use Rattle.mix_bits.specs.declared.isa.Isa.TheVariants.{M68, Ppc}
 use Rattle.mix_bits.specs.declared.file.File.TheVariants.{Flat, Rsrc, Pef}
-use Rattle.job_words.specs.Settings.{verb_of, key_in, setting_of, setting, named, file, numbered}
-use Rattle.job_words.specs.Drafts.{main_file}
-use Rattle.job_words.specs.Asks.{word_at, Sets, IsSet, AreRead, IsSetOr, IsWhere, usual_main, AsksJob, Asks}
-use Rattle.job_words.specs.Laws.{moved_job, moved, Stands, OrderIsFree}
-use Rattle.job_words.proofs.Asked.{no-verb, command-asked}
-use Rattle.job_words.specs.declared.job.Command.{Command}
-use Rattle.job_words.specs.declared.job.Command.TheVariants.{Run, List as Listing, Sample, Assemble, Continue, Debug}
-use Rattle.job_words.specs.declared.job.Job.{Job}
-use Rattle.job_words.specs.declared.job.Key.TheVariants.{Program, Image, Text, Script}
-use Rattle.job_words.specs.declared.setting.Setting.{Setting}
-use Rattle.job_words.specs.declared.setting.Name.TheVariants.{Main, Ram, Steps, At, Count, Calls, Depth, CodeSet, Save}
-use Rattle.job_words.specs.declared.setting.Value.TheVariants.{Set}
-use Rattle.job_words.specs.declared.setting.Verb.{Verb}
-use Rattle.job_words.specs.declared.setting.Verb.TheVariants.{ToRun, ToList, ToSample, ToAssemble, ToContinue, ToDebug}
+use Rattle.mix_io.specs.Settings.{verb_of, key_in, setting_of, setting, named, file, numbered}
+use Rattle.mix_io.specs.Drafts.{main_file}
+use Rattle.mix_io.specs.Asks.{word_at, Sets, IsSet, AreRead, IsSetOr, IsWhere, usual_main, AsksJob, Asks}
+use Rattle.mix_io.specs.JobLaws.{moved_job, moved, Stands, OrderIsFree}
+use Rattle.mix_io.proofs.Asked.{no-verb, command-asked}
+use Rattle.mix_io.specs.declared.job.Command.{Command}
+use Rattle.mix_io.specs.declared.job.Command.TheVariants.{Run, List as Listing, Sample, Assemble, Continue, Debug}
+use Rattle.mix_io.specs.declared.job.Job.{Job}
+use Rattle.mix_io.specs.declared.job.Key.TheVariants.{Program, Image, Text, Script}
+use Rattle.mix_io.specs.declared.setting.Setting.{Setting}
+use Rattle.mix_io.specs.declared.setting.Name.TheVariants.{Main, Ram, Steps, At, Count, Calls, Depth, CodeSet, Save}
+use Rattle.mix_io.specs.declared.setting.Value.TheVariants.{Set}
+use Rattle.mix_io.specs.declared.setting.Verb.{Verb}
+use Rattle.mix_io.specs.declared.setting.Verb.TheVariants.{ToRun, ToList, ToSample, ToAssemble, ToContinue, ToDebug}
 
 -- words in another order, and the place of each in both
 pub record Moved (to back : ℕ → ℕ) (words others : List (List ℕ)) : Type 0 where

@@ -8,27 +8,27 @@ use Rattle.std.proofs.lemmas.Bool.{cases_lt}
 use Rattle.mix_bits.specs.Results.{◌>>=◌}
 use Rattle.mix_bits.specs.declared.isa.Isa.{Isa}
 use Rattle.mix_bits.specs.declared.file.File.TheVariants.{Flat, Rsrc, Pef}
-use Rattle.job_words.specs.Settings.{verb_of, key_in, setting_of, setting, named, file, numbered}
-use Rattle.job_words.specs.Drafts.{given, given_at, index_of, job_by, job_of, main_in, main_file, has_program, made, named_at, nothing, number, number_of, place, set, set_of, steps_in, usual_set}
-use Rattle.job_words.specs.Words.{bad_at, with_word, draft_of, command_by, command_of}
-use Rattle.job_words.specs.Asks.{word_at, Sets, IsSet, AreRead, IsSetOr, IsWhere, usual_main, AsksJob, Asks, CanBegin, IsFirstBad}
-use Rattle.job_words.specs.Laws.{CommandIsAsked, RefusalIsFirst}
-use Rattle.job_words.proofs.Keys.{index-small}
-use Rattle.job_words.proofs.Held.{Holds, GoesOn, word-next}
-use Rattle.job_words.specs.declared.job.BadWord.{BadWord}
-use Rattle.job_words.specs.declared.job.Command.{Command}
-use Rattle.job_words.specs.declared.job.Command.TheVariants.{Run, List as Listing, Sample, Assemble, Continue, Debug}
-use Rattle.job_words.specs.declared.job.Job.{Job}
-use Rattle.job_words.specs.declared.job.Key.TheVariants.{Program, Image, Text, Script}
-use Rattle.job_words.specs.declared.draft.Draft.{Draft}
-use Rattle.job_words.specs.declared.setting.Setting.{Setting}
-use Rattle.job_words.specs.declared.draft.Given.{Given}
-use Rattle.job_words.specs.declared.setting.Name.{Name}
-use Rattle.job_words.specs.declared.setting.Name.TheVariants.{File, Main, Ram, Steps, At, Count, Calls, Depth, CodeSet, Save}
-use Rattle.job_words.specs.declared.setting.Value.{Value}
-use Rattle.job_words.specs.declared.setting.Value.TheVariants.{Named, Set, Number}
-use Rattle.job_words.specs.declared.setting.Verb.{Verb}
-use Rattle.job_words.specs.declared.setting.Verb.TheVariants.{ToRun, ToList, ToSample, ToAssemble, ToContinue, ToDebug}
+use Rattle.mix_io.specs.Settings.{verb_of, key_in, setting_of, setting, named, file, numbered}
+use Rattle.mix_io.specs.Drafts.{given, given_at, index_of, job_by, job_of, main_in, main_file, has_program, made, named_at, nothing, number, number_of, place, set, set_of, steps_in, usual_set}
+use Rattle.mix_io.specs.Words.{bad_at, with_word, draft_of, command_by, command_of}
+use Rattle.mix_io.specs.Asks.{word_at, Sets, IsSet, AreRead, IsSetOr, IsWhere, usual_main, AsksJob, Asks, CanBegin, IsFirstBad}
+use Rattle.mix_io.specs.JobLaws.{CommandIsAsked, RefusalIsFirst}
+use Rattle.mix_io.proofs.Keys.{index-small}
+use Rattle.mix_io.proofs.Held.{Holds, GoesOn, word-next}
+use Rattle.mix_io.specs.declared.job.BadWord.{BadWord}
+use Rattle.mix_io.specs.declared.job.Command.{Command}
+use Rattle.mix_io.specs.declared.job.Command.TheVariants.{Run, List as Listing, Sample, Assemble, Continue, Debug}
+use Rattle.mix_io.specs.declared.job.Job.{Job}
+use Rattle.mix_io.specs.declared.job.Key.TheVariants.{Program, Image, Text, Script}
+use Rattle.mix_io.specs.declared.draft.Draft.{Draft}
+use Rattle.mix_io.specs.declared.setting.Setting.{Setting}
+use Rattle.mix_io.specs.declared.draft.Given.{Given}
+use Rattle.mix_io.specs.declared.setting.Name.{Name}
+use Rattle.mix_io.specs.declared.setting.Name.TheVariants.{File, Main, Ram, Steps, At, Count, Calls, Depth, CodeSet, Save}
+use Rattle.mix_io.specs.declared.setting.Value.{Value}
+use Rattle.mix_io.specs.declared.setting.Value.TheVariants.{Named, Set, Number}
+use Rattle.mix_io.specs.declared.setting.Verb.{Verb}
+use Rattle.mix_io.specs.declared.setting.Verb.TheVariants.{ToRun, ToList, ToSample, ToAssemble, ToContinue, ToDebug}
 
 -- the words before a place are all that can be read
 pub record Stops (verb : Verb) (words : List (List ℕ)) (place : ℕ) : Type 0 where

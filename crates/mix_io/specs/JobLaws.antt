@@ -2,11 +2,11 @@
 use Rattle.std.specs.Prelude.{ℕ, ◌≡◌, ◌<◌, ◌↔◌, List as ListOf, ◌∷◌, length, Ok, Err}
 use Rattle.std.specs.List.Sorted.{IsPermutation}
 use Rattle.std.specs.Option.{option_map}
-use Rattle.job_words.specs.Asks.{word_at, Asks, IsFirstBad}
-use Rattle.job_words.specs.Words.{bad_at, command_of}
-use Rattle.job_words.specs.declared.job.Command.{Command}
-use Rattle.job_words.specs.declared.job.Command.TheVariants.{Run, List, Sample, Assemble, Continue, Debug}
-use Rattle.job_words.specs.declared.job.Job.{Job}
+use Rattle.mix_io.specs.Asks.{word_at, Asks, IsFirstBad}
+use Rattle.mix_io.specs.Words.{bad_at, command_of}
+use Rattle.mix_io.specs.declared.job.Command.{Command}
+use Rattle.mix_io.specs.declared.job.Command.TheVariants.{Run, List, Sample, Assemble, Continue, Debug}
+use Rattle.mix_io.specs.declared.job.Job.{Job}
 
 -- a command is read exactly where the words ask for it
 abbrev pub CommandIsAsked : Type 0

@@ -1,5 +1,5 @@
 ghost use Rattle.std.specs.Prelude.{◌≡◌};
-ghost use Rattle.job_words.specs.Settings.{verb_of, keys as keys_of, text_of, name_in, named_by, value_of, set_of, number_in, number_within, setting_of};
+ghost use Rattle.mix_io.specs.Settings.{verb_of, keys as keys_of, text_of, name_in, named_by, value_of, set_of, number_in, number_within, setting_of};
 
 use super::job::Key;
 use mix_bits::{File, Isa, read_decimal, read_hexadecimal};

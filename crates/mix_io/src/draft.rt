@@ -1,5 +1,5 @@
 ghost use Rattle.std.specs.Prelude.{◌≡◌, ◌+◌, ◌<◌, IfSome, is_none};
-ghost use Rattle.job_words.specs.Drafts.{given as given_of, has_room as has_room_of, is_alone, index_of, job_of, made, main_in, has_program, nothing, number as number_of, place as place_of, set as set_of, settings_in, steps_in, with_setting};
+ghost use Rattle.mix_io.specs.Drafts.{given as given_of, has_room as has_room_of, is_alone, index_of, job_of, made, main_in, has_program, nothing, number as number_of, place as place_of, set as set_of, settings_in, steps_in, with_setting};
 
 use super::job::{Command, Job, Key};
 use super::setting::{Name, Setting, Value, Verb};

@@ -1,8 +1,8 @@
 ghost use Rattle.std.specs.Prelude.{◌≡◌, ◌+◌, ◌<◌, IfOk, map, length};
 ghost use Rattle.std.specs.String.{string_bytes};
-ghost use Rattle.job_words.specs.Drafts.{settings_in};
-ghost use Rattle.job_words.specs.Jobs.{IsProper};
-ghost use Rattle.job_words.specs.Words.{name_at, draft_of, command_by, command_of};
+ghost use Rattle.mix_io.specs.Drafts.{settings_in};
+ghost use Rattle.mix_io.specs.Jobs.{IsProper};
+ghost use Rattle.mix_io.specs.Words.{name_at, draft_of, command_by, command_of};
 
 use super::draft::{Draft, make};
 use super::job::{BadWord, Command};

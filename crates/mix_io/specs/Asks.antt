@@ -2,17 +2,17 @@
 use Rattle.std.specs.Prelude.{ℕ, ◌≡◌, ◌≢◌, ◌+◌, ◌<◌, ◌≤◌, ◌⊎◌, ◌↔◌, List as ListOf, [], length, take, slice_index_or, Option, Some, IfNone, IsSome}
 use Rattle.mix_bits.specs.declared.isa.Isa.{Isa}
 use Rattle.mix_bits.specs.declared.file.File.TheVariants.{Flat, Rsrc, Pef}
-use Rattle.job_words.specs.Settings.{verb_of, setting_of, key_in, setting, named, file, numbered}
-use Rattle.job_words.specs.Drafts.{main_file, usual_set}
-use Rattle.job_words.specs.declared.job.Command.{Command}
-use Rattle.job_words.specs.declared.job.Command.TheVariants.{Run, List, Sample, Assemble, Continue, Debug}
-use Rattle.job_words.specs.declared.job.Job.{Job}
-use Rattle.job_words.specs.declared.job.Key.TheVariants.{Program, Image, Text, Script}
-use Rattle.job_words.specs.declared.setting.Setting.{Setting}
-use Rattle.job_words.specs.declared.setting.Name.TheVariants.{Main, Ram, Steps, At, Count, Calls, Depth, CodeSet, Save}
-use Rattle.job_words.specs.declared.setting.Value.TheVariants.{Set}
-use Rattle.job_words.specs.declared.setting.Verb.{Verb}
-use Rattle.job_words.specs.declared.setting.Verb.TheVariants.{ToRun, ToList, ToSample, ToAssemble, ToContinue, ToDebug}
+use Rattle.mix_io.specs.Settings.{verb_of, setting_of, key_in, setting, named, file, numbered}
+use Rattle.mix_io.specs.Drafts.{main_file, usual_set}
+use Rattle.mix_io.specs.declared.job.Command.{Command}
+use Rattle.mix_io.specs.declared.job.Command.TheVariants.{Run, List, Sample, Assemble, Continue, Debug}
+use Rattle.mix_io.specs.declared.job.Job.{Job}
+use Rattle.mix_io.specs.declared.job.Key.TheVariants.{Program, Image, Text, Script}
+use Rattle.mix_io.specs.declared.setting.Setting.{Setting}
+use Rattle.mix_io.specs.declared.setting.Name.TheVariants.{Main, Ram, Steps, At, Count, Calls, Depth, CodeSet, Save}
+use Rattle.mix_io.specs.declared.setting.Value.TheVariants.{Set}
+use Rattle.mix_io.specs.declared.setting.Verb.{Verb}
+use Rattle.mix_io.specs.declared.setting.Verb.TheVariants.{ToRun, ToList, ToSample, ToAssemble, ToContinue, ToDebug}
 
 abbrev pub word_at : ListOf (ListOf ℕ) → ℕ → ListOf ℕ
 word_at words place = slice_index_or words place []

@@ -3,25 +3,25 @@ use Rattle.std.proofs.Common.{◌≡◌, ℕ, ◌≤◌, ◌&&◌, inl, inr, nat
 use Rattle.std.specs.Option.{option_and_then, option_map}
 use Rattle.std.proofs.lemmas.Bool.Decides.{nat_tests}
 use Rattle.mix_bits.specs.Numbers.{decimal_number}
-use Rattle.job_words.specs.Settings.{file, named, kept_within, number_in, number_within, numbered, value_in, value_of}
-use Rattle.job_words.specs.Jobs.{HasKey, IsProper, IsProperJob, place_in, place_of}
-use Rattle.job_words.specs.Words.{command_of}
-use Rattle.job_words.specs.Asks.{word_at, AreRead, Sets, IsSet, IsSetOr, IsWhere, AsksJob, Asks}
-use Rattle.job_words.proofs.Keys.{Reads, setting-reads}
-use Rattle.job_words.proofs.Asked.{command-asked}
+use Rattle.mix_io.specs.Settings.{file, named, kept_within, number_in, number_within, numbered, value_in, value_of}
+use Rattle.mix_io.specs.Jobs.{HasKey, IsProper, IsProperJob, place_in, place_of}
+use Rattle.mix_io.specs.Words.{command_of}
+use Rattle.mix_io.specs.Asks.{word_at, AreRead, Sets, IsSet, IsSetOr, IsWhere, AsksJob, Asks}
+use Rattle.mix_io.proofs.Keys.{Reads, setting-reads}
+use Rattle.mix_io.proofs.Asked.{command-asked}
 use Rattle.mix_bits.specs.declared.isa.Isa.{Isa}
 use Rattle.mix_bits.specs.declared.file.File.TheVariants.{Flat, Rsrc, Pef}
-use Rattle.job_words.specs.declared.job.BadWord.{BadWord}
-use Rattle.job_words.specs.declared.job.Command.{Command}
-use Rattle.job_words.specs.declared.job.Command.TheVariants.{Run, List as Listing, Sample, Assemble, Continue, Debug}
-use Rattle.job_words.specs.declared.job.Job.{Job}
-use Rattle.job_words.specs.declared.job.Key.{Key}
-use Rattle.job_words.specs.declared.job.Key.TheVariants.{Program, Image, Text, Script}
-use Rattle.job_words.specs.declared.setting.Name.{Name}
-use Rattle.job_words.specs.declared.setting.Name.TheVariants.{File, Ram, Count, Calls, Depth, Save}
-use Rattle.job_words.specs.declared.setting.Value.TheVariants.{Number}
-use Rattle.job_words.specs.declared.setting.Verb.{Verb}
-use Rattle.job_words.specs.declared.setting.Verb.TheVariants.{ToRun, ToList, ToSample, ToAssemble, ToContinue, ToDebug}
+use Rattle.mix_io.specs.declared.job.BadWord.{BadWord}
+use Rattle.mix_io.specs.declared.job.Command.{Command}
+use Rattle.mix_io.specs.declared.job.Command.TheVariants.{Run, List as Listing, Sample, Assemble, Continue, Debug}
+use Rattle.mix_io.specs.declared.job.Job.{Job}
+use Rattle.mix_io.specs.declared.job.Key.{Key}
+use Rattle.mix_io.specs.declared.job.Key.TheVariants.{Program, Image, Text, Script}
+use Rattle.mix_io.specs.declared.setting.Name.{Name}
+use Rattle.mix_io.specs.declared.setting.Name.TheVariants.{File, Ram, Count, Calls, Depth, Save}
+use Rattle.mix_io.specs.declared.setting.Value.TheVariants.{Number}
+use Rattle.mix_io.specs.declared.setting.Verb.{Verb}
+use Rattle.mix_io.specs.declared.setting.Verb.TheVariants.{ToRun, ToList, ToSample, ToAssemble, ToContinue, ToDebug}
 
 word-named : (verb : Verb) (words : List (List ℕ)) (name : Name) (p : ℕ) → Sets verb words p (named name) → HasKey words name p
 word-named verb words name p set =

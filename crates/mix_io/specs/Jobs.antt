@@ -1,15 +1,15 @@
 -- What each command wants, and what holds of each that is read.
 use Rattle.std.specs.Prelude.{ℕ, ◌≡◌, ◌<◌, ◌≤◌, List as ListOf, [], ◌∷◌, ◌++◌, length, slice_index_or, IsTrue, Option, Some, None, IfSome, IfNone, IsSome}
 use Rattle.mix_bits.specs.declared.file.File.TheVariants.{Flat, Rsrc, Pef}
-use Rattle.job_words.specs.Settings.{key_in, has_equals, text_of}
-use Rattle.job_words.specs.Drafts.{main_file}
-use Rattle.job_words.specs.declared.job.Job.{Job}
-use Rattle.job_words.specs.declared.job.Key.{Key}
-use Rattle.job_words.specs.declared.job.Key.TheVariants.{Program, Image, Text, Script}
-use Rattle.job_words.specs.declared.job.Command.{Command}
-use Rattle.job_words.specs.declared.job.Command.TheVariants.{Run, List, Sample, Assemble, Continue, Debug}
-use Rattle.job_words.specs.declared.setting.Name.{Name}
-use Rattle.job_words.specs.declared.setting.Name.TheVariants.{File, Save}
+use Rattle.mix_io.specs.Settings.{key_in, has_equals, text_of}
+use Rattle.mix_io.specs.Drafts.{main_file}
+use Rattle.mix_io.specs.declared.job.Job.{Job}
+use Rattle.mix_io.specs.declared.job.Key.{Key}
+use Rattle.mix_io.specs.declared.job.Key.TheVariants.{Program, Image, Text, Script}
+use Rattle.mix_io.specs.declared.job.Command.{Command}
+use Rattle.mix_io.specs.declared.job.Command.TheVariants.{Run, List, Sample, Assemble, Continue, Debug}
+use Rattle.mix_io.specs.declared.setting.Name.{Name}
+use Rattle.mix_io.specs.declared.setting.Name.TheVariants.{File, Save}
 
 -- the place of the word that names a file of a program
 abbrev pub place_of : Job → Key → Option ℕ

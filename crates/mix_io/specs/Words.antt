@@ -2,12 +2,12 @@
 use Rattle.std.specs.Prelude.{ℕ, ◌+◌, List, [], ◌∷◌, length, slice_index_or, Result, Ok, Err}
 use Rattle.std.specs.Option.{ok_or, option_and_then}
 use Rattle.mix_bits.specs.Results.{◌>>=◌}
-use Rattle.job_words.specs.Settings.{verb_of, setting_of, value_in}
-use Rattle.job_words.specs.Drafts.{nothing, with_setting, made}
-use Rattle.job_words.specs.declared.job.BadWord.{BadWord}
-use Rattle.job_words.specs.declared.job.Command.{Command}
-use Rattle.job_words.specs.declared.draft.Draft.{Draft}
-use Rattle.job_words.specs.declared.setting.Verb.{Verb}
+use Rattle.mix_io.specs.Settings.{verb_of, setting_of, value_in}
+use Rattle.mix_io.specs.Drafts.{nothing, with_setting, made}
+use Rattle.mix_io.specs.declared.job.BadWord.{BadWord}
+use Rattle.mix_io.specs.declared.job.Command.{Command}
+use Rattle.mix_io.specs.declared.draft.Draft.{Draft}
+use Rattle.mix_io.specs.declared.setting.Verb.{Verb}
 
 abbrev pub bad_at : ℕ → BadWord
 bad_at place = record { place = place }

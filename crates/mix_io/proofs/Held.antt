@@ -6,22 +6,22 @@ use Rattle.std.specs.Result.{MatchResult}
 use Rattle.std.proofs.lemmas.List.{length-append, length-set, length_push, get_or_append_left, get_or_push, get_or-set_same, get_or-set_other}
 use Rattle.std.proofs.lemmas.Bool.{and_cases, and_parts, cases_lt, cases_eq}
 use Rattle.mix_bits.specs.declared.file.File.TheVariants.{Flat, Rsrc, Pef}
-use Rattle.job_words.specs.Settings.{verb_of, key_in, setting_of, setting, file, text_of}
-use Rattle.job_words.specs.Drafts.{given, given_at, has_room, index_of, is_alone, is_open, put, with_setting}
-use Rattle.job_words.specs.Words.{bad_at, with_word}
-use Rattle.job_words.specs.Asks.{word_at, Sets, IsSet, AreRead}
-use Rattle.job_words.proofs.Keys.{file-named, index-apart, index-small, setting-reads, text-apart}
-use Rattle.job_words.specs.declared.job.BadWord.{BadWord}
-use Rattle.job_words.specs.declared.job.Key.{Key}
-use Rattle.job_words.specs.declared.job.Key.TheVariants.{Program}
-use Rattle.job_words.specs.declared.draft.Draft.{Draft}
-use Rattle.job_words.specs.declared.draft.Given.{Given}
-use Rattle.job_words.specs.declared.setting.Name.{Name}
-use Rattle.job_words.specs.declared.setting.Name.TheVariants.{File}
-use Rattle.job_words.specs.declared.setting.Setting.{Setting}
-use Rattle.job_words.specs.declared.setting.Value.{Value}
-use Rattle.job_words.specs.declared.setting.Value.TheVariants.{Named}
-use Rattle.job_words.specs.declared.setting.Verb.{Verb}
+use Rattle.mix_io.specs.Settings.{verb_of, key_in, setting_of, setting, file, text_of}
+use Rattle.mix_io.specs.Drafts.{given, given_at, has_room, index_of, is_alone, is_open, put, with_setting}
+use Rattle.mix_io.specs.Words.{bad_at, with_word}
+use Rattle.mix_io.specs.Asks.{word_at, Sets, IsSet, AreRead}
+use Rattle.mix_io.proofs.Keys.{file-named, index-apart, index-small, setting-reads, text-apart}
+use Rattle.mix_io.specs.declared.job.BadWord.{BadWord}
+use Rattle.mix_io.specs.declared.job.Key.{Key}
+use Rattle.mix_io.specs.declared.job.Key.TheVariants.{Program}
+use Rattle.mix_io.specs.declared.draft.Draft.{Draft}
+use Rattle.mix_io.specs.declared.draft.Given.{Given}
+use Rattle.mix_io.specs.declared.setting.Name.{Name}
+use Rattle.mix_io.specs.declared.setting.Name.TheVariants.{File}
+use Rattle.mix_io.specs.declared.setting.Setting.{Setting}
+use Rattle.mix_io.specs.declared.setting.Value.{Value}
+use Rattle.mix_io.specs.declared.setting.Value.TheVariants.{Named}
+use Rattle.mix_io.specs.declared.setting.Verb.{Verb}
 
 -- what words set, the words from the first on set
 pub sets-more : (verb : Verb) (done rest : List (List ℕ)) (p : ℕ) (s : Setting) → Sets verb done p s → Sets verb (done ++ rest) p s

@@ -4,16 +4,16 @@ use Rattle.std.specs.Str.{bytes_eq}
 use Rattle.std.specs.Option.{option_and_then, option_map}
 use Rattle.std.proofs.lemmas.Slice.Eq.{bytes_eq-Decides}
 use Rattle.mix_bits.specs.declared.file.File.TheVariants.{Flat, Rsrc, Pef}
-use Rattle.job_words.specs.Settings.{has_equals, key_in, keys, name_in, setting, setting_in, setting_of, text_of, value_in, value_of}
-use Rattle.job_words.specs.Drafts.{index_of}
-use Rattle.job_words.specs.declared.job.Key.{Key}
-use Rattle.job_words.specs.declared.job.Key.TheVariants.{Program, Image, Text, Script}
-use Rattle.job_words.specs.declared.setting.Name.{Name}
-use Rattle.job_words.specs.declared.setting.Name.TheVariants.{File, Main, Ram, Steps, At, Count, Calls, Depth, CodeSet, Save}
-use Rattle.job_words.specs.declared.setting.Setting.{Setting}
-use Rattle.job_words.specs.declared.setting.Value.{Value}
-use Rattle.job_words.specs.declared.setting.Value.TheVariants.{Named}
-use Rattle.job_words.specs.declared.setting.Verb.{Verb}
+use Rattle.mix_io.specs.Settings.{has_equals, key_in, keys, name_in, setting, setting_in, setting_of, text_of, value_in, value_of}
+use Rattle.mix_io.specs.Drafts.{index_of}
+use Rattle.mix_io.specs.declared.job.Key.{Key}
+use Rattle.mix_io.specs.declared.job.Key.TheVariants.{Program, Image, Text, Script}
+use Rattle.mix_io.specs.declared.setting.Name.{Name}
+use Rattle.mix_io.specs.declared.setting.Name.TheVariants.{File, Main, Ram, Steps, At, Count, Calls, Depth, CodeSet, Save}
+use Rattle.mix_io.specs.declared.setting.Setting.{Setting}
+use Rattle.mix_io.specs.declared.setting.Value.{Value}
+use Rattle.mix_io.specs.declared.setting.Value.TheVariants.{Named}
+use Rattle.mix_io.specs.declared.setting.Verb.{Verb}
 
 -- all keys, by their numbers
 abbrev all : List Name

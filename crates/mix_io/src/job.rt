@@ -1,7 +1,7 @@
 // What a command line can ask for.
 ghost use Rattle.std.specs.Prelude.{◌≡◌, ◌≤◌, length};
-ghost use Rattle.job_words.specs.Jobs.{limit_of, place_in, place_of, save_in};
-ghost use Rattle.job_words.specs.Settings.{key_text as key_text_of};
+ghost use Rattle.mix_io.specs.Jobs.{limit_of, place_in, place_of, save_in};
+ghost use Rattle.mix_io.specs.Settings.{key_text as key_text_of};
 
 use mix_bits::{File, Isa};
 

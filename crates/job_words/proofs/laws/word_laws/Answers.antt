@@ -1,6 +1,0 @@
-use Rattle.job_words.proofs.Asked.{command-asked, refusal-first}
-use Rattle.job_words.proofs.Moves.{order-free}
-use Rattle.job_words.proofs.laws.word_laws.Goals as goal
-
-pub returns : goal.returns
-returns c = record { command = command-asked; refusal = refusal-first; order = order-free }

@@ -1,6 +1,0 @@
-pub mod Settings
-pub mod Drafts
-pub mod Jobs
-pub mod Words
-pub mod Asks
-pub mod Laws
