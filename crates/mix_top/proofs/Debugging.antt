@@ -10,15 +10,15 @@ use Rattle.mixed_machine.specs.Outside.{around_at}
 use Rattle.mixed_machine.specs.State.{State}
 use Rattle.mix_engine.specs.declared.machine.Machine.{Machine}
 use Rattle.mix_debug.specs.Trails.{Trail}
-use Rattle.mix_script.specs.Places.{place, stop_in}
+use Rattle.mix_top.specs.Places.{place, stop_in}
 use Rattle.toolbox.specs.Blames.{BlamesOnly}
-use Rattle.mix_script.specs.Plays.{Plays}
-use Rattle.mix_script.specs.declared.command.Command.{Command}
+use Rattle.mix_top.specs.Plays.{Plays}
+use Rattle.mix_top.specs.declared.command.Command.{Command}
 use Rattle.toolbox.specs.declared.broken.Broken.{Broken}
 use Rattle.mix_top.specs.World.{Accounted, Beside, EndsIn, Keep, beside}
 use Rattle.mix_io.specs.declared.job.Job.{Job}
 use Rattle.mix_load.specs.declared.files.Files.{Files}
-use Rattle.mix_script.specs.Scripts.{script_of}
+use Rattle.mix_top.specs.Scripts.{script_of}
 use Rattle.mix_top.specs.Ends.{DebugWay}
 use Rattle.mix_top.specs.Ends.DebugWay.{line_refused}
 use Rattle.mix_top.specs.Lines.{load_line}

@@ -7,3 +7,11 @@ pub mod Alone
 pub mod Loading
 pub mod Crossings
 pub mod Images
+pub mod Splits
+pub mod Spellings
+pub mod Scripts
+pub mod Overs
+pub mod Playing
+pub mod Stepping
+pub mod Walking
+pub mod Telling

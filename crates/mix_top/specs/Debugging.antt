@@ -5,10 +5,10 @@ use Rattle.toolbox.specs.Effects.{Around}
 use Rattle.mixed_machine.specs.Outside.{Between}
 use Rattle.mixed_machine.specs.State.{State}
 use Rattle.mix_engine.specs.Start.{start_of}
-use Rattle.mix_script.specs.Events.{events_in}
-use Rattle.mix_script.specs.Plays.{Played}
-use Rattle.mix_script.specs.Sessions.{Session}
-use Rattle.mix_script.specs.declared.command.Command.{Command}
+use Rattle.mix_top.specs.Events.{events_in}
+use Rattle.mix_top.specs.Plays.{Played}
+use Rattle.mix_top.specs.Sessions.{Session}
+use Rattle.mix_top.specs.declared.command.Command.{Command}
 use Rattle.toolbox.specs.declared.broken.Broken.{Broken}
 use Rattle.mix_top.specs.Lines.{Refusal, memory_line, refusal}
 use Rattle.mix_top.specs.Running.{broken_status, sinks_at}

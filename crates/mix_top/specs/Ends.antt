@@ -15,8 +15,8 @@ use Rattle.mix_top.specs.Samples.{IsSample, sample_ram, sample_steps}
 use Rattle.call_trace.specs.declared.end.End.{End}
 use Rattle.call_trace.specs.declared.end.End.TheVariants.{Exit as ExitEnd, Fault as FaultEnd, Limit as LimitEnd}
 use Rattle.mix_top.specs.declared.sampled.Sampled.{Sampled}
-use Rattle.mix_script.specs.Scripts.{script_of}
-use Rattle.mix_script.specs.declared.command.Command.{Command as Commanded}
+use Rattle.mix_top.specs.Scripts.{script_of}
+use Rattle.mix_top.specs.declared.command.Command.{Command as Commanded}
 use Rattle.mix_io.specs.Jobs.{limit_of, save_in, wants}
 use Rattle.mix_io.specs.Words.{bad_at, command_of, name_at}
 use Rattle.mix_io.specs.declared.job.Command.{Command}

@@ -13,3 +13,11 @@ pub mod Parts
 pub mod Samples
 pub mod Sample
 pub mod ImageLaws
+pub mod Commands
+pub mod Scripts
+pub mod SpellingLaws
+pub mod Sessions
+pub mod Events
+pub mod Places
+pub mod Plays
+pub mod ScriptParts

@@ -9,6 +9,7 @@
 mod assemble;
 mod checkpoint;
 mod close;
+mod command;
 mod continued;
 mod debug;
 mod files;
@@ -18,17 +19,27 @@ mod laws;
 mod lines;
 mod list;
 mod nothing;
+mod play;
 mod run;
 mod sample_run;
 mod sampled;
 mod sampling;
+mod script;
+mod script_lines;
+mod spelling_laws;
 /// What the status of a call tells.
 pub mod status;
+mod texts;
 mod top;
+mod walk;
 
+pub use command::Command;
 pub use image::sample;
 pub use image_laws::sample_laws;
 pub use laws::checkpoint_laws;
+pub use play::run_script;
 pub use sample_run::run_sample;
 pub use sampled::Sampled;
+pub use script::{BadLine, Script};
+pub use spelling_laws::script_laws;
 pub use top::mixed_main;

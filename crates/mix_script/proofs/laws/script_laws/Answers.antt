@@ -1,5 +1,0 @@
-use Rattle.mix_script.proofs.Scripts.{bad-lines_are_first, scripts-are_lines}
-use Rattle.mix_script.proofs.laws.script_laws.Goals as goal
-
-pub returns : goal.returns
-returns c = record { scripts = scripts-are_lines; bad = bad-lines_are_first }

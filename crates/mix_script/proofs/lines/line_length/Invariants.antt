@@ -1,7 +1,0 @@
--- No line feed stands before.
-use Rattle.std.proofs.Common.{◌≡◌, ◌+◌, drop}
-use Rattle.mix_script.specs.Scripts.{line_length}
-use Rattle.mix_script.proofs.lines.line_length.Given as goal
-
-abbrev pub invariant-loop-i : goal.invariant-loop-i
-invariant-loop-i l = l.i + line_length (drop l.i l.text) ≡ line_length l.text

@@ -1,5 +1,0 @@
-use Rattle.mix_script.proofs.Telling.{does-set}
-use Rattle.mix_script.proofs.run.set_break.Goals as goal
-
-pub returns-clause-does : goal.returns-clause-does
-returns-clause-does g c = does-set c.args.a c.set_break-done.result _ _ _ _ _ _ c.set_break-done.ensures.exact c.set_break-done.ensures.after c.tell_answer.ensures
