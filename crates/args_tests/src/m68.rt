@@ -1,11 +1,11 @@
 // Arguments and results in 68K code.
 use crate::bench::{LO, SELECTOR, VALUES, equal, memory, must, signature, words};
 use big_memory::{Access, Ram};
+use m68_isa::{Ccr, Regs68};
+use mix_bits::Size;
 use mode_switch::{
     below68, deliver68, gather68, popped, put_result68, removed68, result68, select68,
 };
-use m68_isa::{Ccr, Regs68};
-use mix_bits::Size;
 use proc_info::Sig;
 use std::process::Abort;
 

@@ -1,8 +1,8 @@
 // Arguments and results in PowerPC code.
 use crate::bench::{LO, SELECTOR, VALUES, equal, memory, must, signature, words};
 use big_memory::{Access, Ram};
-use mode_switch::{below_ppc, deliver_ppc, gather_ppc, put_result_ppc, result_ppc, select_ppc};
 use mix_bits::Size;
+use mode_switch::{below_ppc, deliver_ppc, gather_ppc, put_result_ppc, result_ppc, select_ppc};
 use ppc_isa::RegsPpc;
 use proc_info::Sig;
 use std::process::Abort;

@@ -2,8 +2,8 @@
 ghost use Rattle.std.specs.Prelude.{◌≡◌, IfOk};
 ghost use Rattle.look_text.specs.Reasons.{is_refused};
 
-use mix_io::read_words;
 use mix_bits::NoMemory;
+use mix_io::read_words;
 use std::alloc::Global;
 
 /// Whether `job_words` refuses a word as the first one behind a command.

@@ -6,8 +6,8 @@ ghost use Rattle.look_text.specs.Whys.{Explains, ExplainsWord, at_place};
 
 use crate::ask::is_refused;
 use crate::label::Label;
-use mix_io::read_words;
 use mix_bits::NoMemory;
+use mix_io::read_words;
 use std::alloc::Global;
 
 /// Why mixedrun refuses words. A place is that of the word, counted from 0.

@@ -10,8 +10,7 @@ ghost use Rattle.m68_effects.specs.Ops.{by_op};
 ghost use Rattle.m68_effects.specs.Parts.{after, changed, pairwise};
 
 use big_memory::{Did, Ram};
-use m68_effects::{find, go_on, put, source, value};
-use m68_effects::{Operation, apply};
+use m68_effects::{Operation, apply, find, go_on, put, source, value};
 use m68_isa::{Op68, Regs68, is_in_memory, lower_of, size_bits_of, upper_of};
 use mix_bits::{Fault, Size, trunc, with_low};
 

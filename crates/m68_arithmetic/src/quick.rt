@@ -11,8 +11,7 @@ ghost use Rattle.m68_arithmetic.specs.Parts.{with_away};
 
 use super::ways::{Way, away};
 use big_memory::{Did, Ram};
-use m68_effects::go_on;
-use m68_effects::{Operation, change_operand, change_register};
+use m68_effects::{Operation, change_operand, change_register, go_on};
 use m68_isa::{Op68, Regs68, lower_of, mode_of, quick_of};
 use mix_bits::Fault;
 

@@ -11,8 +11,8 @@ ghost use Rattle.m68_effects.specs.Words.{words_at};
 ghost use Rattle.m68_effects.specs.Operations.{changed_at, changed_by};
 
 use super::operation::{Operation, apply, set_flags};
-use big_memory::{Did, Ram};
 use crate::{data_address, find, find_usual, go_on, immediate_at, put, put_usual, value};
+use big_memory::{Did, Ram};
 use m68_isa::{Regs68, immediate_words, is_long, lower_of, mode_of, size_bits_of, upper_of};
 use mix_bits::{Fault, Size, trunc, with_low};
 

@@ -1,6 +1,10 @@
-//! What each 68K instruction does, as definitions, and the parts of it that the bodies of many
-//! instructions share: an operation on two numbers, an operand that it changes, and a data register that
-//! takes its result.
+//! What each 68K instruction does, as definitions; operands: the addressing modes, and reading and writing what they
+//! name; and the parts that the bodies of many instructions share: an operation on two numbers, an operand that it
+//! changes, and a data register that takes its result.
+//!
+//! [`place`], [`read_at`] and [`write_at`] work on a decoded operand. Others find, read and write the operands of an
+//! instruction's words, each word as it is used, or one address. What is refused has changed neither registers nor
+//! memory; its fault is left in a cell, but for the calls of usual operands, which tell none.
 #![tactic(auto)]
 
 mod accesses;

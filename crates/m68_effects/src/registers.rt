@@ -10,8 +10,8 @@ ghost use Rattle.m68_effects.specs.Words.{words_at};
 ghost use Rattle.m68_effects.specs.Operations.{taken_at, taken_by};
 
 use super::operation::{Operation, apply};
-use big_memory::{Did, Ram};
 use crate::{data_address, go_on, immediate_at, load, source, usual_source};
+use big_memory::{Did, Ram};
 use m68_isa::{Regs68, immediate_words, is_long, lower_of, mode_of, size_bits_of, upper_of};
 use mix_bits::{Fault, Size, trunc, with_low};
 

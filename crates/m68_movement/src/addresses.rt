@@ -11,7 +11,9 @@ ghost use Rattle.m68_isa.specs.Fits.{Fits};
 ghost use Rattle.m68_movement.specs.Parts.{pushes};
 
 use big_memory::{Did, Ram};
-use m68_effects::{backward, control, extended_word, go_on, long_at, pop, push, push_if_open, store};
+use m68_effects::{
+    backward, control, extended_word, go_on, long_at, pop, push, push_if_open, store,
+};
 use m68_isa::{Op68, Regs68, lower_of, mode_of, upper_of};
 use mix_bits::{Fault, Size, onward};
 

@@ -1,8 +1,13 @@
 //! What the machine meets of the world outside it: files, input, output, devices and what is kept, by five traits,
-//! each with objects in memory for tests and for closed runs, and, but for devices, with adapters over std.
+//! each with objects in memory for tests and for closed runs, and, but for devices, with adapters over std; and the
+//! words of a command line: which command they give, and which word is the first bad one.
 //!
 //! Devices stand in numbered slots, with a journal of all asks. The layers above take any type with the trait
 //! `Devices`; a `Rack` of boxed devices is the one that a program makes.
+//!
+//! `read_words` answers exactly the command or the first bad word, for `run`, `list`, `sample`, `assemble`, `continue`
+//! and `debug`; `word_laws` says by what each word sets when that is a command, and which one. Which files a command
+//! wants is `Command::place`, in the order of `Key::ALL`; what it keeps is `Command::save`.
 #![tactic(auto)]
 
 mod answers;

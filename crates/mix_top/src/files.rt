@@ -6,9 +6,8 @@ ghost use Rattle.mix_top.specs.Files.{AreFiles, IsOf, bytes_in};
 ghost use Rattle.mix_top.specs.World.{NoneRose, counting};
 ghost use Rattle.mix_top.specs.Parts.{Adds, Misses, MissesFirst, with_file as with_file_of};
 
-use mix_io::{Command, Key, file_name};
 use mix_bits::File;
-use mix_io::{FetchError, Shelf};
+use mix_io::{Command, FetchError, Key, Shelf, file_name};
 use mix_load::{FileBytes, Files};
 use std::alloc::Global;
 

@@ -2,6 +2,9 @@
 //!
 //! `mixed_main` carries the promise of the program: a call ends in one of the ways of `specs/Ends`, with its cause.
 //!
+//! Scripts of the debugger: `Script::read` tests a whole text before anything is done. `run_script` does, for each
+//! debugger and each outside, the events that the commands have by definition.
+//!
 //! The sample is a program whose 68K and PowerPC code call each other, as deep as is asked for. `run_sample` counts the
 //! crossings of its run: a step at a time, with no input, no devices, and an output and a trace that keep nothing.
 #![tactic(auto)]

@@ -19,9 +19,8 @@ use super::list::{Span, list_files};
 use super::run::run_files;
 use super::sampling::write_sample;
 use super::status::BAD_WORDS;
-use mix_io::{Command, file_name, read_words};
 use mix_engine::Outside;
-use mix_io::{Devices, Keeper, Shelf, Sink, Source};
+use mix_io::{Command, Devices, Keeper, Shelf, Sink, Source, file_name, read_words};
 use std::alloc::Global;
 
 /// All that the program does, over words and six objects of the outside. The answer is the status of the

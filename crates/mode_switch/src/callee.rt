@@ -9,9 +9,8 @@ ghost use Rattle.mode_switch.specs.Callee.{below as below_lem, callee_sp, delive
 ghost use Rattle.mode_switch.specs.Views.{crossing};
 ghost use Rattle.mode_switch.specs.Wanted.{passed_selector as passed_selector_lem};
 
-use crate::{Call, Entry};
+use crate::{Call, Entry, Words, below_ppc, below68, removed68, start_68, start_ppc};
 use big_memory::Ram;
-use crate::{Words, below_ppc, below68, removed68, start_68, start_ppc};
 use m68_isa::Regs68;
 use mix_bits::{Isa, onward};
 use ppc_isa::RegsPpc;

@@ -7,9 +7,8 @@ ghost use Rattle.mode_switch.specs.Wanted.{Means, goes_by as goes_by_lem, loaded
 
 use crate::descriptor::{Asker, wants_desc};
 use crate::records::{call_of, no_record, target_of};
-use crate::{Target, Wanted};
+use crate::{Target, Wanted, select68};
 use big_memory::Ram;
-use crate::select68;
 use m68_isa::Regs68;
 use mix_bits::{Fault, Isa};
 use proc_info::{Rec, Sig, choose_among};

@@ -9,9 +9,8 @@ ghost use Rattle.mode_switch.specs.Wanted.{Means, called_by as called_by_lem, se
 
 use crate::descriptor::{Asker, wants_desc};
 use crate::records::{bad_desc, call_of, no_record};
-use crate::{Call, Target, Wanted};
+use crate::{Call, Target, Wanted, select_ppc};
 use big_memory::Ram;
-use crate::select_ppc;
 use mix_bits::{Fault, FaultKind, Isa};
 use ppc_isa::RegsPpc;
 use proc_info::{BadDesc, MIXED_MODE_MAGIC, Rec, Sig, choose_among, read};

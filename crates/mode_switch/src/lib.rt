@@ -1,9 +1,11 @@
 //! A mode switch between 68K and PowerPC code: what a caller of either instruction set wants from a call
-//! and passes to it, what a callee is handed, and what its return gives back
-//! (Inside Macintosh: PowerPC System Software, chapter 2). It knows registers and memory, and no chain of
-//! suspended callers.
+//! and passes to it, what a callee is handed, and what its return gives back; and the arguments and results of calls:
+//! where each convention of the Mixed Mode Manager has them in 68K code, where they are in PowerPC code, how they are
+//! read, and how they are handed over (Inside Macintosh: PowerPC System Software, chapters 1 and 2). It knows registers
+//! and memory, and no chain of suspended callers.
 //!
-//! Each call answers the definition's value, and one that is refused has changed nothing.
+//! Each call answers the definition's value, and one that is refused has changed nothing. What was handed over reads
+//! back as the arguments, cut to their sizes, and no byte beside it changes.
 #![tactic(auto)]
 
 mod callee;

@@ -6,9 +6,8 @@ ghost use Rattle.switch_frame.specs.Records.{isa_of};
 ghost use Rattle.mode_switch.specs.Passed.{behind, entry_at as entry_at_lem, gathered, passed};
 ghost use Rattle.mode_switch.specs.Views.{answered, crossing, going_on};
 
-use crate::{Call, Target};
+use crate::{Call, Target, Words, gather_ppc, gather68};
 use big_memory::{Access, Ram};
-use crate::{Words, gather_ppc, gather68};
 use mix_bits::{aligned, onward};
 use proc_info::Sig;
 use switch_frame::Active;

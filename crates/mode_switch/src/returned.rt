@@ -3,8 +3,8 @@ ghost use Rattle.std.specs.Prelude.{◌≡◌};
 ghost use Rattle.proc_info.specs.Views.{signature};
 ghost use Rattle.mode_switch.specs.Returned.{GivesBack, Puts, given_back, put_result as put_result_lem, result_at as result_at_lem};
 
-use big_memory::{Access, Ram, memory_laws};
 use crate::{put_result_ppc, put_result68, result_ppc, result68};
+use big_memory::{Access, Ram, memory_laws};
 use proc_info::Sig;
 use switch_frame::Active;
 
