@@ -4,6 +4,7 @@ pub mod Fields
 pub mod Words
 pub mod Valid
 pub mod Made
+pub mod Opcodes
 pub mod Rows
 pub mod Laws
 pub mod Targets

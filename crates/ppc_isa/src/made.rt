@@ -1,6 +1,7 @@
 ghost use Rattle.std.specs.Prelude.{◌≡◌};
 ghost use Rattle.ppc_isa.specs.Fields.{fields_of};
 ghost use Rattle.ppc_isa.specs.Made.{made};
+ghost use Rattle.ppc_isa.specs.Opcodes.{IsFrom256, IsFromOpcode19, IsFromOpcode31};
 ghost use Rattle.ppc_isa.specs.Rows.{decoded};
 
 use super::fields::{Fields, fields_of};
@@ -23,7 +24,7 @@ macro_rules! made {
 
 /// The instruction that a word's operation makes of the word's fields.
 pub fn instruction_of(op: OpPpc, word: u32) -> Option<InstrPpc>
-    requires { decoded word ≡ made op (fields_of word) }
+    requires meaning { decoded word ≡ made op (fields_of word) }
     ensures { result ≡ made op (fields_of word) }
 {
     let Fields {
@@ -34,8 +35,8 @@ pub fn instruction_of(op: OpPpc, word: u32) -> Option<InstrPpc>
         last,
         ..
     } = fields_of(word);
-    let (oe, aa) = (is_overflow(word), is_absolute(word));
-    let (field, from) = (d / 4, a / 4);
+    let aa = is_absolute(word);
+    let field = d / 4;
     let (mb, me) = (mask_begin_of(word) as u8, mask_end_of(word) as u8);
     match op {
         OpPpc::Twi => made!(TrapWordImmediate => to: d, a, immediate: low),
@@ -82,6 +83,20 @@ pub fn instruction_of(op: OpPpc, word: u32) -> Option<InstrPpc>
         OpPpc::Sthu => made!(Store => kind: StoreKind::Half, update: true, s: d, a, offset: low),
         OpPpc::Lmw => made!(LoadMultiple => d, a, offset: low),
         OpPpc::Stmw => made!(StoreMultiple => s: d, a, offset: low),
+        _ => of_opcode_19(op, word),
+    }
+}
+
+/// The same of opcode 19, or of 31.
+fn of_opcode_19(op: OpPpc, word: u32) -> Option<InstrPpc>
+    requires meaning { decoded word ≡ made op (fields_of word) }
+    requires opcode { IsFromOpcode19 op }
+    ensures { result ≡ made op (fields_of word) }
+{
+    let Fields { d, a, b, last, .. } = fields_of(word);
+    let field = d / 4;
+    let from = a / 4;
+    match op {
         OpPpc::Mcrf => made!(MoveConditionField => field, from),
         OpPpc::Bclr =>
             made!(BranchConditionalToRegister => register: BranchRegister::Link, bo: d, bi: a, lk: last),
@@ -96,6 +111,20 @@ pub fn instruction_of(op: OpPpc, word: u32) -> Option<InstrPpc>
         OpPpc::Cror => made!(ConditionLogical => op: LogicalOp::Or, d, a, b),
         OpPpc::Bcctr =>
             made!(BranchConditionalToRegister => register: BranchRegister::Count, bo: d, bi: a, lk: last),
+        _ => of_opcode_31(op, word),
+    }
+}
+
+/// The same of opcode 31.
+fn of_opcode_31(op: OpPpc, word: u32) -> Option<InstrPpc>
+    requires meaning { decoded word ≡ made op (fields_of word) }
+    requires opcode { IsFromOpcode31 op }
+    ensures { result ≡ made op (fields_of word) }
+{
+    let Fields { d, a, b, last, .. } = fields_of(word);
+    let oe = is_overflow(word);
+    let field = d / 4;
+    match op {
         OpPpc::Cmp => made!(Compare => signed: true, field, a, b),
         OpPpc::Tw => made!(TrapWord => to: d, a, b),
         OpPpc::Subfc => made!(SubtractFrom => carry: CarryUse::Carrying, d, a, b, oe, rc: last),
@@ -130,6 +159,20 @@ pub fn instruction_of(op: OpPpc, word: u32) -> Option<InstrPpc>
             made!(AddExtended => operand: ExtendedOperand::MinusOne, d, a, oe, rc: last),
         OpPpc::Mullw => made!(MultiplyLow => d, a, b, oe, rc: last),
         OpPpc::Stbux => made!(StoreIndexed => kind: StoreKind::Byte, update: true, s: d, a, b),
+        _ => of_extended_from_256(op, word),
+    }
+}
+
+/// The same of opcode 31 with an extended opcode of 256 or more.
+fn of_extended_from_256(op: OpPpc, word: u32) -> Option<InstrPpc>
+    requires meaning { decoded word ≡ made op (fields_of word) }
+    requires opcode { IsFrom256 op }
+    ensures { result ≡ made op (fields_of word) }
+{
+    let Fields { d, a, b, last, .. } = fields_of(word);
+    let oe = is_overflow(word);
+    let field = d / 4;
+    match op {
         OpPpc::Add => made!(Add => carry: CarryUse::Plain, d, a, b, oe, rc: last),
         OpPpc::Lhzx => made!(LoadIndexed => kind: LoadKind::Half, update: false, d, a, b),
         OpPpc::Eqv => made!(Logical => op: LogicalOp::Equivalent, a, s: d, b, rc: last),
@@ -165,6 +208,6 @@ pub fn instruction_of(op: OpPpc, word: u32) -> Option<InstrPpc>
         OpPpc::Sthbrx => made!(StoreReversed => kind: ReversedKind::Half, s: d, a, b),
         OpPpc::Extsh => made!(Unary => op: UnaryOp::ExtendSignHalf, a, s: d, rc: last),
         OpPpc::Extsb => made!(Unary => op: UnaryOp::ExtendSignByte, a, s: d, rc: last),
-        OpPpc::Invalid => None,
+        _ => None,
     }
 }
