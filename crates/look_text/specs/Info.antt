@@ -1,4 +1,4 @@
--- A procInfo word in words: the places are those that call_args defines.
+-- A procInfo word in words: the places are those that mode_switch defines.
 use Rattle.std.specs.Prelude.{ℕ, ◌+◌, List, [], ◌∷◌, ◌++◌, codes, decimal, if◌then◌else◌, Result, Ok, Err}
 use Rattle.mix_bits.specs.Text.{hexadecimal}
 use Rattle.mix_bits.specs.declared.size.Size.{Size}

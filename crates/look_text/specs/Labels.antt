@@ -9,7 +9,7 @@ use Rattle.mix_io.specs.declared.setting.Name.TheVariants.{File, Main as main_na
 use Rattle.look_text.specs.declared.label.Label.{Label}
 use Rattle.look_text.specs.declared.label.Label.TheVariants.{Flat, Rsrc, Pef, Main, Ram, Steps, Save, At, Count, Calls, Depth, CodeSet, Text, Image, Script}
 
--- the name that job_words has for a key
+-- the name that mix_io has for a key
 abbrev pub name_of : Label → Name
 name_of Flat = File (Program flat_file)
 name_of Rsrc = File (Program rsrc_file)
@@ -27,7 +27,7 @@ name_of Text = File text_file
 name_of Image = File image_file
 name_of Script = File script_file
 
--- the text that job_words has for it
+-- the text that mix_io has for it
 abbrev pub text_of : Label → List ℕ
 text_of label = name_text (name_of label)
 

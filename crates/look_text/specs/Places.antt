@@ -19,6 +19,6 @@ place_text (Data n) = codes "D" ++ decimal n
 place_text (Address n) = codes "A" ++ decimal n
 place_text (Condition flag) = flag_text flag
 
--- the place of word i of a call in PowerPC code, as call_args reads it: r3 to r10, and then the stack frame
+-- the place of word i of a call in PowerPC code, as mode_switch reads it: r3 to r10, and then the stack frame
 unfoldable pub ppc_place : ℕ → List ℕ
 ppc_place i = if nat_lt i 8 then codes "r" ++ decimal (3 + i) else (codes "r1+" ++ decimal (24 + 4 * i))

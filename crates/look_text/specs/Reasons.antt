@@ -1,4 +1,4 @@
--- Why mixedrun refuses words, by what job_words says of the command with one word alone.
+-- Why mixedrun refuses words, by what mix_io says of the command with one word alone.
 use Rattle.std.specs.Prelude.{ℕ, ◌==◌, Bool, false, List, [], ◌∷◌, Result, Ok, Err}
 use Rattle.mix_io.specs.declared.job.BadWord.{BadWord}
 use Rattle.mix_io.specs.declared.job.Command.{Command}

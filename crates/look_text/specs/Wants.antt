@@ -1,4 +1,4 @@
--- What the key of a word wants: the values that job_words takes for it, and their kind in words.
+-- What the key of a word wants: the values that mix_io takes for it, and their kind in words.
 use Rattle.std.specs.Prelude.{ℕ, ◌≡◌, ◌++◌, List, codes, decimal, Option}
 use Rattle.mix_bits.specs.Numbers.{decimal_number, hexadecimal_number}
 use Rattle.mix_io.specs.Settings.{named_by, number_in, number_within, set_of, value_of}

@@ -1,4 +1,4 @@
-// What `job_words` says of a command with one word behind it.
+// What `mix_io` says of a command with one word behind it.
 ghost use Rattle.std.specs.Prelude.{◌≡◌, IfOk};
 ghost use Rattle.look_text.specs.Reasons.{is_refused};
 
@@ -6,7 +6,7 @@ use mix_bits::NoMemory;
 use mix_io::read_words;
 use std::alloc::Global;
 
-/// Whether `job_words` refuses a word as the first one behind a command.
+/// Whether `mix_io` refuses a word as the first one behind a command.
 pub fn is_refused(alloc: Global, command: &str, word: &str) -> Result<bool, NoMemory>
     ensures { IfOk result (λ refused. refused ≡ is_refused command.now word.now) }
 {

@@ -87,7 +87,7 @@ impl Label {
         }
     }
 
-    /// What the key wants: the kind of the values that job_words takes for it.
+    /// What the key wants: the kind of the values that mix_io takes for it.
     #[tactic(auto, using(crate::proofs::Ranges::written))]
     pub fn wants(self) -> &'static str
         ensures text { result.now ≡ wants_text self }

@@ -1,11 +1,11 @@
 //! Texts that explain: a procInfo word, the lines of a trace, and why words are refused; and the words of mixedlook's
 //! command line.
 //!
-//! Each text is exactly that of a definition: `info_text` of the word's signature and of the places that `call_args`
+//! Each text is exactly that of a definition: `info_text` of the word's signature and of the places that `mode_switch`
 //! defines, `tree_line` of a line's event.
 //!
 //! `read_look` answers exactly the command that words ask for, or why there is none; `explain` finds the word that
-//! `job_words` refuses, its key, and what is wrong with it by what `job_words` says of that word alone. `refusal_text` and
+//! `mix_io` refuses, its key, and what is wrong with it by what `mix_io` says of that word alone. `refusal_text` and
 //! `why_text` write exactly the sentences of their definitions on the one and the other.
 #![tactic(auto)]
 
