@@ -6,6 +6,6 @@ pub mod Heard
 pub mod Steps
 pub mod Keys
 pub mod Held
-pub mod Asked
+pub mod Requested
 pub mod Moves
 mod Proper

@@ -14,7 +14,7 @@ use Rattle.mix_io.specs.Settings.{verb_of, key_in, setting_of, setting, named, f
 use Rattle.mix_io.specs.Drafts.{main_file}
 use Rattle.mix_io.specs.Asks.{word_at, Sets, IsSet, AreRead, IsSetOr, IsWhere, usual_main, AsksJob, Asks}
 use Rattle.mix_io.specs.JobLaws.{moved_job, moved, Stands, OrderIsFree}
-use Rattle.mix_io.proofs.Asked.{no-verb, command-asked}
+use Rattle.mix_io.proofs.Requested.{no-verb, command-asked}
 use Rattle.mix_io.specs.declared.job.Command.{Command}
 use Rattle.mix_io.specs.declared.job.Command.TheVariants.{Run, List as Listing, Sample, Assemble, Continue, Debug}
 use Rattle.mix_io.specs.declared.job.Job.{Job}

@@ -8,7 +8,7 @@ use Rattle.mix_io.specs.Jobs.{HasKey, IsProper, IsProperJob, place_in, place_of}
 use Rattle.mix_io.specs.Words.{command_of}
 use Rattle.mix_io.specs.Asks.{word_at, AreRead, Sets, IsSet, IsSetOr, IsWhere, AsksJob, Asks}
 use Rattle.mix_io.proofs.Keys.{Reads, setting-reads}
-use Rattle.mix_io.proofs.Asked.{command-asked}
+use Rattle.mix_io.proofs.Requested.{command-asked}
 use Rattle.mix_bits.specs.declared.isa.Isa.{Isa}
 use Rattle.mix_bits.specs.declared.file.File.TheVariants.{Flat, Rsrc, Pef}
 use Rattle.mix_io.specs.declared.job.BadWord.{BadWord}

@@ -1,4 +1,4 @@
-use Rattle.mix_io.proofs.Asked.{command-asked, refusal-first}
+use Rattle.mix_io.proofs.Requested.{command-asked, refusal-first}
 use Rattle.mix_io.proofs.Moves.{order-free}
 use Rattle.mix_io.proofs.job_laws.word_laws.Goals as goal
 
