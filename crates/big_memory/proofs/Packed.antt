@@ -1,7 +1,7 @@
--- Laws of marks that are packed in bytes.
+-- Laws of marks that are packed in words.
 use Rattle.std.proofs.Common.{◌≡◌, ◌≢◌, inl, inr, ℕ, zero, suc, ◌+◌, ◌-◌, ◌*◌, ◌/◌, ◌%◌, ◌^◌, ◌<◌, ◌≤◌, ◌==◌, drop, Bool, true, false, List, [], ◌∷◌, ◌++◌, length, get_or, set, replicate, slice_range, ◌⊎◌, bit_and, bit_or, arith, sym, ◌∙◌, ap, refl, lit<}
 use Rattle.std.specs.List.{list_any}
-use Rattle.std.specs.Int.{bit_at, w8}
+use Rattle.std.specs.Int.{bit_at, w32}
 use Rattle.std.proofs.lemmas.List.{get_or-map, get_or_append_left, get_or-append_right, get_or-set_same, get_or-set_other, length-set, ext_get_or, replicate-append-replicate, length-replicate, get_or-replicate, length-take, length-drop, get_or-take, get_or-drop}
 use Rattle.std.proofs.lemmas.List.Folds.{list_any_at}
 use Rattle.std.proofs.Math.Nat.{pow-le-pow_right}
@@ -13,90 +13,90 @@ use Rattle.big_memory.specs.Lists.{put}
 use Rattle.big_memory.specs.Marks.{places_in, marks_in, marks_of}
 use Rattle.big_memory.proofs.Lists.{length-put, put-append, get_or-put_inside, get_or-put_outside}
 
--- eight marks a byte
-pub length-marks : (guard : List ℕ) → length (marks_of guard) ≡ 8 * length guard
+-- 32 marks a word
+pub length-marks : (guard : List ℕ) → length (marks_of guard) ≡ 32 * length guard
 length-marks [] = refl
 length-marks (x ∷ xs) = omega (arith, length-marks xs)
 
--- the marks of bytes that mark nothing
-pub marks-zeros : (n : ℕ) → marks_of (replicate n 0) ≡ replicate (8 * n) false
+-- the marks of words that mark nothing
+pub marks-zeros : (n : ℕ) → marks_of (replicate n 0) ≡ replicate (32 * n) false
 marks-zeros zero = refl
 marks-zeros (suc n) =
-    let more : 8 + 8 * n ≡ 8 * suc n = omega arith in
-    ap (λ marks. replicate 8 false ++ marks) (marks-zeros n) ∙ replicate-append-replicate 8 (8 * n) false ∙ ap (λ k. replicate k false) more
+    let more : 32 + 32 * n ≡ 32 * suc n = omega arith in
+    ap (λ marks. replicate 32 false ++ marks) (marks-zeros n) ∙ replicate-append-replicate 32 (32 * n) false ∙ ap (λ k. replicate k false) more
 
--- a place of a byte is its own index
-place_at : (place : ℕ) → place < 8 → get_or places_in place 0 ≡ place
-place_at place small = eqb-true _ _ (every_at 3 (λ k. get_or places_in k 0 == k) place refl small)
+-- a place of a word is its own index
+place_at : (place : ℕ) → place < 32 → get_or places_in place 0 ≡ place
+place_at place small = eqb-true _ _ (every_at 5 (λ k. get_or places_in k 0 == k) place refl small)
 
--- a mark of a byte is its bit
-get_or-marks_in : (byte place : ℕ) → place < 8 → get_or (marks_in byte) place false ≡ (bit_at byte place == 1)
-get_or-marks_in byte place small =
-    get_or-map (λ k. bit_at byte k == 1) places_in place 0 false small ∙ ap (λ k. bit_at byte k == 1) (place_at place small)
+-- a mark of a word is its bit
+get_or-marks_in : (word place : ℕ) → place < 32 → get_or (marks_in word) place false ≡ (bit_at word place == 1)
+get_or-marks_in word place small =
+    get_or-map (λ k. bit_at word k == 1) places_in place 0 false small ∙ ap (λ k. bit_at word k == 1) (place_at place small)
 
--- the mark of a unit stands in its byte
-get_or-marks : (guard : List ℕ) (q r k : ℕ) → k ≡ 8 * q + r → r < 8 → q < length guard → get_or (marks_of guard) k false ≡ get_or (marks_in (get_or guard q 0)) r false
+-- the mark of a unit stands in its word
+get_or-marks : (guard : List ℕ) (q r k : ℕ) → k ≡ 32 * q + r → r < 32 → q < length guard → get_or (marks_of guard) k false ≡ get_or (marks_in (get_or guard q 0)) r false
 get_or-marks [] q r k unit small within = absurd (omega arith)
 get_or-marks (x ∷ xs) zero r k unit small within =
     let same : k ≡ r = omega arith in rw same (get_or_append_left (marks_in x) (marks_of xs) false r small)
 get_or-marks (x ∷ xs) (suc q) r k unit small within =
-    get_or-append_right (marks_in x) (marks_of xs) 8 k false refl (omega arith) ∙ get_or-marks xs q r (k - 8) (omega arith) small (omega arith)
+    get_or-append_right (marks_in x) (marks_of xs) 32 k false refl (omega arith) ∙ get_or-marks xs q r (k - 32) (omega arith) small (omega arith)
 
 -- the same for a unit's number
-pub get_or-marks_at : (guard : List ℕ) (unit : ℕ) → unit < length (marks_of guard) → get_or (marks_of guard) unit false ≡ (bit_at (get_or guard (unit / 8) 0) (unit % 8) == 1)
+pub get_or-marks_at : (guard : List ℕ) (unit : ℕ) → unit < length (marks_of guard) → get_or (marks_of guard) unit false ≡ (bit_at (get_or guard (unit / 32) 0) (unit % 32) == 1)
 get_or-marks_at guard unit within =
-    get_or-marks guard (unit / 8) (unit % 8) unit (omega arith) (omega arith) (omega (arith, length-marks guard)) ∙ get_or-marks_in _ _ (omega arith)
+    get_or-marks guard (unit / 32) (unit % 32) unit (omega arith) (omega arith) (omega (arith, length-marks guard)) ∙ get_or-marks_in _ _ (omega arith)
 
--- a unit in a byte of the guard that was replaced, and one in another byte
-get_or-marks_same : (guard : List ℕ) (q k new : ℕ) → q < length guard → k / 8 ≡ q → get_or (marks_of (set guard q new)) k false ≡ (bit_at new (k % 8) == 1)
+-- a unit in a word of the guard that was replaced, and one in another word
+get_or-marks_same : (guard : List ℕ) (q k new : ℕ) → q < length guard → k / 32 ≡ q → get_or (marks_of (set guard q new)) k false ≡ (bit_at new (k % 32) == 1)
 get_or-marks_same guard q k new within here =
     let there : k < length (marks_of (set guard q new)) = omega (arith, length-marks (set guard q new), length-set guard q new) in
-    let byte : get_or (set guard q new) (k / 8) 0 ≡ new = rw here (get_or-set_same guard q new 0 within) in
-    get_or-marks_at (set guard q new) k there ∙ ap (λ b. bit_at b (k % 8) == 1) byte
+    let word : get_or (set guard q new) (k / 32) 0 ≡ new = rw here (get_or-set_same guard q new 0 within) in
+    get_or-marks_at (set guard q new) k there ∙ ap (λ b. bit_at b (k % 32) == 1) word
 
-get_or-marks_other : (guard : List ℕ) (q k new : ℕ) → k < length (marks_of guard) → k / 8 ≢ q → get_or (marks_of (set guard q new)) k false ≡ get_or (marks_of guard) k false
+get_or-marks_other : (guard : List ℕ) (q k new : ℕ) → k < length (marks_of guard) → k / 32 ≢ q → get_or (marks_of (set guard q new)) k false ≡ get_or (marks_of guard) k false
 get_or-marks_other guard q k new within other =
     let there : k < length (marks_of (set guard q new)) = omega (arith, length-marks guard, length-marks (set guard q new), length-set guard q new) in
-    get_or-marks_at (set guard q new) k there ∙ ap (λ b. bit_at b (k % 8) == 1) (get_or-set_other guard q (k / 8) new 0 other) ∙ sym (get_or-marks_at guard k within)
+    get_or-marks_at (set guard q new) k there ∙ ap (λ b. bit_at b (k % 32) == 1) (get_or-set_other guard q (k / 32) new 0 other) ∙ sym (get_or-marks_at guard k within)
 
 -- a unit whose bit stays
-get_or-marks_kept : (guard : List ℕ) (q k new : ℕ) → q < length guard → k < length (marks_of guard) → (k / 8 ≡ q → bit_at new (k % 8) ≡ bit_at (get_or guard q 0) (k % 8)) → get_or (marks_of (set guard q new)) k false ≡ get_or (marks_of guard) k false
-get_or-marks_kept guard q k new byte within kept =
-    elim (cases_eq (k / 8) q) [
+get_or-marks_kept : (guard : List ℕ) (q k new : ℕ) → q < length guard → k < length (marks_of guard) → (k / 32 ≡ q → bit_at new (k % 32) ≡ bit_at (get_or guard q 0) (k % 32)) → get_or (marks_of (set guard q new)) k false ≡ get_or (marks_of guard) k false
+get_or-marks_kept guard q k new word within kept =
+    elim (cases_eq (k / 32) q) [
       | inl here ↦
-          get_or-marks_same guard q k new byte here ∙ ap (λ bit. bit == 1) (kept here)
-          ∙ ap (λ b. bit_at (get_or guard b 0) (k % 8) == 1) (sym here) ∙ sym (get_or-marks_at guard k within)
+          get_or-marks_same guard q k new word here ∙ ap (λ bit. bit == 1) (kept here)
+          ∙ ap (λ b. bit_at (get_or guard b 0) (k % 32) == 1) (sym here) ∙ sym (get_or-marks_at guard k within)
       | inr other ↦ get_or-marks_other guard q k new within other
     ]
 
--- a byte of the guard replaced by one with another run of marks
-pub put-marks : (guard : List ℕ) (q place end new : ℕ) (on : Bool) → q < length guard → place ≤ end → end ≤ 8
+-- a word of the guard replaced by one with another run of marks
+pub put-marks : (guard : List ℕ) (q place end new : ℕ) (on : Bool) → q < length guard → place ≤ end → end ≤ 32
     → ((k : ℕ) → place ≤ k → k < end → (bit_at new k == 1) ≡ on)
     → ((k : ℕ) → k < place → bit_at new k ≡ bit_at (get_or guard q 0) k)
-    → ((k : ℕ) → end ≤ k → k < 8 → bit_at new k ≡ bit_at (get_or guard q 0) k)
-    → marks_of (set guard q new) ≡ put (8 * q + place) (replicate (end - place) on) (marks_of guard)
-put-marks guard q place end new on byte order within inside below above =
+    → ((k : ℕ) → end ≤ k → k < 32 → bit_at new k ≡ bit_at (get_or guard q 0) k)
+    → marks_of (set guard q new) ≡ put (32 * q + place) (replicate (end - place) on) (marks_of guard)
+put-marks guard q place end new on word order within inside below above =
     let run = replicate (end - place) on in
     let many : length run ≡ end - place = length-replicate (end - place) on in
     let long : length (marks_of (set guard q new)) ≡ length (marks_of guard) = omega (arith, length-marks guard, length-marks (set guard q new), length-set guard q new) in
-    let room : 8 * q + place + length run ≤ length (marks_of guard) = omega (arith, length-marks guard) in
-    let same : length (put (8 * q + place) run (marks_of guard)) ≡ length (marks_of guard) = length-put (8 * q + place) run (marks_of guard) room in
+    let room : 32 * q + place + length run ≤ length (marks_of guard) = omega (arith, length-marks guard) in
+    let same : length (put (32 * q + place) run (marks_of guard)) ≡ length (marks_of guard) = length-put (32 * q + place) run (marks_of guard) room in
     ext_get_or false _ _ (long ∙ sym same) (λ k small.
     let there : k < length (marks_of guard) = omega (arith, small) in
-    let outside : (k < 8 * q + place) ⊎ (8 * q + place + length run ≤ k) → get_or (marks_of (set guard q new)) k false ≡ get_or (put (8 * q + place) run (marks_of guard)) k false
-    = λ apart. get_or-marks_kept guard q k new byte there (λ here.
+    let outside : (k < 32 * q + place) ⊎ (32 * q + place + length run ≤ k) → get_or (marks_of (set guard q new)) k false ≡ get_or (put (32 * q + place) run (marks_of guard)) k false
+    = λ apart. get_or-marks_kept guard q k new word there (λ here.
     elim apart [
-      | inl low ↦ below (k % 8) (omega arith)
-      | inr high ↦ above (k % 8) (omega arith) (omega arith)
+      | inl low ↦ below (k % 32) (omega arith)
+      | inr high ↦ above (k % 32) (omega arith) (omega arith)
     ])
-    ∙ sym (get_or-put_outside (8 * q + place) k run (marks_of guard) false room apart) in
-    elim (cases_lt k (8 * q + place)) [
+    ∙ sym (get_or-put_outside (32 * q + place) k run (marks_of guard) false room apart) in
+    elim (cases_lt k (32 * q + place)) [
       | inl low ↦ outside (inl low)
       | inr from ↦
-          elim (cases_lt k (8 * q + end)) [
+          elim (cases_lt k (32 * q + end)) [
             | inl to ↦
-                get_or-marks_same guard q k new byte (omega arith) ∙ inside (k % 8) (omega arith) (omega arith)
-                ∙ sym (get_or-put_inside (8 * q + place) k run (marks_of guard) false room from (omega arith) ∙ get_or-replicate (end - place) (k - (8 * q + place)) on false (omega arith))
+                get_or-marks_same guard q k new word (omega arith) ∙ inside (k % 32) (omega arith) (omega arith)
+                ∙ sym (get_or-put_inside (32 * q + place) k run (marks_of guard) false room from (omega arith) ∙ get_or-replicate (end - place) (k - (32 * q + place)) on false (omega arith))
             | inr high ↦ outside (inr (omega arith))
           ]
     ])
@@ -111,12 +111,12 @@ put-runs at n m k on marks place within =
     ∙ sym (put-append at (replicate n on) (replicate m on) marks (omega arith))
     ∙ ap (λ run. put at run marks) (replicate-append-replicate n m on)
 
--- the units of a byte that marks nothing
-pub get_or-marks_clear : (guard : List ℕ) (unit k : ℕ) → unit % 8 ≡ 0 → unit + 8 ≤ length (marks_of guard) → get_or guard (unit / 8) 0 ≡ 0 → unit ≤ k → k < unit + 8 → get_or (marks_of guard) k false ≡ false
+-- the units of a word that marks nothing
+pub get_or-marks_clear : (guard : List ℕ) (unit k : ℕ) → unit % 32 ≡ 0 → unit + 32 ≤ length (marks_of guard) → get_or guard (unit / 32) 0 ≡ 0 → unit ≤ k → k < unit + 32 → get_or (marks_of guard) k false ≡ false
 get_or-marks_clear guard unit k first within clear from to =
-    let same : k / 8 ≡ unit / 8 = omega arith in
-    let zero : get_or guard (k / 8) 0 ≡ 0 = ap (λ q. get_or guard q 0) same ∙ clear in
-    get_or-marks_at guard k (omega arith) ∙ ap (λ byte. bit_at byte (k % 8) == 1) zero ∙ ap (λ bit. bit == 1) (bit_at-zero (k % 8))
+    let same : k / 32 ≡ unit / 32 = omega arith in
+    let zero : get_or guard (k / 32) 0 ≡ 0 = ap (λ q. get_or guard q 0) same ∙ clear in
+    get_or-marks_at guard k (omega arith) ∙ ap (λ word. bit_at word (k % 32) == 1) zero ∙ ap (λ bit. bit == 1) (bit_at-zero (k % 32))
 
 -- whether one of a range of marks is set
 none_set : (marks : List Bool) → ((k : ℕ) → k < length marks → get_or marks k false ≡ false) → list_any (λ mark. mark) marks ≡ false
@@ -142,37 +142,37 @@ mask_outside : (place end k : ℕ) → (k < place) ⊎ (end ≤ k) → bit_at (2
 mask_outside place end k (inl low) = bit_at_mask_below place end k low
 mask_outside place end k (inr high) = bit_at_mask_above place end k high
 
-mask-small : (place end : ℕ) → end ≤ 8 → 2 ^ end - 2 ^ place < 2 ^ 8
+mask-small : (place end : ℕ) → end ≤ 32 → 2 ^ end - 2 ^ place < 2 ^ 32
 mask-small place end small =
-    let most : 2 ^ end ≤ 2 ^ 8 = pow-le-pow_right (lit< tt) small in
+    let most : 2 ^ end ≤ 2 ^ 32 = pow-le-pow_right (lit< tt) small in
     let some : 0 < 2 ^ place = pow_pos place in
     omega arith
 
--- a power that one byte has a bit for, as the code makes it
-pub power-fits : (k : ℕ) → k ≤ 8 → 1 * 2 ^ k % 2 ^ 16 ≡ 2 ^ k
-power-fits k small = let most : 2 ^ k ≤ 2 ^ 8 = pow-le-pow_right (lit< tt) small in omega arith
+-- a power that one word has a bit for, as the code makes it
+pub power-fits : (k : ℕ) → k ≤ 32 → 1 * 2 ^ k % 2 ^ 64 ≡ 2 ^ k
+power-fits k small = let most : 2 ^ k ≤ 2 ^ 32 = pow-le-pow_right (lit< tt) small in omega arith
 
-pub mask-is : (place end : ℕ) → place ≤ end → end ≤ 8 → 1 * 2 ^ end % 2 ^ 16 - 1 * 2 ^ place % 2 ^ 16 ≡ 2 ^ end - 2 ^ place
+pub mask-is : (place end : ℕ) → place ≤ end → end ≤ 32 → 1 * 2 ^ end % 2 ^ 64 - 1 * 2 ^ place % 2 ^ 64 ≡ 2 ^ end - 2 ^ place
 mask-is place end order small = let first = power-fits place (omega arith) in let last = power-fits end small in rw (first, last) refl
 
-mask_not : (place end k : ℕ) → end ≤ 8 → k < 8 → bit_at (255 - (2 ^ end - 2 ^ place)) k ≡ 1 - bit_at (2 ^ end - 2 ^ place) k
-mask_not place end k small within = bit_at_not w8 (2 ^ end - 2 ^ place) k (mask-small place end small) within
+mask_not : (place end k : ℕ) → end ≤ 32 → k < 32 → bit_at (4294967295 - (2 ^ end - 2 ^ place)) k ≡ 1 - bit_at (2 ^ end - 2 ^ place) k
+mask_not place end k small within = bit_at_not w32 (2 ^ end - 2 ^ place) k (mask-small place end small) within
 
 -- what the code's masks do
-pub bits-or : (byte place end k : ℕ) → place ≤ k → k < end → bit_at (bit_or byte (2 ^ end - 2 ^ place)) k ≡ 1
-bits-or byte place end k from to =
-    bit_at_or byte (2 ^ end - 2 ^ place) k ∙ omega (arith, bit_at_mask_inside place end k from to, bit_at-lt byte k)
+pub bits-or : (word place end k : ℕ) → place ≤ k → k < end → bit_at (bit_or word (2 ^ end - 2 ^ place)) k ≡ 1
+bits-or word place end k from to =
+    bit_at_or word (2 ^ end - 2 ^ place) k ∙ omega (arith, bit_at_mask_inside place end k from to, bit_at-lt word k)
 
-pub bits-or_kept : (byte place end k : ℕ) → (k < place) ⊎ (end ≤ k) → bit_at (bit_or byte (2 ^ end - 2 ^ place)) k ≡ bit_at byte k
-bits-or_kept byte place end k apart =
-    bit_at_or byte (2 ^ end - 2 ^ place) k ∙ omega (arith, mask_outside place end k apart)
+pub bits-or_kept : (word place end k : ℕ) → (k < place) ⊎ (end ≤ k) → bit_at (bit_or word (2 ^ end - 2 ^ place)) k ≡ bit_at word k
+bits-or_kept word place end k apart =
+    bit_at_or word (2 ^ end - 2 ^ place) k ∙ omega (arith, mask_outside place end k apart)
 
-pub bits-and : (byte place end k : ℕ) → end ≤ 8 → place ≤ k → k < end → bit_at (bit_and byte (255 - (2 ^ end - 2 ^ place))) k ≡ 0
-bits-and byte place end k small from to =
-    bit_at_and byte (255 - (2 ^ end - 2 ^ place)) k
+pub bits-and : (word place end k : ℕ) → end ≤ 32 → place ≤ k → k < end → bit_at (bit_and word (4294967295 - (2 ^ end - 2 ^ place))) k ≡ 0
+bits-and word place end k small from to =
+    bit_at_and word (4294967295 - (2 ^ end - 2 ^ place)) k
     ∙ omega (arith, mask_not place end k small (omega arith), bit_at_mask_inside place end k from to)
 
-pub bits-and_kept : (byte place end k : ℕ) → end ≤ 8 → k < 8 → (k < place) ⊎ (end ≤ k) → bit_at (bit_and byte (255 - (2 ^ end - 2 ^ place))) k ≡ bit_at byte k
-bits-and_kept byte place end k small within apart =
-    bit_at_and byte (255 - (2 ^ end - 2 ^ place)) k
-    ∙ omega (arith, mask_not place end k small within, mask_outside place end k apart, bit_at-lt byte k)
+pub bits-and_kept : (word place end k : ℕ) → end ≤ 32 → k < 32 → (k < place) ⊎ (end ≤ k) → bit_at (bit_and word (4294967295 - (2 ^ end - 2 ^ place))) k ≡ bit_at word k
+bits-and_kept word place end k small within apart =
+    bit_at_and word (4294967295 - (2 ^ end - 2 ^ place)) k
+    ∙ omega (arith, mask_not place end k small within, mask_outside place end k apart, bit_at-lt word k)

@@ -28,7 +28,7 @@ const FEW_LONGS: usize = 32;
 #[derive(Drop)]
 pub struct Ram {
     bytes: Vec<u8>,
-    guard: Vec<u8>,
+    guard: Vec<u32>,
 }
 
 impl Model for Ram {
@@ -53,7 +53,7 @@ impl Ram {
     {
         Ok(Ram {
             bytes: vec![in alloc; 0; bytes as usize]?,
-            guard: vec![in alloc; 0; bytes as usize / UNIT / marks::UNITS_A_BYTE]?,
+            guard: vec![in alloc; 0; bytes as usize / UNIT / marks::UNITS_A_WORD]?,
         })
     }
 

@@ -4,19 +4,19 @@ use Rattle.big_memory.specs.Marks.{marks_of}
 use Rattle.big_memory.proofs.Packed.{length-marks, put-runs}
 use Rattle.big_memory.proofs.marks.mark.Goals as goal
 
-pub mark_run-requires-clause-byte : goal.mark_run-requires-clause-byte
-mark_run-requires-clause-byte c = omega (arith, length-marks c.args.guard.now, c.loop-unit.auto.guard)
+pub mark_run-requires-clause-index : goal.mark_run-requires-clause-index
+mark_run-requires-clause-index c = omega (arith, length-marks c.args.guard.now, c.loop-unit.auto.guard)
 
 pub loop-unit-preserved : goal.loop-unit-preserved
 loop-unit-preserved c =
     let from = c.args.from in
     let unit = c.loop-unit.unit in
     let done = unit - from in
-    let more = c.min-end.result - unit % 8 in
+    let more = c.min-end.result - unit % 32 in
     let marks = marks_of c.args.guard.now in
-    let place : 8 * (unit / 8) + unit % 8 ≡ unit = omega arith in
+    let place : 32 * (unit / 32) + unit % 32 ≡ unit = omega arith in
     let all : done + more ≡ unit + more - from = omega (arith, c.loop-unit.invariant.begun) in
-    let step : unit % 8 + (c.args.to - unit) ≡ unit % 8 + (c.args.to - unit) = omega arith in
+    let step : unit % 32 + (c.args.to - unit) ≡ unit % 32 + (c.args.to - unit) = omega arith in
     record {
       begun = omega (arith, c.loop-unit.invariant.begun);
       before = omega (arith, c.loop-unit-test.true, c.min-end.ensures);
