@@ -2,7 +2,7 @@ ghost use Rattle.std.specs.Prelude.{◌≡◌, ◌^◌, ◌<◌, ◌∷◌, [], 
 ghost use Rattle.mix_top.specs.Scripts.{bad_in, script_of};
 
 use crate::command::Command;
-use crate::lines::{read_line, split_line};
+use crate::script_lines::{read_line, split_line};
 use std::marker::Model;
 
 /// The first line of a text that is no command: its number, counted from 1.
