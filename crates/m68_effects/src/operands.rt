@@ -4,7 +4,7 @@ ghost use Rattle.m68_isa.specs.Classes.{IsAlterable, in_class};
 ghost use Rattle.m68_isa.specs.Operands.{operand_at, special_at};
 ghost use Rattle.m68_isa.specs.Classes.Class.{Control};
 ghost use Rattle.mix_bits.specs.declared.size.Size.TheVariants.{One, Two, Four};
-ghost use Rattle.m68_effects.specs.Finds.{Finds, FindsAddress, FindsAt, FindsControl, FindsIndexed, FindsPlace, HasFound, HasTarget, Puts, Reads, Takes};
+ghost use Rattle.m68_effects.specs.Finds.{Finds, FindsAddress, FindsAt, FindsControl, FindsIndexed, FindsPlace, HasFound, HasTarget, IsAt, Puts, Reads, Takes};
 ghost use Rattle.mix_bits.specs.declared.fault.FaultKind.TheVariants.{Illegal};
 ghost use Rattle.m68_effects.specs.Places.{IsWritable, placed, with_address};
 ghost use Rattle.m68_effects.specs.Words.{words_at};
@@ -220,7 +220,7 @@ pub fn control(
 
 /// The same, for data of any size.
 #[inline(always)]
-pub fn data_address(
+fn data_address(
     regs: &Regs68,
     ram: &Ram,
     fault: &mut Fault,
@@ -238,6 +238,36 @@ pub fn data_address(
     ensures near { next.new ≤ next.old + 2 }
 {
     address(regs, ram, fault, word, next, mode, lower)
+}
+
+/// The address of data of any size in memory by mode 6 or one of 7.0 to 7.3. An operand of another mode has none here,
+/// nor has one whose index word is of the full format, whose fault is left in the cell.
+#[inline(always)]
+pub fn far_address(
+    regs: &Regs68,
+    ram: &Ram,
+    fault: &mut Fault,
+    word: u32,
+    next: &mut u32,
+    mode: u32,
+    lower: usize,
+) -> Option<u32>
+    requires mode { mode < 8 }
+    requires number { lower < 8 }
+    requires first { next.old < 4 }
+    ensures byte { IfSome result (λ at. IsAt regs.now One (operand_at (words_at ram.now regs.now.pc) next.old One mode lower) at next.new) }
+    ensures word { IfSome result (λ at. IsAt regs.now Two (operand_at (words_at ram.now regs.now.pc) next.old Two mode lower) at next.new) }
+    ensures long { IfSome result (λ at. IsAt regs.now Four (operand_at (words_at ram.now regs.now.pc) next.old Four mode lower) at next.new) }
+    ensures near { next.new ≤ next.old + 2 }
+{
+    match 8 * mode + lower as u32 {
+        48..=55 => data_address(regs, ram, fault, word, next, 6, lower),
+        56 => data_address(regs, ram, fault, word, next, 7, 0),
+        57 => data_address(regs, ram, fault, word, next, 7, 1),
+        58 => data_address(regs, ram, fault, word, next, 7, 2),
+        59 => data_address(regs, ram, fault, word, next, 7, 3),
+        _ => None,
+    }
 }
 
 /// The address of an operand of a control mode.
