@@ -66,7 +66,8 @@ pub fn copy(bytes: &mut [u8], from: usize, to: usize, n: usize)
 #[inline(always)]
 pub fn read_longs(bytes: &[u8], at: usize, to: &mut [u32])
     requires { at + 4 * length to.old ≤ length bytes.now }
-    ensures { to.new ≡ longs_at (length to.old) at bytes.now }
+    ensures longs { to.new ≡ longs_at (length to.old) at bytes.now }
+    ensures len { length to.new ≡ length to.old }
 {
     BigEndian::read_u32_into(&bytes[at..at + 4 * to.len()], to);
 }

@@ -17,14 +17,12 @@ use crate::status::{BAD_WORDS, NO_MEMORY, REFUSED};
 use crate::streams::Streams;
 use crate::traces::{Shape, trace};
 use look_text::{Look, Refusal, explain, info_text, read_look, refusal_text, why_text};
-use mix_bits::NoMemory;
+use mix_bits::{File, NoMemory};
+use mix_io::Key;
 use rsrc_fork::find_fork;
 use std::alloc::Global;
 use std::io::{Read, Write};
 use std::rt::Files;
-
-/// How long a file with a fork is at most, as a fork of mixedrun.
-const LONGEST: u32 = 16_777_216;
 
 /// Does what the words ask for, and answers the status. Behind the refusal of words, `usage` is put to the errors.
 pub fn answer<F: Files, R: Read + Drop, W: Write + Drop, E: Write + Drop>(
@@ -106,7 +104,8 @@ fn fork<F: Files, R: Read + Drop, W: Write + Drop, E: Write + Drop>(
 ) -> u8
     ensures { WritesFork (W.contents streams.old.out) (W.contents streams.new.out) result }
 {
-    match fetch(alloc, files, name, LONGEST, &mut streams.errors) {
+    let most = Key::Program(File::Rsrc).limit();
+    match fetch(alloc, files, name, most, &mut streams.errors) {
         Ok(bytes) => fork_in(alloc, name, &bytes, streams),
         Err(status) => status,
     }

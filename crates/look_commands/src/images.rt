@@ -12,12 +12,10 @@ use crate::streams::Streams;
 use mix_bits::NoMemory;
 use mix_engine::Machine;
 use mix_image::{ImageError, restore};
+use mix_io::Key;
 use std::alloc::Global;
 use std::io::{Read, Write};
 use std::rt::Files;
-
-/// How long an image is at most, as for mixedrun.
-const LONGEST: u32 = 17_825_792;
 
 /// Writes the state of a machine that was kept.
 pub fn image<F: Files, R: Read + Drop, W: Write + Drop, E: Write + Drop>(
@@ -28,7 +26,7 @@ pub fn image<F: Files, R: Read + Drop, W: Write + Drop, E: Write + Drop>(
 ) -> u8
     ensures { result ≢ 2 }
 {
-    match fetch(alloc, files, name, LONGEST, &mut streams.errors) {
+    match fetch(alloc, files, name, Key::Image.limit(), &mut streams.errors) {
         Ok(bytes) => image_in(alloc, name, &bytes, streams),
         Err(status) => status,
     }

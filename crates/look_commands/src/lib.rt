@@ -22,6 +22,7 @@ mod registers;
 mod run;
 mod runs;
 mod said;
+/// The statuses of a call.
 pub mod status;
 mod step;
 mod steps;

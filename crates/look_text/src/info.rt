@@ -6,11 +6,10 @@ ghost use Rattle.look_text.specs.Info.{first_word as first_of, info_of, marked_p
 ghost use Rattle.look_text.specs.Places.{place_text};
 
 use super::pieces::{add, add_dec, add_hex};
-use super::place::{
-    add_param_place, add_ppc_place, add_result_place, add_selector_place, width, widths,
-};
+use super::place::{add_param_place, add_ppc_place, add_result_place, add_selector_place};
 use super::words::{conv_name, rule_text, size_name};
 use mix_bits::{NoMemory, Size};
+use mode_switch::{width, widths};
 use proc_info::{BadInfo, Conv, Param, Sig, read};
 use std::alloc::Global;
 

@@ -23,6 +23,7 @@ impl Label {
     ghost use Rattle.look_text.specs.Labels.{example as example_of, text_of};
     ghost use Rattle.look_text.specs.Wants.{TakesKind, wants_text};
 
+    /// All keys of the words of mixedrun.
     pub const ALL: [Label; 15] = [
         Label::Flat,
         Label::Rsrc,

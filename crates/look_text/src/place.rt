@@ -1,12 +1,12 @@
 // Where 68K code and PowerPC code have the values of a call.
-ghost use Rattle.std.specs.Prelude.{◌≡◌, ◌+◌, ◌*◌, ◌<◌, ◌≤◌, ◌++◌, OnOk, decimal, length};
-ghost use Rattle.mode_switch.specs.Places68.{place_numbered, place_of, result_place, route_of, selector_place, width as width_of, widths as widths_of};
+ghost use Rattle.std.specs.Prelude.{◌≡◌, ◌≤◌, ◌++◌, OnOk, decimal};
+ghost use Rattle.mode_switch.specs.Places68.{place_numbered, place_of, result_place, route_of, selector_place};
 ghost use Rattle.mode_switch.specs.declared.m68_places.Place.TheVariants.{Stack};
 ghost use Rattle.look_text.specs.Places.{place_text, ppc_place};
 
 use super::pieces::{add, add_dec};
 use super::words::flag_name;
-use mix_bits::{NoMemory, Size};
+use mix_bits::NoMemory;
 use proc_info::{Conv, Param};
 
 /// Appends the place of a parameter; the lowest of this and the later ones begins `base` bytes above the return
@@ -106,30 +106,5 @@ pub fn add_ppc_place(text: &mut Vec<u8>, word: u32) -> Result<(), NoMemory>
         add_name(text, "r", 3 + word)
     } else {
         add_name(text, "r1+", 24 + 4 * word)
-    }
-}
-
-/// How many bytes parameters take on a Pascal stack.
-pub fn widths(params: &[Param]) -> u32
-    requires { length params.now ≤ 13 }
-    ensures value { result ≡ widths_of params.now }
-    ensures small { result ≤ 4 * length params.now }
-{
-    match params {
-        [] => 0,
-        [first, rest @ ..] => width(first.size) + widths(rest),
-    }
-}
-
-/// How many bytes a value of this size takes on a Pascal stack.
-pub fn width(size: Size) -> u32
-    ensures value { result ≡ width_of size }
-    ensures small { result ≤ 4 }
-{
-    match size {
-        Size::Zero => 0,
-        Size::One => 2,
-        Size::Two => 2,
-        Size::Four => 4,
     }
 }

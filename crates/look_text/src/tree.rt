@@ -1,6 +1,5 @@
 // The lines of a trace as a tree.
 ghost use Rattle.std.specs.Prelude.{◌≡◌, ◌⊎◌, ◌++◌, IfOk, OnOk};
-ghost use Rattle.call_trace.specs.Names.{set_name as name_of_set};
 ghost use Rattle.mix_bits.specs.Text.{hexadecimal};
 ghost use Rattle.proc_info.specs.Signature.{signature_in};
 ghost use Rattle.proc_info.specs.Views.{signature};
@@ -8,8 +7,8 @@ ghost use Rattle.call_trace.specs.Events.{args_of};
 ghost use Rattle.look_text.specs.Tree.{args_text, called_text, event_text, indent_text, result_text, sized_text, tree_of, values_text};
 
 use super::pieces::{add, add_bytes, add_hex};
-use call_trace::{Crossing, Event};
-use mix_bits::{Isa, NoMemory, Size};
+use call_trace::{Crossing, Event, set_name};
+use mix_bits::{NoMemory, Size};
 use proc_info::{Param, Sig, read};
 use std::alloc::Global;
 
@@ -142,14 +141,4 @@ fn add_result(text: &mut Vec<u8>, size: Size, value: u32) -> Result<(), NoMemory
 {
     add(text, "gave ")?;
     add_sized(text, size, value)
-}
-
-/// The name of a set.
-pub fn set_name(set: Isa) -> &'static str
-    ensures { result.now ≡ name_of_set set }
-{
-    match set {
-        Isa::M68 => "68k",
-        Isa::Ppc => "ppc",
-    }
 }

@@ -18,6 +18,6 @@ mod runs;
 mod step;
 mod undo;
 
-pub use debug::{Debug, MOST_BREAKS};
+pub use debug::Debug;
 pub use laws::history_laws;
 pub use step::Step;

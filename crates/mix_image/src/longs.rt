@@ -1,6 +1,5 @@
 // Longs of an image.
-ghost use Rattle.std.specs.Prelude.{◌≡◌, ◌+◌, ◌*◌, ◌≤◌, length};
-ghost use Rattle.big_memory.specs.Numbers.{AreBytes, longs_at};
+ghost use Rattle.std.specs.Prelude.{◌≡◌, ◌≤◌, length};
 ghost use Rattle.mix_image.specs.Fields.{long_from};
 
 use crate::ImageError;
@@ -35,17 +34,3 @@ pub fn long(bytes: &[u8], at: usize) -> Result<u32, ImageError>
         Ok(BigEndian::read_u32(&bytes[at..at + 4]))
     }
 }
-
-/// Reads as many longs from a place on as there is room for.
-pub fn read_longs(bytes: &[u8], at: usize, to: &mut [u32])
-    requires { at + 4 * length to.old ≤ length bytes.now }
-    ensures longs { to.new ≡ longs_at (length to.old) at bytes.now }
-    ensures len { length to.new ≡ length to.old }
-{
-    BigEndian::read_u32_into(&bytes[at..at + 4 * to.len()], to);
-}
-
-/// What every slice of bytes meets. It does nothing: the clause is its point.
-pub fn are_bytes(bytes: &[u8])
-    ensures { AreBytes bytes.now }
-{}

@@ -5,7 +5,8 @@ ghost use Rattle.mix_image.specs.Fields.{active_from, file_from, file_size, m68_
 
 use crate::ImageError;
 use crate::head::set_of;
-use crate::longs::{long, read_longs, short};
+use crate::longs::{long, short};
+use big_memory::read_longs;
 use m68_isa::Regs68;
 use mix_bits::Isa;
 use ppc_isa::RegsPpc;

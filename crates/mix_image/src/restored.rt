@@ -7,7 +7,7 @@ ghost use Rattle.mix_image.specs.Spelling.{HasSpelling, spell};
 
 use crate::ImageError;
 use crate::fields::{read_fields, test_fields};
-use crate::longs::are_bytes;
+use big_memory::are_bytes;
 use mix_engine::Machine;
 use std::alloc::Global;
 use switch_frame::{check, check_gate, guard_frames};

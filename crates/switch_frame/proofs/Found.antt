@@ -3,6 +3,7 @@ use Rattle.std.proofs.Common.{◌≡◌, inl, inr, ℕ, zero, suc, ◌+◌, ◌-
 use Rattle.std.specs.Prelude.{IfOk}
 use Rattle.std.proofs.lemmas.Bool.{and_from, and_parts, cases_Bool, eqb-true}
 use Rattle.std.proofs.lemmas.Bool.Decides.{nat_tests}
+use Rattle.mix_bits.specs.Addresses.{onward}
 use Rattle.mix_bits.specs.declared.isa.Isa.{Isa}
 use Rattle.big_memory.specs.Memory.{Memory, IsRam}
 use Rattle.big_memory.specs.Numbers.{AreBytes, long_at}
@@ -43,12 +44,14 @@ alone-outer m main caller lo none fits =
 inner-outer : (m : Memory) (main caller : Isa) (lo : ℕ) → (long_at lo m.bytes == 0) ≡ false → fits_outer m main caller lo ≡ true → is_below m (long_at (lo + 20) m.bytes) (long_at (lo + 28) m.bytes) (long_at lo m.bytes) ≡ true
 inner-outer m main caller lo more fits = sym (rw more refl) ∙ fits
 
-below-tells : (m : Memory) (hi depth outer : ℕ) → outer + 32 ≤ length m.bytes → is_below m hi depth outer ≡ true → (hi ≤ outer) × (depth ≡ long_at (outer + 28) m.bytes + 1)
-below-tells m hi depth outer there below =
-    let parts = and_parts (nat_le hi outer) (nat_lt (length m.bytes) (outer + 32) || (depth == long_at (outer + 28) m.bytes + 1)) below in
-    let inside : nat_lt (length m.bytes) (outer + 32) ≡ false = grind (arith, nat_tests) in
-    let same : (depth == long_at (outer + 28) m.bytes + 1) ≡ true = sym (rw inside refl) ∙ parts.1 in
-    (grind (arith, nat_tests, parts.0), eqb-true depth (long_at (outer + 28) m.bytes + 1) same)
+below-tells : (m : Memory) (hi depth outer : ℕ) → IsLen (length m.bytes) → outer + 32 ≤ length m.bytes → is_below m hi depth outer ≡ true → (hi ≤ outer) × (depth ≡ long_at (outer + 28) m.bytes + 1)
+below-tells m hi depth outer ok there below =
+    let count = onward outer 28 in
+    let same : onward outer 28 ≡ outer + 28 = omega (arith, ok.most) in
+    let parts = and_parts (nat_le hi outer) (nat_lt (length m.bytes) (count + 4) || (depth == long_at count m.bytes + 1)) below in
+    let inside : nat_lt (length m.bytes) (count + 4) ≡ false = grind (arith, nat_tests, same) in
+    let counts : (depth == long_at count m.bytes + 1) ≡ true = sym (rw inside refl) ∙ parts.1 in
+    (grind (arith, nat_tests, parts.0), eqb-true depth (long_at count m.bytes + 1) counts ∙ ap (λ a. long_at a m.bytes + 1) same)
 
 -- the outermost frame
 found-last : (m : Memory) (main callee : Isa) (most count lo : ℕ) (kind : Kind) → AreBytes m.bytes → IsGood m main callee lo kind → (long_at lo m.bytes == 0) ≡ true → IsFound m main callee (suc most) count lo (suc count)
@@ -74,13 +77,13 @@ found-last m main callee most count lo kind fit good none =
 outermost-more : (main : Isa) (r s : Record) (rs : List Record) → IsOutermost main (s ∷ rs) → IsOutermost main (r ∷ s ∷ rs)
 outermost-more main r s rs is = is
 
-found-more : (m : Memory) (main callee : Isa) (most count lo k : ℕ) (kind : Kind) → AreBytes m.bytes → IsGood m main callee lo kind → (long_at lo m.bytes == 0) ≡ false
+found-more : (m : Memory) (main callee : Isa) (most count lo k : ℕ) (kind : Kind) → IsLen (length m.bytes) → AreBytes m.bytes → IsGood m main callee lo kind → (long_at lo m.bytes == 0) ≡ false
     → IsFound m main (caller_at m lo) most (suc count) (long_at lo m.bytes) k → IsFound m main callee (suc most) count lo k
-found-more m main callee most count lo k kind fit good more found =
+found-more m main callee most count lo k kind ok fit good more found =
     let r = record_at lo m.bytes in
     let read : IsRead m lo kind = good-read m main callee lo kind fit good in
     let below = inner-outer m main (caller_isa kind) lo more good.outer in
-    let outer = below-tells m (long_at (lo + 20) m.bytes) (long_at (lo + 28) m.bytes) (long_at lo m.bytes) (omega (arith, found.there)) below in
+    let outer = below-tells m (long_at (lo + 20) m.bytes) (long_at (lo + 28) m.bytes) (long_at lo m.bytes) ok (omega (arith, found.there)) below in
     let depth : long_at (lo + 28) m.bytes ≡ suc (length (found.first ∷ found.rest)) = omega (arith, outer.1, found.depth) in
     let inside : long_at (lo + 20) m.bytes ≤ found.first.lo = omega (arith, outer.0, found.at) in
     let sets : callee_isa found.first.kind ≡ isa_of r.caller = sym found.called ∙ ap caller_isa (told-found (long_at (lo + 4) m.bytes) kind good.kind_is) ∙ sym read.caller_is in
@@ -97,9 +100,9 @@ found-more m main callee most count lo k kind fit good more found =
       there = good.there;
     }
 
-pub walk-found : (m : Memory) (main : Isa) (most count : ℕ) (callee : Isa) (lo k : ℕ) → AreBytes m.bytes → walk m main most count callee lo ≡ Ok k → IsFound m main callee most count lo k
-walk-found m main zero count callee lo k fit is = absurd (let no : Err lo ≡ Ok k = sym (walk-ends m main callee count lo) ∙ is in cc)
-walk-found m main (suc most) count callee lo k fit is =
+pub walk-found : (m : Memory) (main : Isa) (most count : ℕ) (callee : Isa) (lo k : ℕ) → IsLen (length m.bytes) → AreBytes m.bytes → walk m main most count callee lo ≡ Ok k → IsFound m main callee most count lo k
+walk-found m main zero count callee lo k ok fit is = absurd (let no : Err lo ≡ Ok k = sym (walk-ends m main callee count lo) ∙ is in cc)
+walk-found m main (suc most) count callee lo k ok fit is =
     elim (cases_Bool (is_good m main callee lo)) [
       | inr bad ↦ absurd (let no : Err lo ≡ Ok k = sym (walk-bad m main callee most count lo bad) ∙ is in cc)
       | inl good ↦
@@ -109,8 +112,8 @@ walk-found m main (suc most) count callee lo k fit is =
                 let number : suc count ≡ k = (let same : Ok (suc count) ≡ Ok k = sym (walk-last m main callee most count lo good none) ∙ is in cc) in
                 subst (λ n. IsFound m main callee (suc most) count lo n) number (found-last m main callee most count lo told.0 fit told.1 none)
             | inr more ↦
-                found-more m main callee most count lo k told.0 fit told.1 more
-                (walk-found m main most (suc count) (caller_at m lo) (long_at lo m.bytes) k fit (sym (walk-on m main callee most count lo good more) ∙ is))
+                found-more m main callee most count lo k told.0 ok fit told.1 more
+                (walk-found m main most (suc count) (caller_at m lo) (long_at lo m.bytes) k ok fit (sym (walk-on m main callee most count lo good more) ∙ is))
           ]
     ]
 
@@ -135,7 +138,7 @@ checked-none m top active main none = rw none refl
 pub whole-found : (m : Memory) (top : ℕ) (active main : Isa) (k : ℕ) → IsRam m → AreBytes m.bytes → (top == 0) ≡ false → checked m top active main ≡ Ok k
     → IsWholeChain m top active main (records m.bytes top) × (k ≡ length (records m.bytes top))
 whole-found m top active main k ram fit live is =
-    whole-of m top active main k ram (walk-found m main most_frames 0 active top k fit (sym (checked-walks m top active main live) ∙ is))
+    whole-of m top active main k ram (walk-found m main most_frames 0 active top k (len-ram m ram) fit (sym (checked-walks m top active main live) ∙ is))
 
 pub none-whole : (m : Memory) (top : ℕ) (active main : Isa) → IsRam m → top ≡ 0 → is_isa active main ≡ true → IsWholeChain m top active main (records m.bytes top) × (0 ≡ length (records m.bytes top))
 none-whole m top active main ram none same =
@@ -156,11 +159,13 @@ held-outer m main r (s ∷ rs) ok few frames outermost outer hi depth =
     let range : IsRange (length m.bytes) s = range-fits (length m.bytes) s rs ok frames.2.1 in
     let back : IsReadAt m.bytes s (outer_of rs) (suc (length rs)) = first-back (length m.bytes) m.bytes s rs ok (omega (arith, few)) frames.2 in
     let live : (long_at r.lo m.bytes == 0) ≡ false = grind (arith, nat_tests, range.start) in
-    let deep : long_at (long_at r.lo m.bytes + 28) m.bytes ≡ suc (length rs) = ap (λ a. long_at (a + 28) m.bytes) outer ∙ back.depth_is in
+    let count = onward (long_at r.lo m.bytes) 28 in
+    let same : onward (long_at r.lo m.bytes) 28 ≡ s.lo + 28 = omega (arith, outer, range.some, range.end, ok.most) in
+    let deep : long_at count m.bytes ≡ suc (length rs) = ap (λ a. long_at a m.bytes) same ∙ back.depth_is in
     let inside : r.hi ≤ s.lo = frames.1.inside.0 in
     let above : nat_le (long_at (r.lo + 20) m.bytes) (long_at r.lo m.bytes) ≡ true = grind (arith, nat_tests) in
-    let counts : (long_at (r.lo + 28) m.bytes == long_at (long_at r.lo m.bytes + 28) m.bytes + 1) ≡ true = grind (arith, nat_tests) in
-    let there : nat_lt (length m.bytes) (long_at r.lo m.bytes + 32) ≡ false = grind (arith, nat_tests, range.some, range.end) in
+    let counts : (long_at (r.lo + 28) m.bytes == long_at count m.bytes + 1) ≡ true = grind (arith, nat_tests) in
+    let there : nat_lt (length m.bytes) (count + 4) ≡ false = grind (arith, nat_tests, same, range.some, range.end) in
     rw live (and_from _ _ above (rw there counts))
 
 good-held : (m : Memory) (main : Isa) (r : Record) (rs : List Record) → IsLen (length m.bytes) → length (r ∷ rs) ≤ most_frames → Frames (length m.bytes) m.bytes (r ∷ rs) → IsOutermost main (r ∷ rs) → IsGood m main (callee_isa r.kind) r.lo r.kind

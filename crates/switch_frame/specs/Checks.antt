@@ -1,5 +1,6 @@
 -- What is tested of memory that came from outside: whether it holds a whole chain but for the guard, and the gate page.
 use Rattle.std.specs.Prelude.{◌≡◌, ℕ, zero, suc, ◌+◌, ◌*◌, ◌%◌, ◌<◌, ◌==◌, nat_le, nat_lt, Bool, false, ◌&&◌, ◌||◌, if◌then◌else◌, List, length, Option, Some, None, Result, Ok, Err}
+use Rattle.mix_bits.specs.Addresses.{onward}
 use Rattle.mix_bits.specs.declared.isa.Isa.{Isa}
 use Rattle.mix_bits.specs.declared.isa.Isa.TheVariants.{M68, Ppc}
 use Rattle.mix_bits.specs.Isas.{is_isa}
@@ -33,10 +34,10 @@ holds_file M68 a bytes = nat_lt (long_at (a + 68) bytes) 32 && ((long_at (a + 72
 holds_file Ppc a bytes = (long_at (a + 148) bytes == 0) && ((long_at (a + 152) bytes == 0) && (long_at (a + 156) bytes == 0))
 
 -- whether a frame that ends at `hi` and counts `depth` frames can have the next outer one at `outer`: above it, and with
--- one frame less, where that one's count lies in memory
+-- one frame less, where that one's count lies in memory; its address is a sum of 32 bits
 abbrev pub is_below : Memory → ℕ → ℕ → ℕ → Bool
 is_below m hi depth outer =
-    nat_le hi outer && (nat_lt (length m.bytes) (outer + 32) || (depth == long_at (outer + 28) m.bytes + 1))
+    nat_le hi outer && (nat_lt (length m.bytes) (onward outer 28 + 4) || (depth == long_at (onward outer 28) m.bytes + 1))
 
 -- the same of a frame at `lo` as it tells these: the outermost one is the main program's
 abbrev pub fits_outer : Memory → Isa → Isa → ℕ → Bool

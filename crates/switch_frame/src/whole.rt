@@ -12,7 +12,7 @@ use crate::Kind;
 use crate::kind::size;
 use crate::rooms::MOST_FRAMES;
 use big_memory::Ram;
-use mix_bits::{Isa, is_isa};
+use mix_bits::{Isa, is_isa, onward};
 
 /// How many frames stand in memory from `top` outward, where they are a whole chain but for the guard,
 /// with `active` the set of the code that runs and `main` that of the main program. Else where the first
@@ -146,9 +146,10 @@ fn is_below(ram: &Ram, hi: u32, depth: u32, outer: u32) -> bool
     requires { IsRam ram.now }
     ensures { result ≡ is_below ram.now hi depth outer }
 {
+    let count = onward(outer, 28);
     hi <= outer
-        && (u64::from(ram.len()) < u64::from(outer) + 32
-            || u64::from(depth) == u64::from(ram.read_long(outer + 28)) + 1)
+        && (u64::from(ram.len()) < u64::from(count) + 4
+            || u64::from(depth) == u64::from(ram.read_long(count)) + 1)
 }
 
 /// The set of the caller in the frame at `lo`.

@@ -3,8 +3,8 @@ use Rattle.big_memory.specs.Numbers.{longs_at}
 use Rattle.big_memory.proofs.Numbers.{longs-read}
 use Rattle.big_memory.proofs.bytes.read_longs.Goals as goal
 
-pub returns : goal.returns
-returns c =
+pub returns-clause-longs : goal.returns-clause-longs
+returns-clause-longs c =
     let at = c.args.at in
     let bytes = c.args.bytes.now in
     let size : at + 4 * length c.args.to.now - at ≡ 4 * length c.args.to.now = omega arith in
