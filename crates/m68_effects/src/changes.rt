@@ -11,7 +11,7 @@ ghost use Rattle.m68_effects.specs.Words.{words_at};
 ghost use Rattle.m68_effects.specs.Operations.{changed_at, changed_by};
 
 use super::operation::{Operation, apply, set_flags};
-use crate::{far_address, find, find_usual, go_on, immediate_at, put, put_usual, value};
+use crate::{data_address, find, find_usual, go_on, immediate_at, put, put_usual, value};
 use big_memory::{Did, Ram};
 use m68_isa::{Regs68, immediate_words, is_long, lower_of, mode_of, size_bits_of, upper_of};
 use mix_bits::{Fault, Size, trunc, with_low};
@@ -159,9 +159,12 @@ fn change_far(
     ensures { Does (changed_by op 1 by word regs.old ram.old) result fault.new regs.old regs.new ram.old ram.new }
 {
     let (mode, lower) = (mode_of(word), lower_of(word));
-    let mut next = 1;
-    let Some(at) = far_address(regs, ram, fault, word, &mut next, mode, lower) else {
+    if mode != 6 && (mode != 7 || lower > 1) {
         return change_other(regs, ram, fault, word, op, by);
+    }
+    let mut next = 1;
+    let Some(at) = data_address(regs, ram, fault, word, &mut next, mode, lower) else {
+        return Did::Stop;
     };
     if change_there(regs, ram, word, op, by, at, next) {
         Did::Next

@@ -1,11 +1,10 @@
-ghost use Rattle.std.specs.Prelude.{◌≡◌, ◌+◌, ◌*◌, ◌<◌, ◌≤◌, ◌⊎◌, IfSome, OnSome, slice_index, true};
+ghost use Rattle.std.specs.Prelude.{◌≡◌, ◌+◌, ◌<◌, ◌≤◌, ◌⊎◌, IfSome, OnSome, slice_index, true};
 ghost use Rattle.mix_bits.specs.Faults.{fault_at};
 ghost use Rattle.m68_isa.specs.Classes.{IsAlterable, in_class};
-ghost use Rattle.mix_bits.specs.Addresses.{onward as onward_of};
-ghost use Rattle.m68_isa.specs.Operands.{extended_word as extended_word_of, long_at as long_at_of, operand_at, special_at};
+ghost use Rattle.m68_isa.specs.Operands.{operand_at, special_at};
 ghost use Rattle.m68_isa.specs.Classes.Class.{Control};
 ghost use Rattle.mix_bits.specs.declared.size.Size.TheVariants.{One, Two, Four};
-ghost use Rattle.m68_effects.specs.Finds.{Finds, FindsAddress, FindsAt, FindsControl, FindsIndexed, FindsPlace, HasFound, HasTarget, IsAt, Puts, Reads, Takes};
+ghost use Rattle.m68_effects.specs.Finds.{Finds, FindsAddress, FindsAt, FindsControl, FindsIndexed, FindsPlace, HasFound, HasTarget, Puts, Reads, Takes};
 ghost use Rattle.mix_bits.specs.declared.fault.FaultKind.TheVariants.{Illegal};
 ghost use Rattle.m68_effects.specs.Places.{IsWritable, placed, with_address};
 ghost use Rattle.m68_effects.specs.Words.{words_at};
@@ -221,7 +220,7 @@ pub fn control(
 
 /// The same, for data of any size.
 #[inline(always)]
-fn data_address(
+pub fn data_address(
     regs: &Regs68,
     ram: &Ram,
     fault: &mut Fault,
@@ -239,75 +238,6 @@ fn data_address(
     ensures near { next.new ≤ next.old + 2 }
 {
     address(regs, ram, fault, word, next, mode, lower)
-}
-
-/// The address of data of any size in memory by mode 6 or one of 7.0 to 7.3. An operand of another mode has none here,
-/// nor has one whose index word is of the full format, whose fault is left in the cell.
-#[inline(always)]
-pub fn far_address(
-    regs: &Regs68,
-    ram: &Ram,
-    fault: &mut Fault,
-    word: u32,
-    next: &mut u32,
-    mode: u32,
-    lower: usize,
-) -> Option<u32>
-    requires mode { mode < 8 }
-    requires number { lower < 8 }
-    requires first { next.old < 4 }
-    ensures byte { IfSome result (λ at. IsAt regs.now One (operand_at (words_at ram.now regs.now.pc) next.old One mode lower) at next.new) }
-    ensures word { IfSome result (λ at. IsAt regs.now Two (operand_at (words_at ram.now regs.now.pc) next.old Two mode lower) at next.new) }
-    ensures long { IfSome result (λ at. IsAt regs.now Four (operand_at (words_at ram.now regs.now.pc) next.old Four mode lower) at next.new) }
-    ensures near { next.new ≤ next.old + 2 }
-{
-    match 8 * mode + lower as u32 {
-        48..=55 => index_address(regs, ram, fault, word, next, regs.a[lower]),
-        56 => Some(absolute_word(regs, ram, next)),
-        57 => Some(absolute_long(regs, ram, next)),
-        58 => Some(program_word(regs, ram, next)),
-        59 => {
-            let base = onward(regs.pc, 2 * *next);
-            index_address(regs, ram, fault, word, next, base)
-        }
-        _ => None,
-    }
-}
-
-/// The address of an operand of mode 7.0: a word, its sign repeated.
-#[inline(always)]
-fn absolute_word(regs: &Regs68, ram: &Ram, next: &mut u32) -> u32
-    requires { next.old < 4 }
-    ensures value { result ≡ extended_word_of (words_at ram.now regs.now.pc) next.old }
-    ensures next { next.new ≡ next.old + 1 }
-{
-    let at = *next;
-    *next += 1;
-    extended_word(ram, regs.pc, at)
-}
-
-/// The address of an operand of mode 7.1: a long.
-#[inline(always)]
-fn absolute_long(regs: &Regs68, ram: &Ram, next: &mut u32) -> u32
-    requires { next.old < 4 }
-    ensures value { result ≡ long_at_of (words_at ram.now regs.now.pc) next.old }
-    ensures next { next.new ≡ next.old + 2 }
-{
-    let at = *next;
-    *next += 2;
-    long_at(ram, regs.pc, at)
-}
-
-/// The address of an operand of mode 7.2: a displacement from its own word.
-#[inline(always)]
-fn program_word(regs: &Regs68, ram: &Ram, next: &mut u32) -> u32
-    requires { next.old < 4 }
-    ensures value { result ≡ onward_of (onward_of regs.now.pc (2 * next.old)) (extended_word_of (words_at ram.now regs.now.pc) next.old) }
-    ensures next { next.new ≡ next.old + 1 }
-{
-    let at = *next;
-    *next += 1;
-    onward(onward(regs.pc, 2 * at), extended_word(ram, regs.pc, at))
 }
 
 /// The address of an operand of a control mode.
@@ -354,14 +284,21 @@ fn special_address(
     ensures is { FindsAddress regs.now word (λ s. special_at (words_at ram.now regs.now.pc) next.old s lower) result next.new fault.new }
     ensures near { next.new ≤ next.old + 2 }
 {
+    let at = *next;
     match lower {
-        0 => Some(absolute_word(regs, ram, next)),
-        1 => Some(absolute_long(regs, ram, next)),
-        2 => Some(program_word(regs, ram, next)),
-        _ => {
-            let base = onward(regs.pc, 2 * *next);
-            index_address(regs, ram, fault, word, next, base)
+        0 => {
+            *next += 1;
+            Some(extended_word(ram, regs.pc, at))
         }
+        1 => {
+            *next += 2;
+            Some(long_at(ram, regs.pc, at))
+        }
+        2 => {
+            *next += 1;
+            Some(onward(onward(regs.pc, 2 * at), extended_word(ram, regs.pc, at)))
+        }
+        _ => index_address(regs, ram, fault, word, next, onward(regs.pc, 2 * at)),
     }
 }
 

@@ -10,7 +10,7 @@ ghost use Rattle.m68_effects.specs.Words.{words_at};
 ghost use Rattle.m68_effects.specs.Operations.{taken_at, taken_by};
 
 use super::operation::{Operation, apply};
-use crate::{far_address, go_on, immediate_at, load, source, usual_source};
+use crate::{data_address, go_on, immediate_at, load, source, usual_source};
 use big_memory::{Did, Ram};
 use m68_isa::{Regs68, immediate_words, is_long, lower_of, mode_of, size_bits_of, upper_of};
 use mix_bits::{Fault, Size, trunc, with_low};
@@ -131,9 +131,12 @@ fn take_far(regs: &mut Regs68, ram: &Ram, fault: &mut Fault, word: u32, op: Oper
     if mode == 7 && lower == 4 {
         return take_data(regs, ram, fault, word, op);
     }
-    let mut next = 1;
-    let Some(at) = far_address(regs, ram, fault, word, &mut next, mode, lower) else {
+    if mode != 6 && (mode != 7 || lower > 3) {
         return take_other(regs, ram, fault, word, op);
+    }
+    let mut next = 1;
+    let Some(at) = data_address(regs, ram, fault, word, &mut next, mode, lower) else {
+        return Did::Stop;
     };
     match size_bits_of(word) {
         0 => take_at(regs, ram, fault, word, Size::One, op, at, next),

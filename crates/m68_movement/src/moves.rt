@@ -20,10 +20,9 @@ use super::parts::write;
 use big_memory::{Did, Ram, stop};
 use m68_alu::set_result_flags;
 use m68_effects::{
-    far_address, go_on, immediate_at, is_second_good, source, usual_or_immediate, usual_source,
-    usual_write,
+    data_address, go_on, is_second_good, source, usual_or_immediate, usual_source, usual_write,
 };
-use m68_isa::{Op68, Regs68, immediate_words, lower_of, mode_of, move_mode_of, upper_of};
+use m68_isa::{Op68, Regs68, lower_of, mode_of, move_mode_of, upper_of};
 use mix_bits::{Fault, FaultKind, Size, sext, trunc, with_low};
 
 /// The size of a move, for which the functions that choose the way of a move are compiled.
@@ -132,73 +131,12 @@ fn move_in_other<W: Width>(regs: &mut Regs68, ram: &mut Ram, fault: &mut Fault, 
     requires destination { IsDestination word }
     ensures { Does (moves W.SIZE regs.old ram.old word) result fault.new regs.old regs.new ram.old ram.new }
 {
-    if mode_of(word) == 7 && lower_of(word) == 4 {
-        return move_data::<W>(regs, ram, fault, word);
-    }
-    if move_in_far::<W>(regs, ram, fault, word) {
-        Did::Next
+    let from = (mode_of(word), lower_of(word));
+    if from.0 > 5 {
+        move_to_register(regs, ram, fault, word, W::SIZE, from, upper_of(word))
     } else {
         move_any::<W>(regs, ram, fault, word)
     }
-}
-
-/// A move of immediate data into a data register.
-#[inline(always)]
-fn move_data<W: Width>(regs: &mut Regs68, ram: &Ram, fault: &mut Fault, word: u32) -> Did
-    requires to { move_mode (first_of word) ≡ 0 }
-    requires mode { (first_of word).mode ≡ 7 }
-    requires lower { (first_of word).lower ≡ 4 }
-    ensures { Does (moves W.SIZE regs.old ram.now word) result fault.new regs.old regs.new ram.now ram.now }
-{
-    let to = upper_of(word);
-    let value = trunc(immediate_at(ram, regs.pc, 1, W::SIZE), W::SIZE);
-    regs.d[to] = with_low(regs.d[to], value, W::SIZE);
-    set_result_flags(&mut regs.ccr, W::SIZE, value);
-    go_on(regs, 1 + immediate_words(W::SIZE))
-}
-
-/// Tries a move of an operand in memory of mode 6 or 7 into a data register, and tells whether it is done.
-#[inline(always)]
-fn move_in_far<W: Width>(regs: &mut Regs68, ram: &Ram, fault: &mut Fault, word: u32) -> bool
-    requires { move_mode (first_of word) ≡ 0 }
-    ensures { Tries (moves W.SIZE regs.old ram.now word) result regs.old regs.new ram.now ram.now }
-{
-    let mut next = 1;
-    let Some(at) = far_address(
-        regs,
-        ram,
-        fault,
-        word,
-        &mut next,
-        mode_of(word),
-        lower_of(word),
-    ) else {
-        return false;
-    };
-    match W::SIZE {
-        Size::Zero => false,
-        Size::One => move_in_at(regs, ram, word, Size::One, at, next),
-        Size::Two => move_in_at(regs, ram, word, Size::Two, at, next),
-        Size::Four => move_in_at(regs, ram, word, Size::Four, at, next),
-    }
-}
-
-/// Tries to load a data register from where the operand was found, and tells whether it is done.
-#[inline(always)]
-fn move_in_at(regs: &mut Regs68, ram: &Ram, word: u32, size: Size, at: u32, next: u32) -> bool
-    requires to { move_mode (first_of word) ≡ 0 }
-    requires near { next ≤ 5 }
-    requires found { IsAt regs.old size (operand_at (words_at ram.now regs.old.pc) 1 size (first_of word).mode (first_of word).lower) at next }
-    ensures { Tries (moves size regs.old ram.now word) result regs.old regs.new ram.now ram.now }
-{
-    let to = upper_of(word);
-    let Ok(value) = ram.load(at, size) else {
-        return false;
-    };
-    regs.d[to] = with_low(regs.d[to], value, size);
-    set_result_flags(&mut regs.ccr, size, value);
-    go_on(regs, next);
-    true
 }
 
 /// A move of a register to an operand of mode 6 or 7: a data register to an address is tried. Other modes, which
@@ -229,12 +167,14 @@ fn move_out_far<W: Width>(
     to: (u32, usize),
 ) -> bool
     requires from { from < 8 }
-    requires mode { to.0 < 8 }
     requires to { to.1 < 8 }
     ensures { Tries (moved W.SIZE (0, from) to regs.old ram.old word) result regs.old regs.new ram.old ram.new }
 {
+    if to.0 != 6 && (to.0 != 7 || to.1 > 1) {
+        return false;
+    }
     let mut next = 1;
-    let Some(at) = far_address(regs, ram, fault, word, &mut next, to.0, to.1) else {
+    let Some(at) = data_address(regs, ram, fault, word, &mut next, to.0, to.1) else {
         return false;
     };
     match W::SIZE {

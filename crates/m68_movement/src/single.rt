@@ -17,7 +17,7 @@ ghost use Rattle.m68_effects.specs.Ops.{by_op, runs_made};
 use super::parts::write;
 use big_memory::{Did, Ram};
 use m68_alu::set_result_flags;
-use m68_effects::{far_address, find, go_on, load, put, source, usual_source, value};
+use m68_effects::{data_address, find, go_on, load, put, source, usual_source, value};
 use m68_isa::{Op68, Regs68, condition_of, holds, is_long, lower_of, mode_of, size_bits_of};
 use mix_bits::{Fault, Size, with_low};
 
@@ -58,9 +58,12 @@ fn clr_elsewhere(regs: &mut Regs68, ram: &mut Ram, fault: &mut Fault, word: u32)
     ensures { Does (by_op Op68.Clr regs.old ram.old word) result fault.new regs.old regs.new ram.old ram.new }
 {
     let (mode, lower) = (mode_of(word), lower_of(word));
-    let mut next = 1;
-    let Some(at) = far_address(regs, ram, fault, word, &mut next, mode, lower) else {
+    if mode != 6 && (mode != 7 || lower > 1) {
         return clr_operand(regs, ram, fault, word);
+    }
+    let mut next = 1;
+    let Some(at) = data_address(regs, ram, fault, word, &mut next, mode, lower) else {
+        return Did::Stop;
     };
     if clear_there(regs, ram, word, at, next) {
         Did::Next
@@ -181,9 +184,12 @@ fn tst_elsewhere(regs: &mut Regs68, ram: &Ram, fault: &mut Fault, word: u32) -> 
     ensures { Does (by_op Op68.Tst regs.old ram.now word) result fault.new regs.old regs.new ram.now ram.now }
 {
     let (mode, lower) = (mode_of(word), lower_of(word));
-    let mut next = 1;
-    let Some(at) = far_address(regs, ram, fault, word, &mut next, mode, lower) else {
+    if mode != 6 && (mode != 7 || lower > 3) {
         return tst_operand(regs, ram, fault, word);
+    }
+    let mut next = 1;
+    let Some(at) = data_address(regs, ram, fault, word, &mut next, mode, lower) else {
+        return Did::Stop;
     };
     match size_bits_of(word) {
         0 => test_at(regs, ram, fault, word, Size::One, at, next),
