@@ -32,7 +32,7 @@ pub use decode::decode68;
 pub use ea::{Ea, Index};
 pub use fields::{
     bit_op_of, bit8_of, byte_of, condition_of, exchange_of, is_in_memory, is_left, is_long,
-    is_to_memory, line_of, logic_op_of, lower_of, memory_shift_of, mode_of, move_mode_of, quick_of,
+    is_to_memory, logic_op_of, lower_of, memory_shift_of, mode_of, move_mode_of, quick_of,
     register_shift_of, shift_count_of, size_bits_of, size_of, transfer_size_of, trap_of, upper_of,
 };
 pub use instructions::{

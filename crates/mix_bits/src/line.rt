@@ -43,6 +43,7 @@ impl Line {
         }
     }
 
+    /// The bytes of the line so far.
     pub fn bytes(&self) -> &[u8]
         ensures { result.now ≡ self.now }
     {

@@ -1,7 +1,6 @@
 // What a step changed, found beside a copy of what stood before it.
 ghost use Rattle.std.specs.Prelude.{◌≡◌, ◌+◌, ◌<◌, ◌≤◌, length};
 ghost use Rattle.std.specs.Bool.{OnTrue};
-ghost use Rattle.switch_frame.specs.Sets.{frame_size as frame_size_of};
 ghost use Rattle.big_memory.specs.Lists.{part};
 ghost use Rattle.mix_debug.specs.Runs.{Covers};
 ghost use Rattle.mix_reach.specs.Ranges.{Beside};
@@ -11,7 +10,7 @@ ghost use Rattle.mix_debug.specs.Reaches.{stored_in as stored_in_of};
 use crate::head::{BlockChange, FrameChange};
 use mix_bits::Isa;
 use mix_reach::{Reach, Stores, step_reach};
-use switch_frame::Active;
+use switch_frame::{Active, frame_size};
 use toolbox::Block;
 
 /// How many bytes are compared at once in a large range.
@@ -148,17 +147,6 @@ pub fn frame_between(old: u32, new: u32, old_set: Isa, new_set: Isa) -> FrameCha
             lo: old,
             hi: old + frame_size(new_set),
         }
-    }
-}
-
-/// How many bytes the frame of a caller of this set has.
-fn frame_size(caller: Isa) -> u32
-    ensures size { result ≡ frame_size_of caller }
-    ensures most { result ≤ 192 }
-{
-    match caller {
-        Isa::M68 => 112,
-        Isa::Ppc => 192,
     }
 }
 

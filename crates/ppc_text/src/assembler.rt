@@ -8,7 +8,7 @@ ghost use Rattle.ppc_text.specs.declared.assembler.AsmError.TheVariants.{Name as
 use super::layout::{Layout, spell};
 use super::numbers::read;
 use super::table::find;
-use super::{text_long, text_ppc};
+use super::text::{text_long, text_ppc};
 use mix_bits::{Line, split_name};
 
 /// Why a line gives no word.

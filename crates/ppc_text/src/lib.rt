@@ -20,4 +20,4 @@ pub use assembler::{AsmError, assemble_ppc, known_ppc, reassembled};
 pub use laws::{asm_laws, text_laws};
 pub use operand::{Operand, Operands};
 pub use operands::operands_ppc;
-pub use text::{text_long, text_ppc};
+pub use text::text_ppc;

@@ -1,5 +1,5 @@
-ghost use Rattle.std.specs.Prelude.{◌≡◌};
-ghost use Rattle.switch_frame.specs.Sets.{callee_isa, caller_isa, frame_size, kind_at, kind_code, kind_of};
+ghost use Rattle.std.specs.Prelude.{◌≡◌, ◌≤◌};
+ghost use Rattle.switch_frame.specs.Sets.{callee_isa, caller_isa, frame_size as frame_size_of, kind_at, kind_code, kind_of};
 
 use mix_bits::Isa;
 
@@ -88,8 +88,9 @@ impl Kind {
 }
 
 /// How many bytes the frame of a caller of this set has.
-pub(crate) fn size(caller: Isa) -> u32
-    ensures { result ≡ frame_size caller }
+pub fn frame_size(caller: Isa) -> u32
+    ensures size { result ≡ frame_size_of caller }
+    ensures most { result ≤ 192 }
 {
     match caller {
         Isa::M68 => 112,

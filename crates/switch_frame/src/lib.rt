@@ -23,7 +23,7 @@ pub use frames::{depth, give_up, outer_lo, pop, push, top};
 pub use full::Full;
 pub use gate::check_gate;
 pub use held::Held;
-pub use kind::Kind;
+pub use kind::{Kind, frame_size};
 pub use laws::{chain_laws, frame_laws, gate_laws, range_laws};
 pub use program::{Program, start_sp_of};
 pub use rooms::{MOST_FRAMES, room};

@@ -4,7 +4,7 @@ ghost use Rattle.switch_frame.specs.Calls.{IsPlace, room_of};
 ghost use Rattle.switch_frame.specs.Chain.{Chain, records};
 
 use crate::frames::depth;
-use crate::kind::size;
+use crate::kind::frame_size;
 use crate::{Full, Kind};
 use big_memory::Ram;
 
@@ -30,7 +30,7 @@ pub fn room(ram: &Ram, top: u32, sp: u32, kind: Kind, below: u32) -> Result<(u32
         return Err(Full::Crossed(top));
     }
     let hi = sp - sp % 16;
-    let lo = hi - size(kind.caller());
+    let lo = hi - frame_size(kind.caller());
     if lo - below < floor {
         return Err(Full::Stack(lo - below));
     }

@@ -6,10 +6,9 @@ ghost use Rattle.proc_info.specs.Signature.{has_signature};
 ghost use Rattle.switch_frame.specs.Chain.{Chain, Links, records};
 ghost use Rattle.switch_frame.specs.Checks.{IsWholeChain, caller_at, checked, ends_right, fits_outer, holds_file, is_below, is_good, is_image, is_there, walk as walk_of};
 ghost use Rattle.switch_frame.specs.Records.{Record};
-ghost use Rattle.switch_frame.specs.Sets.{frame_size, kind_at};
+ghost use Rattle.switch_frame.specs.Sets.{frame_size as frame_size_of, kind_at};
 
-use crate::Kind;
-use crate::kind::size;
+use crate::kind::{Kind, frame_size};
 use crate::rooms::MOST_FRAMES;
 use big_memory::Ram;
 use mix_bits::{Isa, is_isa, onward};
@@ -94,14 +93,14 @@ fn ends_right(ram: &Ram, lo: u32, caller: Isa) -> bool
     requires there { lo + 112 ≤ length ram.now.bytes }
     ensures { result ≡ ends_right ram.now lo caller }
 {
-    let hi = lo + size(caller);
+    let hi = lo + frame_size(caller);
     ram.read_long(lo + 20) == hi && hi <= ram.len()
 }
 
 /// Whether the longs at `a` are those of a register file, with zeros up to the frame's end.
 fn holds_file(ram: &Ram, a: u32, set: Isa) -> bool
     requires ram { IsRam ram.now }
-    requires within { a + frame_size set ≤ length ram.now.bytes + 32 }
+    requires within { a + frame_size_of set ≤ length ram.now.bytes + 32 }
     ensures { result ≡ holds_file set a ram.now.bytes }
 {
     match set {
