@@ -1,6 +1,6 @@
-use crate::area::{Area, CODE};
-use crate::fault::{kept, told};
-use crate::setting::{Setting, number};
+use super::area::{Area, CODE};
+use super::fault::{kept, told};
+use super::setting::{Setting, number};
 use big_memory::Ram;
 use m68_core::{Out68, step68};
 use m68_isa::{Ccr, Regs68};

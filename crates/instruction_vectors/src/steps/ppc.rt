@@ -1,6 +1,6 @@
-use crate::area::{Area, CODE};
-use crate::fault::{kept, told};
-use crate::setting::{Setting, number};
+use super::area::{Area, CODE};
+use super::fault::{kept, told};
+use super::setting::{Setting, number};
 use big_memory::{Ram, is_gate};
 use mix_bits::Size;
 use ppc_core::{OutPpc, step_ppc};

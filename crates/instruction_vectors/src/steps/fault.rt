@@ -1,4 +1,4 @@
-use crate::area::Area;
+use super::area::Area;
 use mix_bits::{Fault, FaultKind};
 use std::alloc::{AllocError, Global};
 

@@ -1,19 +1,18 @@
-//! Reads and writes the text of one instruction for each line of standard input.
+//! The text of one instruction.
 //!
-//! A line has a set, an address, and what stands there. `68k` and `ppc` have words in hexadecimal with commas
+//! A line has a set, an address, and what stands there. `text68` and `textppc` have words in hexadecimal with commas
 //! between them (`-` stands for none), and a note behind them. The answer says what the decoder makes of the words
 //! (how many of them an instruction uses, or why they are none), their text, and the words that the text assembles
 //! back to at that address. Words that are too few for an instruction have no text. `as68` and `asppc` have a text
 //! in quotation marks; the answer has the words that it assembles to there, or the name of the refusal.
 //!
-//! The answers that are stored beside this program were not made by it. GNU as 2.40 makes these words of the line
+//! The stored answers were not made by this program. GNU as 2.40 makes these words of the line
 //! that is the note, with 0x for `$`, or else of the text (`-m68000`, and `-m68020` for the additions; `-m601
 //! -mregnames`). The texts are those lines in our own spelling of numbers, targets, sizes, lists of registers and
 //! registers of long products (`docs/text.md`). By hand, from the formats and tables of the manuals, are what the
 //! assembler has no line for (immediate words whose high byte is not 0, `cmp` with an immediate, a product of longs
 //! with a second register, `lswx` into a register of its address), the words that are no instruction, where the note
 //! names what is wrong or left out, and the lines of `as68` and `asppc`.
-#![tactic(auto)]
 
 mod m68;
 mod ppc;
@@ -21,20 +20,9 @@ mod row;
 
 use row::Row;
 use std::alloc::{AllocError, Global};
-use std::io;
-
-fn main(rt: HostRuntime) -> io::Result<()> {
-    let alloc = rt.alloc();
-    for line in rt.lines(alloc) {
-        let line = line?;
-        let answer = answer_of(alloc, line.as_str())?;
-        println!(rt; "{answer}")?;
-    }
-    Ok(())
-}
 
 /// The answer to a line: its row, and what is to be said of it.
-fn answer_of(alloc: Global, line: &str) -> Result<String, AllocError> {
+pub fn answer(alloc: Global, line: &str) -> Result<String, AllocError> {
     match Row::read(line) {
         Some(row) => {
             let (set, at, given) = (row.set, row.at, row.given);
@@ -48,8 +36,8 @@ fn answer_of(alloc: Global, line: &str) -> Result<String, AllocError> {
 /// What is to be said of a row.
 fn said_of(alloc: Global, row: &Row) -> Result<String, AllocError> {
     match row.set {
-        "68k" => m68::read(alloc, row.words(alloc)?.as_slice(), row.at),
-        "ppc" => ppc::read(alloc, row.word(), row.at),
+        "text68" => m68::read(alloc, row.words(alloc)?.as_slice(), row.at),
+        "textppc" => ppc::read(alloc, row.word(), row.at),
         "as68" => m68::assembled(alloc, row.text(), row.at),
         "asppc" => ppc::assembled(alloc, row.text(), row.at),
         _ => format!(in alloc; " is no row"),
