@@ -23,7 +23,7 @@ pub struct Faults<'a> {
 }
 
 /// Nothing goes wrong.
-pub const CALM: Faults<'static> = Faults {
+const CALM: Faults<'static> = Faults {
     input: &[],
     out: &[],
     trace: &[],
@@ -40,6 +40,11 @@ pub struct Outside {
 }
 
 impl Outside {
+    /// Nothing goes wrong around a machine with this input.
+    pub fn calm(rt: &impl Abort, alloc: Global, input: &[u8]) -> Outside {
+        Outside::new(rt, alloc, input, CALM)
+    }
+
     pub fn new(rt: &impl Abort, alloc: Global, bytes: &[u8], faults: Faults) -> Outside {
         Outside {
             input: source(rt, alloc, bytes, faults.input),
@@ -81,7 +86,7 @@ fn rack(rt: &impl Abort, alloc: Global) -> Rack {
 }
 
 /// A machine with a flat image, at its start, in so many KiB of RAM.
-pub fn start(rt: &impl Abort, alloc: Global, main: Isa, kib: u32, text: &str) -> Machine
+fn start(rt: &impl Abort, alloc: Global, main: Isa, kib: u32, text: &str) -> Machine
     requires least { 128 ≤ kib }
     requires most { kib ≤ 16384 }
     ensures { IsWhole result.body (isa_of result.active) }
@@ -100,6 +105,49 @@ pub fn start(rt: &impl Abort, alloc: Global, main: Isa, kib: u32, text: &str) ->
         panic!(rt; "no machine")
     };
     machine
+}
+
+/// A machine, and what stands around it. Whoever begins one gives it to `leave` or `end`, so that only these drop it, and
+/// the proofs of the others stay small.
+#[derive(Drop)]
+pub struct Trial {
+    pub machine: Machine,
+    pub around: Outside,
+}
+
+impl Trial {
+    /// A flat image at its start, in so many KiB of RAM.
+    pub fn begin(
+        rt: &impl Abort,
+        alloc: Global,
+        main: Isa,
+        kib: u32,
+        text: &str,
+        around: Outside,
+    ) -> Trial
+        requires least { 128 ≤ kib }
+        requires most { kib ≤ 16384 }
+        ensures { IsWhole result.machine.body (isa_of result.machine.active) }
+    {
+        let machine = start(rt, alloc, main, kib, text);
+        Trial { machine, around }
+    }
+
+    /// Runs for at most so many steps.
+    pub fn run(&mut self, steps: u32) -> Stop
+        requires { IsWhole self.old.machine.body (isa_of self.old.machine.active) }
+        ensures { IsWhole self.new.machine.body (isa_of self.new.machine.active) }
+    {
+        run_on(&mut self.machine, &mut self.around, steps)
+    }
+
+    /// What a run leaves that stopped so.
+    pub fn leave(mut self, rt: &impl Abort, alloc: Global, stop: Stop) -> Left {
+        leave(rt, alloc, stop, self.machine.active, &mut self.around)
+    }
+
+    /// Nothing more is asked of it.
+    pub fn end(self) {}
 }
 
 /// Runs a machine for at most so many steps.
@@ -194,13 +242,7 @@ fn taken(rt: &impl Abort, alloc: Global, out: &MemSink) -> Vec<u8> {
 }
 
 /// What a machine that stopped leaves, and what stands around it then.
-pub fn leave(
-    rt: &impl Abort,
-    alloc: Global,
-    stop: Stop,
-    active: Active,
-    around: &mut Outside,
-) -> Left {
+fn leave(rt: &impl Abort, alloc: Global, stop: Stop, active: Active, around: &mut Outside) -> Left {
     let journal = around.rack.journal().to_vec(alloc);
     Left {
         stop,

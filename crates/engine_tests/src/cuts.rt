@@ -2,7 +2,7 @@
 ghost use Rattle.switch_frame.specs.Records.{isa_of};
 ghost use Rattle.mixed_machine.specs.Machine.{IsWhole};
 
-use crate::bench::{CALM, Left, Outside, innermost, leave, run_on, same, start, waiting};
+use crate::bench::{Left, Outside, Trial, innermost, same, waiting};
 use crate::equal::equal;
 use crate::images::{CFM_ALONE, CFM_BETWEEN, INPUT_68K, INPUT_PPC, MIXED_CALLS, SAMPLE};
 use crate::text::count_lines;
@@ -25,25 +25,32 @@ struct Sample<'a> {
     input: &'a [u8],
 }
 
+/// A program at its start.
+fn begin(rt: &impl Abort, alloc: Global, sample: Sample) -> Trial
+    ensures { IsWhole result.machine.body (isa_of result.machine.active) }
+{
+    let around = Outside::calm(rt, alloc, sample.input);
+    Trial::begin(rt, alloc, sample.main, 128, sample.text, around)
+}
+
 /// Runs a program for so many steps, and then to its end. The first answer is how it stopped at the cut.
 fn cut(rt: &impl Abort, alloc: Global, sample: Sample, steps: u32) -> (Stop, Left) {
-    let mut m = start(rt, alloc, sample.main, 128, sample.text);
-    let mut around = Outside::new(rt, alloc, sample.input, CALM);
-    let first = run_on(&mut m, &mut around, steps);
+    let mut trial = begin(rt, alloc, sample);
+    let first = trial.run(steps);
     let last = match first {
-        Stop::Limit => run_on(&mut m, &mut around, ALL),
+        Stop::Limit => trial.run(ALL),
         stop => stop,
     };
-    (first, leave(rt, alloc, last, m.active, &mut around))
+    (first, trial.leave(rt, alloc, last))
 }
 
 /// Runs a machine in pieces of so many steps each, and answers how it stops.
-fn run_pieces(m: &mut Machine, around: &mut Outside, steps: u32) -> Stop
-    requires { IsWhole m.old.body (isa_of m.old.active) }
-    ensures { IsWhole m.new.body (isa_of m.new.active) }
+fn run_pieces(trial: &mut Trial, steps: u32) -> Stop
+    requires { IsWhole trial.old.machine.body (isa_of trial.old.machine.active) }
+    ensures { IsWhole trial.new.machine.body (isa_of trial.new.machine.active) }
 {
     'pieces: for _ in 0..ALL {
-        let stop = run_on(m, around, steps);
+        let stop = trial.run(steps);
         if stop != Stop::Limit {
             return stop;
         }
@@ -53,10 +60,9 @@ fn run_pieces(m: &mut Machine, around: &mut Outside, steps: u32) -> Stop
 
 /// Runs a program in pieces of so many steps each.
 fn cut_often(rt: &impl Abort, alloc: Global, sample: Sample, steps: u32) -> Left {
-    let mut m = start(rt, alloc, sample.main, 128, sample.text);
-    let mut around = Outside::new(rt, alloc, sample.input, CALM);
-    let stop = run_pieces(&mut m, &mut around, steps);
-    leave(rt, alloc, stop, m.active, &mut around)
+    let mut trial = begin(rt, alloc, sample);
+    let stop = run_pieces(&mut trial, steps);
+    trial.leave(rt, alloc, stop)
 }
 
 /// A run that is cut into pieces of so many steps leaves what the run in one piece left.
@@ -125,6 +131,14 @@ fn crossings(trace: &[u8]) -> (u32, u32) {
     (count_lines(trace, b'c'), count_lines(trace, b'r'))
 }
 
+/// A program of 68K code at its start, with room for the most frames.
+fn begin_deep(rt: &impl Abort, alloc: Global, text: &str) -> Trial
+    ensures { IsWhole result.machine.body (isa_of result.machine.active) }
+{
+    let around = Outside::calm(rt, alloc, b"");
+    Trial::begin(rt, alloc, Isa::M68, 1024, text, around)
+}
+
 /// The sample calls to this depth, and stops so after so many steps, with so many lines of calls and of returns.
 fn calls_to(
     rt: &impl Abort,
@@ -136,10 +150,10 @@ fn calls_to(
     lines: (u32, u32),
 ) {
     let text = sample_to(rt, alloc, deep, change);
-    let mut m = start(rt, alloc, Isa::M68, 1024, &text);
-    let mut around = Outside::new(rt, alloc, b"", CALM);
-    equal(rt, steps, run_on(&mut m, &mut around, steps), wanted);
-    equal(rt, steps, crossings(around.trace.held()), lines);
+    let mut trial = begin_deep(rt, alloc, &text);
+    equal(rt, steps, trial.run(steps), wanted);
+    equal(rt, steps, crossings(trial.around.trace.held()), lines);
+    trial.end();
 }
 
 /// The sample calls to this depth and returns, and ends in its last step but not in the one before.
@@ -201,22 +215,20 @@ fn callers_wait(rt: &impl Abort, m: &Machine, trace: &[u8], steps: u32)
 
 /// They do after so many steps of a program, which then goes on and leaves what its uncut run left.
 fn callers_wait_at(rt: &impl Abort, alloc: Global, text: &str, whole: &Left, steps: u32) {
-    let mut m = start(rt, alloc, Isa::M68, 1024, text);
-    let mut around = Outside::new(rt, alloc, b"", CALM);
-    equal(rt, steps, run_on(&mut m, &mut around, steps), Stop::Limit);
-    callers_wait(rt, &m, around.trace.held(), steps);
-    let last = run_on(&mut m, &mut around, ALL);
+    let mut trial = begin_deep(rt, alloc, text);
+    equal(rt, steps, trial.run(steps), Stop::Limit);
+    callers_wait(rt, &trial.machine, trial.around.trace.held(), steps);
+    let last = trial.run(ALL);
     equal(rt, steps, last, Stop::Exit(256));
-    let left = leave(rt, alloc, last, m.active, &mut around);
+    let left = trial.leave(rt, alloc, last);
     same(rt, &left, whole, steps);
 }
 
 /// What the uncut run of a program leaves.
 fn uncut(rt: &impl Abort, alloc: Global, text: &str) -> Left {
-    let mut m = start(rt, alloc, Isa::M68, 1024, text);
-    let mut around = Outside::new(rt, alloc, b"", CALM);
-    let end = run_on(&mut m, &mut around, ALL);
-    leave(rt, alloc, end, m.active, &mut around)
+    let mut trial = begin_deep(rt, alloc, text);
+    let end = trial.run(ALL);
+    trial.leave(rt, alloc, end)
 }
 
 #[test]

@@ -2,7 +2,7 @@
 ghost use Rattle.switch_frame.specs.Records.{isa_of};
 ghost use Rattle.mixed_machine.specs.Machine.{IsWhole};
 
-use crate::bench::{CALM, Faults, Outside, run_on, start, waiting};
+use crate::bench::{Faults, Outside, Trial, waiting};
 use crate::equal::equal;
 use mix_bits::Isa;
 use mix_engine::{Machine, Stop};
@@ -122,10 +122,12 @@ const CALL_TOLD: Row<'static> = Row {
 
 /// Where a calm run of a row's program is after the row's steps, and how many callers wait then.
 fn calm(rt: &impl Abort, alloc: Global, row: &Row) -> (Active, u32) {
-    let mut m = start(rt, alloc, row.main, 128, row.text);
-    let mut around = Outside::new(rt, alloc, b"abc", CALM);
-    let _ = run_on(&mut m, &mut around, row.steps);
-    (m.active, waiting(&m))
+    let around = Outside::calm(rt, alloc, b"abc");
+    let mut trial = Trial::begin(rt, alloc, row.main, 128, row.text, around);
+    let _ = trial.run(row.steps);
+    let at = (trial.machine.active, waiting(&trial.machine));
+    trial.end();
+    at
 }
 
 /// What is outside of a row's run.
@@ -147,16 +149,22 @@ fn is_at(rt: &impl Abort, m: &Machine, row: &Row, calm: (Active, u32))
     equal(rt, "the step", (m.active, waiting(m)), calm);
 }
 
+/// Output and trace have what a row says.
+fn puts(rt: &impl Abort, around: &Outside, row: &Row) {
+    equal(rt, "the output", around.out.held(), row.bytes);
+    equal(rt, "the trace", around.trace.held(), row.lines.as_bytes());
+}
+
 /// A run stops and goes on as a row says.
 fn stops(rt: &impl Abort, alloc: Global, row: &Row) {
     let here = calm(rt, alloc, row);
-    let mut m = start(rt, alloc, row.main, 128, row.text);
-    let mut around = outside(rt, alloc, row);
-    equal(rt, "the stop", run_on(&mut m, &mut around, 1000), row.stop);
-    is_at(rt, &m, row, here);
-    equal(rt, "the end", run_on(&mut m, &mut around, 1000), row.end);
-    equal(rt, "the output", around.out.held(), row.bytes);
-    equal(rt, "the trace", around.trace.held(), row.lines.as_bytes());
+    let around = outside(rt, alloc, row);
+    let mut trial = Trial::begin(rt, alloc, row.main, 128, row.text, around);
+    equal(rt, "the stop", trial.run(1000), row.stop);
+    is_at(rt, &trial.machine, row, here);
+    equal(rt, "the end", trial.run(1000), row.end);
+    puts(rt, &trial.around, row);
+    trial.end();
 }
 
 /// All rows are so.

@@ -2,7 +2,7 @@
 ghost use Rattle.switch_frame.specs.Records.{isa_of};
 ghost use Rattle.mixed_machine.specs.Machine.{IsWhole};
 
-use crate::bench::{CALM, Outside, innermost, run_on, start, waiting};
+use crate::bench::{Outside, Trial, innermost, run_on, waiting};
 use crate::equal::equal;
 use m68_isa::{Ccr, Regs68};
 use mix_bits::{Fault, FaultKind, Isa, Size};
@@ -173,13 +173,14 @@ fn is_written_around(rt: &impl Abort, m: &Machine, held: Held) {
 
 /// A caller waits with these registers while its callee writes all that it may, and goes on with those.
 fn waits(rt: &impl Abort, alloc: Global, main: Isa, text: &str, caller: Active, after: Active) {
-    let mut m = start(rt, alloc, main, 128, text);
-    let mut around = Outside::new(rt, alloc, b"", CALM);
-    let held = call(rt, &mut m, &mut around);
+    let around = Outside::calm(rt, alloc, b"");
+    let mut trial = Trial::begin(rt, alloc, main, 128, text, around);
+    let held = call(rt, &mut trial.machine, &mut trial.around);
     equal(rt, "the caller", held.caller, caller);
-    come_back(rt, &mut m, &mut around, held);
-    equal(rt, "the registers", m.active, after);
-    is_written_around(rt, &m, held);
+    come_back(rt, &mut trial.machine, &mut trial.around, held);
+    equal(rt, "the registers", trial.machine.active, after);
+    is_written_around(rt, &trial.machine, held);
+    trial.end();
 }
 
 /// A 68K caller waits while its callee writes.
@@ -245,9 +246,10 @@ fn ends(rt: &impl Abort, m: &mut Machine, around: &mut Outside, text: &str, want
 
 /// The same of a program from its start on.
 fn stores(rt: &impl Abort, alloc: Global, main: Isa, text: &str, wanted: Stop) {
-    let mut m = start(rt, alloc, main, 128, text);
-    let mut around = Outside::new(rt, alloc, b"", CALM);
-    ends(rt, &mut m, &mut around, text, wanted);
+    let around = Outside::calm(rt, alloc, b"");
+    let mut trial = Trial::begin(rt, alloc, main, 128, text, around);
+    ends(rt, &mut trial.machine, &mut trial.around, text, wanted);
+    trial.end();
 }
 
 /// PowerPC code stores once, and returns to 68K code.

@@ -2,10 +2,10 @@
 ghost use Rattle.switch_frame.specs.Records.{isa_of};
 ghost use Rattle.mixed_machine.specs.Machine.{IsWhole};
 
-use crate::bench::{CALM, Outside, run_on, run_set, start};
+use crate::bench::{Outside, Trial, run_set};
 use crate::equal::equal;
 use mix_bits::Isa;
-use mix_engine::{Machine, Stop, Turn};
+use mix_engine::{Stop, Turn};
 use std::process::Abort;
 use switch_frame::Active;
 
@@ -15,38 +15,31 @@ const ADDS: &str = "598F 3F3C FFFE 2F3C 0001 0002 4EB9 0001 0020 201F AA85
     @40 00010048 00000000 7C632214 4E800020";
 
 /// The code of the active set runs with so many steps, and leaves so many. The answer is how its turn ends.
-fn turn(rt: &impl Abort, m: &mut Machine, around: &mut Outside, steps: u32, left: u32) -> Turn
-    requires { IsWhole m.old.body (isa_of m.old.active) }
-    ensures { IsWhole m.new.body (isa_of m.new.active) }
+fn turn(rt: &impl Abort, trial: &mut Trial, steps: u32, left: u32) -> Turn
+    requires { IsWhole trial.old.machine.body (isa_of trial.old.machine.active) }
+    ensures { IsWhole trial.new.machine.body (isa_of trial.new.machine.active) }
 {
     let mut steps = steps;
-    let turn = run_set(m, around, &mut steps);
+    let turn = run_set(&mut trial.machine, &mut trial.around, &mut steps);
     equal(rt, "the steps that are left", steps, left);
     turn
 }
 
 /// Its turn ends as its 68K caller goes on.
-fn goes_back(rt: &impl Abort, m: &mut Machine, around: &mut Outside, steps: u32, left: u32)
-    requires { IsWhole m.old.body (isa_of m.old.active) }
-    ensures { IsWhole m.new.body (isa_of m.new.active) }
+fn goes_back(rt: &impl Abort, trial: &mut Trial, steps: u32, left: u32)
+    requires { IsWhole trial.old.machine.body (isa_of trial.old.machine.active) }
+    ensures { IsWhole trial.new.machine.body (isa_of trial.new.machine.active) }
 {
-    let turn = turn(rt, m, around, steps, left);
+    let turn = turn(rt, trial, steps, left);
     assert!(rt; matches!(turn, Turn::Back(Active::M68(_))));
 }
 
 /// Its turn ends as 68K code stops so.
-fn stops(
-    rt: &impl Abort,
-    m: &mut Machine,
-    around: &mut Outside,
-    steps: u32,
-    left: u32,
-    wanted: Stop,
-)
-    requires { IsWhole m.old.body (isa_of m.old.active) }
-    ensures { IsWhole m.new.body (isa_of m.new.active) }
+fn stops(rt: &impl Abort, trial: &mut Trial, steps: u32, left: u32, wanted: Stop)
+    requires { IsWhole trial.old.machine.body (isa_of trial.old.machine.active) }
+    ensures { IsWhole trial.new.machine.body (isa_of trial.new.machine.active) }
 {
-    match turn(rt, m, around, steps, left) {
+    match turn(rt, trial, steps, left) {
         Turn::Stop(Active::M68(_), stop) => equal(rt, "the stop", stop, wanted),
         _ => panic!(rt; "no 68K code stops"),
     }
@@ -54,11 +47,11 @@ fn stops(
 
 #[test]
 fn a_callee_comes_back_and_its_caller_stops(rt: HostRuntime) {
-    let mut m = start(&rt, rt.alloc(), Isa::M68, 128, ADDS);
-    let mut around = Outside::new(&rt, rt.alloc(), b"", CALM);
-    let cut = run_on(&mut m, &mut around, 5);
-    equal(&rt, "the cut", cut, Stop::Limit);
-    goes_back(&rt, &mut m, &mut around, 100, 97);
-    stops(&rt, &mut m, &mut around, 97, 95, Stop::Exit(0x20000));
-    stops(&rt, &mut m, &mut around, 0, 0, Stop::Limit);
+    let around = Outside::calm(&rt, rt.alloc(), b"");
+    let mut trial = Trial::begin(&rt, rt.alloc(), Isa::M68, 128, ADDS, around);
+    equal(&rt, "the cut", trial.run(5), Stop::Limit);
+    goes_back(&rt, &mut trial, 100, 97);
+    stops(&rt, &mut trial, 97, 95, Stop::Exit(0x20000));
+    stops(&rt, &mut trial, 0, 0, Stop::Limit);
+    trial.end();
 }

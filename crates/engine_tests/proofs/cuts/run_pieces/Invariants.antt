@@ -3,4 +3,4 @@ use Rattle.mixed_machine.specs.Machine.{IsWhole}
 use Rattle.engine_tests.proofs.cuts.run_pieces.Given as goal
 
 abbrev pub invariant-pieces : goal.invariant-pieces
-invariant-pieces g l = IsWhole l.m.body (isa_of l.m.active)
+invariant-pieces g l = IsWhole l.trial.machine.body (isa_of l.trial.machine.active)
