@@ -45,10 +45,15 @@ fn writer(alloc: Global, line: &str, key: &str) -> io::Result<Output> {
 
 /// What the words of a line give, as text: the output, the errors and the status.
 pub fn told(rt: &HostRuntime, line: &str) -> io::Result<String> {
+    let mut case = read_case(rt.alloc(), line)?;
+    told_of(rt, &mut case)
+}
+
+/// What a case gives, as text.
+fn told_of(rt: &HostRuntime, case: &mut Case) -> io::Result<String> {
     let alloc = rt.alloc();
-    let mut case = read_case(alloc, line)?;
     let status = answer(alloc, rt, &case.words, USAGE, &mut case.streams);
-    let out = output(alloc, &case)?;
+    let out = output(alloc, case)?;
     let errors = text_of(alloc, case.streams.errors.held())?;
     Ok(format!(in alloc; "{out}{errors}status {status}\n")?)
 }
