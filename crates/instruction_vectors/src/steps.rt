@@ -11,7 +11,7 @@
 //! those at odd addresses as a 68020, and as a 603e in user mode). The lines of what the manuals leave open,
 //! of faults, and of what QEMU does otherwise than the manual says (three shifts of a word in memory, flags
 //! of long immediates from $80000000 on, `link` of A7) are by hand, from the tables in `docs/`; so are the two of
-//! `btst` with a number and the program counter, and the last 496 lines, instructions and every BO as GNU as
+//! `btst` with a number and the program counter, and the last 496 of these lines, instructions and every BO as GNU as
 //! assembles them for the 601 and the 68020, whose results are the manuals' sums over unbounded integers, and what
 //! the gate page answers.
 

@@ -1,5 +1,6 @@
 use super::area::Area;
-use mix_bits::{Fault, FaultKind};
+use call_trace::fault_name;
+use mix_bits::Fault;
 use std::alloc::{AllocError, Global};
 
 /// The text of an answer that is a fault, with what it has changed all the same: nothing, if all is
@@ -11,7 +12,7 @@ pub fn told(
     before: &Area,
     after: &Area,
 ) -> Result<String, AllocError> {
-    let name = name_of(fault.kind);
+    let name = fault_name(fault.kind);
     let (pc, detail, also) = (fault.pc, fault.detail, fault.also);
     let registers = kept(is_same);
     let mut text = format!(in alloc; " fault {name} {pc:08X} {detail:08X} {also:08X}{registers}")?;
@@ -22,21 +23,4 @@ pub fn told(
 /// What is said of a register file that is to be as before.
 pub fn kept(is_same: bool) -> &'static str {
     if is_same { "" } else { " registers changed" }
-}
-
-/// The names of the faults that an instruction can have.
-fn name_of(kind: FaultKind) -> &'static str {
-    match kind {
-        FaultKind::Illegal => "illegal",
-        FaultKind::Privileged => "privileged",
-        FaultKind::Odd => "odd",
-        FaultKind::Outside => "outside",
-        FaultKind::GateStore => "gatestore",
-        FaultKind::FrameStore => "framestore",
-        FaultKind::GateFetch => "gatefetch",
-        FaultKind::Vector => "vector",
-        FaultKind::BadInstr => "badinstr",
-        FaultKind::Trap => "trap",
-        _ => "other",
-    }
 }
