@@ -26,25 +26,29 @@ IsFromLine4 LineA = ⊥
 IsFromLine4 LineF = ⊥
 IsFromLine4 op = Unit {0}
 
+-- in line 4 from 4A00, whose first operation is a test, or further down
+abbrev pub IsFromTest : Op68 → Type 0
+IsFromTest Negx = ⊥
+IsFromTest Clr = ⊥
+IsFromTest Neg = ⊥
+IsFromTest Not = ⊥
+IsFromTest MoveFromSr = ⊥
+IsFromTest MoveToCcr = ⊥
+IsFromTest Nbcd = ⊥
+IsFromTest Swap = ⊥
+IsFromTest Pea = ⊥
+IsFromTest Ext = ⊥
+IsFromTest ExtByte = ⊥
+IsFromTest MovemToMemory = ⊥
+IsFromTest op = IsFromLine4 op
+
 -- in line 5 or further down
 abbrev pub IsFromLine5 : Op68 → Type 0
-IsFromLine5 Negx = ⊥
-IsFromLine5 Clr = ⊥
-IsFromLine5 Neg = ⊥
-IsFromLine5 Not = ⊥
-IsFromLine5 MoveFromSr = ⊥
-IsFromLine5 MoveToCcr = ⊥
-IsFromLine5 Nbcd = ⊥
-IsFromLine5 Swap = ⊥
-IsFromLine5 Pea = ⊥
-IsFromLine5 Ext = ⊥
-IsFromLine5 ExtByte = ⊥
-IsFromLine5 MovemToMemory = ⊥
-IsFromLine5 MovemFromMemory = ⊥
-IsFromLine5 MulLong = ⊥
-IsFromLine5 DivLong = ⊥
 IsFromLine5 Tst = ⊥
 IsFromLine5 Tas = ⊥
+IsFromLine5 MulLong = ⊥
+IsFromLine5 DivLong = ⊥
+IsFromLine5 MovemFromMemory = ⊥
 IsFromLine5 Trap = ⊥
 IsFromLine5 Link = ⊥
 IsFromLine5 LinkLong = ⊥
@@ -58,7 +62,7 @@ IsFromLine5 Jsr = ⊥
 IsFromLine5 Jmp = ⊥
 IsFromLine5 Chk = ⊥
 IsFromLine5 Lea = ⊥
-IsFromLine5 op = IsFromLine4 op
+IsFromLine5 op = IsFromTest op
 
 -- in line 9 or further down
 abbrev pub IsFromLine9 : Op68 → Type 0

@@ -9,7 +9,7 @@ ghost use Rattle.m68_isa.specs.Moves.{moved_of};
 ghost use Rattle.m68_isa.specs.Miscellaneous.{extension as extension_lem};
 ghost use Rattle.m68_isa.specs.Made.{made as made_lem};
 ghost use Rattle.m68_isa.specs.Fits.{Fits};
-ghost use Rattle.m68_isa.specs.Lines.{IsFromLine4, IsFromLine5, IsFromLine9};
+ghost use Rattle.m68_isa.specs.Lines.{IsFromLine4, IsFromLine5, IsFromLine9, IsFromTest};
 ghost use Rattle.m68_isa.specs.Fields.{HasFound, HasRegisters};
 ghost use Rattle.m68_isa.specs.Extended.{IsByte, IsExtendedEa, IsExtendedFound, IsWord};
 
@@ -203,7 +203,7 @@ pub fn made(op: Op68, word: u32, words: &[u16]) -> Found
     }
 }
 
-/// The same in line 4, or further down.
+/// The same in line 4 below 4A00, or further down.
 fn in_line_4(op: Op68, word: u32, words: &[u16]) -> Found
     requires fits { Fits op word }
     requires line { IsFromLine4 op }
@@ -213,7 +213,7 @@ fn in_line_4(op: Op68, word: u32, words: &[u16]) -> Found
 {
     let size = size_of(word);
     let transfer = transfer_size_of(word);
-    let (upper, lower) = (upper_of(word) as u8, lower_of(word) as u8);
+    let lower = lower_of(word) as u8;
     match op {
         Op68::Negx => one!(word, words, size, to => Negx { size, to }),
         Op68::Clr => one!(word, words, size, to => Clr { size, to }),
@@ -228,12 +228,28 @@ fn in_line_4(op: Op68, word: u32, words: &[u16]) -> Found
         Op68::ExtByte => words!(1 => Ext { from: Size::One, to: Size::Four, register: lower }),
         Op68::MovemToMemory =>
             behind!(word, words, transfer, mask, to => MovemToMemory { size: transfer, mask, to }),
-        Op68::MovemFromMemory =>
-            behind!(word, words, transfer, mask, from => MovemFromMemory { size: transfer, mask, from }),
-        Op68::MulLong => by_registers!(word, words, MulLong),
-        Op68::DivLong => by_registers!(word, words, DivLong),
+        _ => in_line_4_from_test(op, word, words),
+    }
+}
+
+/// The same in line 4 from 4A00 on, or further down.
+fn in_line_4_from_test(op: Op68, word: u32, words: &[u16]) -> Found
+    requires fits { Fits op word }
+    requires line { IsFromTest op }
+    ensures value { result ≡ made_lem op (first_of word) words.now }
+    ensures fields { HasFound result }
+    ensures extended { IsExtendedFound result }
+{
+    let size = size_of(word);
+    let transfer = transfer_size_of(word);
+    let (upper, lower) = (upper_of(word) as u8, lower_of(word) as u8);
+    match op {
         Op68::Tst => one!(word, words, size, of => Tst { size, of }),
         Op68::Tas => one!(word, words, Size::One, to => Tas { to }),
+        Op68::MulLong => by_registers!(word, words, MulLong),
+        Op68::DivLong => by_registers!(word, words, DivLong),
+        Op68::MovemFromMemory =>
+            behind!(word, words, transfer, mask, from => MovemFromMemory { size: transfer, mask, from }),
         Op68::Trap => words!(1 => Trap { number: trap_of(word) as u8 }),
         Op68::Link =>
             words!(2 => Link { size: Size::Two, register: lower, disp: extended_word(words, 1) }),
