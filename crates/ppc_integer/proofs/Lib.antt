@@ -6,3 +6,4 @@ pub mod FieldLemmas
 pub mod MaskLemmas
 pub mod ShiftLemmas
 pub mod SignedLemmas
+pub mod Alike
