@@ -1,39 +1,30 @@
 -- A signed sum leaves a size exactly where the signed number of the result is another one.
-use Rattle.std.proofs.Common.{ℕ, ℤ, ◌≡◌, ◌≢◌, ◌<◌, ◌↔◌, Bool, true, false, refl, sym, ap, ◌∙◌, arith}
-use Rattle.std.proofs.lemmas.Bool.Decides.{nat_tests}
-use Rattle.std.proofs.lemmas.Int.{ints}
+use Rattle.std.proofs.Common.{ℕ, ℤ, ◌≡◌, ◌≢◌, ◌<◌, ◌%◌, ◌↔◌, Bool, true, false, refl, sym, ap, ◌∙◌}
 use Rattle.mix_bits.specs.declared.size.Size.{Size}
-use Rattle.mix_bits.specs.declared.size.Size.TheVariants.{Zero, One, Two, Four}
+use Rattle.mix_bits.specs.declared.size.Size.TheVariants.{Zero}
 use Rattle.mix_bits.specs.Sizes.{modulus, signed_of}
-use Rattle.m68_alu.specs.Sizes.{leaves}
+use Rattle.m68_alu.specs.Sizes.{half, leaves}
+use Rattle.std.specs.Int.{from_bool}
+use Rattle.m68_alu.proofs.Halves.{below, bit, difference_is, difference_stays, inside, sum_is, sum_stays, twice, whole}
 use Rattle.m68_alu.specs.Sums.{difference_value, signed_difference, signed_total, sum_value}
 
 -- the signed number of a value is one of its size
 within : (s : Size) (v : ℕ) → s ≢ Zero → leaves s (signed_of v s) ≡ false
-within Zero v some = absurd (some refl)
-within One v some = grind (arith, nat_tests, ints)
-within Two v some = grind (arith, nat_tests, ints)
-within Four v some = grind (arith, nat_tests, ints)
+within s v some = inside (modulus s) (half s) (v % modulus s) (twice s some) (below s v some)
 
 kept_sum : (s : Size) (d r : ℕ) (carry : Bool) → s ≢ Zero → d < modulus s → r < modulus s
     → leaves s (signed_total (signed_of d s) (signed_of r s) carry) ≡ false → signed_of (sum_value s d r carry) s ≡ signed_total (signed_of d s) (signed_of r s) carry
-kept_sum Zero d r carry some low high stays = absurd (some refl)
-kept_sum One d r true some low high stays = grind (arith, nat_tests, ints, low, high, stays)
-kept_sum One d r false some low high stays = grind (arith, nat_tests, ints, low, high, stays)
-kept_sum Two d r true some low high stays = grind (arith, nat_tests, ints, low, high, stays)
-kept_sum Two d r false some low high stays = grind (arith, nat_tests, ints, low, high, stays)
-kept_sum Four d r true some low high stays = grind (arith, nat_tests, ints, low, high, stays)
-kept_sum Four d r false some low high stays = grind (arith, nat_tests, ints, low, high, stays)
+kept_sum s d r carry some low high =
+    let small : sum_value s d r carry < modulus s = below s _ some in
+    rw (whole s (sum_value s d r carry) small, whole s d low, whole s r high)
+    (sum_stays (modulus s) (half s) d r (from_bool carry) (sum_value s d r carry) (twice s some) low high small (bit carry) (sum_is s d r carry some low high))
 
 kept_difference : (s : Size) (d r : ℕ) (borrow : Bool) → s ≢ Zero → d < modulus s → r < modulus s
     → leaves s (signed_difference (signed_of d s) (signed_of r s) borrow) ≡ false → signed_of (difference_value s d r borrow) s ≡ signed_difference (signed_of d s) (signed_of r s) borrow
-kept_difference Zero d r borrow some low high stays = absurd (some refl)
-kept_difference One d r true some low high stays = grind (arith, nat_tests, ints, low, high, stays)
-kept_difference One d r false some low high stays = grind (arith, nat_tests, ints, low, high, stays)
-kept_difference Two d r true some low high stays = grind (arith, nat_tests, ints, low, high, stays)
-kept_difference Two d r false some low high stays = grind (arith, nat_tests, ints, low, high, stays)
-kept_difference Four d r true some low high stays = grind (arith, nat_tests, ints, low, high, stays)
-kept_difference Four d r false some low high stays = grind (arith, nat_tests, ints, low, high, stays)
+kept_difference s d r borrow some low high =
+    let small : difference_value s d r borrow < modulus s = below s _ some in
+    rw (whole s (difference_value s d r borrow) small, whole s d low, whole s r high)
+    (difference_stays (modulus s) (half s) d r (from_bool borrow) (difference_value s d r borrow) (twice s some) low high small (bit borrow) (difference_is s d r borrow some low high))
 
 -- the two ways, where what stays in the size is the signed number of the result
 apart : true ≢ false

@@ -4,6 +4,7 @@ pub mod Signs
 pub mod Overflows
 pub mod Turns
 pub mod Rotations
+pub mod Halves
 pub mod Leaving
 pub mod Lows
 pub mod Takings
