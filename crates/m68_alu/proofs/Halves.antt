@@ -42,20 +42,44 @@ bit false = omega arith
 pub inside : (m h v : ℕ) → m ≡ 2 * h → v < m → leaves_half h (signed_below m v) ≡ false
 inside m h v twice low = grind (arith, nat_tests, ints)
 
+sum_stays_within : (m h d r c v : ℕ) → m ≡ 2 * h → d < m → r < m → v < m → c ≤ 1 → d + (r + c) ≡ v
+    → leaves_half h (signed_below m d +ℤ (signed_below m r +ℤ pos c)) ≡ false → signed_below m v ≡ signed_below m d +ℤ (signed_below m r +ℤ pos c)
+sum_stays_within m h d r c v twice low high left one is stays = grind (arith, nat_tests, ints)
+
+sum_stays_past : (m h d r c v : ℕ) → m ≡ 2 * h → d < m → r < m → v < m → c ≤ 1 → d + (r + c) ≡ v + m
+    → leaves_half h (signed_below m d +ℤ (signed_below m r +ℤ pos c)) ≡ false → signed_below m v ≡ signed_below m d +ℤ (signed_below m r +ℤ pos c)
+sum_stays_past m h d r c v twice low high left one is stays = grind (arith, nat_tests, ints)
+
 pub sum_stays : (m h d r c v : ℕ) → m ≡ 2 * h → d < m → r < m → v < m → c ≤ 1 → (d + (r + c) ≡ v) ⊎ (d + (r + c) ≡ v + m)
     → leaves_half h (signed_below m d +ℤ (signed_below m r +ℤ pos c)) ≡ false → signed_below m v ≡ signed_below m d +ℤ (signed_below m r +ℤ pos c)
-sum_stays m h d r c v twice low high left one (inl is) stays = grind (arith, nat_tests, ints)
-sum_stays m h d r c v twice low high left one (inr is) stays = grind (arith, nat_tests, ints)
+sum_stays m h d r c v twice low high left one (inl is) = sum_stays_within m h d r c v twice low high left one is
+sum_stays m h d r c v twice low high left one (inr is) = sum_stays_past m h d r c v twice low high left one is
+
+difference_stays_within : (m h d r c v : ℕ) → m ≡ 2 * h → d < m → r < m → v < m → c ≤ 1 → v + (r + c) ≡ d
+    → leaves_half h (signed_below m d -ℤ (signed_below m r +ℤ pos c)) ≡ false → signed_below m v ≡ signed_below m d -ℤ (signed_below m r +ℤ pos c)
+difference_stays_within m h d r c v twice low high left one is stays = grind (arith, nat_tests, ints)
+
+difference_stays_past : (m h d r c v : ℕ) → m ≡ 2 * h → d < m → r < m → v < m → c ≤ 1 → v + (r + c) ≡ d + m
+    → leaves_half h (signed_below m d -ℤ (signed_below m r +ℤ pos c)) ≡ false → signed_below m v ≡ signed_below m d -ℤ (signed_below m r +ℤ pos c)
+difference_stays_past m h d r c v twice low high left one is stays = grind (arith, nat_tests, ints)
 
 pub difference_stays : (m h d r c v : ℕ) → m ≡ 2 * h → d < m → r < m → v < m → c ≤ 1 → (v + (r + c) ≡ d) ⊎ (v + (r + c) ≡ d + m)
     → leaves_half h (signed_below m d -ℤ (signed_below m r +ℤ pos c)) ≡ false → signed_below m v ≡ signed_below m d -ℤ (signed_below m r +ℤ pos c)
-difference_stays m h d r c v twice low high left one (inl is) stays = grind (arith, nat_tests, ints)
-difference_stays m h d r c v twice low high left one (inr is) stays = grind (arith, nat_tests, ints)
+difference_stays m h d r c v twice low high left one (inl is) = difference_stays_within m h d r c v twice low high left one is
+difference_stays m h d r c v twice low high left one (inr is) = difference_stays_past m h d r c v twice low high left one is
+
+taken_within : (m h d r c v : ℕ) → m ≡ 2 * h → d < m → r < m → v < m → c ≤ 1 → v + (r + c) ≡ d
+    → leaves_half h (signed_below m v +ℤ (signed_below m r +ℤ pos c)) ≡ leaves_half h (signed_below m d -ℤ (signed_below m r +ℤ pos c))
+taken_within m h d r c v twice low high left one is = grind (arith, nat_tests, ints)
+
+taken_past : (m h d r c v : ℕ) → m ≡ 2 * h → d < m → r < m → v < m → c ≤ 1 → v + (r + c) ≡ d + m
+    → leaves_half h (signed_below m v +ℤ (signed_below m r +ℤ pos c)) ≡ leaves_half h (signed_below m d -ℤ (signed_below m r +ℤ pos c))
+taken_past m h d r c v twice low high left one is = grind (arith, nat_tests, ints)
 
 pub taken : (m h d r c v : ℕ) → m ≡ 2 * h → d < m → r < m → v < m → c ≤ 1 → (v + (r + c) ≡ d) ⊎ (v + (r + c) ≡ d + m)
     → leaves_half h (signed_below m v +ℤ (signed_below m r +ℤ pos c)) ≡ leaves_half h (signed_below m d -ℤ (signed_below m r +ℤ pos c))
-taken m h d r c v twice low high left one (inl is) = grind (arith, nat_tests, ints)
-taken m h d r c v twice low high left one (inr is) = grind (arith, nat_tests, ints)
+taken m h d r c v twice low high left one (inl is) = taken_within m h d r c v twice low high left one is
+taken m h d r c v twice low high left one (inr is) = taken_past m h d r c v twice low high left one is
 
 -- the values that are cut
 pub sum_is : (s : Size) (d r : ℕ) (c : Bool) → s ≢ Zero → d < modulus s → r < modulus s
