@@ -78,7 +78,7 @@ unless_free (Some e) m done new result free all = same_free m new all.1
 pub done_free : DoneIsFree
 done_free m new a n ys result size ram all = unless_free (refusal m a n) m (with_bytes a ys m) new result (stores_free m a n ys size ram) all
 
-length-part : (at n : ℕ) (xs : List ℕ) → at + n ≤ length xs → length (part at n xs) ≡ n
+pub length-part : (at n : ℕ) (xs : List ℕ) → at + n ≤ length xs → length (part at n xs) ≡ n
 length-part at n xs within = grind (arith, places)
 
 -- a copy that is not refused is read from memory

@@ -1,5 +1,5 @@
 -- Laws of stores that are done or refused as a whole.
-use Rattle.std.proofs.Common.{◌≡◌, ℕ, zero, suc, ◌+◌, ◌-◌, ◌*◌, ◌<◌, ◌≤◌, true, List, [], ◌∷◌, length, drop, get_or, Option, None, Some, MatchOption, Result, Ok, Err, arith, sym, ◌∙◌, ap, subst, refl, drop-cons, length-drop, add-one}
+use Rattle.std.proofs.Common.{◌≡◌, ℕ, zero, suc, ◌+◌, ◌-◌, ◌*◌, ◌<◌, ◌≤◌, true, List, [], ◌∷◌, length, drop, get_or, Option, None, Some, Result, Ok, Err, arith, sym, ◌∙◌, ap, subst, refl, drop-cons, length-drop, add-one}
 use Rattle.std.proofs.lemmas.Bool.Decides.{nat_tests}
 use Rattle.std.proofs.lemmas.Grind.{same_number_lists}
 use Rattle.mix_bits.specs.declared.size.Size.{Size}
