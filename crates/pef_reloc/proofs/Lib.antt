@@ -6,6 +6,7 @@ mod Sequences
 mod Each
 mod Repeats
 mod Table
+mod Highs
 mod Pieces
 mod Longs
 mod Alike
