@@ -1,0 +1,10 @@
+use Rattle.m68_effects.proofs.changes.change_elsewhere.Goals as goal
+
+pub returns-in-Add : goal.returns-in-Add
+returns-in-Add c = rw c.in-Add.is c.add_elsewhere.ensures
+
+pub returns-in-Sub : goal.returns-in-Sub
+returns-in-Sub c = rw c.in-Sub.is c.sub_elsewhere.ensures
+
+pub returns-in_default : goal.returns-in_default
+returns-in_default c = c.change_other.ensures
