@@ -1,42 +1,61 @@
--- How many first words have a row: computed over all of them.
-use Rattle.std.proofs.Common.{ℕ, ◌≡◌, nat_lt, Bool, [], ◌∷◌, refl}
-use Rattle.m68_isa.specs.First.{first_of}
+-- How many first words have a row, and how many are the supervisor's: computed over their parts.
+use Rattle.std.proofs.Common.{ℕ, ◌≡◌, nat_lt, Bool, true, false, List, [], ◌∷◌, length, if◌then◌else◌, refl, ◌∙◌}
+use Rattle.m68_isa.specs.declared.instructions.Decoded68.{Decoded68}
+use Rattle.m68_isa.specs.declared.instructions.Decoded68.TheVariants.{Op, Short, Illegal}
+use Rattle.m68_isa.specs.declared.found.Found.{Found}
+use Rattle.m68_isa.specs.declared.found.Found.TheVariants.{Made, Privileged as RowPrivileged, Illegal as RowIllegal}
+use Rattle.m68_isa.specs.declared.op.Op68.{Op68}
+use Rattle.m68_isa.specs.declared.op.Op68.TheVariants.{LineA, LineF, Privileged}
+use Rattle.m68_isa.specs.First.{First, first_of}
+use Rattle.m68_isa.specs.Made.{made}
 use Rattle.m68_table.specs.Laws.{rows_with, how_many, is_privileged}
-use Rattle.m68_isa.specs.Decode.{table, decoded}
-use Rattle.m68_table.proofs.Quarters.{of_quarters}
+use Rattle.m68_isa.specs.Decode.{table, decoded, ended, operation, read}
+use Rattle.m68_table.proofs.Fields.{of_parts}
+use Rattle.m68_table.proofs.Totals.{is_same, counted, count_is}
 
-abbrev has_row : ℕ → Bool
-has_row w = nat_lt 0 (rows_with table (first_of w))
+abbrev has_row : First → Bool
+has_row f = nat_lt 0 (rows_with table f)
 
-rows_0 : how_many 14 0 has_row ≡ 12714
-rows_0 = refl
+rows_same : (u r : ℕ) → of_parts (is_same has_row) u r ≡ true
+rows_same u r = refl
 
-rows_1 : how_many 14 1 has_row ≡ 11809
-rows_1 = refl
+rows : counted has_row ≡ 45939
+rows = refl
 
-rows_2 : how_many 14 2 has_row ≡ 10792
-rows_2 = refl
+pub in_a_row : how_many 16 0 (λ w. nat_lt 0 (rows_with table (first_of w))) ≡ 45939
+in_a_row = count_is has_row rows_same ∙ rows
 
-rows_3 : how_many 14 3 has_row ≡ 10624
-rows_3 = refl
+-- the supervisor's operation
+abbrev is_refused : Op68 → Bool
+is_refused Privileged = true
+is_refused op = false
 
-pub in_a_row : how_many 16 0 has_row ≡ 45939
-in_a_row = of_quarters 14 has_row 12714 11809 10792 10624 rows_0 rows_1 rows_2 rows_3
+either : (b : Bool) (x y : Decoded68) → is_privileged x ≡ false → is_privileged y ≡ false → is_privileged (if b then x else y) ≡ false
+either true x y first second = first
+either false x y first second = second
 
-abbrev is_refused : ℕ → Bool
-is_refused w = is_privileged (decoded (w ∷ []))
+abbrev is_found_refused : Found → Bool
+is_found_refused (Made i used good) = false
+is_found_refused RowPrivileged = true
+is_found_refused RowIllegal = false
 
-refused_0 : how_many 14 0 is_refused ≡ 3
-refused_0 = refl
+in_ended : (found : Found) (count : ℕ) → is_privileged (ended found count) ≡ is_found_refused found
+in_ended (Made i used good) count = either (nat_lt count used) Short _ refl (either good (Op i used) Illegal refl refl)
+in_ended RowPrivileged count = refl
+in_ended RowIllegal count = refl
 
-refused_1 : how_many 14 1 is_refused ≡ 72
-refused_1 = refl
+in_read : (op : Op68) (f : First) (ws : List ℕ) → is_privileged (read op f ws) ≡ is_refused op
+in_read LineA f ws = refl
+in_read LineF f ws = refl
+in_read op f ws = in_ended (made op f ws) (length ws)
 
-refused_2 : how_many 14 2 is_refused ≡ 0
-refused_2 = refl
+refused_same : (u r : ℕ) → of_parts (is_same (λ f. is_refused (operation f))) u r ≡ true
+refused_same u r = refl
 
-refused_3 : how_many 14 3 is_refused ≡ 0
-refused_3 = refl
+refused : counted (λ f. is_refused (operation f)) ≡ 75
+refused = refl
 
-pub privileged : how_many 16 0 is_refused ≡ 75
-privileged = of_quarters 14 is_refused 3 72 0 0 refused_0 refused_1 refused_2 refused_3
+pub privileged : how_many 16 0 (λ w. is_privileged (decoded (w ∷ []))) ≡ 75
+privileged =
+    (λ i. how_many 16 0 (λ w. in_read (operation (first_of w)) (first_of w) (w ∷ []) i))
+    ∙ count_is (λ f. is_refused (operation f)) refused_same ∙ refused

@@ -1,4 +1,5 @@
-pub mod Quarters
+pub mod Fields
+pub mod Totals
 mod Table
 mod Counts
 mod Modes

@@ -1,9 +1,7 @@
--- Each operand is in the class of its row, and each size one of its row: computed over all first words, whatever
--- words follow.
+-- Each operand is in the class of its row, and each size one of its row: computed over the parts of all first
+-- words, whatever words follow.
 use Rattle.std.proofs.Common.{ℕ, ◌≡◌, ◌^◌, ◌<◌, ◌&&◌, nat_lt, Bool, true, false, if◌then◌else◌, List, ◌∷◌, length, refl, sym, ap, ◌∙◌}
 use Rattle.std.proofs.lemmas.Bool.{and_parts}
-use Rattle.mix_bits.specs.Ranges.{every}
-use Rattle.mix_bits.proofs.Every.{every_at, every_quarter}
 use Rattle.m68_isa.specs.declared.instructions.Instr68.{Instr68}
 use Rattle.m68_isa.specs.declared.instructions.Decoded68.{Decoded68}
 use Rattle.m68_isa.specs.declared.instructions.Decoded68.TheVariants.{Op, LineA, LineF, Privileged, Illegal, Short}
@@ -16,6 +14,7 @@ use Rattle.m68_isa.specs.Made.{made}
 use Rattle.m68_isa.specs.Decode.{operation, read, decoded, ended}
 use Rattle.m68_isa.specs.Modes.{has_modes}
 use Rattle.m68_isa.specs.Widths.{has_size}
+use Rattle.m68_table.proofs.Fields.{of_parts, at_word}
 
 abbrev is_good : Instr68 → Bool
 is_good i = has_size i && has_modes i
@@ -34,20 +33,11 @@ is_decoded_good Illegal = true
 is_decoded_good Short = true
 
 -- what a first word's row makes of any words
-abbrev is_word_good : List ℕ → ℕ → Bool
-is_word_good ws w = is_found_good (made (operation (first_of w)) (first_of w) (w ∷ ws))
+abbrev is_first_good : List ℕ → First → Bool
+is_first_good ws f = is_found_good (made (operation f) f ws)
 
-quarter_0 : (ws : List ℕ) → every 14 0 (is_word_good ws) ≡ true
-quarter_0 ws = refl
-
-quarter_1 : (ws : List ℕ) → every 14 1 (is_word_good ws) ≡ true
-quarter_1 ws = refl
-
-quarter_2 : (ws : List ℕ) → every 14 2 (is_word_good ws) ≡ true
-quarter_2 ws = refl
-
-quarter_3 : (ws : List ℕ) → every 14 3 (is_word_good ws) ≡ true
-quarter_3 ws = refl
+all_good : (ws : List ℕ) (u r : ℕ) → of_parts (is_first_good ws) u r ≡ true
+all_good ws u r = refl
 
 either : (b : Bool) (x y : Decoded68) → is_decoded_good x ≡ true → is_decoded_good y ≡ true → is_decoded_good (if b then x else y) ≡ true
 either true x y first second = first
@@ -63,13 +53,13 @@ in_read OpLineA f ws is = refl
 in_read OpLineF f ws is = refl
 in_read op f ws is = in_ended (made op f ws) (length ws) is
 
-in_decoded : (w : ℕ) (ws : List ℕ) → w < 2 ^ 16 → is_decoded_good (decoded (w ∷ ws)) ≡ true
-in_decoded w ws below =
+in_decoded : (w : ℕ) (ws : List ℕ) → is_decoded_good (decoded (w ∷ ws)) ≡ true
+in_decoded w ws =
     let f = first_of w in
-    in_read (operation f) f (w ∷ ws) (every_at 16 (is_word_good ws) w (every_quarter 14 (is_word_good ws) (quarter_0 ws) (quarter_1 ws) (quarter_2 ws) (quarter_3 ws)) below)
+    in_read (operation f) f (w ∷ ws) (at_word (is_first_good (w ∷ ws)) w (all_good (w ∷ ws)))
 
 good : (w : ℕ) (ws : List ℕ) (i : Instr68) (used : ℕ) → w < 2 ^ 16 → decoded (w ∷ ws) ≡ Op i used → is_good i ≡ true
-good w ws i used below is = sym (ap is_decoded_good is) ∙ in_decoded w ws below
+good w ws i used below is = sym (ap is_decoded_good is) ∙ in_decoded w ws
 
 pub modes : (w : ℕ) (ws : List ℕ) (i : Instr68) (used : ℕ) → w < 2 ^ 16 → decoded (w ∷ ws) ≡ Op i used → has_modes i ≡ true
 modes w ws i used below is = (and_parts (has_size i) (has_modes i) (good w ws i used below is)).1

@@ -1,32 +1,22 @@
--- No first word is in two rows: computed over all of them.
+-- No first word is in two rows: computed over the parts of all of them.
 use Rattle.std.proofs.Common.{ℕ, ◌≡◌, ◌^◌, ◌<◌, ◌&&◌, Bool, true, nat_lt, refl}
 use Rattle.std.proofs.lemmas.Bool.{ltb-true, and_parts}
-use Rattle.mix_bits.specs.Ranges.{every}
-use Rattle.mix_bits.proofs.Every.{every_at, every_quarter}
-use Rattle.m68_isa.specs.First.{first_of}
+use Rattle.m68_isa.specs.First.{First, first_of}
 use Rattle.m68_isa.specs.Decode.{table}
 use Rattle.m68_table.specs.Laws.{sections_with, rows_with}
+use Rattle.m68_table.proofs.Fields.{of_parts, at_word}
 
-abbrev is_once : ℕ → Bool
-is_once w = nat_lt (sections_with table (first_of w)) 2 && nat_lt (rows_with table (first_of w)) 2
+abbrev is_once : First → Bool
+is_once f = nat_lt (sections_with table f) 2 && nat_lt (rows_with table f) 2
 
-quarter_0 : every 14 0 is_once ≡ true
-quarter_0 = refl
+all_once : (u r : ℕ) → of_parts is_once u r ≡ true
+all_once u r = refl
 
-quarter_1 : every 14 1 is_once ≡ true
-quarter_1 = refl
-
-quarter_2 : every 14 2 is_once ≡ true
-quarter_2 = refl
-
-quarter_3 : every 14 3 is_once ≡ true
-quarter_3 = refl
-
-both : (w : ℕ) → w < 2 ^ 16 → (nat_lt (sections_with table (first_of w)) 2 ≡ true) × (nat_lt (rows_with table (first_of w)) 2 ≡ true)
-both w below = and_parts _ _ (every_at 16 is_once w (every_quarter 14 is_once quarter_0 quarter_1 quarter_2 quarter_3) below)
+both : (w : ℕ) → (nat_lt (sections_with table (first_of w)) 2 ≡ true) × (nat_lt (rows_with table (first_of w)) 2 ≡ true)
+both w = and_parts _ _ (at_word is_once w all_once)
 
 pub one_section : (w : ℕ) → w < 2 ^ 16 → sections_with table (first_of w) < 2
-one_section w below = ltb-true _ _ (both w below).0
+one_section w below = ltb-true _ _ (both w).0
 
 pub one_row : (w : ℕ) → w < 2 ^ 16 → rows_with table (first_of w) < 2
-one_row w below = ltb-true _ _ (both w below).1
+one_row w below = ltb-true _ _ (both w).1
