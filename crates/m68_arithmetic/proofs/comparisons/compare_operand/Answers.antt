@@ -4,6 +4,12 @@ use Rattle.mix_bits.specs.declared.size.Size.TheVariants.{Four}
 use Rattle.m68_isa.specs.First.{size_of}
 use Rattle.m68_arithmetic.proofs.comparisons.compare_operand.Goals as goal
 
+pub returns-in-0 : goal.returns-in-0
+returns-in-0 c = rw (← c.size_bits_of.ensures.is, c.in-0.is) c.with_register.ensures
+
+pub returns-in-1 : goal.returns-in-1
+returns-in-1 c = rw (← c.size_bits_of.ensures.is, c.in-1.is) c.with_register-in-1.ensures
+
 pub returns-in_default : goal.returns-in_default
 returns-in_default c =
     let four : size_of c.size_bits_of.result ≡ Four = grind (arith, nat_tests) in

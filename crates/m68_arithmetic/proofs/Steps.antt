@@ -1,0 +1,49 @@
+-- A step that reads an operand first: it stops where the operand is refused, and goes on with its value.
+use Rattle.std.proofs.Common.{◌≡◌, ℕ, ◌*◌, List, Result, Ok, Err, Bool, true, false, if◌then◌else◌, refl, ap, sym, subst, ◌∙◌}
+use Rattle.mix_bits.specs.declared.size.Size.{Size}
+use Rattle.mix_bits.specs.declared.fault.Fault.{Fault}
+use Rattle.mix_bits.specs.declared.fault.FaultKind.TheVariants.{Illegal}
+use Rattle.mix_bits.specs.Addresses.{onward}
+use Rattle.mix_bits.specs.Results.{◌>>=◌}
+use Rattle.m68_isa.specs.declared.registers.Regs68.{Regs68}
+use Rattle.m68_isa.specs.declared.operand.Operand.{Operand}
+use Rattle.m68_isa.specs.Operands.{operand_at}
+use Rattle.big_memory.specs.declared.steps.Did.{Did}
+use Rattle.big_memory.specs.declared.steps.Did.TheVariants.{Next}
+use Rattle.big_memory.specs.Memory.{Memory}
+use Rattle.big_memory.specs.Steps.{After, Does}
+use Rattle.big_memory.specs.Steps.After.{Goes, Stops}
+use Rattle.m68_effects.specs.Operands.{sourced, unless_illegal}
+use Rattle.m68_effects.specs.Operations.{runs_with}
+use Rattle.m68_effects.specs.Parts.{Effect, after}
+use Rattle.m68_effects.specs.Step.{stops}
+
+pub operand_is : (ws : List ℕ) (size : Size) (at at_too mode mode_too lower lower_too : ℕ) → at ≡ at_too → mode ≡ mode_too → lower ≡ lower_too → operand_at ws at size mode lower ≡ operand_at ws at_too size mode_too lower_too
+operand_is ws size at at_too mode mode_too lower lower_too first second third = λ i. operand_at ws (first i) size (second i) (third i)
+
+stops_so : (good : Bool) (r : Regs68) (word : ℕ) (x : Result (Regs68 × ℕ) Fault) (f : Regs68 × ℕ → Effect) (cell : Fault)
+    → unless_illegal r.pc word good x ≡ Err cell → (if good then after (x >>= f) else stops r Illegal word) ≡ Stops cell
+stops_so true r word x f cell is = ap (λ y. after (y >>= f)) is
+stops_so false r word x f cell is = ap (λ y. after (y >>= f)) is
+
+-- what is done with an operand `e`, known as `made`
+pub refused : (r : Regs68) (m : Memory) (word : ℕ) (size : Size) (e made : Operand) (row : ℕ → Regs68 × ℕ → Effect) (cell : Fault)
+    → e ≡ made → unless_illegal r.pc word e.good (sourced r m size e.ea) ≡ Err cell
+    → runs_with r word made (λ n. sourced r m size made.ea >>= row n) ≡ Stops cell
+refused r m word size e made row cell same is =
+    subst (λ x. runs_with r word x (λ n. sourced r m size x.ea >>= row n) ≡ Stops cell) same
+    (stops_so e.good r word (sourced r m size e.ea) (row (onward r.pc (2 * e.next))) cell is)
+
+pub taken : (r q : Regs68) (m : Memory) (word : ℕ) (size : Size) (e made : Operand) (v next : ℕ) (row : ℕ → Regs68 × ℕ → Effect)
+    → e ≡ made → e.good ≡ true → sourced r m size e.ea ≡ Ok (q, v) → next ≡ e.next
+    → runs_with r word made (λ n. sourced r m size made.ea >>= row n) ≡ after (row (onward r.pc (2 * next)) (q, v))
+taken r q m word size e made v next row same good is behind =
+    subst (λ x. runs_with r word x (λ n. sourced r m size x.ea >>= row n) ≡ after (row (onward r.pc (2 * next)) (q, v))) same
+    (ap (λ b. if b then after (sourced r m size e.ea >>= row (onward r.pc (2 * e.next))) else stops r Illegal word) good
+    ∙ ap (λ x. after (x >>= row (onward r.pc (2 * e.next)))) is
+    ∙ ap (λ n. after (row (onward r.pc (2 * n)) (q, v))) (sym behind))
+
+-- the registers behind it
+pub goes : (step : After Regs68) (r next last : Regs68) (did : Did) (cell : Fault) (m : Memory) → did ≡ Next → step ≡ Goes last m → next ≡ last → Does step did cell r next m m
+goes step r next last did cell m is steps same =
+    subst (λ d. Does step d cell r next m m) (sym is) (steps ∙ ap (λ x. Goes x m) (sym same), record { marks = refl; long = refl; kept = λ a below free. refl })
