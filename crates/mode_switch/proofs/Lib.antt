@@ -7,4 +7,5 @@ pub mod Given68
 pub mod Spots68
 pub mod FramesPpc
 pub mod BackPpc
+pub mod Handed
 pub mod ApartPpc
