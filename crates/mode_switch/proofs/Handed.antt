@@ -21,7 +21,7 @@ use Rattle.mode_switch.proofs.Stacks68.{length-slots}
 abbrev pub rest_of : {A : Type 0} → List A → List A
 rest_of xs = take (length xs - 1) (drop 1 xs)
 
-rest-is : {A : Type 0} (x : A) (xs : List A) → rest_of (x ∷ xs) ≡ xs
+pub rest-is : {A : Type 0} (x : A) (xs : List A) → rest_of (x ∷ xs) ≡ xs
 rest-is x xs = take_all (length (x ∷ xs) - 1) xs (omega arith)
 
 -- slots on a stack

@@ -8,4 +8,5 @@ pub mod Spots68
 pub mod FramesPpc
 pub mod BackPpc
 pub mod Handed
+pub mod Gathered
 pub mod ApartPpc
