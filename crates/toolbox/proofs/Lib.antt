@@ -17,3 +17,4 @@ pub mod Undo
 pub mod Placing
 pub mod Appending
 pub mod InUse
+pub mod Ends

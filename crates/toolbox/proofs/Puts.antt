@@ -67,3 +67,7 @@ pub counts : (index : ℕ) (regs : Active) (f : Function) (o : Operands) (r : Re
 counts index regs f o r old new call count =
     let says : said_in (host_at index regs r) ≡ piece_of f o r.memory = ap said_in (call-is index regs f o r call) ∙ settled-says f regs (effect f o r) ∙ effect-says f o r in
     count ∙ ap (λ piece. puts_of piece old) (sym says)
+
+-- a function without a piece puts none
+pub says_none : (f : Function) (o : Operands) (m : Memory) (count : Option ℕ) → piece_of f o m ≡ [] → count ≡ puts_of (piece_of f o m) count
+says_none f o m count is = sym (ap (λ piece. puts_of piece count) is)

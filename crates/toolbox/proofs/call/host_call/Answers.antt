@@ -4,6 +4,7 @@ use Rattle.big_memory.specs.Faults.{fault_of}
 use Rattle.toolbox.specs.Effects.{results_of}
 use Rattle.toolbox.specs.Registers.{answered}
 use Rattle.toolbox.specs.Host.Hosted.{Stops}
+use Rattle.toolbox.proofs.Ends.{goes_blames, puts_blames, puts_left, reads_blames, reads_left, stays_blames, stays_left}
 use Rattle.toolbox.proofs.Puts.{counts}
 use Rattle.toolbox.proofs.Settled.{goes, stays, cannot_read, cannot_put}
 use Rattle.toolbox.proofs.call.host_call.Goals as goal
@@ -82,3 +83,87 @@ returns-in-ReadFault-clause-count g c = λ around. counts c.args.index c.args.ac
 pub returns-in-OutFault-clause-count : goal.returns-in-OutFault-clause-count
 returns-in-OutFault-clause-count g c = λ around. counts c.args.index c.args.active.now c.at-function.result c.operands_of-operands.result _ _ _
     (record { function = c.at-function.ensures; operands = c.operands_of-operands.ensures }) c.perform.ensures.count
+
+pub returns-in-Given-clause-blames : goal.returns-in-Given-clause-blames
+returns-in-Given-clause-blames g c = goes_blames _ _ _ _ _ c.in-Given.ensures.does
+
+pub returns-in-Given-clause-devices : goal.returns-in-Given-clause-devices
+returns-in-Given-clause-devices g c = c.in-Given.ensures.does.devices
+
+pub returns-in-Given-clause-bounds : goal.returns-in-Given-clause-bounds
+returns-in-Given-clause-bounds g c = c.in-Given.ensures.does.bounds
+
+pub returns-in-Given-clause-free : goal.returns-in-Given-clause-free
+returns-in-Given-clause-free g c = c.in-Given.ensures.does.free
+
+pub returns-in-Asked-clause-blames : goal.returns-in-Asked-clause-blames
+returns-in-Asked-clause-blames g c = goes_blames _ _ _ _ _ c.in-Asked.ensures.does
+
+pub returns-in-Asked-clause-devices : goal.returns-in-Asked-clause-devices
+returns-in-Asked-clause-devices g c = c.in-Asked.ensures.does.devices
+
+pub returns-in-Asked-clause-bounds : goal.returns-in-Asked-clause-bounds
+returns-in-Asked-clause-bounds g c = c.in-Asked.ensures.does.bounds
+
+pub returns-in-Asked-clause-free : goal.returns-in-Asked-clause-free
+returns-in-Asked-clause-free g c = c.in-Asked.ensures.does.free
+
+pub returns-in-Crossed-clause-blames : goal.returns-in-Crossed-clause-blames
+returns-in-Crossed-clause-blames g c = stays_blames _ _ _ _ c.in-Crossed.ensures.does
+
+pub returns-in-Crossed-clause-devices : goal.returns-in-Crossed-clause-devices
+returns-in-Crossed-clause-devices g c = (stays_left c.laws.ensures _ _ _ _ c.in-Crossed.ensures.does).devices
+
+pub returns-in-Crossed-clause-bounds : goal.returns-in-Crossed-clause-bounds
+returns-in-Crossed-clause-bounds g c = (stays_left c.laws.ensures _ _ _ _ c.in-Crossed.ensures.does).bounds
+
+pub returns-in-Crossed-clause-free : goal.returns-in-Crossed-clause-free
+returns-in-Crossed-clause-free g c = (stays_left c.laws.ensures _ _ _ _ c.in-Crossed.ensures.does).free
+
+pub returns-in-Left-clause-blames : goal.returns-in-Left-clause-blames
+returns-in-Left-clause-blames g c = stays_blames _ _ _ _ c.in-Left.ensures.does
+
+pub returns-in-Left-clause-devices : goal.returns-in-Left-clause-devices
+returns-in-Left-clause-devices g c = (stays_left c.laws.ensures _ _ _ _ c.in-Left.ensures.does).devices
+
+pub returns-in-Left-clause-bounds : goal.returns-in-Left-clause-bounds
+returns-in-Left-clause-bounds g c = (stays_left c.laws.ensures _ _ _ _ c.in-Left.ensures.does).bounds
+
+pub returns-in-Left-clause-free : goal.returns-in-Left-clause-free
+returns-in-Left-clause-free g c = (stays_left c.laws.ensures _ _ _ _ c.in-Left.ensures.does).free
+
+pub returns-in-Refused-clause-blames : goal.returns-in-Refused-clause-blames
+returns-in-Refused-clause-blames g c = stays_blames _ _ _ _ c.in-Refused.ensures.does
+
+pub returns-in-Refused-clause-devices : goal.returns-in-Refused-clause-devices
+returns-in-Refused-clause-devices g c = (stays_left c.laws.ensures _ _ _ _ c.in-Refused.ensures.does).devices
+
+pub returns-in-Refused-clause-bounds : goal.returns-in-Refused-clause-bounds
+returns-in-Refused-clause-bounds g c = (stays_left c.laws.ensures _ _ _ _ c.in-Refused.ensures.does).bounds
+
+pub returns-in-Refused-clause-free : goal.returns-in-Refused-clause-free
+returns-in-Refused-clause-free g c = (stays_left c.laws.ensures _ _ _ _ c.in-Refused.ensures.does).free
+
+pub returns-in-ReadFault-clause-blames : goal.returns-in-ReadFault-clause-blames
+returns-in-ReadFault-clause-blames g c = reads_blames _ _ _ _ c.in-ReadFault.ensures.does
+
+pub returns-in-ReadFault-clause-devices : goal.returns-in-ReadFault-clause-devices
+returns-in-ReadFault-clause-devices g c = (reads_left c.laws.ensures _ _ _ _ c.in-ReadFault.ensures.does).devices
+
+pub returns-in-ReadFault-clause-bounds : goal.returns-in-ReadFault-clause-bounds
+returns-in-ReadFault-clause-bounds g c = (reads_left c.laws.ensures _ _ _ _ c.in-ReadFault.ensures.does).bounds
+
+pub returns-in-ReadFault-clause-free : goal.returns-in-ReadFault-clause-free
+returns-in-ReadFault-clause-free g c = (reads_left c.laws.ensures _ _ _ _ c.in-ReadFault.ensures.does).free
+
+pub returns-in-OutFault-clause-blames : goal.returns-in-OutFault-clause-blames
+returns-in-OutFault-clause-blames g c = puts_blames _ _ _ _ c.in-OutFault.ensures.does
+
+pub returns-in-OutFault-clause-devices : goal.returns-in-OutFault-clause-devices
+returns-in-OutFault-clause-devices g c = (puts_left c.laws.ensures _ _ _ _ c.in-OutFault.ensures.does).devices
+
+pub returns-in-OutFault-clause-bounds : goal.returns-in-OutFault-clause-bounds
+returns-in-OutFault-clause-bounds g c = (puts_left c.laws.ensures _ _ _ _ c.in-OutFault.ensures.does).bounds
+
+pub returns-in-OutFault-clause-free : goal.returns-in-OutFault-clause-free
+returns-in-OutFault-clause-free g c = (puts_left c.laws.ensures _ _ _ _ c.in-OutFault.ensures.does).free

@@ -1,4 +1,4 @@
-use Rattle.std.proofs.Common.{◌<◌, Some, None, length, sym, ◌∙◌, arith}
+use Rattle.std.proofs.Common.{◌<◌, Some, None, length, refl, sym, ◌∙◌, arith}
 use Rattle.toolbox.proofs.Lowest.{place_for-full, same_place_for, IsPlace-from, IsLowest-from}
 use Rattle.toolbox.proofs.Keeps.{CanPlace-found, IsLowest-aligned, IsSound-placed, none_begins, taken-none, taken-some}
 use Rattle.toolbox.proofs.heap.Heap.get.Goals as goal
@@ -46,3 +46,18 @@ returns-clause-after c =
 pub returns-clause-aligned : goal.returns-clause-aligned
 returns-clause-aligned c =
     IsLowest-aligned _ _ _ c.self.invariant.0 (IsLowest-from _ _ c.in_ok-address.address (rw c.deref.ensures.value at c.in_ok-address.ensures.value))
+
+pub returns-then-len-eq-BLOCK_LIMIT-clause-place : goal.returns-then-len-eq-BLOCK_LIMIT-clause-place
+returns-then-len-eq-BLOCK_LIMIT-clause-place c = IsPlace-from _ _ None (returns-then-len-eq-BLOCK_LIMIT-clause-value c)
+
+pub returns-then-len-eq-BLOCK_LIMIT-clause-unchanged : goal.returns-then-len-eq-BLOCK_LIMIT-clause-unchanged
+returns-then-len-eq-BLOCK_LIMIT-clause-unchanged c = refl
+
+pub returns-in_err-address-clause-aligned : goal.returns-in_err-address-clause-aligned
+returns-in_err-address-clause-aligned c = rw c.from_residual.ensures tt
+
+pub returns-in_err-address-clause-unchanged : goal.returns-in_err-address-clause-unchanged
+returns-in_err-address-clause-unchanged c = rw c.from_residual.ensures refl
+
+pub lowest_fit-requires-clause-sound : goal.lowest_fit-requires-clause-sound
+lowest_fit-requires-clause-sound c = rw c.deref.ensures.value c.self.invariant.0
