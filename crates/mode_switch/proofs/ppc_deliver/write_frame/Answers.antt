@@ -3,7 +3,7 @@ use Rattle.std.proofs.lemmas.List.{take_all, take-replicate}
 use Rattle.big_memory.specs.Memory.{Memory, with_bytes}
 use Rattle.big_memory.specs.Numbers.{bytes_of_longs}
 use Rattle.mode_switch.specs.DeliverPpc.{frame_bytes}
-use Rattle.mode_switch.proofs.FramesPpc.{frame-put, frame-short, length-drop_eight}
+use Rattle.mode_switch.proofs.FramesPpc.{frame-put, frame-short, length-drop_eight, room-behind}
 use Rattle.mode_switch.proofs.ppc_deliver.write_frame.Goals as goal
 
 -- the zeros of a frame
@@ -32,3 +32,9 @@ returns-else-words-gt8 c =
     let words = c.args.words.now in
     c.fix-else-words-gt8.ensures ∙ blank sp 64 words c.args.ram.now (short (length words) c.if-words-gt8.false) (omega arith)
     ∙ frame-short words sp c.args.ram.now c.if-words-gt8.false
+
+pub overflow_add-sp : goal.overflow_add-sp
+overflow_add-sp c = omega (arith, c.requires.inside, room-behind (length c.args.words.now), c.meets_invariant.ensures)
+
+pub fix-requires-else-words-gt8 : goal.fix-requires-else-words-gt8
+fix-requires-else-words-gt8 c = omega (arith, c.requires.inside, short (length c.args.words.now) c.if-words-gt8.false)
