@@ -5,6 +5,7 @@ use Rattle.mix_bits.specs.Results.{◌>>=◌}
 use Rattle.big_memory.specs.declared.refusals.Access.{Access}
 use Rattle.big_memory.specs.Memory.{Memory}
 use Rattle.m68_isa.specs.declared.registers.Regs68.{Regs68}
+use Rattle.ppc_isa.specs.declared.registers.RegsPpc.{RegsPpc}
 use Rattle.proc_info.specs.declared.param.Param.{Param}
 use Rattle.proc_info.specs.Arguments.{behind}
 use Rattle.proc_info.proofs.Chains.{behind_front}
@@ -13,6 +14,7 @@ use Rattle.mode_switch.specs.declared.m68_places.Route.{Route}
 use Rattle.mode_switch.specs.Places68.{next_base, place_of, widths}
 use Rattle.mode_switch.specs.Values68.{value_at}
 use Rattle.mode_switch.specs.Gather68.{Appends, values_at}
+use Rattle.mode_switch.specs.WordsPpc.{value_at as word_value, values_at as word_values}
 use Rattle.mode_switch.proofs.Handed.{rest_of, rest-is}
 
 -- the last value
@@ -48,3 +50,16 @@ pub counts-more : {A T : Type 0} (result : Result T Access) (xs : List A) (old m
 counts-more (Ok done) [] old mid new some push others = absurd (omega (arith, some))
 counts-more (Ok done) (x ∷ xs) old mid new some push others = omega (arith, push, others, ap length (rest-is x xs))
 counts-more (Err e) xs old mid new some push others = tt
+
+-- a word in front of others
+pub appends-word : {T : Type 0} (result : Result T Access) (r : RegsPpc) (m : Memory) (i : ℕ) (ps : List Param) (key : Param) (v : ℕ) (old mid new : List ℕ) → 1 ≤ length ps
+    → word_value r m i (get_or ps 0 key).size ≡ Ok v → mid ≡ old ++ v ∷ [] → Appends result mid new (word_values r m (i + 1) (rest_of ps)) → Appends result old new (word_values r m i ps)
+appends-word (Ok done) r m i [] key v old mid new some read push others = absurd (omega (arith, some))
+appends-word (Err e) r m i [] key v old mid new some read push others = absurd (omega (arith, some))
+appends-word (Ok done) r m i (p ∷ ps) key v old mid new some read push others =
+    let rest = word_values r m (i + 1) ps in
+    ap (λ x. behind old (x >>= λ y. rest >>= λ vs. Ok (y ∷ vs))) read ∙ behind_front old v rest ∙ ap (λ xs. behind xs rest) (sym push)
+    ∙ ap (λ qs. behind mid (word_values r m (i + 1) qs)) (sym (rest-is p ps)) ∙ others
+appends-word (Err e) r m i (p ∷ ps) key v old mid new some read push others =
+    ap (λ x. x >>= λ y. word_values r m (i + 1) ps >>= λ vs. Ok (y ∷ vs)) read
+    ∙ ap (λ x. x >>= λ vs. Ok (v ∷ vs)) (ap (λ qs. word_values r m (i + 1) qs) (sym (rest-is p ps)) ∙ others)
