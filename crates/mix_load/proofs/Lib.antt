@@ -14,3 +14,4 @@ pub mod Vectors
 pub mod Cuts
 pub mod Lying
 pub mod Jumping
+pub mod Next
