@@ -8,3 +8,4 @@ pub mod Counts
 pub mod Tables
 pub mod Cuts
 pub mod MarkBits
+pub mod Views
