@@ -1,5 +1,5 @@
 ghost use Rattle.std.specs.Prelude.{◌≡◌, ◌+◌, ◌<◌, IfSome, is_none};
-ghost use Rattle.mix_io.specs.Drafts.{given as given_of, has_room as has_room_of, is_alone, index_of, job_of, made, main_in, has_program, nothing, number as number_of, place as place_of, set as set_of, settings_in, steps_in, with_setting};
+ghost use Rattle.mix_io.specs.Drafts.{given as given_of, has_room as has_room_of, is_alone, index_of, job_by, job_of, made, main_in, has_program, nothing, number as number_of, place as place_of, set as set_of, settings_in, steps_in, usual_set, with_setting};
 
 use super::job::{Command, Job, Key};
 use super::setting::{Name, Setting, Value, Verb};
@@ -157,10 +157,21 @@ fn main_set(draft: &Draft) -> Isa
 {
     match draft.set(Name::Main) {
         Some(set) => set,
-        None
-            if draft.file(Key::Program(File::Flat)).is_some()
-                || draft.file(Key::Program(File::Rsrc)).is_some() => Isa::M68,
-        None => Isa::Ppc,
+        None => set_of_files(draft),
+    }
+}
+
+/// The instruction set of the main program where none is named.
+#[inline(always)]
+fn set_of_files(draft: &Draft) -> Isa
+    ensures { result ≡ usual_set (place_of draft.now (Name.File (Key.Program File.Flat))) (place_of draft.now (Name.File (Key.Program File.Rsrc))) }
+{
+    if draft.file(Key::Program(File::Flat)).is_some()
+        || draft.file(Key::Program(File::Rsrc)).is_some()
+    {
+        Isa::M68
+    } else {
+        Isa::Ppc
     }
 }
 
@@ -186,7 +197,16 @@ fn steps(draft: &Draft) -> u32
 fn job(draft: &Draft) -> Option<Job>
     ensures { result ≡ job_of draft.now }
 {
-    let job = Job {
+    let job = whole_job(draft);
+    if has_main(job) { Some(job) } else { None }
+}
+
+/// The job of a draft, with or without a main program.
+#[inline(always)]
+fn whole_job(draft: &Draft) -> Job
+    ensures { result ≡ job_by draft.now }
+{
+    Job {
         flat: draft.file(Key::Program(File::Flat)),
         rsrc: draft.file(Key::Program(File::Rsrc)),
         pef: draft.file(Key::Program(File::Pef)),
@@ -194,8 +214,7 @@ fn job(draft: &Draft) -> Option<Job>
         kib: draft.number(Name::Ram).unwrap_or(1024),
         steps: steps(draft),
         save: draft.place(Name::Save),
-    };
-    if has_main(job) { Some(job) } else { None }
+    }
 }
 
 /// The command of a draft, unless something is missing.
@@ -203,26 +222,71 @@ pub fn make(verb: Verb, draft: &Draft) -> Option<Command>
     ensures { result ≡ made verb draft.now }
 {
     match verb {
-        Verb::ToRun => Some(Command::Run(job(draft)?)),
-        Verb::ToList => Some(Command::List(
-            job(draft)?,
-            draft.number(Name::At)?,
-            draft.number(Name::Count)?,
-        )),
-        Verb::ToSample => Some(Command::Sample(
-            draft.number(Name::Calls)?,
-            draft.number(Name::Depth)?,
-        )),
-        Verb::ToAssemble => Some(Command::Assemble(
-            draft.set(Name::CodeSet)?,
-            draft.file(Key::Text)?,
-            draft.number(Name::At)?,
-        )),
-        Verb::ToContinue => Some(Command::Continue(
-            draft.file(Key::Image)?,
-            steps(draft),
-            draft.place(Name::Save),
-        )),
-        Verb::ToDebug => Some(Command::Debug(job(draft)?, draft.file(Key::Script)?)),
+        Verb::ToRun => run(draft),
+        Verb::ToList => list(draft),
+        Verb::ToSample => sample(draft),
+        Verb::ToAssemble => assemble(draft),
+        Verb::ToContinue => continue_kept(draft),
+        Verb::ToDebug => debug(draft),
     }
+}
+
+/// The command `run` of a draft.
+#[inline(always)]
+fn run(draft: &Draft) -> Option<Command>
+    ensures { result ≡ made Verb.ToRun draft.now }
+{
+    Some(Command::Run(job(draft)?))
+}
+
+/// The command `list`.
+#[inline(always)]
+fn list(draft: &Draft) -> Option<Command>
+    ensures { result ≡ made Verb.ToList draft.now }
+{
+    Some(Command::List(
+        job(draft)?,
+        draft.number(Name::At)?,
+        draft.number(Name::Count)?,
+    ))
+}
+
+/// The command `sample`.
+#[inline(always)]
+fn sample(draft: &Draft) -> Option<Command>
+    ensures { result ≡ made Verb.ToSample draft.now }
+{
+    Some(Command::Sample(draft.number(Name::Calls)?, draft.number(Name::Depth)?))
+}
+
+/// The command `assemble`.
+#[inline(always)]
+fn assemble(draft: &Draft) -> Option<Command>
+    ensures { result ≡ made Verb.ToAssemble draft.now }
+{
+    Some(Command::Assemble(
+        draft.set(Name::CodeSet)?,
+        draft.file(Key::Text)?,
+        draft.number(Name::At)?,
+    ))
+}
+
+/// The command `continue`.
+#[inline(always)]
+fn continue_kept(draft: &Draft) -> Option<Command>
+    ensures { result ≡ made Verb.ToContinue draft.now }
+{
+    Some(Command::Continue(
+        draft.file(Key::Image)?,
+        steps(draft),
+        draft.place(Name::Save),
+    ))
+}
+
+/// The command `debug`.
+#[inline(always)]
+fn debug(draft: &Draft) -> Option<Command>
+    ensures { result ≡ made Verb.ToDebug draft.now }
+{
+    Some(Command::Debug(job(draft)?, draft.file(Key::Script)?))
 }

@@ -1,5 +1,6 @@
 // The answers of a call that was refused.
-ghost use Rattle.std.specs.Prelude.{Some, codes};
+ghost use Rattle.std.specs.Prelude.{◌++◌, Some, codes, decimal};
+ghost use Rattle.std.specs.Fmt.{DisplaysOnOk};
 ghost use Rattle.mix_io.specs.Texts.{fetch_error_text};
 
 use std::error::Error;
@@ -37,9 +38,17 @@ impl fmt::Display for FetchError {
         match self {
             FetchError::NoMemory => f.write_str("out of memory"),
             FetchError::Failed => f.write_str("the shelf failed"),
-            FetchError::TooLong(limit) => write!(f, "more than {limit} bytes"),
+            FetchError::TooLong(limit) => write_limit(f, *limit),
         }
     }
+}
+
+/// Writes that there were more bytes than a limit.
+#[inline(always)]
+fn write_limit<W: fmt::Write>(f: &mut fmt::Formatter<W>, limit: u32) -> fmt::Result
+    ensures { DisplaysOnOk W.write_str_gives f.old result (Some (codes "more than " ++ decimal limit ++ codes " bytes")) f.new }
+{
+    write!(f, "more than {limit} bytes")
 }
 
 impl Error for FetchError {}
