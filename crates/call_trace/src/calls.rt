@@ -1,5 +1,6 @@
 // The line of a call.
 ghost use Rattle.std.specs.Prelude.{◌≡◌, ◌+◌, ◌-◌, ◌≤◌, IfSome, length, take, drop, replicate};
+ghost use Rattle.std.specs.Option.{option_map};
 ghost use Rattle.proc_info.specs.Signature.{signature_of};
 ghost use Rattle.proc_info.specs.Views.{signature};
 ghost use Rattle.call_trace.specs.Reading.{Appends, args_in, call_of, crossing_of, head_of, rest_by, values_of};
@@ -61,9 +62,18 @@ fn read_values(head: Head, sig: &Sig, text: &[u8]) -> Option<Crossing>
     ensures { result ≡ values_of head (signature sig.now) text.now }
 {
     let selector = front_value(text, " #", sig.selector)?;
-    let mut args = ArrayVec::new();
     let text = past(text, width(" #", sig.selector));
-    add_args(&mut args, sig.params(), text)?;
+    read_args(head, selector, sig.params(), text)
+}
+
+/// The arguments behind a selector.
+#[inline(always)]
+fn read_args(head: Head, selector: u32, params: &[Param], text: &[u8]) -> Option<Crossing>
+    requires { length params.now ≤ 13 }
+    ensures { result ≡ option_map (crossing_of head selector) (args_in params.now text.now) }
+{
+    let mut args = ArrayVec::new();
+    add_args(&mut args, params, text)?;
     Some(crossing(head, selector, &args))
 }
 

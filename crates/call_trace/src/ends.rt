@@ -1,5 +1,7 @@
 // The lines of returns, asks and ends.
-ghost use Rattle.std.specs.Prelude.{◌≡◌, length};
+ghost use Rattle.std.specs.Prelude.{◌≡◌, codes, drop, length};
+ghost use Rattle.std.specs.Option.{option_and_then, option_map};
+ghost use Rattle.call_trace.specs.Pieces.{after_mark, hex_front};
 ghost use Rattle.call_trace.specs.Reading.{answer_in, ask_of, details_of, end_of, fault_of, kind_in, place_of, return_of, size_by};
 
 use super::{End, fault_name};
@@ -60,7 +62,17 @@ pub fn read_ask(text: &[u8]) -> Option<Event>
 {
     let end = space(text)?;
     let slot = read_decimal(&text[..end])?;
-    let text = past(text, end + 1);
+    read_asked(slot, past(text, end + 1))
+}
+
+/// `WORD ANSWER`
+#[inline(always)]
+fn read_asked(slot: u32, text: &[u8]) -> Option<Event>
+    ensures { result ≡ option_and_then (λ word.
+        option_and_then (λ behind. option_map (λ answer. Event.Asked slot word answer) (answer_in behind))
+        (after_mark (codes " ") (drop 8 text.now)))
+        (hex_front 8 text.now) }
+{
     let word = front_hex(text, 8)?;
     let text = after(past(text, 8), " ")?;
     Some(Event::Asked(slot, word, read_answer(text)?))

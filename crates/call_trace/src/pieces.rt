@@ -1,6 +1,6 @@
 // The pieces of a line, read from its front.
 ghost use Rattle.std.specs.Prelude.{◌≡◌, ◌+◌, ◌≤◌, ◌<◌, IfSome, drop, length};
-ghost use Rattle.std.specs.Option.{option_map};
+ghost use Rattle.std.specs.Option.{option_and_then, option_map};
 ghost use Rattle.mix_bits.specs.Sizes.{bytes_of};
 ghost use Rattle.call_trace.specs.Pieces.{after_mark, first_space, hex_front, marked_value, marked_width, set_front};
 
@@ -91,10 +91,20 @@ pub fn front_value(text: &[u8], mark: &str, size: Size) -> Option<u32>
 {
     match size {
         Size::Zero => Some(0),
-        Size::One => front_hex(after(text, mark)?, 2),
-        Size::Two => front_hex(after(text, mark)?, 4),
-        Size::Four => front_hex(after(text, mark)?, 8),
+        Size::One => front_digits(text, mark, 2),
+        Size::Two => front_digits(text, mark, 4),
+        Size::Four => front_digits(text, mark, 8),
     }
+}
+
+/// The number in so many hexadecimal digits behind a mark at the front of a text.
+#[inline(always)]
+fn front_digits(text: &[u8], mark: &str, digits: usize) -> Option<u32>
+    requires { digits ≤ 8 }
+    ensures value { result ≡ option_and_then (hex_front digits) (after_mark mark.now text.now) }
+    ensures inside { IfSome result (λ n. length mark.now + digits ≤ length text.now) }
+{
+    front_hex(after(text, mark)?, digits)
 }
 
 /// The place of the first space.
