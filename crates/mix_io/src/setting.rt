@@ -1,4 +1,4 @@
-ghost use Rattle.std.specs.Prelude.{◌≡◌};
+ghost use Rattle.std.specs.Prelude.{◌≡◌, Some, None, bytes_eq, codes, if◌then◌else◌};
 ghost use Rattle.mix_io.specs.Settings.{verb_of, keys as keys_of, text_of, name_in, named_by, value_of, set_of, number_in, number_within, setting_of};
 
 use super::job::Key;
@@ -98,7 +98,19 @@ pub fn read_verb(word: &str) -> Option<Verb>
         Some(Verb::ToList)
     } else if word == "sample" {
         Some(Verb::ToSample)
-    } else if word == "assemble" {
+    } else {
+        read_last_verb(word)
+    }
+}
+
+/// One of the last three commands.
+#[inline(always)]
+fn read_last_verb(word: &str) -> Option<Verb>
+    ensures { result ≡ (if bytes_eq word.now (codes "assemble") then Some Verb.ToAssemble
+        else (if bytes_eq word.now (codes "continue") then Some Verb.ToContinue
+        else (if bytes_eq word.now (codes "debug") then Some Verb.ToDebug else None))) }
+{
+    if word == "assemble" {
         Some(Verb::ToAssemble)
     } else if word == "continue" {
         Some(Verb::ToContinue)
