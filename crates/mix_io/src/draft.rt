@@ -1,5 +1,5 @@
-ghost use Rattle.std.specs.Prelude.{◌≡◌, ◌+◌, ◌<◌, IfSome, is_none};
-ghost use Rattle.mix_io.specs.Drafts.{given as given_of, has_room as has_room_of, is_alone, index_of, job_by, job_of, made, main_in, has_program, nothing, number as number_of, place as place_of, set as set_of, settings_in, steps_in, usual_set, with_setting};
+ghost use Rattle.std.specs.Prelude.{◌≡◌, ◌+◌, ◌<◌, IfSome, is_none, is_some};
+ghost use Rattle.mix_io.specs.Drafts.{given as given_of, has_room as has_room_of, is_alone, index_of, job_by, job_of, made, main_file, main_in, has_program, nothing, number as number_of, place as place_of, set as set_of, settings_in, steps_in, usual_set, with_setting};
 
 use super::job::{Command, Job, Key};
 use super::setting::{Name, Setting, Value, Verb};
@@ -179,11 +179,18 @@ fn set_of_files(draft: &Draft) -> Isa
 fn has_main(job: Job) -> bool
     ensures { result ≡ has_program job }
 {
-    job.flat.is_some()
-        || match job.main {
-            Isa::M68 => job.rsrc.is_some(),
-            Isa::Ppc => job.pef.is_some(),
-        }
+    job.flat.is_some() || has_file(job.main, job.rsrc, job.pef)
+}
+
+/// Whether the file is there that has the main program of a set where no file is flat.
+#[inline(always)]
+fn has_file(main: Isa, rsrc: Option<u32>, pef: Option<u32>) -> bool
+    ensures { result ≡ is_some (main_file main rsrc pef) }
+{
+    match main {
+        Isa::M68 => rsrc.is_some(),
+        Isa::Ppc => pef.is_some(),
+    }
 }
 
 /// How many steps are done at most: as they are given, else a million.
