@@ -40,6 +40,6 @@ fn said_of(alloc: Global, row: &Row) -> Result<String, AllocError> {
         "textppc" => ppc::read(alloc, row.word(), row.at),
         "as68" => m68::assembled(alloc, row.text(), row.at),
         "asppc" => ppc::assembled(alloc, row.text(), row.at),
-        _ => format!(in alloc; " is no row"),
+        _ => String::from_str(alloc, " is no row"),
     }
 }

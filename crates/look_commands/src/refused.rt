@@ -14,28 +14,42 @@ pub fn image_text(alloc: Global, name: &str, error: ImageError) -> Result<String
 fn add_reason(text: &mut String, error: ImageError) -> Result<(), AllocError> {
     match error {
         ImageError::NoMemory => Err(AllocError),
-        ImageError::Short(at) => write!(text, " ends at {at}, within a field"),
+        ImageError::Short(at) => add_number(text, " ends at ", at, ", within a field"),
         ImageError::Magic => text.push_str(" does not begin with MIXIMG01"),
-        ImageError::Ram(kib) => write!(text, ": RAM has {kib} KiB, not 128 to 16384"),
-        ImageError::Main(set) => write!(text, ": the main set is {set}, not 0 or 1"),
-        ImageError::StartSp(sp) => {
-            write!(
-                text,
-                ": the stack pointer at the start, ${sp:08X}, is not the main set's"
-            )
-        }
+        ImageError::Ram(kib) => add_number(text, ": RAM has ", kib, " KiB, not 128 to 16384"),
+        ImageError::Main(set) => add_number(text, ": the main set is ", set, ", not 0 or 1"),
+        ImageError::StartSp(sp) => add_long(
+            text,
+            ": the stack pointer at the start, ",
+            sp,
+            ", is not the main set's",
+        ),
         ImageError::Heap => text.push_str(": the bounds of the heap are none"),
-        ImageError::Block(number) => write!(text, ": block {number} has no place"),
-        ImageError::Active(set) => write!(text, ": the active set is {set}, not 0 or 1"),
-        ImageError::Ccr(bits) => {
-            write!(
-                text,
-                ": the condition codes ${bits:08X} have more than five bits"
-            )
+        ImageError::Block(number) => add_number(text, ": block ", number, " has no place"),
+        ImageError::Active(set) => add_number(text, ": the active set is ", set, ", not 0 or 1"),
+        ImageError::Ccr(bits) => add_long(
+            text,
+            ": the condition codes ",
+            bits,
+            " have more than five bits",
+        ),
+        ImageError::Page(page) => {
+            add_number(text, ": page ", page, " is not spelled as it has to be")
         }
-        ImageError::Page(page) => write!(text, ": page {page} is not spelled as it has to be"),
-        ImageError::Extra(at) => write!(text, " has bytes behind its last field, from {at} on"),
-        ImageError::Gate(at) => write!(text, ": the gate page is wrong at ${at:08X}"),
-        ImageError::Frame(at) => write!(text, ": the frame at ${at:08X} is wrong"),
+        ImageError::Extra(at) => {
+            add_number(text, " has bytes behind its last field, from ", at, " on")
+        }
+        ImageError::Gate(at) => add_long(text, ": the gate page is wrong at ", at, ""),
+        ImageError::Frame(at) => add_long(text, ": the frame at ", at, " is wrong"),
     }
+}
+
+/// Appends a number in decimal between two pieces.
+fn add_number(text: &mut String, front: &str, number: u32, behind: &str) -> Result<(), AllocError> {
+    write!(text, "{front}{number}{behind}")
+}
+
+/// Appends eight hexadecimal digits between two pieces.
+fn add_long(text: &mut String, front: &str, long: u32, behind: &str) -> Result<(), AllocError> {
+    write!(text, "{front}${long:08X}{behind}")
 }

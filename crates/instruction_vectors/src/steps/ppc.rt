@@ -22,7 +22,7 @@ pub fn answer(alloc: Global, ram: &mut Ram, words: &[&str]) -> Result<String, Al
         }
     }
     if is_gate(regs.pc) {
-        return format!(in alloc; " gate");
+        return String::from_str(alloc, " gate");
     }
     let (old, before) = (regs, Area::read(ram));
     let out = step_ppc(&mut regs, ram);

@@ -23,8 +23,8 @@ pub fn read(alloc: Global, words: &[u16], at: u32) -> Result<String, AllocError>
 pub fn assembled(alloc: Global, text: &[u8], at: u32) -> Result<String, AllocError> {
     match assemble68(text, at) {
         Ok(code) => joined(alloc, &code.words[..code.count as usize]),
-        Err(AsmError::Name) => format!(in alloc; " = name"),
-        Err(AsmError::Operands) => format!(in alloc; " = operands"),
+        Err(AsmError::Name) => String::from_str(alloc, " = name"),
+        Err(AsmError::Operands) => String::from_str(alloc, " = operands"),
     }
 }
 
@@ -32,11 +32,11 @@ pub fn assembled(alloc: Global, text: &[u8], at: u32) -> Result<String, AllocErr
 fn kind_of(alloc: Global, decoded: &Decoded68) -> Result<String, AllocError> {
     match *decoded {
         Decoded68::Op(_, used) => format!(in alloc; "uses {used}"),
-        Decoded68::Short => format!(in alloc; "short"),
-        Decoded68::Privileged => format!(in alloc; "privileged"),
-        Decoded68::Illegal => format!(in alloc; "illegal"),
+        Decoded68::Short => String::from_str(alloc, "short"),
+        Decoded68::Privileged => String::from_str(alloc, "privileged"),
+        Decoded68::Illegal => String::from_str(alloc, "illegal"),
         Decoded68::LineA(word) => format!(in alloc; "line A {word:04X}"),
-        Decoded68::LineF => format!(in alloc; "line F"),
+        Decoded68::LineF => String::from_str(alloc, "line F"),
     }
 }
 
@@ -52,7 +52,7 @@ fn line_of(words: &[u16], at: u32) -> Line {
 
 /// Words in hexadecimal, with commas between them.
 fn joined(alloc: Global, words: &[u16]) -> Result<String, AllocError> {
-    let mut text = format!(in alloc; " = ")?;
+    let mut text = String::from_str(alloc, " = ")?;
     for at in 0..words.len() {
         if at > 0 {
             write!(text, ",")?;

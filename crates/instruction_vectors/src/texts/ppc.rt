@@ -8,7 +8,7 @@ use std::str::from_utf8;
 pub fn read(alloc: Global, word: Option<u32>, at: u32) -> Result<String, AllocError> {
     match word {
         Some(word) => read_word(alloc, word, at),
-        None => format!(in alloc; " is no row"),
+        None => String::from_str(alloc, " is no row"),
     }
 }
 
@@ -16,8 +16,8 @@ pub fn read(alloc: Global, word: Option<u32>, at: u32) -> Result<String, AllocEr
 pub fn assembled(alloc: Global, text: &[u8], at: u32) -> Result<String, AllocError> {
     match assemble_ppc(text, at) {
         Ok(word) => format!(in alloc; " = {word:08X}"),
-        Err(AsmError::Name) => format!(in alloc; " = name"),
-        Err(AsmError::Operands) => format!(in alloc; " = operands"),
+        Err(AsmError::Name) => String::from_str(alloc, " = name"),
+        Err(AsmError::Operands) => String::from_str(alloc, " = operands"),
     }
 }
 
