@@ -1,5 +1,6 @@
 pub mod Pairs
 pub mod Sizes
+pub mod Ways
 pub mod Stores
 pub mod Masks
 pub mod Bases
