@@ -9,3 +9,6 @@ returns-then-not-is_second_good c =
 pub returns-in_default : goal.returns-in_default
 returns-in_default c =
     (first_refused _ _ _ _ _ _ (sym c.is_second_good.ensures ∙ c.if-not-is_second_good.false) c.in_default.ensures.is.0, c.in_default.ensures.is.1, refl)
+
+pub write-requires-clause-alterable : goal.write-requires-clause-alterable
+write-requires-clause-alterable c = c.requires.alterable
