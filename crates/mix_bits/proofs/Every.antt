@@ -1,9 +1,9 @@
 -- What a test of a whole range says of one number.
-use Rattle.std.proofs.Common.{◌≡◌, inl, inr, ℕ, zero, suc, ◌+◌, ◌*◌, ◌^◌, ◌<◌, ◌≤◌, Bool, true, false, if◌then◌else◌, arith, subst, refl}
+use Rattle.std.proofs.Common.{◌≡◌, inl, inr, ℕ, zero, suc, ◌+◌, ◌*◌, ◌^◌, ◌<◌, ◌≤◌, Bool, true, arith, subst, refl}
 use Rattle.std.proofs.Math.Nat.{pow-suc}
 use Rattle.std.proofs.lemmas.Bool.{cases_lt}
 use Rattle.mix_bits.specs.Ranges.{every}
-use Rattle.mix_bits.specs.Laws.{HoldsByQuarters, HoldsOfEach}
+use Rattle.mix_bits.specs.Laws.{HoldsOfEach}
 use Rattle.mix_bits.proofs.Conditions.{both}
 
 -- twice as many numbers: those of the lower half and those of the upper half
@@ -25,7 +25,3 @@ every_within (suc k) base p n holds from to =
 
 pub every_at : HoldsOfEach
 every_at k p n holds below = every_within k 0 p n holds (omega arith) (omega (arith, below))
-
--- the checker computes the four quarters one by one
-pub every_quarter : HoldsByQuarters
-every_quarter k p first second third fourth = λ i. if (if first i then second i else false) then (if third i then fourth i else false) else false

@@ -1,5 +1,5 @@
 -- Laws of digits, of tests, of sizes and of names.
-use Rattle.std.specs.Prelude.{◌≡◌, ◌⊎◌, ℕ, suc, ◌+◌, ◌^◌, ◌<◌, ◌≤◌, List, ◌++◌, drop, Bool, true, false, if◌then◌else◌}
+use Rattle.std.specs.Prelude.{◌≡◌, ◌⊎◌, ℕ, ◌+◌, ◌^◌, ◌<◌, ◌≤◌, List, ◌++◌, drop, Bool, true, false, if◌then◌else◌}
 use Rattle.mix_bits.specs.declared.size.Size.{Size}
 use Rattle.mix_bits.specs.Digits.{digit_of, digit_replaced}
 use Rattle.mix_bits.specs.Names.{ends_name, name_of, no_space, rest_of}
@@ -19,11 +19,6 @@ OthersStay =
 -- a test that holds of all numbers below 2 ^ k holds of each
 abbrev pub HoldsOfEach : Type 0
 HoldsOfEach = (k : ℕ) (p : ℕ → Bool) (n : ℕ) → every k 0 p ≡ true → n < 2 ^ k → p n ≡ true
-
--- a test holds of all numbers below 2 ^ (k + 2) where it holds of each quarter of them
-abbrev pub HoldsByQuarters : Type 0
-HoldsByQuarters =
-    (k : ℕ) (p : ℕ → Bool) → every k 0 p ≡ true → every k 1 p ≡ true → every k 2 p ≡ true → every k 3 p ≡ true → every (suc (suc k)) 0 p ≡ true
 
 -- of two tests that are made one after the other, both hold where the whole does
 abbrev pub BothHold : Type 0

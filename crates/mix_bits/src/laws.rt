@@ -1,4 +1,4 @@
-ghost use Rattle.mix_bits.specs.Laws.{BothHold, FewBytes, HoldsByQuarters, HoldsOfEach, NamesReadBack, ReadsReplaced, OthersStay};
+ghost use Rattle.mix_bits.specs.Laws.{BothHold, FewBytes, HoldsOfEach, NamesReadBack, ReadsReplaced, OthersStay};
 ghost use Rattle.mix_bits.specs.Numbers.{ReadsDecimals, ReadsHexadecimals};
 ghost use Rattle.mix_bits.specs.SearchLaws.{FailsBelow, FirstIsLeast, LeastOfFailing, NoneIsCounted, NoneIsLeast};
 
@@ -12,7 +12,6 @@ pub fn digit_laws()
 pub fn test_laws()
     ensures both { BothHold }
     ensures each { HoldsOfEach }
-    ensures quarters { HoldsByQuarters }
 {}
 
 /// What follows from the sizes of values. It does nothing, either.

@@ -1,6 +1,6 @@
 use Rattle.mix_bits.proofs.Conditions.{both}
-use Rattle.mix_bits.proofs.Every.{every_at, every_quarter}
+use Rattle.mix_bits.proofs.Every.{every_at}
 use Rattle.mix_bits.proofs.laws.test_laws.Goals as goal
 
 pub returns : goal.returns
-returns c = record { both = both; each = every_at; quarters = every_quarter }
+returns c = record { both = both; each = every_at }
