@@ -1,7 +1,7 @@
 -- The words of each operation are what its text tells.
-use Rattle.std.proofs.Common.{◌≡◌, ℕ, ◌%◌, ◌<◌, ◌^◌, ◌==◌, ◌&&◌, ◌||◌, not, nat_lt, List, slice_index, Bool, true, false, arith, refl, ◌∙◌}
+use Rattle.std.proofs.Common.{◌≡◌, ℕ, suc, ◌%◌, ◌<◌, ◌^◌, ◌==◌, ◌&&◌, ◌||◌, not, nat_lt, List, slice_index, Bool, true, false, if◌then◌else◌, arith, refl, ◌∙◌}
 use Rattle.mix_bits.specs.Ranges.{every}
-use Rattle.mix_bits.proofs.Every.{every_at, every_quarter}
+use Rattle.mix_bits.proofs.Every.{every_at}
 use Rattle.mix_bits.specs.declared.size.Size.{Size}
 use Rattle.mix_bits.specs.declared.size.Size.TheVariants.{One, Two, Four}
 use Rattle.m68_isa.specs.declared.instructions.ImmediateOp.{ImmediateOp}
@@ -46,6 +46,10 @@ asks _ f = true
 abbrev is_asked : ℕ → Bool
 is_asked w = asks (operation (first_of w)) (first_of w)
 
+-- a test holds of all numbers where it holds of each quarter of them: these are computed one by one
+by_quarters : (k : ℕ) (p : ℕ → Bool) → every k 0 p ≡ true → every k 1 p ≡ true → every k 2 p ≡ true → every k 3 p ≡ true → every (suc (suc k)) 0 p ≡ true
+by_quarters k p first second third fourth = λ i. if (if first i then second i else false) then (if third i then fourth i else false) else false
+
 quarter_0 : every 14 0 is_asked ≡ true
 quarter_0 = refl
 
@@ -59,7 +63,7 @@ quarter_3 : every 14 3 is_asked ≡ true
 quarter_3 = refl
 
 pub asked : (w : ℕ) → w < 2 ^ 16 → asks (operation (first_of w)) (first_of w) ≡ true
-asked w below = every_at 16 is_asked w (every_quarter 14 is_asked quarter_0 quarter_1 quarter_2 quarter_3) below
+asked w below = every_at 16 is_asked w (by_quarters 14 is_asked quarter_0 quarter_1 quarter_2 quarter_3) below
 
 told_immediate : (at : ℕ) (ws : List ℕ) (f : First) (g : Given at ws f) → in_class DataAlterable f.mode f.lower ≡ true → (op : ImmediateOp) → IsTelling at ws (immediate_with op f ws)
 told_immediate at ws f g alterable op = immediate_row at ws f g alterable (size_of f.size) (some_size f.size) (λ e. Instr.Immediate op (size_of f.size) (immediate_at ws 1 (size_of f.size)) e) (λ e. refl) (λ e n. (refl, refl))
