@@ -140,7 +140,7 @@ to-and-fro s some r q p m n k next last down up base file other ram low same is 
     let stand : Stand n s saved.from up-values = subst (Stand n s saved.from) (values-up down up (register_of r) same) saved.stand in
     let up-many : length up-values ≡ length (listed up) = length-map (listed up) (register_of r) in
     let end : saved.from + bytes_of s * length up-values ≡ a = ap (λ c. saved.from + bytes_of s * c) up-many ∙ span in
-    let still : Stand k s saved.from up-values = still_saved up-values n k s saved.from some (λ x from below. left x (omega arith) (omega arith)) stand in
+    let still : Stand k s saved.from up-values = still_saved up-values n k s saved.from (λ x from below. left x (omega arith) (omega arith)) stand in
     let loads : loaded_along p.pc p k (slice_index p.a base) s (listed up) ≡ Ok (refilled s (register_of r) p (listed up)) =
     ap (λ x. loaded_along p.pc p k x s (listed up)) base-of-p ∙ all_loaded (listed up) p.pc p k saved.from s (register_of r) (omega arith) still in
     let behind : onward (slice_index p.a base) (span_of s up) ≡ a = ap (λ x. onward x (span_of s up)) base-of-p ∙ above-base saved.from (span_of s up) a span fits in

@@ -99,9 +99,9 @@ all_saved (v ∷ vs) others pc m n a s some small fits is stand =
     record { from = rest.from; span = one-more rest.from (bytes_of s) (length vs) a b rest.span next; stand = rest.stand }
 
 -- what is left as it was
-pub still_saved : (vs : List ℕ) (n k : Memory) (s : Size) (from : ℕ) → 0 < bytes_of s → ((x : ℕ) → from ≤ x → x < from + bytes_of s * length vs → loaded k x s ≡ loaded n x s)
+pub still_saved : (vs : List ℕ) (n k : Memory) (s : Size) (from : ℕ) → ((x : ℕ) → from ≤ x → x + bytes_of s ≤ from + bytes_of s * length vs → loaded k x s ≡ loaded n x s)
     → Stand n s from vs → Stand k s from vs
-still_saved [] n k s from some left stand = tt
-still_saved (v ∷ vs) n k s from some left stand =
+still_saved [] n k s from left stand = tt
+still_saved (v ∷ vs) n k s from left stand =
     let more : bytes_of s * suc (length vs) ≡ bytes_of s + bytes_of s * length vs = grind arith in
-    (left from (omega arith) (omega (arith, more, some)) ∙ stand.0, still_saved vs n k s (from + bytes_of s) some (λ x low high. left x (omega arith) (omega (arith, more, high))) stand.1)
+    (left from (omega arith) (omega (arith, more)) ∙ stand.0, still_saved vs n k s (from + bytes_of s) (λ x low high. left x (omega arith) (omega (arith, more, high))) stand.1)

@@ -3,7 +3,7 @@ use Rattle.std.specs.Prelude.{◌≡◌, ◌≢◌, ℕ, ◌+◌, ◌-◌, ◌<�
 use Rattle.mix_bits.specs.declared.size.Size.{Size}
 use Rattle.mix_bits.specs.declared.size.Size.TheVariants.{Two, Four}
 use Rattle.mix_bits.specs.Digits.{digit_of}
-use Rattle.mix_bits.specs.Sizes.{sign_extended}
+use Rattle.mix_bits.specs.Sizes.{bytes_of, sign_extended}
 use Rattle.m68_isa.specs.declared.registers.Regs68.{Regs68}
 use Rattle.m68_isa.specs.declared.ea.Ea.TheVariants.{Post, Pre}
 use Rattle.m68_isa.specs.declared.instructions.Instr68.TheVariants.{MovemToMemory, MovemFromMemory}
@@ -25,9 +25,9 @@ pub record IsRestored (became : ℕ → ℕ) (mask base : ℕ) (r p t : Regs68) 
   pub pointer : register_of t (8 + base) ≡ register_of r (8 + base)
   pub codes : t.ccr ≡ p.ccr
 
--- memory k, which came from n, has the numbers from an address on and below another one as they were
+-- memory k, which came from n, has the numbers that lie whole between two addresses as they were
 abbrev pub LeavesNumbers : Size → ℕ → ℕ → Memory → Memory → Type 0
-LeavesNumbers size from end n k = (a : ℕ) → from ≤ a → a < end → loaded k a size ≡ loaded n a size
+LeavesNumbers size from end n k = (a : ℕ) → from ≤ a → a + bytes_of size ≤ end → loaded k a size ≡ loaded n a size
 
 -- for every mask: registers that are moved to -(An) come back from (An)+, whatever stands between the two that leaves
 -- the base register and what was stored

@@ -1,7 +1,7 @@
 -- The sections of a container in memory, before and after their relocations.
 use Rattle.std.proofs.Common.{◌≡◌, subst, sym, ap, ◌∙◌, ℕ, ◌+◌, ◌<◌, ◌≤◌, List, length, take, arith}
 use Rattle.big_memory.specs.Lists.{part}
-use Rattle.pef_reloc.specs.Laws.{AddsLongs}
+use Rattle.pef_reloc.specs.Laws.{KeepsSize}
 use Rattle.big_memory.specs.Memory.{Memory}
 use Rattle.switch_frame.specs.Pieces.{puts}
 use Rattle.mix_load.specs.Pieces.{with_pieces}
@@ -17,7 +17,7 @@ HaveSizes bytes n = (k : ℕ) → k < n → length (contents_at bytes k) ≡ tot
 within : (bytes : List ℕ) (start n len : ℕ) → sections_end bytes start n ≤ len → HaveSizes bytes n → (k : ℕ) → k < n → section_base bytes start k + length (contents_at bytes k) ≤ len
 within bytes start n len fits sizes k lt = omega (arith, section_within bytes start k n lt, sizes k lt, fits)
 
-reloc-within : AddsLongs → (bytes : List ℕ) (start n len : ℕ) → sections_end bytes start n ≤ len → HaveSizes bytes n → (k : ℕ) → k < n → section_base bytes start k + length (relocated_bytes bytes start k) ≤ len
+reloc-within : KeepsSize → (bytes : List ℕ) (start n len : ℕ) → sections_end bytes start n ≤ len → HaveSizes bytes n → (k : ℕ) → k < n → section_base bytes start k + length (relocated_bytes bytes start k) ≤ len
 reloc-within law bytes start n len fits sizes k lt = omega (arith, relocated-length law bytes start k, within bytes start n len fits sizes k lt)
 
 apart : (bytes : List ℕ) (start n : ℕ) → HaveSizes bytes n → (j k : ℕ) → j < k → k < n → section_base bytes start j + length (contents_at bytes j) ≤ section_base bytes start k
@@ -30,7 +30,7 @@ stand bytes start n xs fits sizes k lt =
     (λ j before below. apart bytes start n sizes k j before below) lt (sizes k lt)
 
 -- the ones that were relocated leave the next one
-pub next-stands : AddsLongs → (bytes : List ℕ) (start n k : ℕ) (xs : List ℕ) → sections_end bytes start n ≤ length xs → HaveSizes bytes n → k < n
+pub next-stands : KeepsSize → (bytes : List ℕ) (start n k : ℕ) (xs : List ℕ) → sections_end bytes start n ≤ length xs → HaveSizes bytes n → k < n
     → part (section_base bytes start k) (total_at bytes k) (puts (relocated_pieces bytes start k) xs) ≡ part (section_base bytes start k) (total_at bytes k) xs
 next-stands law bytes start n k xs fits sizes lt =
     pieces-behind (section_base bytes start) (relocated_bytes bytes start) k (section_base bytes start k) (total_at bytes k) xs
@@ -38,14 +38,14 @@ next-stands law bytes start n k xs fits sizes lt =
     (λ j before. omega (arith, relocated-length law bytes start j, apart bytes start n sizes j k before lt))
 
 -- relocated sections take the place of those that were unpacked
-pub over : AddsLongs → (bytes : List ℕ) (start n : ℕ) (xs : List ℕ) → sections_end bytes start n ≤ length xs → HaveSizes bytes n
+pub over : KeepsSize → (bytes : List ℕ) (start n : ℕ) (xs : List ℕ) → sections_end bytes start n ≤ length xs → HaveSizes bytes n
     → puts (relocated_pieces bytes start n) (puts (section_pieces bytes start n) xs) ≡ puts (relocated_pieces bytes start n) xs
 over law bytes start n xs fits sizes =
     pieces-over (section_base bytes start) (contents_at bytes) (relocated_bytes bytes start) n xs
     (λ k lt. relocated-length law bytes start k) (within bytes start n (length xs) fits sizes) (λ j k before lt. apart bytes start n sizes j k before lt)
 
 -- and leave what stands in front of them
-pub relocated-front : AddsLongs → (bytes : List ℕ) (start n front : ℕ) (xs : List ℕ) → sections_end bytes start n ≤ length xs → HaveSizes bytes n → front ≤ start
+pub relocated-front : KeepsSize → (bytes : List ℕ) (start n front : ℕ) (xs : List ℕ) → sections_end bytes start n ≤ length xs → HaveSizes bytes n → front ≤ start
     → take front (puts (relocated_pieces bytes start n) xs) ≡ take front xs
 relocated-front law bytes start n front xs fits sizes le =
     pieces-front (section_base bytes start) (relocated_bytes bytes start) n front xs
@@ -59,7 +59,7 @@ stand-in bytes start from n held old from_is held_is fits sizes =
     (subst (λ (m : Memory). Stand bytes start (contents_at bytes) n m.bytes) (sym held_is) (stand bytes start n old.bytes fits sizes))
 
 -- memory after the relocations is memory with the relocated sections
-pub over-in : AddsLongs → (bytes : List ℕ) (start from n : ℕ) (new held old : Memory) → from ≡ start → new ≡ with_pieces (relocated_pieces bytes from n) held → held ≡ with_pieces (section_pieces bytes start n) old
+pub over-in : KeepsSize → (bytes : List ℕ) (start from n : ℕ) (new held old : Memory) → from ≡ start → new ≡ with_pieces (relocated_pieces bytes from n) held → held ≡ with_pieces (section_pieces bytes start n) old
     → sections_end bytes start n ≤ length old.bytes → HaveSizes bytes n → new ≡ with_pieces (relocated_pieces bytes start n) old
 over-in law bytes start from n new held old from_is new_is held_is fits sizes =
     new_is ∙ (ap (λ (s : ℕ). with_pieces (relocated_pieces bytes s n) held) from_is

@@ -1,31 +1,19 @@
 -- A section that is relocated in memory.
-use Rattle.std.proofs.Common.{◌≡◌, ap, ◌∙◌, ℕ, ◌+◌, ◌%◌, ◌^◌, ◌<◌, ◌≤◌, true, List, length, get_or, arith}
+use Rattle.std.proofs.Common.{◌≡◌, ap, ◌∙◌, ℕ, ◌+◌, ◌<◌, ◌≤◌, true, List, length, get_or, arith}
 use Rattle.std.proofs.lemmas.Bool.Decides.{nat_tests}
 use Rattle.big_memory.specs.Lists.{part}
 use Rattle.big_memory.specs.Memory.{Memory, in_memory}
-use Rattle.big_memory.proofs.Lists.{length-put}
-use Rattle.byteorder.specs.Endian.{big_bytes}
-use Rattle.big_memory.specs.Numbers.{long_at}
 use Rattle.pef_head.specs.Container.{instantiated_count}
 use Rattle.pef_head.specs.Parts.{relocs_of}
-use Rattle.pef_reloc.specs.Additions.{Sources, with_long}
-use Rattle.pef_reloc.specs.Laws.{Adds, AddsLongs}
-use Rattle.pef_reloc.specs.Laws.Adds.{Same, Long}
+use Rattle.pef_reloc.specs.Additions.{Sources}
+use Rattle.pef_reloc.specs.Laws.{KeepsSize}
 use Rattle.pef_reloc.specs.Program.{relocated, relocated_in}
 use Rattle.mix_load.specs.declared.sections.Placement.{Placement}
 use Rattle.mix_load.specs.Sections.{HasBases, IsPlaced, bases, contents_at, relocated_bytes, relocated_section, section_base, sources, total_at}
 use Rattle.mix_load.proofs.Numbered.{numbered-at, numbered-length}
 
--- additions to longs keep the length
-adds-length : (section later : List ℕ) → Adds section later → length later ≡ length section
-adds-length _ _ (Same section later is) = ap length is
-adds-length _ _ (Long position value section later within more) =
-    adds-length (with_long position value section) later more
-    ∙ length-put position (big_bytes 4 ((long_at position section + value) % 2 ^ 32)) section within
-
-pub relocated-length : AddsLongs → (bytes : List ℕ) (start k : ℕ) → length (relocated_bytes bytes start k) ≡ length (contents_at bytes k)
-relocated-length law bytes start k =
-    adds-length (contents_at bytes k) (relocated_bytes bytes start k) (law (sources bytes start) (relocs_of bytes k) (contents_at bytes k))
+pub relocated-length : KeepsSize → (bytes : List ℕ) (start k : ℕ) → length (relocated_bytes bytes start k) ≡ length (contents_at bytes k)
+relocated-length law bytes start k = law (sources bytes start) (relocs_of bytes k) (contents_at bytes k)
 
 -- where a section stands, and its size
 pub base-at : (bytes : List ℕ) (p : Placement) (k : ℕ) → HasBases bytes p → k < instantiated_count bytes → get_or p.bases.items k 0 ≡ section_base bytes p.start k

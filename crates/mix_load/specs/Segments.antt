@@ -1,6 +1,6 @@
--- The CODE resources of a 68K program (Inside Macintosh: Processes and the Segment Manager's chapter of
--- Inside Macintosh, volume II; More Macintosh Toolbox has the resource fork). Where they are placed and what
--- is refused is this project's own.
+-- The CODE resources of a 68K program (Inside Macintosh: Processes, "Segment Manager"; Inside Macintosh, volume II, "The
+-- Segment Loader"; More Macintosh Toolbox has the resource fork). Where they are placed and what is refused is this
+-- project's own.
 --
 -- CODE 0 begins with four longs: the size of the world above A5 and of that below it, the length of the jump
 -- table, and its offset from A5. The table's entries follow, of four words each: an offset, $3F3C, the

@@ -18,7 +18,7 @@ use crate::vector::main_vector;
 use big_memory::Ram;
 use mix_bits::Isa;
 use pef_head::Pef;
-use pef_reloc::run_laws;
+use pef_reloc::plan_laws;
 use std::alloc::Global;
 
 /// Puts and relocates the sections, and gives the address of the main vector.
@@ -37,7 +37,7 @@ fn put_container(
     ensures memory { OnOk result (ram.new ≡ with_pieces (relocated_pieces pef.now start (instantiated_count pef.now)) ram.old) }
     ensures len { length ram.new.bytes ≡ length ram.old.bytes }
 {
-    run_laws();
+    plan_laws();
     let placement = place_sections(alloc, pef, start)?;
     put_sections(alloc, ram, pef, start)?;
     let imports = import_addresses(alloc, pef)?;

@@ -13,7 +13,7 @@ use crate::error::LoadError;
 use crate::sections::Placement;
 use big_memory::Ram;
 use pef_head::Pef;
-use pef_reloc::{RelocError, relocate, run_laws};
+use pef_reloc::{RelocError, plan_laws, relocate};
 
 /// Relocates a section, by its relocation header.
 fn relocate_section(
@@ -58,7 +58,7 @@ fn relocate_first(
     ensures memory { OnOk result (ram.new ≡ with_pieces (relocated_pieces pef.now placement.now.start count) ram.old) }
     ensures len { length ram.new.bytes ≡ length ram.old.bytes }
 {
-    run_laws();
+    plan_laws();
     for k in 0..count {
         match relocate_section(ram, pef, placement, imports, headers[k as usize], k) {
             Ok(()) => {}

@@ -1,4 +1,5 @@
-/// The program ended with code 0; or a listing or an assembled text was put, or a sample ended with an exit.
+/// The program ended with code 0; or a listing or an assembled text was put, a script came to its end, or a sample ended
+/// with an exit.
 pub const SUCCESS: u8 = 0;
 
 /// The program ended with another code.
@@ -7,7 +8,7 @@ pub const OTHER_CODE: u8 = 1;
 /// The words are no command.
 pub const BAD_WORDS: u8 = 2;
 
-/// A file is above the limit or breaks a load rule, an image is refused, or a line of a text is.
+/// A file is above the limit or breaks a load rule, an image is refused, or a line of a text or of a script is.
 pub const NOT_LOADED: u8 = 3;
 
 /// The shelf failed at a file.

@@ -24,10 +24,10 @@ use mix_io::{Command, Devices, Keeper, Shelf, Sink, Source, file_name, read_word
 use std::alloc::Global;
 
 /// All that the program does, over words and six objects of the outside. The answer is the status of the
-/// program: 0 or 1 for an exit with code 0 or another, 2 for bad words, 3 for a program that is not loaded
-/// or an image that is refused, 4, 5, 6, 7 or 8 for a shelf, an input, an output, a trace or a keeper that failed, 9
-/// for want of memory, 10 for a fault, 11 where all steps were done; 0 also for a listing, for a text that
-/// was assembled, and for a sample that ended with an exit.
+/// program: 0 or 1 for an exit with code 0 or another, 2 for bad words, 3 for a program that is not loaded, or an image or
+/// a line of a text or a script that is refused, 4, 5, 6, 7 or 8 for a shelf, an input, an output, a trace or a keeper
+/// that failed, 9 for want of memory, 10 for a fault, 11 where all steps were done; 0 also for a listing, for a text that
+/// was assembled, for a script that came to its end, and for a sample that ended with an exit.
 pub fn mixed_main<F: Shelf, I: Source, O: Sink, T: Sink, D: Devices, K: Keeper>(
     alloc: Global,
     words: &[String],

@@ -16,8 +16,8 @@ use Rattle.pef_reloc.specs.declared.instruction.Reading.{Reading}
 use Rattle.pef_reloc.specs.declared.instruction.Reading.TheVariants.{Whole, Again}
 use Rattle.mix_bits.specs.Results.{◌>>=◌}
 use Rattle.pef_reloc.specs.Additions.{Operation, Add, Skip, Place, Import, SetC, SetD, Sources, State, Refused, refused, added, allowed, base_of, begun, counted, does, executed, finished, given, moved, operations, passed, runs, value_of, with_long}
-use Rattle.pef_reloc.specs.Program.{can_repeat, each_by, end_of, read_and_run, reading_at, repeated, run_at, run_in_span, run_span, run_times, run_words, span_at, start, width_at}
-use Rattle.pef_reloc.specs.Laws.{Addition, HasPlan, IsAddend, IsAddition, IsItem, with_additions}
+use Rattle.pef_reloc.specs.Program.{Relocated, can_repeat, each_by, end_of, read_and_run, reading_at, repeated, run_at, run_in_span, run_span, run_times, run_words, span_at, start, width_at}
+use Rattle.pef_reloc.specs.Laws.{Addition, HasPlan, IsAddend, IsAddition, IsItem, KeepsSize, Plan, with_additions}
 
 abbrev state : List ℕ → Cursor → State
 state section cursor = record { section = section; cursor = cursor }
@@ -311,3 +311,8 @@ has_plan sources words total =
       sound = one.sound;
       makes = λ section long. ap end_of (one.makes section long) ∙ end_shown one.additions one.ends section;
     }
+
+pub keeps_size : KeepsSize
+keeps_size sources words section =
+    let plan : Plan sources words (length section) = has_plan sources words (length section) in
+    ap (λ (r : Relocated). length r.section) (plan.makes section refl) ∙ additions_length sources (length section) plan.additions section plan.sound refl

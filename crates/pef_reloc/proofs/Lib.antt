@@ -8,7 +8,6 @@ mod Repeats
 mod Table
 mod Highs
 mod Pieces
-mod Longs
 mod Alike
 mod Refusals
 mod Work

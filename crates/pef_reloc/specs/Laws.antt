@@ -89,16 +89,6 @@ has_row NoRow = false
 abbrev pub HasAllRows : Type 0
 HasAllRows = passing 16 0 (λ word. has_row (first_of word)) ≡ 31936
 
--- a section's bytes after additions to longs that lie in it
-pub data Adds : List ℕ → List ℕ → Type 0 where
-  Same : (section later : List ℕ) → later ≡ section → Adds section later
-  Long : (position value : ℕ) (section later : List ℕ) → position + 4 ≤ length section
-      → Adds (with_long position value section) later → Adds section later
-
--- whatever relocation words do to a section, also where they are refused, is a list of additions to its longs
-abbrev pub AddsLongs : Type 0
-AddsLongs = (sources : Sources) (words section : List ℕ) → Adds section (relocated sources words section).section
-
 -- an addition: the position of a long in the section, and what is added to it
 pub record Addition : Type 0 where
   pub position : ℕ
@@ -132,6 +122,10 @@ pub record Plan (sources : Sources) (words : List ℕ) (total : ℕ) : Type 0 wh
 -- the additions depend on the sources, the words and the size of the section, and not on its bytes
 abbrev pub HasPlan : Type 0
 HasPlan = (sources : Sources) (words : List ℕ) (total : ℕ) → Plan sources words total
+
+-- a section keeps its size, also where a word is refused
+abbrev pub KeepsSize : Type 0
+KeepsSize = (sources : Sources) (words section : List ℕ) → length (relocated sources words section).section ≡ length section
 
 -- whether relocations are refused, and why, depends on sizes alone: neither on where sections and imports stand nor on the section's bytes
 abbrev pub HasSameRefusal : Type 0

@@ -1,4 +1,4 @@
-ghost use Rattle.pef_reloc.specs.Laws.{AddsLongs, HasAllRows, HasOneRow, HasPlan, HasSameRefusal, IsBeyondLimit, IsFilledSpan, IsSpelled, IsWithinLimit, UnpacksPieces};
+ghost use Rattle.pef_reloc.specs.Laws.{HasAllRows, HasOneRow, HasPlan, HasSameRefusal, IsBeyondLimit, IsFilledSpan, IsSpelled, IsWithinLimit, KeepsSize, UnpacksPieces};
 
 /// What holds of pattern data as a whole. It does nothing: the clause is its point.
 pub fn pattern_laws()
@@ -12,14 +12,10 @@ pub fn table_laws()
     ensures all { HasAllRows }
 {}
 
-/// What holds of every run of relocations. It does nothing: the clause is its point.
-pub fn run_laws()
-    ensures { AddsLongs }
-{}
-
-/// What the additions and the refusal of a run depend on. It does nothing: the clauses are its point.
+/// What a run does to a section, and what that depends on. It does nothing: the clauses are its point.
 pub fn plan_laws()
     ensures plan { HasPlan }
+    ensures size { KeepsSize }
     ensures refusal { HasSameRefusal }
 {}
 

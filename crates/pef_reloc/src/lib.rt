@@ -20,6 +20,6 @@ mod words;
 mod writing;
 
 pub use error::RelocError;
-pub use laws::{pattern_laws, plan_laws, run_laws, table_laws, work_laws};
+pub use laws::{pattern_laws, plan_laws, table_laws, work_laws};
 pub use pattern::unpack;
 pub use program::relocate;

@@ -74,12 +74,12 @@ returns-clause-within c =
 
 pub returns-clause-memory : goal.returns-clause-memory
 returns-clause-memory c =
-    over-in c.run_laws.ensures c.args.pef.now c.args.start c.in_ok-placement.placement.start (instantiated_count c.args.pef.now) c.relocate_sections.new.ram c.put_sections.new.ram c.args.ram.now
+    over-in c.plan_laws.ensures.size c.args.pef.now c.args.start c.in_ok-placement.placement.start (instantiated_count c.args.pef.now) c.relocate_sections.new.ram c.put_sections.new.ram c.args.ram.now
     c.in_ok-placement.ensures.start c.in_ok-relocate_sections.ensures.memory c.in_ok-put_sections.ensures.memory c.requires.fits c.in_ok-put_sections.ensures.sizes
 
 pub returns-clause-front : goal.returns-clause-front
 returns-clause-front c = λ n le. ap (λ (m : Memory). take n m.bytes) (returns-clause-memory c)
-    ∙ relocated-front c.run_laws.ensures c.args.pef.now c.args.start (instantiated_count c.args.pef.now) n c.args.ram.now.bytes c.requires.fits c.in_ok-put_sections.ensures.sizes le
+    ∙ relocated-front c.plan_laws.ensures.size c.args.pef.now c.args.start (instantiated_count c.args.pef.now) n c.args.ram.now.bytes c.requires.fits c.in_ok-put_sections.ensures.sizes le
 
 pub returns-clause-len : goal.returns-clause-len
 returns-clause-len c = c.in_ok-relocate_sections.ensures.len ∙ c.in_ok-put_sections.ensures.len

@@ -13,7 +13,7 @@ relocate_section-requires-clause-stands c =
     let pef = c.args.pef.now in
     let start = c.args.placement.now.start in
     ap (λ (m : Memory). part (section_base pef start c.loop-k.k) (total_at pef c.loop-k.k) m.bytes) c.loop-k.invariant.memory
-    ∙ (next-stands c.run_laws.ensures pef start (instantiated_count pef) c.loop-k.k c.args.ram.now.bytes c.requires.fits c.requires.sizes (omega (arith, c.loop-k-test.true, c.requires.below))
+    ∙ (next-stands c.plan_laws.ensures.size pef start (instantiated_count pef) c.loop-k.k c.args.ram.now.bytes c.requires.fits c.requires.sizes (omega (arith, c.loop-k-test.true, c.requires.below))
     ∙ c.requires.stand c.loop-k.k c.loop-k-test.true)
 
 pub loop-k-preserved : goal.loop-k-preserved
