@@ -1,5 +1,5 @@
 -- Where the raw resource fork lies in a file that is or wraps one.
-use Rattle.std.specs.Prelude.{ℕ, zero, suc, ◌+◌, ◌*◌, ◌==◌, ◌&&◌, ◌||◌, not, nat_le, nat_lt, Bool, List, length, slice_index, slice_range, if◌then◌else◌, Option, Some, None, Result, Ok, Err}
+use Rattle.std.specs.Prelude.{ℕ, zero, suc, ◌+◌, ◌*◌, ◌==◌, ◌&&◌, ◌||◌, not, nat_le, nat_lt, Bool, List, codes, length, slice_index, slice_range, if◌then◌else◌, Option, Some, None, Result, Ok, Err}
 use Rattle.std.specs.List.{list_all}
 use Rattle.std.specs.Option.{option_or}
 use Rattle.mix_bits.specs.Multiples.{rounded_up}
@@ -10,6 +10,15 @@ use Rattle.rsrc_fork.specs.declared.wrapping.ForkError.{ForkError}
 use Rattle.rsrc_fork.specs.declared.wrapping.ForkError.TheVariants.{Unknown, Header, Version, Cut, Forkless}
 use Rattle.rsrc_fork.specs.declared.wrapping.Wrapping.{Wrapping}
 use Rattle.rsrc_fork.specs.declared.wrapping.Wrapping.TheVariants.{Raw, MacBinary, MacBinary2, MacBinary3, AppleSingle, AppleDouble}
+
+-- what the files of a kind are called
+abbrev pub wrapping_name : Wrapping → List ℕ
+wrapping_name Raw = codes "a raw resource fork"
+wrapping_name MacBinary = codes "MacBinary I"
+wrapping_name MacBinary2 = codes "MacBinary II"
+wrapping_name MacBinary3 = codes "MacBinary III"
+wrapping_name AppleSingle = codes "AppleSingle"
+wrapping_name AppleDouble = codes "AppleDouble"
 
 -- the fork of so many bytes from a place on, where it has some and they lie in the file
 abbrev pub inside : List ℕ → Wrapping → ℕ → ℕ → Result ForkPlace ForkError

@@ -1,9 +1,10 @@
-ghost use Rattle.std.specs.Prelude.{◌≡◌, ◌+◌, ◌^◌, ◌<◌, ◌≤◌, IfOk, length};
-ghost use Rattle.rsrc_fork.specs.Forks.{apple_wrapping as wrapping_of_magic, fork_of, inside as inside_of, is_raw as is_raw_fork, raw_or_refusal as raw_or_refused, wrapped_fork};
+ghost use Rattle.std.specs.Prelude.{◌≡◌, ◌+◌, ◌^◌, ◌<◌, ◌≤◌, Some, IfOk, length};
+ghost use Rattle.rsrc_fork.specs.Forks.{apple_wrapping as wrapping_of_magic, fork_of, inside as inside_of, is_raw as is_raw_fork, raw_or_refusal as raw_or_refused, wrapped_fork, wrapping_name};
 
 use crate::apple::apple_fork;
 use crate::binary::{binary_fork, binary_wrapping, is_header};
 use mix_bits::long_at;
+use std::fmt;
 use thiserror::Error;
 
 /// What a resource fork is wrapped in.
@@ -16,6 +17,30 @@ pub enum Wrapping {
     MacBinary3,
     AppleSingle,
     AppleDouble,
+}
+
+impl Wrapping {
+    /// What the files of this kind are called.
+    fn name(self) -> &'static str
+        ensures { result.now ≡ wrapping_name self }
+    {
+        match self {
+            Wrapping::Raw => "a raw resource fork",
+            Wrapping::MacBinary => "MacBinary I",
+            Wrapping::MacBinary2 => "MacBinary II",
+            Wrapping::MacBinary3 => "MacBinary III",
+            Wrapping::AppleSingle => "AppleSingle",
+            Wrapping::AppleDouble => "AppleDouble",
+        }
+    }
+}
+
+impl fmt::Display for Wrapping {
+    ghost output = { λ wrapping. Some (wrapping_name wrapping) };
+
+    fn fmt<W: fmt::Write>(&self, f: &mut fmt::Formatter<W>) -> fmt::Result {
+        f.write_str(self.name())
+    }
 }
 
 /// The place of a raw fork in a file: its first byte, and how many there are.
@@ -32,13 +57,13 @@ pub enum ForkError {
     #[error("it begins as none of these: a raw resource fork, MacBinary I to III, AppleSingle, AppleDouble")]
     Unknown,
     /// Byte 0 and 74 are zero and a name's length stands in byte 1.
-    #[error("it could be MacBinary by its first bytes, and is not: neither is the header's check sum right, as in MacBinary II, nor are all bytes zero that are in MacBinary I")]
+    #[error("it could be MacBinary by its first bytes, and is not: neither is the header's check sum right, as in MacBinary II, nor is the rest that of MacBinary I")]
     Header,
-    #[error("it could be AppleSingle or AppleDouble by its first bytes, and is not: the version is neither 1 nor 2")]
+    #[error("it could be {0} by its first bytes, and is not: the version is neither 1 nor 2")]
     Version(Wrapping),
-    #[error("it has the header of a wrapped file, and is cut: what the header names lies behind the last byte")]
+    #[error("it is {0}, and cut: its header, or what that names, goes on behind the last byte")]
     Cut(Wrapping),
-    #[error("it is a wrapped file without a resource fork")]
+    #[error("it is {0}, without a resource fork")]
     Forkless(Wrapping),
 }
 

@@ -29,8 +29,8 @@
 //! in `docs/`: by hand the addresses, steps and lines of each small program, and by a reader of forks and
 //! containers that was written from `docs/files.md` alone what each file that is cut or changed is refused
 //! for. What the samples of this repository give was worked out from their sources. What mixedlook says is what a reader
-//! of forks, containers, checkpoints and traces says that was written from `docs/` alone, too; where programs run, their
-//! steps were worked out by hand.
+//! of forks, containers, checkpoints and traces says that was written from `docs/` alone, too, but for the wording of its
+//! sentences and the head of a picture, which are its own; where programs run, their steps were worked out by hand.
 #![tactic(auto)]
 
 mod case;
