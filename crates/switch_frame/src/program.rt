@@ -26,8 +26,7 @@ pub struct Program {
     pub heap_hi: u32,
 }
 
-/// The stack pointer at which a main program of this set is expected to end, in `len` bytes of RAM. PowerPC code starts
-/// with it, 68K code 4 below it, where its return address stands.
+/// The stack pointer at which a main program of this set starts, and is expected to end, in `len` bytes of RAM.
 pub fn start_sp_of(main: Isa, len: u32) -> u32
     requires { 64 ≤ len }
     ensures { result ≡ start_sp_of main len }
