@@ -1,4 +1,4 @@
-ghost use Rattle.std.specs.Prelude.{◌<◌, slice_index};
+ghost use Rattle.std.specs.Prelude.{slice_index};
 ghost use Rattle.mix_bits.specs.declared.size.Size.TheVariants.{Four};
 ghost use Rattle.m68_isa.specs.declared.ea.Ea.TheVariants.{Post, Pre};
 ghost use Rattle.m68_effects.specs.Finds.{Pops, Pushes, PushesIf};
@@ -17,26 +17,10 @@ use mix_bits::{Fault, Size, onward};
 pub fn push(regs: &mut Regs68, ram: &mut Ram, fault: &mut Fault, value: u32) -> bool
     ensures { Pushes (put_into regs.old ram.old Four (Pre 7) value) result fault.new regs.old regs.new ram.old ram.new }
 {
-    push_onto(regs, ram, fault, 7, Size::Four, value)
-}
-
-/// Pushes a value onto a stack that an address register points to, and tells whether it did.
-#[inline(always)]
-pub fn push_onto(
-    regs: &mut Regs68,
-    ram: &mut Ram,
-    fault: &mut Fault,
-    register: usize,
-    size: Size,
-    value: u32,
-) -> bool
-    requires { register < 8 }
-    ensures { Pushes (put_into regs.old ram.old size (Pre register) value) result fault.new regs.old regs.new ram.old ram.new }
-{
-    let at = backward(regs.a[register], step(register, size));
-    let done = store(ram, fault, regs.pc, at, size, value);
+    let at = backward(regs.a[7], 4);
+    let done = store(ram, fault, regs.pc, at, Size::Four, value);
     if done {
-        regs.a[register] = at;
+        regs.a[7] = at;
     }
     done
 }
