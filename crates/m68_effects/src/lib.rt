@@ -26,7 +26,7 @@ pub use changes::{
 pub use laws::effect_laws;
 pub use operand_laws::{tried_laws, word_laws};
 pub use operands::{Target, control, data_address, find, put, source, value};
-pub use operation::{Operation, apply, set_flags};
+pub use operation::{Operation, apply};
 pub use places::{Place68, backward, place};
 pub use registers::{take_operand, take_register};
 pub use stack::{pop, push, push_if_open};
