@@ -11,15 +11,12 @@ use crate::files::{fetch, name_at};
 use crate::said::say;
 use crate::status::{BAD_WORDS, NO_MEMORY};
 use look_text::{explain, run_words, why_text};
-use mix_bits::NoMemory;
-use mix_io::{Command, Job, read_words};
+use mix_bits::{File, NoMemory};
+use mix_io::{Command, Job, Key, read_words};
 use mix_load::{FileBytes, Files as Program};
 use std::alloc::Global;
 use std::io::Write;
 use std::rt::Files;
-
-/// How long each file is at most, as for mixedrun.
-const LONGEST: u32 = 16_777_216;
 
 /// The words with which mixedrun runs a program, and what they say.
 #[derive(Drop)]
@@ -73,9 +70,30 @@ pub fn fetch_files<F: Files, E: Write>(
     ensures files { IfOk result (λ program. AreLoadable program request.now.job.main) }
     ensures lost { IfErr result IsLost }
 {
-    let flat = fetch_named(alloc, files, &request.words, request.job.flat, errors)?;
-    let rsrc = fetch_named(alloc, files, &request.words, request.job.rsrc, errors)?;
-    let pef = fetch_named(alloc, files, &request.words, request.job.pef, errors)?;
+    let flat = fetch_named(
+        alloc,
+        files,
+        &request.words,
+        File::Flat,
+        request.job.flat,
+        errors,
+    )?;
+    let rsrc = fetch_named(
+        alloc,
+        files,
+        &request.words,
+        File::Rsrc,
+        request.job.rsrc,
+        errors,
+    )?;
+    let pef = fetch_named(
+        alloc,
+        files,
+        &request.words,
+        File::Pef,
+        request.job.pef,
+        errors,
+    )?;
     Ok(Program { flat, rsrc, pef })
 }
 
@@ -84,10 +102,11 @@ fn fetch_named<F: Files, E: Write>(
     alloc: Global,
     files: &F,
     words: &[String],
+    file: File,
     place: Option<u32>,
     errors: &mut E,
 ) -> Result<Option<FileBytes>, u8>
-    ensures there { IfOk result (λ file. is_some file ≡ is_some place) }
+    ensures there { IfOk result (λ bytes. is_some bytes ≡ is_some place) }
     ensures small { IfOk result IsSmall }
     ensures lost { IfErr result IsLost }
 {
@@ -95,6 +114,7 @@ fn fetch_named<F: Files, E: Write>(
         return Ok(None);
     };
     let name = name_at(words, place as usize);
-    let bytes = fetch(alloc, files, name, LONGEST, errors)?;
+    let most = Key::Program(file).limit();
+    let bytes = fetch(alloc, files, name, most, errors)?;
     Ok(Some(FileBytes::of(bytes)))
 }
