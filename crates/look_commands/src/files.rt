@@ -4,19 +4,17 @@ ghost use Rattle.look_commands.specs.Told.{IsLost};
 
 use crate::said::say;
 use crate::status::{NO_FILE, NO_MEMORY, REFUSED};
-use mix_io::{FetchError, FileShelf, Shelf};
+use mix_io::{FetchError, FileShelf, Shelf, file_name};
 use std::alloc::Global;
 use std::io::Write;
 use std::rt::Files;
 
 /// What stands behind the first equals sign of the word at a place.
 pub fn name_at(words: &[String], place: usize) -> &str {
-    let Some(word) = words.get(place) else {
-        return "";
-    };
-    match word.as_str().split_once('=') {
-        Some((_, name)) => name,
-        None => "",
+    if place < words.len() {
+        file_name(&words[place..], 0)
+    } else {
+        ""
     }
 }
 
