@@ -1,16 +1,16 @@
 // What words ask for.
-ghost use Rattle.std.specs.Prelude.{◌≡◌, ◌≢◌, ◌^◌, ◌<◌, ◌++◌, IfOk, codes, length, map};
+ghost use Rattle.std.specs.Prelude.{◌≡◌, ◌^◌, ◌<◌, ◌++◌, IfOk, codes, length, map};
 ghost use Rattle.std.specs.String.{string_bytes};
 ghost use Rattle.look_text.specs.Info.{info_of};
 ghost use Rattle.look_text.specs.Sentences.{why_text as why_of};
 ghost use Rattle.look_text.specs.Whys.{Explains};
 ghost use Rattle.look_text.specs.declared.why.Why.{Why};
-ghost use Rattle.look_commands.specs.Told.{Answers, Writes, WritesFork, WritesWhy, behind};
+ghost use Rattle.rsrc_fork.specs.Forks.{fork_of};
+ghost use Rattle.look_commands.specs.Told.{Answers, PutsFork, Writes, WritesFork, WritesWhy, behind};
 
 use crate::files::{fetch, name_at};
 use crate::images::image;
 use crate::maps::map;
-use crate::program::requested;
 use crate::runs::end;
 use crate::said::{print, say, tell};
 use crate::status::{BAD_WORDS, NO_MEMORY, REFUSED};
@@ -72,14 +72,8 @@ fn obey<F: Files, R: Read + Drop, W: Write + Drop, E: Write + Drop>(
         ),
         Ok(Look::Fork(file)) => fork(alloc, files, name_at(words, file), streams),
         Ok(Look::Words) => why(alloc, words, &mut streams.out),
-        Ok(Look::Map) => match requested(alloc, words, &mut streams.errors) {
-            Ok(request) => map(alloc, files, &request, streams),
-            Err(status) => status,
-        },
-        Ok(Look::End(last)) => match requested(alloc, words, &mut streams.errors) {
-            Ok(request) => end(alloc, files, &request, last, streams),
-            Err(status) => status,
-        },
+        Ok(Look::Map) => map(alloc, files, words, streams),
+        Ok(Look::End(last)) => end(alloc, files, words, last, streams),
         Ok(Look::Image(file)) => image(alloc, files, name_at(words, file), streams),
         Err(refusal) => refuse(alloc, words, refusal, &mut streams.errors),
     }
@@ -106,20 +100,20 @@ fn fork<F: Files, R: Read + Drop, W: Write + Drop, E: Write + Drop>(
 {
     let most = Key::Program(File::Rsrc).limit();
     match fetch(alloc, files, name, most, &mut streams.errors) {
-        Ok(bytes) => fork_in(alloc, name, &bytes, streams),
+        Ok(bytes) => write_fork(alloc, name, &bytes, streams),
         Err(status) => status,
     }
 }
 
-/// Writes the raw fork in the bytes of a file.
-fn fork_in<R: Read + Drop, W: Write + Drop, E: Write + Drop>(
+/// Writes the raw fork in the bytes of a file, or says to the errors why there is none.
+pub fn write_fork<R: Read + Drop, W: Write + Drop, E: Write + Drop>(
     alloc: Global,
     name: &str,
     bytes: &[u8],
     streams: &mut Streams<R, W, E>,
 ) -> u8
     requires { length bytes.now < 2 ^ 32 }
-    ensures { WritesFork (W.contents streams.old.out) (W.contents streams.new.out) result }
+    ensures { PutsFork bytes.now (fork_of bytes.now) (W.contents streams.old.out) (W.contents streams.new.out) result }
 {
     match find_fork(bytes) {
         Ok(found) => {

@@ -2,7 +2,8 @@
 //!
 //! `answer` does what words ask for: it opens the files that they name, reads the input of a run, writes texts to the
 //! output, and sentences and traces to the errors. Words that are refused have status 2, and files and machines are
-//! handed on only as the other crates want them: the files of a proper job, and machines that are whole.
+//! handed on only as the other crates want them: the files of a proper job, and machines that are whole. `write_fork` and
+//! `write_map` are its `fork` and `map` over bytes and files that are given.
 //!
 //! `run_keeping` is one run of the machine, a step at a time, that keeps its last steps; `report` tells the state of a
 //! machine as text: how its run ended, its registers, frames, last steps, stack and heap. The text of the registers is
@@ -29,8 +30,9 @@ mod steps;
 mod streams;
 mod traces;
 
-pub use commands::answer;
+pub use commands::{answer, write_fork};
 pub use machine::report;
+pub use maps::write_map;
 pub use run::{Ending, run_keeping};
 pub use said::{print, tell};
 pub use step::Step;

@@ -1,10 +1,13 @@
 // Where the pieces of a program lie.
-ghost use Rattle.std.specs.Prelude.{◌≡◌, ◌≢◌, ◌⊎◌};
+ghost use Rattle.std.specs.Prelude.{◌≡◌, ◌⊎◌, map as map_list};
+ghost use Rattle.std.specs.String.{string_bytes};
+ghost use Rattle.look_text.specs.Looks.{run_words as run_words_of};
 ghost use Rattle.mix_io.specs.Jobs.{IsProperJob};
+ghost use Rattle.mix_io.specs.Words.{command_of};
 ghost use Rattle.mix_load.specs.Load.{AreLoadable, IsSmall};
-ghost use Rattle.look_commands.specs.Told.{IsMapOf};
+ghost use Rattle.look_commands.specs.Told.{MapsJob, PutsMapOf, PutsPieces, WritesMap};
 
-use crate::program::{Request, fetch_files};
+use crate::program::{Request, fetch_files, requested};
 use crate::said::{print, say_bytes};
 use crate::status::{NO_MEMORY, REFUSED, SUCCESS};
 use crate::streams::Streams;
@@ -16,24 +19,40 @@ use std::alloc::Global;
 use std::io::{Read, Write};
 use std::rt::Files;
 
-/// Writes where the pieces of a program lie.
+/// Writes where the pieces lie of the program that words name.
 pub fn map<F: Files, R: Read + Drop, W: Write + Drop, E: Write + Drop>(
+    alloc: Global,
+    files: &F,
+    words: &[String],
+    streams: &mut Streams<R, W, E>,
+) -> u8
+    ensures { WritesMap (command_of (run_words_of (map_list string_bytes words.now))) (W.contents streams.old.out) (W.contents streams.new.out) result }
+{
+    match requested(alloc, words, &mut streams.errors) {
+        Ok(request) => map_job(alloc, files, &request, streams),
+        Err(status) => status,
+    }
+}
+
+/// The same of what words ask mixedrun to run.
+fn map_job<F: Files, R: Read + Drop, W: Write + Drop, E: Write + Drop>(
     alloc: Global,
     files: &F,
     request: &Request,
     streams: &mut Streams<R, W, E>,
 ) -> u8
     requires { IsProperJob request.now.job }
-    ensures map { result ≡ 0 → IsMapOf request.now.job (W.contents streams.old.out) (W.contents streams.new.out) }
-    ensures taken { result ≢ 2 }
+    ensures { MapsJob request.now.job (W.contents streams.old.out) (W.contents streams.new.out) result }
 {
     match fetch_files(alloc, files, request, &mut streams.errors) {
-        Ok(program) => map_files(alloc, &program, request.job, streams),
+        Ok(program) => write_map(alloc, &program, request.job, streams),
         Err(status) => status,
     }
 }
 
-fn map_files<R: Read + Drop, W: Write + Drop, E: Write + Drop>(
+/// Writes where the pieces of files lie as a job loads them. Where they are refused it writes what could be read, and
+/// says why to the errors.
+pub fn write_map<R: Read + Drop, W: Write + Drop, E: Write + Drop>(
     alloc: Global,
     program: &Program,
     job: Job,
@@ -41,18 +60,29 @@ fn map_files<R: Read + Drop, W: Write + Drop, E: Write + Drop>(
 ) -> u8
     requires job { IsProperJob job }
     requires files { AreLoadable program.now job.main }
-    ensures map { result ≡ 0 → IsMapOf job (W.contents streams.old.out) (W.contents streams.new.out) }
-    ensures taken { result ≢ 2 }
+    ensures { PutsMapOf program.now job (W.contents streams.old.out) (W.contents streams.new.out) result }
 {
     match map_program(alloc, program, job.main, job.kib) {
         Ok(Mapped::Loaded(text)) => print(&mut streams.out, &text),
-        Ok(Mapped::Refused(text, error)) => {
-            let printed = print(&mut streams.out, &text);
-            let refused = refuse(alloc, program, error, &mut streams.errors);
-            if printed == SUCCESS { refused } else { printed }
-        }
+        Ok(Mapped::Refused(text, error)) => write_refused(alloc, program, &text, error, streams),
         Err(NoMemory) => NO_MEMORY,
     }
+}
+
+/// Writes what could be read of files that are refused, and says why to the errors.
+fn write_refused<R: Read + Drop, W: Write + Drop, E: Write + Drop>(
+    alloc: Global,
+    program: &Program,
+    pieces: &[u8],
+    error: LoadError,
+    streams: &mut Streams<R, W, E>,
+) -> u8
+    requires { IsSmall program.now.pef }
+    ensures { PutsPieces pieces.now (W.contents streams.old.out) (W.contents streams.new.out) result }
+{
+    let printed = print(&mut streams.out, pieces);
+    let refused = refuse(alloc, program, error, &mut streams.errors);
+    if printed == SUCCESS { refused } else { printed }
 }
 
 /// Says why files are not loaded.

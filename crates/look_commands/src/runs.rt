@@ -1,14 +1,17 @@
 // Runs, and how they ended.
-ghost use Rattle.std.specs.Prelude.{◌≡◌, ◌≢◌, IfErr, IfOk};
+ghost use Rattle.std.specs.Prelude.{◌≡◌, ◌≢◌, IfErr, IfOk, map};
+ghost use Rattle.std.specs.String.{string_bytes};
 ghost use Rattle.switch_frame.specs.Records.{isa_of};
 ghost use Rattle.mixed_machine.specs.Machine.{IsWhole};
+ghost use Rattle.look_text.specs.Looks.{run_words as run_words_of};
 ghost use Rattle.mix_io.specs.Jobs.{IsProperJob};
+ghost use Rattle.mix_io.specs.Words.{command_of};
 ghost use Rattle.look_commands.specs.Statuses.{status_at};
-ghost use Rattle.look_commands.specs.Told.{IsLost};
+ghost use Rattle.look_commands.specs.Told.{IsLost, Loads, is_run};
 
 use super::{Ending, Step, report, run_keeping};
 use crate::maps::refuse;
-use crate::program::{Request, fetch_files};
+use crate::program::{Request, fetch_files, requested};
 use crate::status::{INPUT_FAILED, NO_MEMORY, OUTPUT_FAILED, SUCCESS, TRACE_FAILED};
 use crate::streams::Streams;
 use call_trace::{End, put_end};
@@ -21,8 +24,24 @@ use std::alloc::Global;
 use std::io::{BufReader, Read, Write};
 use std::rt::Files;
 
-/// Runs a program, and writes how it ended behind its trace.
+/// Runs the program that words name, and writes how it ended behind its trace.
 pub fn end<F: Files, R: Read + Drop, W: Write + Drop, E: Write + Drop>(
+    alloc: Global,
+    files: &F,
+    words: &[String],
+    last: u32,
+    streams: &mut Streams<R, W, E>,
+) -> u8
+    ensures { Loads (is_run (command_of (run_words_of (map string_bytes words.now)))) (W.contents streams.old.out) (W.contents streams.new.out) result }
+{
+    match requested(alloc, words, &mut streams.errors) {
+        Ok(request) => end_job(alloc, files, &request, last, streams),
+        Err(status) => status,
+    }
+}
+
+/// The same of what words ask mixedrun to run.
+fn end_job<F: Files, R: Read + Drop, W: Write + Drop, E: Write + Drop>(
     alloc: Global,
     files: &F,
     request: &Request,

@@ -1,6 +1,5 @@
 // What is said, and to whom.
-ghost use Rattle.std.specs.Prelude.{◌≡◌, ◌⊎◌};
-ghost use Rattle.std.specs.Io.KnownBytes.{Appends};
+ghost use Rattle.look_commands.specs.Told.{Prints};
 
 use crate::status::{OUTPUT_FAILED, SUCCESS};
 use mix_io::write_whole;
@@ -28,8 +27,7 @@ pub fn tell<E: Write>(errors: &mut E, piece: &[u8]) {
 
 /// Puts a text to the output, and answers the status.
 pub fn print<W: Write>(out: &mut W, text: &[u8]) -> u8
-    ensures printed { result ≡ 0 → Appends (W.contents out.old) (W.contents out.new) text.now }
-    ensures status { (result ≡ 0) ⊎ (result ≡ 6) }
+    ensures { Prints text.now (W.contents out.old) (W.contents out.new) result }
 {
     let mut faults = 0;
     match write_whole(out, &mut faults, text) {
