@@ -3,16 +3,18 @@ ghost use Rattle.big_memory.specs.Steps.{Does};
 ghost use Rattle.m68_effects.specs.Ops.{by_op};
 ghost use Rattle.m68_isa.specs.Fits.{Fits};
 
+use super::bits::{do_bit_by_number, do_bit_by_register};
 use super::branches::{
     do_bcc_byte, do_bcc_long, do_bcc_word, do_bra_byte, do_bra_long, do_bra_word, do_bsr_byte,
     do_bsr_long, do_bsr_word, do_dbcc,
 };
 use super::jumps::{do_jmp, do_jsr, do_rtd, do_rtr, do_rts};
-use super::traps::{do_illegal, do_line_a, do_line_f, do_nop, do_privileged, do_trap, do_trapv};
-use super::{
-    do_and_to_memory, do_and_to_register, do_andi, do_bit_by_number, do_bit_by_register, do_eor,
-    do_eori, do_not, do_or_to_memory, do_or_to_register, do_ori, do_shift, do_shift_memory,
+use super::logic::{
+    do_and_to_memory, do_and_to_register, do_andi, do_eor, do_eori, do_not, do_or_to_memory,
+    do_or_to_register, do_ori,
 };
+use super::shifts::{do_shift, do_shift_memory};
+use super::traps::{do_illegal, do_line_a, do_line_f, do_nop, do_privileged, do_trap, do_trapv};
 use big_memory::{Did, Ram};
 use m68_arithmetic::{
     do_abcd, do_add_to_memory, do_add_to_register, do_adda, do_addi, do_addq, do_addx, do_chk,

@@ -19,11 +19,5 @@ mod step;
 mod traps;
 mod words;
 
-pub use bits::{do_bit_by_number, do_bit_by_register};
 pub use fetch::{is_plain, places};
-pub use logic::{
-    do_and_to_memory, do_and_to_register, do_andi, do_eor, do_eori, do_not, do_or_to_memory,
-    do_or_to_register, do_ori,
-};
-pub use shifts::{do_shift, do_shift_memory};
 pub use step::{Out68, run, step68};

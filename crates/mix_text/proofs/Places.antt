@@ -14,7 +14,6 @@ use Rattle.m68_isa.specs.Widths.{is_any}
 use Rattle.m68_text.specs.declared.operand.Operand.{Operand}
 use Rattle.m68_text.specs.Operands.{immediate, place}
 use Rattle.mix_text.specs.Code.{long_words}
-use Rattle.mix_text.specs.SpellingLaws.{SpecialIsImmediate}
 use Rattle.mix_text.specs.Spelling.{content, index_word}
 use Rattle.mix_text.proofs.Texts.{IsTold, cut, is_scale}
 
@@ -94,7 +93,8 @@ chain false false false false u v x y z ea eb ec ed = refl
 other : (n m : ℕ) → m < n → (n == m) ≡ false
 other n m h = grind (arith, nat_tests)
 
-pub special_immediate : SpecialIsImmediate
+-- mode 7 with a register from 4 on is an immediate
+pub special_immediate : (ws : List ℕ) (k : ℕ) (s : Size) (lower : ℕ) → 4 ≤ lower → special_at ws k s lower ≡ plain (Imm (immediate_at ws k s)) (k + immediate_words s)
 special_immediate ws k s lower four = chain (lower == 0) (lower == 1) (lower == 2) (lower == 3) _ _ _ _ _ (other lower 0 (omega (arith, four))) (other lower 1 (omega (arith, four))) (other lower 2 (omega (arith, four))) (other lower 3 (omega (arith, four)))
 
 special : (at : ℕ) (ws : List ℕ) (g : Words ws) (word k : ℕ) (s : Size) (lower : ℕ) → is_any s ≡ true → (4 ≤ lower → k ≡ word) → IsShown at ws word k s (special_at ws k s lower)

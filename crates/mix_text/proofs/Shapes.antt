@@ -12,13 +12,12 @@ use Rattle.m68_isa.specs.declared.found.Found.TheVariants.{Made, Privileged as R
 use Rattle.m68_isa.specs.declared.instructions.Instr68.{Instr68}
 use Rattle.m68_isa.specs.declared.operand.Operand.{Operand as Read}
 use Rattle.m68_isa.specs.Classes.{in_class}
-use Rattle.m68_isa.specs.First.{low_byte}
+use Rattle.m68_isa.specs.First.{long_or_word, low_byte, size_of}
 use Rattle.m68_isa.specs.Operands.{operand_at, special_at}
 use Rattle.m68_isa.specs.Rows.{one}
 use Rattle.m68_isa.specs.Widths.{is_any}
 use Rattle.m68_text.specs.declared.operand.Operand.{Operand}
 use Rattle.m68_text.specs.Operands.{operands, place}
-use Rattle.mix_text.specs.SpellingLaws.{LongOrWordIsAny, SizeIsAny}
 use Rattle.mix_text.specs.Reading.{nothing}
 use Rattle.mix_text.specs.Spelling.{content, contents, following, is_word, way_of}
 use Rattle.mix_text.specs.Spelling.Ending.{Extended}
@@ -208,8 +207,9 @@ some_if : (b : Bool) (s t : Size) → is_any s ≡ true → is_any t ≡ true �
 some_if true s t first second = first
 some_if false s t first second = second
 
-pub some_size : SizeIsAny
+-- the sizes that the bits of a first word name are a byte, a word or a long: two bits and one bit
+pub some_size : (bits : ℕ) → is_any (size_of bits) ≡ true
 some_size bits = some_if (bits == 0) One _ refl (some_if (bits == 1) Two Four refl refl)
 
-pub some_long : LongOrWordIsAny
+pub some_long : (bit : ℕ) → is_any (long_or_word bit) ≡ true
 some_long bit = some_if (bit == 0) Two Four refl refl

@@ -1,14 +1,9 @@
--- The text of an instruction spells its words, and what is known of its operands and sizes.
-use Rattle.std.specs.Prelude.{ℕ, ◌≡◌, ◌+◌, ◌^◌, ◌<◌, ◌≤◌, List, [], ◌∷◌, ◌++◌, length, true, Option, Some, None}
-use Rattle.mix_bits.specs.declared.size.Size.{Size}
+-- The text of an instruction spells its words.
+use Rattle.std.specs.Prelude.{ℕ, ◌≡◌, ◌^◌, ◌<◌, List, [], ◌∷◌, ◌++◌, length, Option, Some, None}
 use Rattle.mix_bits.specs.Names.{name_of, rest_of}
-use Rattle.m68_isa.specs.declared.ea.Ea.TheVariants.{Imm}
 use Rattle.m68_isa.specs.declared.instructions.Instr68.{Instr68}
 use Rattle.m68_isa.specs.declared.instructions.Decoded68.TheVariants.{Op}
 use Rattle.m68_isa.specs.Decode.{decoded}
-use Rattle.m68_isa.specs.First.{long_or_word, size_of}
-use Rattle.m68_isa.specs.Operands.{immediate_at, immediate_words, plain, special_at}
-use Rattle.m68_isa.specs.Widths.{is_any}
 use Rattle.m68_text.specs.Names.{name}
 use Rattle.m68_text.specs.Operands.{hex, operands, operands_text}
 use Rattle.m68_text.specs.declared.form.Form.{Form}
@@ -38,14 +33,3 @@ TextsSpell = (at : ℕ) (ws : List ℕ) (i : Instr68) → at < 2 ^ 32 → AreWor
 -- and a word in hexadecimal gives the word
 abbrev pub WordsSpell : Type 0
 WordsSpell = (at w : ℕ) → w < 2 ^ 16 → spelled Data at (read_all (hex 4 w)) ≡ w ∷ []
-
--- mode 7 with a register from 4 on is an immediate
-abbrev pub SpecialIsImmediate : Type 0
-SpecialIsImmediate = (ws : List ℕ) (k : ℕ) (s : Size) (lower : ℕ) → 4 ≤ lower → special_at ws k s lower ≡ plain (Imm (immediate_at ws k s)) (k + immediate_words s)
-
--- the sizes that the bits of a first word name are a byte, a word or a long: two bits and one bit
-abbrev pub SizeIsAny : Type 0
-SizeIsAny = (bits : ℕ) → is_any (size_of bits) ≡ true
-
-abbrev pub LongOrWordIsAny : Type 0
-LongOrWordIsAny = (bit : ℕ) → is_any (long_or_word bit) ≡ true

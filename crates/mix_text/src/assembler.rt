@@ -9,7 +9,9 @@ ghost use Rattle.mix_text.specs.Spelling.{spelled};
 ghost use Rattle.mix_text.specs.Assembly.{Gives, GivesSome, IsFew, answer, assembled, checked, count_of, data_text, has_text as has_text_of, prints as prints_of};
 ghost use Rattle.mix_text.specs.declared.assembler.AsmError.TheVariants.{Name as NameError, Operands as OperandsError};
 
-use super::{Code68, read_operands, spell};
+use super::code::Code68;
+use super::operands::read_operands;
+use super::spelling::spell;
 use m68_isa::{Decoded68, decode68};
 use m68_text::{Form, form_of, text68};
 use mix_bits::{Line, split_name};

@@ -1,5 +1,5 @@
 ghost use Rattle.mix_text.specs.AssemblerLaws.{GivenAreNamed, GivesOne, NamesArePrinted, NoneIsMissing, TextsDiffer, TextsGive};
-ghost use Rattle.mix_text.specs.SpellingLaws.{LongOrWordIsAny, SizeIsAny, SpecialIsImmediate, TextsSpell, WordsSpell};
+ghost use Rattle.mix_text.specs.SpellingLaws.{TextsSpell, WordsSpell};
 
 /// What holds of lines, texts and names. It does nothing: the clauses are its point.
 pub fn asm_laws()
@@ -15,11 +15,4 @@ pub fn asm_laws()
 pub fn spelling_laws()
     ensures instructions { TextsSpell }
     ensures words { WordsSpell }
-{}
-
-/// What holds of immediates, and of the sizes that first words name. It does nothing, either.
-pub fn operand_laws()
-    ensures immediates { SpecialIsImmediate }
-    ensures sizes { SizeIsAny }
-    ensures longs { LongOrWordIsAny }
 {}

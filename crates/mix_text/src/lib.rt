@@ -23,13 +23,11 @@ mod refused;
 mod spelling;
 mod text;
 
-pub use assembler::{AsmError, assemble68, known68, reassembled68};
-pub use assembler_laws::{asm_laws, operand_laws, spelling_laws};
+pub use assembler::{AsmError, assemble68, reassembled68};
+pub use assembler_laws::{asm_laws, spelling_laws};
 pub use code::Code68;
 pub use instruction::write_words;
 pub use laws::assembly_laws;
 pub use listing::list;
-pub use operands::{Parsed, read_operands};
 pub use refused::{Reason, Refused};
-pub use spelling::spell;
 pub use text::{check_text, put_text};

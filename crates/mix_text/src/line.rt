@@ -3,9 +3,9 @@ ghost use Rattle.std.specs.Prelude.{◌≡◌, ◌≤◌, Ok, Err, IfErr, IfOk, 
 ghost use Rattle.mix_text.specs.Assembling.{IsGiven, IsInstruction, long_bytes, word_bytes as word_bytes_of};
 ghost use Rattle.mix_text.specs.Parts.{GivesBytes, SpellsBytes, reason_68k as reason_68k_of, reason_ppc as reason_ppc_of};
 
+use super::assembler::{AsmError as Error68k, assemble68, known68};
 use super::lines::{address_in, is_silent};
 use super::refused::Reason;
-use super::{AsmError as Error68k, assemble68, known68};
 use arrayvec::ArrayVec;
 use mix_bits::Isa;
 use ppc_text::{AsmError as ErrorPpc, assemble_ppc, known_ppc};
