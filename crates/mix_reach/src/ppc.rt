@@ -9,8 +9,8 @@ ghost use Rattle.mix_reach.specs.Steps.{word_decoded};
 
 use crate::reach::{Reach, range};
 use mix_bits::onward;
-use ppc_integer::{base, xer_string_length};
-use ppc_isa::{OpPpc, RegsPpc, a_of, b_of, offset_of, op_of, shift_of, string_length};
+use ppc_integer::{base, index_address, offset_address, xer_string_length};
+use ppc_isa::{OpPpc, RegsPpc, a_of, op_of, shift_of, string_length};
 
 /// Where the instruction of a word stores, if it is done; None where it stores nowhere.
 #[inline(always)]
@@ -44,7 +44,7 @@ pub fn stores(regs: &RegsPpc, word: u32) -> Option<Reach>
 fn at_offset(regs: &RegsPpc, word: u32, n: u32) -> Reach
     ensures { result ≡ range_of (offset_address_of regs.now (fields_of word).a (fields_of word).low) n }
 {
-    range(onward(base(regs, a_of(word)), offset_of(word)), n)
+    range(offset_address(regs, word), n)
 }
 
 /// A value at the address (A|0) and register B.
@@ -53,14 +53,6 @@ fn at_index(regs: &RegsPpc, word: u32) -> Reach
     ensures { result ≡ range_of (index_address_of regs.now (fields_of word).a (fields_of word).b) 4 }
 {
     range(index_address(regs, word), 4)
-}
-
-/// The address (A|0) and register B.
-#[inline(always)]
-fn index_address(regs: &RegsPpc, word: u32) -> u32
-    ensures { result ≡ index_address_of regs.now (fields_of word).a (fields_of word).b }
-{
-    onward(base(regs, a_of(word)), regs.gpr[b_of(word)])
 }
 
 /// The bytes of a string.
