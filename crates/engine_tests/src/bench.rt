@@ -6,7 +6,7 @@ ghost use Rattle.mixed_machine.specs.Machine.{IsWhole};
 use crate::equal::equal;
 use crate::text::image;
 use mix_bits::Isa;
-use mix_engine::{Machine, Stop, Turn, run, run_m68, run_ppc};
+use mix_engine::{Machine, Stop, Turn, run, run_m68, run_ppc, step};
 use mix_io::{Asked, Counter, Device, Devices, MemSink, MemSource, Rack, Source, Tape};
 use mix_load::{FileBytes, Files, load};
 use std::alloc::Global;
@@ -141,6 +141,14 @@ impl Trial {
         run_on(&mut self.machine, &mut self.around, steps)
     }
 
+    /// Does one step.
+    pub fn step(&mut self) -> Stop
+        requires { IsWhole self.old.machine.body (isa_of self.old.machine.active) }
+        ensures { IsWhole self.new.machine.body (isa_of self.new.machine.active) }
+    {
+        step_on(&mut self.machine, &mut self.around)
+    }
+
     /// What a run leaves that stopped so.
     pub fn leave(mut self, rt: &impl Abort, alloc: Global, stop: Stop) -> Left {
         leave(rt, alloc, stop, self.machine.active, &mut self.around)
@@ -162,6 +170,20 @@ pub fn run_on(m: &mut Machine, around: &mut Outside, steps: u32) -> Stop
         &mut around.trace,
         &mut around.rack,
         steps,
+    )
+}
+
+/// Does one step of a machine.
+fn step_on(m: &mut Machine, around: &mut Outside) -> Stop
+    requires { IsWhole m.old.body (isa_of m.old.active) }
+    ensures { IsWhole m.new.body (isa_of m.new.active) }
+{
+    step(
+        m,
+        &mut around.input,
+        &mut around.out,
+        &mut around.trace,
+        &mut around.rack,
     )
 }
 
