@@ -131,7 +131,7 @@ fn step_alone(machine: &mut Machine) -> End
 
 /// How many frames are live.
 #[tactic(auto, unfolding(mixed_machine::specs::Machine::callers_of))]
-fn live(machine: &Machine) -> u32
+pub fn live(machine: &Machine) -> u32
     requires { IsWhole machine.now.body (isa_of machine.now.active) }
     ensures { result ≡ length (callers_of machine.now.body) }
 {

@@ -9,13 +9,13 @@ ghost use Rattle.mix_top.specs.ScriptParts.{DoesOnce, GoesForward, WalksBack, en
 ghost use Rattle.mix_top.specs.Places.{Over, place_beside, sinks_in};
 ghost use Rattle.mix_top.specs.Sessions.{session_of};
 
+use crate::sample_run;
 use call_trace::End;
 use mix_bits::Isa;
 use mix_debug::Debug;
 use mix_engine::Outside;
 use mix_io::{Devices, Sink, Source};
 use mixed_machine::Stop;
-use switch_frame::depth;
 use toolbox::Broken;
 
 /// Where a command ends that does up to so many steps.
@@ -136,12 +136,10 @@ fn is_there(debug: &Debug, until: Until) -> bool
 }
 
 /// How many frames are live.
-#[tactic(auto, unfolding(mixed_machine::specs::Machine::callers_of))]
 pub fn live(debug: &Debug) -> u32
     ensures { result ≡ length (callers_of debug.now.machine.body) }
 {
-    let machine = debug.machine();
-    depth(&machine.body.ram, machine.body.top)
+    sample_run::live(debug.machine())
 }
 
 /// Takes up to so many steps back.
