@@ -4,11 +4,11 @@ ghost use Rattle.mix_bits.specs.Faults.{fault_at};
 /// Why a step of the machine can't be done.
 #[derive(Clone, Copy, Debug, PartialEq, Eq)]
 pub enum FaultKind {
-    /// A 68K word that is no instruction of the 68000.
+    /// A 68K word that is no instruction of the 68000, and none of those taken from the 68020.
     Illegal,
     /// A 68K instruction of the supervisor.
     Privileged,
-    /// An instruction or a 68K word or long at an address that it may not have.
+    /// A pc that is odd in 68K code, or no multiple of 4 in PowerPC code.
     Odd,
     /// An access that leaves RAM.
     Outside,

@@ -22,7 +22,7 @@ with_ov xer on = digit_replaced xer 30 1 (from_bool on)
 abbrev pub with_ca : ℕ → Bool → ℕ
 with_ca xer on = digit_replaced xer 29 1 (from_bool on)
 
--- OV is as the result has it; with it SO is set, which nothing but a move to the register clears
+-- OV is as the result has it; with it SO is set, which only mtspr and mcrxr clear
 abbrev pub with_overflow : ℕ → Bool → ℕ
 with_overflow xer on = if on then with_so (with_ov xer on) on else with_ov xer on
 

@@ -56,7 +56,7 @@ Stands (Some told) value = value ≡ told
 pub record HasGatePage (a5 : ℕ) (bytes : List ℕ) : Type 0 where
   pub longs : (k : ℕ) → k < 1024 → Stands (gate_long a5 (length bytes) (0x1000 + 4 * k)) (long_at (0x1000 + 4 * k) bytes)
 
--- the stack pointer with which a main program starts, and is to end
+-- the stack pointer with which a main program is to end; PowerPC code starts with it, 68K code 4 below, at its return address
 abbrev pub start_sp_of : Isa → ℕ → ℕ
 start_sp_of M68 len = len
 start_sp_of Ppc len = len - 64
