@@ -10,12 +10,9 @@ use Rattle.big_memory.specs.Steps.After.{Goes, Leaves, Stops}
 use Rattle.ppc_isa.specs.declared.registers.RegsPpc.{RegsPpc}
 use Rattle.ppc_isa.specs.declared.instruction.InstrPpc.{InstrPpc}
 use Rattle.ppc_isa.specs.declared.instruction.InstrPpc.TheVariants.{TrapWordImmediate, MultiplyLowImmediate, SubtractFromImmediateCarrying, CompareImmediate, AddImmediateCarrying, AddImmediate, BranchConditional, Branch, RotateLeftImmediate, RotateLeft, LogicalImmediate, Load, Store, LoadMultiple, StoreMultiple, MoveConditionField, BranchConditionalToRegister, ConditionLogical, InstructionSynchronize, Add, AddExtended, SubtractFrom, SubtractFromExtended, Negate, MultiplyLow, MultiplyHigh, Divide, Logical, Unary, Shift, ShiftRightAlgebraicImmediate, Compare, TrapWord, LoadIndexed, StoreIndexed, LoadReversed, StoreReversed, LoadStringImmediate, StoreStringImmediate, LoadStringIndexed, StoreStringIndexed, MoveFromConditionRegister, MoveToConditionFields, MoveXerToConditionField, MoveFromSpecial, MoveToSpecial, Synchronize}
-use Rattle.ppc_isa.specs.Fields.{fields_of}
 use Rattle.ppc_isa.specs.Rows.{decoded}
 use Rattle.ppc_integer.specs.Traps.{traps_on}
 use Rattle.ppc_integer.specs.Xer.{string_length_of}
-use Rattle.ppc_isa.specs.declared.op.OpPpc.{OpPpc}
-use Rattle.ppc_isa.specs.Made.{made}
 use Rattle.ppc_isa.specs.Valid.{string_length}
 use Rattle.ppc_integer.specs.File.{base_of, gpr_of, onto_next}
 use Rattle.ppc_integer.specs.Arithmetic.{add, add_extended, add_immediate, add_immediate_carrying, divide, immediate_of, multiply_high, multiply_low, multiply_low_immediate, negate, subtract_from, subtract_from_extended, subtract_from_immediate_carrying}
@@ -89,10 +86,6 @@ runs r m word Synchronize = goes_on m r
 abbrev pub runs_decoded : RegsPpc → Memory → ℕ → Option InstrPpc → After RegsPpc
 runs_decoded r m word (Some instruction) = runs r m word instruction
 runs_decoded r m word None = Stops (fault_at r.pc BadInstr word)
-
--- the step of a word as this operation
-abbrev pub effect : OpPpc → RegsPpc → Memory → ℕ → After RegsPpc
-effect op r m word = runs_decoded r m word (made op (fields_of word))
 
 -- the host goes on at the code address of one of its functions; elsewhere the gate page has no code
 abbrev pub at_gate_page : RegsPpc → Option ℕ → After RegsPpc

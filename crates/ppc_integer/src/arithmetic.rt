@@ -7,8 +7,11 @@ ghost use Rattle.ppc_integer.specs.Arithmetic.{carry_into as carry_into_of, oper
 ghost use Rattle.ppc_isa.specs.declared.instruction.InstrPpc.TheVariants.{Add, AddExtended, AddImmediate, AddImmediateCarrying, Divide, MultiplyHigh, MultiplyLow, MultiplyLowImmediate, Negate, SubtractFrom, SubtractFromExtended, SubtractFromImmediateCarrying};
 ghost use Rattle.ppc_integer.specs.Alone.{Ends, Runs};
 
+use super::addresses::base;
+use super::arith::{add3, mul_high, mul_low};
 use super::ending::{finish, finish_carrying, finish_overflow, finish_result};
-use super::{add3, base, divide, mul_high, mul_low, xer_ca};
+use super::quotients::divide;
+use super::xer::xer_ca;
 use big_memory::Did;
 use mix_bits::onward;
 use ppc_isa::{

@@ -8,7 +8,7 @@ ghost use Rattle.ppc_integer.specs.Condition.{bit_of};
 ghost use Rattle.ppc_integer.specs.Branches.{branch_where, condition_allows as condition_allows_of, count_allows, counted, is_same, leaves_count as leaves_count_of};
 ghost use Rattle.ppc_integer.specs.Alone.{Runs};
 
-use super::cr_bit;
+use super::condition::cr_bit;
 use big_memory::Did;
 use mix_bits::{aligned, onward};
 use ppc_isa::{

@@ -5,11 +5,10 @@ ghost use Rattle.ppc_isa.specs.declared.instruction.InstrPpc.TheVariants.{Compar
 ghost use Rattle.ppc_integer.specs.Condition.{with_field};
 ghost use Rattle.ppc_integer.specs.Alone.{Ends, Runs};
 
+use super::condition::{compare, cr_bit, cr_field, cr_logic, with_cr_bit, with_cr_field, with_cr0};
 use super::ending::finish;
-use super::{
-    compare, cr_bit, cr_field, cr_logic, field_mask, insert, with_cr_bit, with_cr_field, with_cr0,
-    xer_so, xer_top, xer_without_top,
-};
+use super::mask::{field_mask, insert};
+use super::xer::{xer_so, xer_top, xer_without_top};
 use big_memory::Did;
 use ppc_isa::{
     LogicalOp, RegsPpc, a_of, b_of, d_of, field_of, from_field_of, low_of, mask_of, offset_of,

@@ -5,7 +5,8 @@ ghost use Rattle.ppc_integer.specs.Arithmetic.{with_arith};
 ghost use Rattle.ppc_integer.specs.File.{with_result};
 ghost use Rattle.ppc_integer.specs.Alone.{Ends};
 
-use super::{Arith, Sets, advance, put_arith, put_result};
+use super::arith::Arith;
+use super::results::{Sets, advance, put_arith, put_result};
 use big_memory::Did;
 use ppc_isa::{RegsPpc, d_of, is_last, is_overflow};
 

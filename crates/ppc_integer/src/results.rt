@@ -2,7 +2,9 @@ ghost use Rattle.std.specs.Prelude.{◌≡◌, ◌<◌};
 ghost use Rattle.ppc_integer.specs.Arithmetic.{with_arith};
 ghost use Rattle.ppc_integer.specs.File.{onto_next, recorded, with_result};
 
-use super::{Arith, compare, with_cr0, xer_so, xer_with_ca, xer_with_overflow};
+use super::arith::Arith;
+use super::condition::{compare, with_cr0};
+use super::xer::{xer_so, xer_with_ca, xer_with_overflow};
 use mix_bits::onward;
 use ppc_isa::RegsPpc;
 

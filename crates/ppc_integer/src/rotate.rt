@@ -6,7 +6,9 @@ ghost use Rattle.ppc_isa.specs.declared.instruction.InstrPpc.TheVariants.{Rotate
 ghost use Rattle.ppc_integer.specs.Alone.{Runs};
 
 use super::ending::{finish, finish_carrying, finish_result};
-use super::{insert, put_result, rotate_mask, shift_left, shift_right, shift_right_logical};
+use super::mask::{insert, rotate_mask};
+use super::results::put_result;
+use super::shift::{shift_left, shift_right, shift_right_logical};
 use big_memory::Did;
 use ppc_isa::{MaskUse, RegsPpc, a_of, b_of, d_of, is_last, mask_begin_of, mask_end_of, shift_of};
 

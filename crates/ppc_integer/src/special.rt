@@ -4,7 +4,7 @@ ghost use Rattle.ppc_isa.specs.declared.instruction.InstrPpc.TheVariants.{MoveFr
 ghost use Rattle.ppc_integer.specs.Alone.{Ends, Runs};
 
 use super::ending::finish;
-use super::xer_kept;
+use super::xer::xer_kept;
 use big_memory::Did;
 use ppc_isa::{RegsPpc, SpecialRegister, d_of};
 

@@ -6,8 +6,8 @@ ghost use Rattle.ppc_isa.specs.declared.instruction.InstrPpc.TheVariants.{TrapWo
 ghost use Rattle.ppc_isa.specs.declared.registers.RegsPpc.{RegsPpc};
 ghost use Rattle.ppc_integer.specs.Effects.{runs, trap_word as trap_word_of};
 
+use super::condition::traps;
 use super::ending::finish;
-use super::traps;
 use big_memory::{Did, stop};
 use mix_bits::{Fault, FaultKind};
 use ppc_isa::{RegsPpc, a_of, b_of, d_of, offset_of};
