@@ -11,7 +11,7 @@ ghost use Rattle.proc_info.specs.Read.{Counts, FillsBody, FillsRecord, FillsReco
 
 use super::flags::RoutineFlags;
 use super::record::{BadDesc, Desc, MIXED_MODE_MAGIC, MOST_RECORDS, Rec};
-use super::{Sig, read};
+use super::{Conv, Sig, read};
 use big_memory::Ram;
 use bitflags::Flags;
 use mix_bits::{Isa, Size};
@@ -254,7 +254,10 @@ fn is_alike(info: u32, other: u32) -> bool
 fn is_dispatched(code: u32) -> bool
     ensures { result ≡ is_dispatched_in (conv_at code) }
 {
-    matches!(code, 8 | 9 | 12 | 14)
+    match Conv::at(code) {
+        Ok(conv) => conv.is_dispatched(),
+        Err(_) => false,
+    }
 }
 
 /// The number in the bytes at `a`.
