@@ -10,6 +10,7 @@ ghost use Rattle.switch_frame.specs.Records.{held_of, image, isa_of, record_at, 
 ghost use Rattle.switch_frame.specs.Sets.{caller_isa, frame_size, kind_at, kind_told};
 
 use crate::files::{read_file, write_file};
+use crate::layout::{DEPTH, FILE};
 use crate::{Held, Kind};
 use big_memory::Ram;
 
@@ -103,7 +104,11 @@ pub fn depth(ram: &Ram, top: u32) -> u32
     requires { Links ram.now top (records ram.now.bytes top) }
     ensures { result ≡ length (records ram.now.bytes top) }
 {
-    if top == 0 { 0 } else { ram.read_long(top + 28) }
+    if top == 0 {
+        0
+    } else {
+        ram.read_long(top + DEPTH)
+    }
 }
 
 /// Ends the frame of [`lo`, `hi`): zeros stand in it, and it is guarded no more.
@@ -144,7 +149,7 @@ fn read_held(ram: &Ram, lo: u32) -> Held
     let kind = Kind::of_code(code).unwrap();
     Held {
         kind,
-        caller: read_file(ram, lo + 32, kind.caller()),
+        caller: read_file(ram, lo + FILE, kind.caller()),
         info,
         selector,
         target,
@@ -174,5 +179,5 @@ fn write_held(ram: &mut Ram, held: &Held, outer: u32)
         held.depth,
     ];
     ram.fix_longs(held.lo, &head);
-    write_file(ram, held.lo + 32, &held.caller);
+    write_file(ram, held.lo + FILE, &held.caller);
 }

@@ -10,15 +10,17 @@ use big_memory::{GATE_PAGE, HOST_FUNCTIONS, Ram, host_address, host_vector};
 /// How many longs the gate page has.
 const LONGS: u32 = 1024;
 
-/// Where the gate page tells the entry of 68K code, the main vector of PowerPC code, the program's A5, and
-/// how many bytes of RAM there are.
-const ENTRY: u32 = 0x1020;
+/// Where the gate page tells the entry of 68K code.
+pub const ENTRY_PLACE: u32 = 0x1020;
 
-const MAIN_VECTOR: u32 = 0x1024;
+/// Where it tells the main vector of PowerPC code.
+pub const MAIN_VECTOR_PLACE: u32 = 0x1024;
 
-const A5: u32 = 0x1028;
+/// Where it tells the program's A5.
+pub const A5_PLACE: u32 = 0x1028;
 
-const RAM_SIZE: u32 = 0x102C;
+/// Where it tells how many bytes of RAM there are.
+pub const RAM_SIZE_PLACE: u32 = 0x102C;
 
 /// Tests the longs of the gate page in order, and gives the address of the first that the page of a program
 /// with this A5 has otherwise.
@@ -42,9 +44,9 @@ fn gate_long(a5: u32, len: u32, a: u32) -> Option<u32>
     ensures { result ≡ gate_long a5 len a }
 {
     match a {
-        ENTRY | MAIN_VECTOR => None,
-        A5 => Some(a5),
-        RAM_SIZE => Some(len),
+        ENTRY_PLACE | MAIN_VECTOR_PLACE => None,
+        A5_PLACE => Some(a5),
+        RAM_SIZE_PLACE => Some(len),
         _ => Some(vector_long(a)),
     }
 }

@@ -87,6 +87,9 @@ impl Kind {
     }
 }
 
+/// How many bytes a frame has at most, that of a caller in PowerPC code.
+pub const LARGEST_FRAME: u32 = 192;
+
 /// How many bytes the frame of a caller of this set has.
 pub fn frame_size(caller: Isa) -> u32
     ensures size { result ≡ frame_size_of caller }
@@ -94,6 +97,6 @@ pub fn frame_size(caller: Isa) -> u32
 {
     match caller {
         Isa::M68 => 112,
-        Isa::Ppc => 192,
+        Isa::Ppc => LARGEST_FRAME,
     }
 }

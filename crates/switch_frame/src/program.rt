@@ -5,8 +5,11 @@ use crate::Active;
 use big_memory::Ram;
 use mix_bits::Isa;
 
+/// Where a program begins, and the lowest address at which its heap may.
+pub const PROGRAM_START: u32 = 0x1_0000;
+
 /// How many bytes below the end of RAM the stack pointer of PowerPC code starts.
-const PPC_STACK: u32 = 64;
+pub const PPC_STACK: u32 = 64;
 
 /// A loaded program, ready to start.
 #[derive(Drop)]
@@ -26,7 +29,8 @@ pub struct Program {
     pub heap_hi: u32,
 }
 
-/// The stack pointer at which a main program of this set starts, and is expected to end, in `len` bytes of RAM.
+/// The stack pointer at which a main program of this set is expected to end, in `len` bytes of RAM. PowerPC code starts
+/// with it, and 68K code 4 below, where its return address stands.
 pub fn start_sp_of(main: Isa, len: u32) -> u32
     requires { 64 ≤ len }
     ensures { result ≡ start_sp_of main len }

@@ -9,6 +9,7 @@ ghost use Rattle.switch_frame.specs.Records.{Record};
 ghost use Rattle.switch_frame.specs.Sets.{frame_size as frame_size_of, kind_at};
 
 use crate::kind::{Kind, frame_size};
+use crate::layout::{DEPTH, END, FILE, INFO, KIND};
 use crate::rooms::MOST_FRAMES;
 use big_memory::Ram;
 use mix_bits::{Isa, is_isa, onward};
@@ -76,14 +77,14 @@ fn is_image(ram: &Ram, lo: u32, callee: Isa, main: Isa) -> bool
     requires there { lo + 112 ≤ length ram.now.bytes }
     ensures { result ≡ is_image ram.now main callee lo (kind_at (long_at (lo + 4) ram.now.bytes)) }
 {
-    let Some(kind) = Kind::of_code(ram.read_long(lo + 4)) else {
+    let Some(kind) = Kind::of_code(ram.read_long(lo + KIND)) else {
         return false;
     };
     ends_right(ram, lo, kind.caller())
-        && holds_file(ram, lo + 32, kind.caller())
-        && has_signature(ram.read_long(lo + 8))
+        && holds_file(ram, lo + FILE, kind.caller())
+        && has_signature(ram.read_long(lo + INFO))
         && is_isa(kind.callee(), callee)
-        && ram.read_long(lo + 28) <= MOST_FRAMES
+        && ram.read_long(lo + DEPTH) <= MOST_FRAMES
         && fits_outer(ram, lo, kind.caller(), main)
 }
 
@@ -94,7 +95,7 @@ fn ends_right(ram: &Ram, lo: u32, caller: Isa) -> bool
     ensures { result ≡ ends_right ram.now lo caller }
 {
     let hi = lo + frame_size(caller);
-    ram.read_long(lo + 20) == hi && hi <= ram.len()
+    ram.read_long(lo + END) == hi && hi <= ram.len()
 }
 
 /// Whether the longs at `a` are those of a register file, with zeros up to the frame's end.
@@ -130,8 +131,8 @@ fn fits_outer(ram: &Ram, lo: u32, caller: Isa, main: Isa) -> bool
 {
     let (outer, hi, depth) = (
         ram.read_long(lo),
-        ram.read_long(lo + 20),
-        ram.read_long(lo + 28),
+        ram.read_long(lo + END),
+        ram.read_long(lo + DEPTH),
     );
     if outer == 0 {
         depth == 1 && is_isa(caller, main)
@@ -145,7 +146,7 @@ fn is_below(ram: &Ram, hi: u32, depth: u32, outer: u32) -> bool
     requires { IsRam ram.now }
     ensures { result ≡ is_below ram.now hi depth outer }
 {
-    let count = onward(outer, 28);
+    let count = onward(outer, DEPTH);
     hi <= outer
         && (u64::from(ram.len()) < u64::from(count) + 4
             || u64::from(depth) == u64::from(ram.read_long(count)) + 1)
@@ -157,7 +158,7 @@ fn caller(ram: &Ram, lo: u32) -> Isa
     requires there { lo + 112 ≤ length ram.now.bytes }
     ensures { result ≡ caller_at ram.now lo }
 {
-    Kind::of_code(ram.read_long(lo + 4))
+    Kind::of_code(ram.read_long(lo + KIND))
         .unwrap_or(Kind::M68ToPpc)
         .caller()
 }
@@ -171,7 +172,7 @@ pub fn guard_frames(ram: &mut Ram, top: u32)
 {
     let mut lo = top;
     'frames: while lo != 0 {
-        let hi = ram.read_long(lo + 20);
+        let hi = ram.read_long(lo + END);
         ram.guard(lo, hi);
         lo = ram.read_long(lo);
     }
