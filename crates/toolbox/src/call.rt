@@ -20,10 +20,6 @@ use big_memory::Ram;
 use mix_io::{Devices, Sink, Source};
 use switch_frame::Active;
 
-const NEW_PTR: u32 = 4;
-
-const DISPOSE_PTR: u32 = 6;
-
 /// Calls NewPtr or DisposePtr, by their numbers: programs call these again and again, and they need no more than the
 /// registers and the heap. Any other function is left, and nothing has changed then.
 #[inline(always)]
@@ -33,14 +29,14 @@ pub fn call_heap(index: u32, active: &mut Active, heap: &mut Heap) -> bool
     ensures left { result ≡ false → (active.new ≡ active.old) × (heap.new ≡ heap.old) }
 {
     laws();
-    match index {
-        NEW_PTR => {
+    match Function::at(index) {
+        Function::NewPtr => {
             let operands = operands_of(Function::NewPtr, active);
             let results = new_block(heap, operands.first);
             settle(Function::NewPtr, active, results);
             true
         }
-        DISPOSE_PTR => {
+        Function::DisposePtr => {
             let operands = operands_of(Function::DisposePtr, active);
             let results = dispose(heap, operands.first);
             settle(Function::DisposePtr, active, results);

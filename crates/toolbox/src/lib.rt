@@ -1,5 +1,5 @@
 //! The functions that the host has for programs: 68K code reaches them by trap words, PowerPC code by
-//! imports. `docs/machine.md` has their table, which `specs/Effects` and `specs/Registers` state row by row.
+//! imports. `docs/machine.md` has their table, which `specs/Table` states row by row.
 //!
 //! `host_call` does what the table says; a stream's count of failures rises only where the call tells so.
 //!
@@ -28,6 +28,7 @@ mod values;
 pub use block::Block;
 pub use broken::Broken;
 pub use call::{call_heap, host_call};
+pub use function::Function;
 pub use heap::{BLOCK_LIMIT, Heap};
 pub use heap_blocks::may_follow;
 pub use imports::import_index;
