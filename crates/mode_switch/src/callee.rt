@@ -9,7 +9,9 @@ ghost use Rattle.mode_switch.specs.Callee.{below as below_lem, callee_sp, delive
 ghost use Rattle.mode_switch.specs.Views.{crossing};
 ghost use Rattle.mode_switch.specs.Wanted.{passed_selector as passed_selector_lem};
 
-use crate::{Call, Entry, Words, below_ppc, below68, removed68, start_68, start_ppc};
+use crate::m68_deliver::start_68;
+use crate::ppc_deliver::start_ppc;
+use crate::{Call, Entry, Words, below_ppc, below68, removed68};
 use big_memory::Ram;
 use m68_isa::Regs68;
 use mix_bits::{Isa, onward};
@@ -59,31 +61,13 @@ pub fn deliver(
         Isa::M68 => {
             *active = Active::M68(Regs68::cleared());
             if let Active::M68(regs) = active {
-                start_68(
-                    &call.sig,
-                    values,
-                    selector,
-                    lo,
-                    entry.globals,
-                    entry.code,
-                    ram,
-                    regs,
-                );
+                start_68(&call.sig, values, selector, lo, entry, ram, regs);
             }
         }
         Isa::Ppc => {
             *active = Active::Ppc(RegsPpc::cleared());
             if let Active::Ppc(regs) = active {
-                start_ppc(
-                    &call.sig,
-                    values,
-                    selector,
-                    lo,
-                    entry.code,
-                    entry.globals,
-                    ram,
-                    regs,
-                );
+                start_ppc(&call.sig, values, selector, lo, entry, ram, regs);
             }
         }
     }

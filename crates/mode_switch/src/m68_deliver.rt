@@ -11,6 +11,7 @@ use super::m68_places::{
     Route, params_bytes, place_for, result_bytes, route_for, selector_place, selector_width,
 };
 use super::m68_values::put_value;
+use crate::Entry;
 use arrayvec::ArrayVec;
 use big_memory::{Ram, return_gate};
 use m68_isa::Regs68;
@@ -63,7 +64,11 @@ pub fn deliver68(
 {
     let mut regs = Regs68::cleared();
     let values = &args.value[..args.count as usize];
-    start_68(sig, values, selector, lo, a5, target, ram, &mut regs);
+    let entry = Entry {
+        code: target,
+        globals: a5,
+    };
+    start_68(sig, values, selector, lo, &entry, ram, &mut regs);
     regs
 }
 
@@ -73,8 +78,7 @@ pub fn start_68(
     values: &[u32],
     selector: Option<u32>,
     lo: u32,
-    a5: u32,
-    target: u32,
+    entry: &Entry,
     ram: &mut Ram,
     regs: &mut Regs68,
 )
@@ -84,12 +88,12 @@ pub fn start_68(
     requires room { below (signature sig.now) (is_some selector) ≤ lo }
     requires inside { lo ≤ length ram.old.bytes }
     ensures memory { ram.new ≡ delivered (signature sig.now) selector values.now lo ram.old }
-    ensures registers { regs.new ≡ callee_registers (signature sig.now) selector values.now a5 (callee_sp (signature sig.now) selector lo) target }
+    ensures registers { regs.new ≡ callee_registers (signature sig.now) selector values.now entry.now.globals (callee_sp (signature sig.now) selector lo) entry.now.code }
 {
     let sp = lo - below68(sig, selector.is_some());
     let params = sig.params();
     ram.fix(sp, &stack(sig, params, values, selector));
-    begin(regs, a5, sp, target);
+    begin(regs, entry.globals, sp, entry.code);
     put_selector(regs, sig, selector);
     put_arguments(regs, route_for(sig.conv), params, values);
 }

@@ -9,6 +9,7 @@ ghost use Rattle.proc_info.specs.Views.{signature};
 ghost use Rattle.mode_switch.specs.WordsPpc.{words_of};
 ghost use Rattle.mode_switch.specs.DeliverPpc.{below, callee_registers, callee_sp, callee_words as callee_words_lem, delivered, frame_bytes as frame_bytes_lem, frame_of, registers_with};
 
+use crate::Entry;
 use arrayvec::ArrayVec;
 use big_memory::{Ram, return_gate};
 use mix_bits::{Isa, trunc};
@@ -62,7 +63,8 @@ pub fn deliver_ppc(
 {
     let mut regs = RegsPpc::cleared();
     let values = &args.value[..args.count as usize];
-    start_ppc(sig, values, selector, lo, code, toc, ram, &mut regs);
+    let entry = Entry { code, globals: toc };
+    start_ppc(sig, values, selector, lo, &entry, ram, &mut regs);
     regs
 }
 
@@ -72,8 +74,7 @@ pub fn start_ppc(
     values: &[u32],
     selector: Option<u32>,
     lo: u32,
-    code: u32,
-    toc: u32,
+    entry: &Entry,
     ram: &mut Ram,
     regs: &mut RegsPpc,
 )
@@ -83,13 +84,13 @@ pub fn start_ppc(
     requires room { below (signature sig.now) (is_some selector) ≤ lo }
     requires inside { lo ≤ length ram.old.bytes }
     ensures memory { ram.new ≡ delivered (signature sig.now) selector values.now lo ram.old }
-    ensures registers { regs.new ≡ callee_registers (signature sig.now) selector values.now (callee_sp (signature sig.now) selector lo) code toc }
+    ensures registers { regs.new ≡ callee_registers (signature sig.now) selector values.now (callee_sp (signature sig.now) selector lo) entry.now.code entry.now.globals }
 {
     let sp = lo - below_ppc(sig, selector.is_some());
     let mut words = ArrayVec::new();
     append_words(&mut words, sig, sig.params(), values, selector);
     write_frame(&words, sp, ram);
-    put_registers(regs, &words, sp, code, toc);
+    put_registers(regs, &words, sp, entry.code, entry.globals);
 }
 
 /// Appends the words of a callee.
