@@ -15,28 +15,13 @@ ghost use Rattle.switch_frame.specs.declared.active.Active.TheVariants.{M68, Ppc
 use crate::quick::quick_stores;
 use crate::reach::{Reach, Stores, Told, filling, nothing, plain, range, stored_at};
 use crate::{m68, ppc, quick};
-use big_memory::{Ram, host_code, in_gate_page};
+use big_memory::{GATE_PAGE_END, Ram, host_code, in_gate_page};
 use m68_effects::has_five;
 use m68_isa::{Decoded68, Operations, Regs68};
 use mix_bits::onward;
 use ppc_isa::RegsPpc;
-use switch_frame::Active;
-use toolbox::{trap_index, trap_laws};
-
-/// The numbers of the host functions that store.
-const NEW_DESCRIPTOR: u32 = 0;
-
-const NEW_FAT_DESCRIPTOR: u32 = 1;
-
-const NEW_CLEAR: u32 = 5;
-
-const BLOCK_MOVE: u32 = 7;
-
-/// Where the addresses begin that lie above the gate page.
-const CODE_BEGIN: u32 = 0x2000;
-
-/// How many bytes a switch frame has at most.
-const MOST_FRAME: usize = 192;
+use switch_frame::{Active, LARGEST_FRAME};
+use toolbox::{Function, trap_index, trap_laws};
 
 /// Where the next step of code stores, unless it makes or gives up a frame.
 #[inline(always)]
@@ -72,7 +57,7 @@ pub fn told_68k(ram: &Ram, operations: &Operations, regs: &Regs68) -> Told
 pub fn told_ppc(ram: &Ram, regs: &RegsPpc) -> Told
     ensures { IsTold result (next_stores_of ram.now (Ppc regs.now)) }
 {
-    if regs.pc < CODE_BEGIN {
+    if regs.pc < GATE_PAGE_END {
         return Told::Unknown;
     }
     match word_reach(ram, regs) {
@@ -141,11 +126,11 @@ fn trap_stores(word: u16, active: &Active) -> Stores
 fn host_stores(index: Option<u32>, active: &Active) -> Stores
     ensures { result ≡ host_stores_of index active.now }
 {
-    match index {
-        Some(NEW_DESCRIPTOR) => filling(32),
-        Some(NEW_FAT_DESCRIPTOR) => filling(52),
-        Some(NEW_CLEAR) => filling(cleared(active)),
-        Some(BLOCK_MOVE) => plain(moved(active)),
+    match index.map(Function::at) {
+        Some(Function::NewRoutineDescriptor) => filling(32),
+        Some(Function::NewFatRoutineDescriptor) => filling(52),
+        Some(Function::NewPtrClear) => filling(cleared(active)),
+        Some(Function::BlockMove) => plain(moved(active)),
         _ => plain(nothing()),
     }
 }
@@ -190,7 +175,7 @@ fn frame_made(top: u32, callee: &Active) -> Reach
 {
     Reach {
         low: callee.sp() as usize,
-        high: top as usize + MOST_FRAME,
+        high: top as usize + LARGEST_FRAME as usize,
     }
 }
 
@@ -202,6 +187,6 @@ fn frame_given_up(top: u32, caller: &Active) -> Reach
     let place = onward(caller.sp(), 0) as usize;
     Reach {
         low: frame.min(place),
-        high: (frame + MOST_FRAME).max(place + 4),
+        high: (frame + LARGEST_FRAME as usize).max(place + 4),
     }
 }
