@@ -10,11 +10,10 @@ use crate::entries::add_entries;
 use crate::segments::add_segments;
 use look_text::{Piece, add_line};
 use mix_bits::NoMemory;
-use mix_load::{
-    PROGRAM_START, a5_of, code_at, has_table, read_header, segments_start, table_start,
-};
+use mix_load::{a5_of, code_at, has_table, read_header, segments_start, table_start};
 use rsrc_fork::{Fork, RsrcError};
 use std::alloc::Global;
+use switch_frame::PROGRAM_START;
 
 /// Appends the lines of the fork in a file's bytes, with the CODEs below a count of ids, and says where they end.
 #[tactic(auto, using(crate::proofs::Refused::refused_text, crate::proofs::Refused::refused_end))]

@@ -7,8 +7,9 @@ use crate::container::add_container;
 use crate::fork::add_fork;
 use look_text::{Piece, add_line};
 use mix_bits::NoMemory;
-use mix_load::{FileBytes, Files, PROGRAM_START};
+use mix_load::{FileBytes, Files};
 use std::alloc::Global;
+use switch_frame::PROGRAM_START;
 
 /// The lines of files, with the CODEs below a count of ids, in `len` bytes of RAM.
 #[tactic(auto, using(std::proofs::Common::append_assoc))]

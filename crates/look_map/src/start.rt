@@ -7,10 +7,7 @@ use look_text::{Piece, add_line};
 use m68_isa::Regs68;
 use mix_bits::NoMemory;
 use ppc_isa::RegsPpc;
-use switch_frame::{Active, Program};
-
-/// Where the gate page tells the main vector of PowerPC code.
-const MAIN_VECTOR: u32 = 0x1024;
+use switch_frame::{Active, MAIN_VECTOR_PLACE, Program};
 
 /// Appends where a program starts, and what its heap and its stack are.
 #[tactic(auto, using(std::proofs::Common::append_assoc))]
@@ -19,7 +16,7 @@ pub fn add_start(text: &mut Vec<u8>, program: &Program) -> Result<(), NoMemory>
     ensures { OnOk result (text.new.items ≡ text.old.items ++ start_text program.now) }
 {
     let len = program.ram.len();
-    let vector = program.ram.read_long(MAIN_VECTOR);
+    let vector = program.ram.read_long(MAIN_VECTOR_PLACE);
     add_begun(text, vector, &program.active)?;
     add_room(text, program.heap_lo, program.heap_hi, len)
 }

@@ -4,7 +4,7 @@ ghost use Rattle.mix_bits.specs.Isas.{is_isa as is_isa_lem};
 /// An instruction set of the mixed machine.
 #[derive(Clone, Copy, Debug, PartialEq, Eq)]
 pub enum Isa {
-    /// The 68000, in user mode.
+    /// The 68000 with some instructions of the 68020, in user mode.
     M68,
     /// The PowerPC 601, in user mode.
     Ppc,

@@ -9,11 +9,8 @@ ghost use Rattle.mix_image.specs.Heads.{IsHead};
 use crate::ImageError;
 use crate::longs::{MARK_FIRST, MARK_SECOND, long, short};
 use mix_bits::Isa;
-use switch_frame::start_sp_of;
+use switch_frame::{PROGRAM_START, start_sp_of};
 use toolbox::BLOCK_LIMIT;
-
-/// Where the heap of a program may begin at the lowest.
-const PROGRAM_START: u32 = 0x1_0000;
 
 /// The fields before the heap's blocks.
 #[derive(Clone, Copy)]

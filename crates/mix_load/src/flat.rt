@@ -5,8 +5,9 @@ ghost use Rattle.mix_load.specs.Loaded.{IsImage};
 ghost use Rattle.mix_load.specs.Outcome.{Gives};
 
 use crate::error::LoadError;
-use crate::image::{Image, PROGRAM_START, test_end};
+use crate::image::{Image, test_end};
 use mix_bits::Isa;
+use switch_frame::PROGRAM_START;
 
 /// Where the 68K code of a flat file starts, 0 where it is PowerPC code.
 fn flat_entry(main: Isa) -> u32

@@ -4,16 +4,7 @@ ghost use Rattle.switch_frame.specs.Program.{gate_longs, vectors};
 ghost use Rattle.mix_load.specs.Pieces.{with_pieces};
 
 use big_memory::{HOST_FUNCTIONS, Ram, host_address, host_vector};
-
-/// Where the gate page tells the entry of 68K code, the main vector of PowerPC code, the program's A5, and
-/// the size of RAM.
-const ENTRY: u32 = 0x1020;
-
-const MAIN_VECTOR: u32 = 0x1024;
-
-const PROGRAM_A5: u32 = 0x1028;
-
-const RAM_SIZE: u32 = 0x102C;
+use switch_frame::{A5_PLACE, ENTRY_PLACE, MAIN_VECTOR_PLACE, RAM_SIZE_PLACE};
 
 /// Puts the transition vectors of the first host functions, each a code address and no TOC.
 #[tactic(auto, unfolding(switch_frame::specs::Program::vectors))]
@@ -38,8 +29,8 @@ pub fn put_gate_page(ram: &mut Ram, entry: u32, vector: u32, a5: u32, len: u32)
     ensures fits { a5 < 2 ^ 32 }
 {
     put_vectors(ram, HOST_FUNCTIONS);
-    ram.fix_long(ENTRY, entry);
-    ram.fix_long(MAIN_VECTOR, vector);
-    ram.fix_long(PROGRAM_A5, a5);
-    ram.fix_long(RAM_SIZE, len);
+    ram.fix_long(ENTRY_PLACE, entry);
+    ram.fix_long(MAIN_VECTOR_PLACE, vector);
+    ram.fix_long(A5_PLACE, a5);
+    ram.fix_long(RAM_SIZE_PLACE, len);
 }

@@ -1,8 +1,8 @@
 ghost use Rattle.std.specs.Prelude.{IsTrue, ◌≡◌, ◌+◌, ◌^◌, ◌≤◌, ◌<◌, length};
 ghost use Rattle.mix_load.specs.Segments.{HasTable, a5_of, has_table, header_of, segments_start, table_start};
 
-use crate::image::PROGRAM_START;
 use mix_bits::{long_at, round_up};
+use switch_frame::PROGRAM_START;
 
 /// What CODE 0 says of the world of A5: its sizes in bytes, and the jump table in it.
 #[derive(Clone, Copy)]

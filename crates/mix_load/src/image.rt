@@ -6,9 +6,6 @@ use crate::error::LoadError;
 use big_memory::Ram;
 use mix_bits::round_up;
 
-/// Where a program begins.
-pub const PROGRAM_START: u32 = 0x1_0000;
-
 /// What is loaded so far.
 #[derive(Drop)]
 pub struct Image {

@@ -11,12 +11,12 @@ use crate::error::LoadError;
 use crate::files::{FileBytes, Files};
 use crate::flat::add_flat;
 use crate::fork::add_fork;
-use crate::image::{Image, PROGRAM_START};
+use crate::image::Image;
 use crate::program::program;
 use big_memory::Ram;
 use mix_bits::{File, Isa};
 use std::alloc::Global;
-use switch_frame::Program;
+use switch_frame::{PROGRAM_START, Program};
 
 /// Memory without a program.
 fn no_image(alloc: Global, len: u32) -> Result<Image, LoadError>

@@ -6,15 +6,12 @@ ghost use Rattle.mix_load.specs.Pieces.{with_pieces};
 ghost use Rattle.mix_load.specs.Start.{program_of, stack_pieces, start_file, start_m68, start_ppc};
 
 use crate::gate::put_gate_page;
-use crate::image::{Image, PROGRAM_START};
+use crate::image::Image;
 use big_memory::{Ram, exit_gate};
 use m68_isa::Regs68;
 use mix_bits::{Isa, round_up};
 use ppc_isa::RegsPpc;
-use switch_frame::{Active, Program, start_sp_of};
-
-/// How many bytes below the end of RAM the stack pointer of PowerPC code starts.
-const PPC_STACK: u32 = 64;
+use switch_frame::{Active, PPC_STACK, PROGRAM_START, Program, start_sp_of};
 
 /// The registers in which 68K code starts.
 fn start_m68(image: &Image, len: u32) -> Regs68
