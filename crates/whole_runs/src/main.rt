@@ -57,17 +57,22 @@ fn main(rt: HostRuntime) -> io::Result<()> {
     let alloc = rt.alloc();
     let mut images = Images::new(alloc);
     for line in BufReader::new(alloc, rt.reader())?.lines(alloc) {
-        let line = line?;
-        let text = line.as_str();
-        if let Some(named) = text.strip_prefix("file ") {
-            images.define(alloc, named)?;
-        } else if let Some(words) = text.strip_prefix("look ") {
-            let told = look_case::told(&rt, words)?;
-            println!(rt; "> {words}\n{told}")?;
-        } else if !text.is_empty() && !text.starts_with(';') {
-            let told = answer(&rt, &images, text)?;
-            println!(rt; "{told}")?;
-        }
+        run_line(&rt, &mut images, line?.as_str())?;
+    }
+    Ok(())
+}
+
+/// Keeps the file of a line, or prints what its case gives.
+fn run_line(rt: &HostRuntime, images: &mut Images, line: &str) -> io::Result<()> {
+    if let Some(named) = line.strip_prefix("file ") {
+        return images.define(rt.alloc(), named);
+    }
+    if let Some(words) = line.strip_prefix("look ") {
+        let told = look_case::told(rt, words)?;
+        println!(rt; "> {words}\n{told}")?;
+    } else if !line.is_empty() && !line.starts_with(';') {
+        let told = answer(rt, images, line)?;
+        println!(rt; "{told}")?;
     }
     Ok(())
 }

@@ -4,7 +4,7 @@ ghost use Rattle.mixed_machine.specs.Machine.{IsWhole};
 
 use crate::bench::{Left, Outside, Trial, innermost, same, waiting};
 use crate::equal::equal;
-use crate::images::{CFM_ALONE, CFM_BETWEEN, INPUT_68K, INPUT_PPC, MIXED_CALLS, SAMPLE};
+use crate::programs::{CFM_ALONE, CFM_BETWEEN, INPUT_68K, INPUT_PPC, MIXED_CALLS, SAMPLE};
 use crate::text::count_lines;
 use mix_bits::{Fault, FaultKind, Isa};
 use mix_engine::{Machine, Stop};
