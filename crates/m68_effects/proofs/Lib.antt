@@ -8,3 +8,8 @@ pub mod Fetch
 pub mod Back
 pub mod Tried
 pub mod Reading
+pub mod Steps
+mod Found
+mod Changing
+mod Immediate
+mod UsualModes

@@ -1,4 +1,5 @@
-ghost use Rattle.std.specs.Prelude.{◌≡◌};
+ghost use Rattle.std.specs.Prelude.{◌≡◌, ◌<◌, IfSome};
+ghost use Rattle.mix_bits.specs.Sizes.{modulus};
 ghost use Rattle.big_memory.specs.Faults.{fault_of};
 ghost use Rattle.m68_effects.specs.Accesses.{read_at as read_at_of, write_at as write_at_of};
 ghost use Rattle.m68_effects.specs.Finds.{Gives, Stored, Writes};
@@ -47,7 +48,8 @@ pub fn write_at(regs: &mut Regs68, ram: &mut Ram, p: Place68, s: Size, v: u32) -
 /// The value at an address, for the instruction at `pc`; or its fault, in the cell.
 #[inline(always)]
 pub fn load(ram: &Ram, fault: &mut Fault, pc: u32, a: u32, size: Size) -> Option<u32>
-    ensures { Gives (loaded_at pc ram.now a size) result fault.new }
+    ensures is { Gives (loaded_at pc ram.now a size) result fault.new }
+    ensures below { IfSome result (λ v. v < modulus size) }
 {
     match ram.load(a, size) {
         Ok(value) => Some(value),

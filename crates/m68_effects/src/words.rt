@@ -1,7 +1,7 @@
 ghost use Rattle.std.specs.Prelude.{◌≡◌, ℕ, ◌+◌, ◌-◌, ◌*◌, ◌<◌, ◌≤◌, ◌^◌, List, length, drop, take, slice_index, IsTrue, false};
 ghost use Rattle.byteorder.specs.Endian.{big_number};
 ghost use Rattle.mix_bits.specs.Sizes.{sign_extended};
-ghost use Rattle.mix_bits.specs.declared.size.Size.TheVariants.{One, Two};
+ghost use Rattle.mix_bits.specs.declared.size.Size.TheVariants.{Two};
 ghost use Rattle.mix_bits.specs.declared.size.Size.{Size};
 ghost use Rattle.mix_bits.specs.Addresses.{onward as onward_of};
 ghost use Rattle.m68_isa.specs.Operands.{extended_word as extended_word_of, immediate_at as immediate_at_of, index_of as index_of_word, is_index as is_index_word, long_at as long_at_of, operand_at, special_at};
@@ -9,7 +9,7 @@ ghost use Rattle.m68_effects.specs.Words.{words_at, words_from};
 
 use big_memory::{Did, Ram, memory_laws};
 use byteorder::{BigEndian, ByteOrder};
-use m68_isa::{Index, Regs68, immediate_words};
+use m68_isa::{Index, Regs68, byte_of, immediate_words};
 use mix_bits::{Size, onward};
 
 /// The word with this number of the instruction at `pc`, whose first word is 0. Behind the first one that
@@ -85,15 +85,6 @@ pub fn extended_low(value: u32) -> u32
     i32::from(low.cast_signed()).cast_unsigned()
 }
 
-/// The low byte of a word, its sign repeated above it.
-#[inline(always)]
-fn extended_byte(word: u32) -> u32
-    ensures { result ≡ sign_extended word One }
-{
-    let low = (word % 0x100) as u8;
-    i32::from(low.cast_signed()).cast_unsigned()
-}
-
 /// The long that begins with this word.
 #[inline(always)]
 pub fn long_at(ram: &Ram, pc: u32, at: u32) -> u32
@@ -142,7 +133,7 @@ pub fn index_of(word: u32) -> Index
         address: word / 0x8000 % 2 == 1,
         long: word / 0x800 % 2 == 1,
         scale: 1 << (word / 0x200 % 4),
-        disp: extended_byte(word),
+        disp: byte_of(word),
     }
 }
 

@@ -6,6 +6,7 @@ ghost use Rattle.m68_isa.specs.Moves.{move_mode};
 ghost use Rattle.m68_isa.specs.Arithmetic.{exchange};
 ghost use Rattle.m68_isa.specs.Shifts.{shift_op, shift_count};
 ghost use Rattle.m68_isa.specs.Fields.{HasCount};
+ghost use Rattle.m68_isa.specs.Extended.{IsByte, IsWord};
 
 use super::instructions::{BitOp, Exchange, LogicOp, ShiftCount, ShiftOp};
 use mix_bits::Size;
@@ -134,10 +135,14 @@ pub fn condition_of(word: u32) -> u32
     word / 0x100 % 16
 }
 
-/// Bits 7 to 0, sign extended: the displacement of a branch, the value of moveq.
+/// Bits 7 to 0, sign extended: the displacement of a branch or of an index word, the value of moveq.
 #[inline(always)]
+#[tactic(auto, using(crate::proofs::Extensions::byte_twice, crate::proofs::Extensions::byte_as_word))]
 pub fn byte_of(word: u32) -> u32
-    ensures { result ≡ sign_extended (low_byte (first_of word)) Size.One }
+    ensures is { result ≡ sign_extended (low_byte (first_of word)) Size.One }
+    ensures low { result ≡ sign_extended word Size.One }
+    ensures byte { IsByte result }
+    ensures also { IsWord result }
 {
     let byte = (word % 0x100) as u8;
     i32::from(byte.cast_signed()).cast_unsigned()

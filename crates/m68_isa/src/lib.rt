@@ -40,7 +40,7 @@ pub use instructions::{
 };
 pub use laws::{long_laws, op_laws, reading_law};
 pub use op::Op68;
-pub use operand::immediate_words;
+pub use operand::{immediate_words, word_at};
 pub use operations::Operations;
 pub use read::op_of;
 pub use register_word::{high_of, is_register_word, is_signed, is_wide, low_of};

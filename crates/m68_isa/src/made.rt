@@ -1,7 +1,6 @@
 // The instruction of an operation, whose fields the first word and the words behind it give.
 ghost use Rattle.std.specs.Prelude.{◌≡◌, ◌≢◌, ◌+◌, ◌<◌, ◌≤◌};
-ghost use Rattle.mix_bits.specs.Sizes.{sign_extended};
-ghost use Rattle.m68_isa.specs.First.{first_of, low_byte};
+ghost use Rattle.m68_isa.specs.First.{first_of};
 ghost use Rattle.m68_isa.specs.Operands.{operand_at as operand_at_lem};
 ghost use Rattle.m68_isa.specs.Rows.{words};
 ghost use Rattle.m68_isa.specs.Immediates.{immediate_with};
@@ -11,7 +10,7 @@ ghost use Rattle.m68_isa.specs.Made.{made as made_lem};
 ghost use Rattle.m68_isa.specs.Fits.{Fits};
 ghost use Rattle.m68_isa.specs.Lines.{IsFromLine4, IsFromLine5, IsFromLine9, IsFromTest};
 ghost use Rattle.m68_isa.specs.Fields.{HasFound, HasRegisters};
-ghost use Rattle.m68_isa.specs.Extended.{IsByte, IsExtendedEa, IsExtendedFound, IsWord};
+ghost use Rattle.m68_isa.specs.Extended.{IsExtendedEa, IsExtendedFound};
 
 use super::fields::{
     bit_op_of, byte_of, condition_of, exchange_of, is_in_memory, is_left, is_to_memory,
@@ -154,16 +153,6 @@ fn extension(word: u32) -> Found
     }
 }
 
-/// The low byte, sign extended.
-#[tactic(auto, using(crate::proofs::Extensions::byte_twice, crate::proofs::Extensions::byte_as_word))]
-fn extended_byte(word: u32) -> u32
-    ensures value { result ≡ sign_extended (low_byte (first_of word)) Size.One }
-    ensures byte { IsByte result }
-    ensures also { IsWord result }
-{
-    byte_of(word)
-}
-
 /// The instruction of an operation: of one in the lines 0 to 3 of the manual's table, of a refused one, or of one further down.
 pub fn made(op: Op68, word: u32, words: &[u16]) -> Found
     requires { Fits op word }
@@ -289,16 +278,16 @@ fn in_lines_5_to_8(op: Op68, word: u32, words: &[u16]) -> Found
         Op68::Scc => one!(word, words, Size::One, to => Scc { condition, to }),
         Op68::Dbcc =>
             words!(2 => Dbcc { condition, register: lower, disp: extended_word(words, 1) }),
-        Op68::BraByte => words!(1 => Bcc { condition: 0, disp: extended_byte(word) }),
+        Op68::BraByte => words!(1 => Bcc { condition: 0, disp: byte_of(word) }),
         Op68::BraWord => words!(2 => Bcc { condition: 0, disp: extended_word(words, 1) }),
         Op68::BraLong => words!(3 => Bcc { condition: 0, disp: long_at(words, 1) }),
-        Op68::BsrByte => words!(1 => Bcc { condition: 1, disp: extended_byte(word) }),
+        Op68::BsrByte => words!(1 => Bcc { condition: 1, disp: byte_of(word) }),
         Op68::BsrWord => words!(2 => Bcc { condition: 1, disp: extended_word(words, 1) }),
         Op68::BsrLong => words!(3 => Bcc { condition: 1, disp: long_at(words, 1) }),
-        Op68::BccByte => words!(1 => Bcc { condition, disp: extended_byte(word) }),
+        Op68::BccByte => words!(1 => Bcc { condition, disp: byte_of(word) }),
         Op68::BccWord => words!(2 => Bcc { condition, disp: extended_word(words, 1) }),
         Op68::BccLong => words!(3 => Bcc { condition, disp: long_at(words, 1) }),
-        Op68::Moveq => words!(1 => Moveq { value: extended_byte(word), to: upper }),
+        Op68::Moveq => words!(1 => Moveq { value: byte_of(word), to: upper }),
         Op68::OrToRegister =>
             one!(word, words, size, operand => Or { size, to_memory: false, register: upper, operand }),
         Op68::OrToMemory =>

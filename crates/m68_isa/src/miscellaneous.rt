@@ -141,23 +141,6 @@ fn tests(word: u32) -> Op68
     ensures value { result ≡ operation (first_of word) }
     ensures fits { Fits result word }
 {
-    if is_sized(word) && is_data_alterable(word) {
-        Op68::Tst
-    } else {
-        other_tests(word)
-    }
-}
-
-/// The same, most often of a word that is no `tst`, which is rare.
-#[cold]
-#[inline(never)]
-fn other_tests(word: u32) -> Op68
-    requires line { (first_of word).line ≡ 4 }
-    requires even { (first_of word).bit8 ≡ 0 }
-    requires upper { (first_of word).upper ≡ 5 }
-    ensures value { result ≡ operation (first_of word) }
-    ensures fits { Fits result word }
-{
     if !is_data_alterable(word) {
         Op68::Illegal
     } else if is_sized(word) {

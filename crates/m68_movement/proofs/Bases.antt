@@ -6,7 +6,7 @@ use Rattle.mix_bits.specs.declared.size.Size.{Size}
 use Rattle.mix_bits.specs.declared.size.Size.TheVariants.{Two, Four}
 use Rattle.mix_bits.specs.declared.fault.Fault.{Fault}
 use Rattle.mix_bits.specs.Addresses.{onward}
-use Rattle.m68_isa.specs.declared.instructions.Instr68.TheVariants.{MovemToMemory}
+use Rattle.m68_isa.specs.declared.instructions.Instr68.TheVariants.{MovemFromMemory, MovemToMemory}
 use Rattle.m68_isa.specs.First.{long_or_word}
 use Rattle.m68_isa.specs.Rows.{taken}
 use Rattle.big_memory.specs.declared.steps.Did.{Did}
@@ -18,7 +18,7 @@ use Rattle.m68_isa.specs.Operands.{operand_at}
 use Rattle.big_memory.specs.Memory.{Memory}
 use Rattle.m68_effects.specs.Places.{address_of}
 use Rattle.m68_effects.specs.Finds.{FindsControl}
-use Rattle.m68_effects.specs.Multiple.{movem_to_memory, movem_onto}
+use Rattle.m68_effects.specs.Multiple.{movem_from_memory, movem_onto, movem_out_of, movem_to_memory}
 use Rattle.m68_effects.specs.Ops.{runs_made}
 use Rattle.m68_effects.specs.Parts.{after}
 
@@ -58,4 +58,30 @@ pub onto_found : (r q : Regs68) (m n : Memory) (first bit mask at mode lower a n
     → Does (runs_made r m first (taken (MovemToMemory (long_or_word bit) mask (operand_at ws at (long_or_word bit) mode lower).ea) (operand_at ws at (long_or_word bit) mode lower))) did cell r q m n
 onto_found r q m n first bit mask at mode lower a next ws did old cell other word long done =
     onto-of r q m n first (long_or_word bit) mask at mode lower a next ws did old cell other
+    (at-either (λ s. FindsControl r first (operand_at ws at s mode lower) (Some a) next old) (bit == 0) word long) done
+
+-- the same from memory
+pub out_of_memory : (r : Regs68) (m : Memory) (next : ℕ) (s : Size) (mask at mode lower : ℕ) (ws : List ℕ) → mode ≢ 3
+    → movem_from_memory r m next s mask (operand_at ws at s mode lower).ea ≡ movem_out_of r m next s mask (address_of r (operand_at ws at s mode lower).ea)
+out_of_memory r m next s mask at mode lower ws other =
+    let P : Ea → Type 0 = λ e. movem_from_memory r m next s mask e ≡ movem_out_of r m next s mask (address_of r e) in
+    rw (apart mode 3 other)
+    (either P (mode == 0) _ _ refl (either P (mode == 1) _ _ refl (either P (mode == 2) _ _ refl (either P (mode == 4) _ _ refl
+    (either P (mode == 5) _ _ refl (either P (mode == 6) _ _ refl
+    (either P (lower == 0) _ _ refl (either P (lower == 1) _ _ refl (either P (lower == 2) _ _ refl (either P (lower == 3) _ _ refl refl))))))))))
+
+out-of : (r q : Regs68) (m n : Memory) (first : ℕ) (s : Size) (mask at mode lower a next : ℕ) (ws : List ℕ) (did : Did) (old cell : Fault) → mode ≢ 3
+    → FindsControl r first (operand_at ws at s mode lower) (Some a) next old
+    → Does (after (movem_out_of r m (onward r.pc (2 * next)) s mask a)) did cell r q m n
+    → Does (runs_made r m first (taken (MovemFromMemory s mask (operand_at ws at s mode lower).ea) (operand_at ws at s mode lower))) did cell r q m n
+out-of r q m n first s mask at mode lower a next ws did old cell other found done =
+    rw (found.0, out_of_memory r m (onward r.pc (2 * (operand_at ws at s mode lower).next)) s mask at mode lower ws other, found.1, ← found.2) done
+
+pub out_of_found : (r q : Regs68) (m n : Memory) (first bit mask at mode lower a next : ℕ) (ws : List ℕ) (did : Did) (old cell : Fault) → mode ≢ 3
+    → FindsControl r first (operand_at ws at Two mode lower) (Some a) next old
+    → FindsControl r first (operand_at ws at Four mode lower) (Some a) next old
+    → Does (after (movem_out_of r m (onward r.pc (2 * next)) (long_or_word bit) mask a)) did cell r q m n
+    → Does (runs_made r m first (taken (MovemFromMemory (long_or_word bit) mask (operand_at ws at (long_or_word bit) mode lower).ea) (operand_at ws at (long_or_word bit) mode lower))) did cell r q m n
+out_of_found r q m n first bit mask at mode lower a next ws did old cell other word long done =
+    out-of r q m n first (long_or_word bit) mask at mode lower a next ws did old cell other
     (at-either (λ s. FindsControl r first (operand_at ws at s mode lower) (Some a) next old) (bit == 0) word long) done

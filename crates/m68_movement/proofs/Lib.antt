@@ -1,6 +1,7 @@
 pub mod Pairs
 pub mod Sizes
 pub mod Ways
+pub mod Writings
 pub mod Stores
 pub mod Masks
 pub mod Bases

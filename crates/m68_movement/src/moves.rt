@@ -95,11 +95,11 @@ fn do_move<W: Width>(regs: &mut Regs68, ram: &mut Ram, fault: &mut Fault, word: 
 {
     if move_mode_of(word) == 0 {
         if mode_of(word) > 5 {
-            move_in_other::<W>(regs, ram, fault, word)
+            move_in_any::<W>(regs, ram, fault, word)
         } else if move_in(regs, ram, word, W::SIZE) {
             Did::Next
         } else {
-            move_any::<W>(regs, ram, fault, word)
+            move_in_any::<W>(regs, ram, fault, word)
         }
     } else if mode_of(word) > 1 {
         move_in_memory::<W>(regs, ram, fault, word)
@@ -124,19 +124,14 @@ fn move_register<W: Width>(regs: &mut Regs68, ram: &mut Ram, fault: &mut Fault, 
     }
 }
 
-/// A move of an operand of mode 6 or 7 into a data register. Other modes, which don't come here, would be done as well.
+/// A move of any operand into a data register.
 #[inline(never)]
-fn move_in_other<W: Width>(regs: &mut Regs68, ram: &mut Ram, fault: &mut Fault, word: u32) -> Did
-    requires mode { move_mode (first_of word) ≡ 0 }
-    requires destination { IsDestination word }
-    ensures { Does (moves W.SIZE regs.old ram.old word) result fault.new regs.old regs.new ram.old ram.new }
+fn move_in_any<W: Width>(regs: &mut Regs68, ram: &Ram, fault: &mut Fault, word: u32) -> Did
+    requires { move_mode (first_of word) ≡ 0 }
+    ensures { Does (moves W.SIZE regs.old ram.now word) result fault.new regs.old regs.new ram.now ram.now }
 {
     let from = (mode_of(word), lower_of(word));
-    if from.0 > 5 {
-        move_to_register(regs, ram, fault, word, W::SIZE, from, upper_of(word))
-    } else {
-        move_any::<W>(regs, ram, fault, word)
-    }
+    move_to_register(regs, ram, fault, word, W::SIZE, from, upper_of(word))
 }
 
 /// A move of a register to an operand of mode 6 or 7: a data register to an address is tried. Other modes, which
@@ -224,7 +219,7 @@ fn move_in_memory<W: Width>(regs: &mut Regs68, ram: &mut Ram, fault: &mut Fault,
     }
 }
 
-/// A move of any operands.
+/// A move of any operands. One into a data register has a way of its own.
 #[inline(never)]
 fn move_any<W: Width>(regs: &mut Regs68, ram: &mut Ram, fault: &mut Fault, word: u32) -> Did
     requires { IsDestination word }
@@ -232,9 +227,7 @@ fn move_any<W: Width>(regs: &mut Regs68, ram: &mut Ram, fault: &mut Fault, word:
 {
     let from = (mode_of(word), lower_of(word));
     let to = (move_mode_of(word), upper_of(word));
-    if to.0 == 0 {
-        move_to_register(regs, ram, fault, word, W::SIZE, from, to.1)
-    } else if from.0 == 0 {
+    if from.0 == 0 {
         move_from_register(regs, ram, fault, word, W::SIZE, from.1, to)
     } else {
         move_between(regs, ram, fault, word, W::SIZE, from, to)

@@ -1,17 +1,16 @@
 // movep: a register to or from bytes at every second address.
-ghost use Rattle.std.specs.Prelude.{◌<◌, ◌≢◌, ◌^◌, IfSome};
+ghost use Rattle.std.specs.Prelude.{◌≢◌};
 ghost use Rattle.byteorder.specs.Endian.{big_bytes};
 ghost use Rattle.mix_bits.specs.Sizes.{bytes_of};
 ghost use Rattle.mix_bits.specs.declared.size.Size.TheVariants.{One, Zero};
 ghost use Rattle.big_memory.specs.Steps.{Does};
 ghost use Rattle.m68_effects.specs.Finds.{Gives, Stored};
-ghost use Rattle.m68_effects.specs.Operands.{loaded_at};
 ghost use Rattle.m68_effects.specs.Multiple.{peripheral_number, stored_along};
 ghost use Rattle.m68_effects.specs.Ops.{by_op};
 
 use super::along::store_along;
 use big_memory::{Did, Ram};
-use m68_effects::{extended_word, go_on};
+use m68_effects::{extended_word, go_on, load};
 use m68_isa::{Op68, Regs68, is_to_memory, lower_of, transfer_size_of, upper_of};
 use mix_bits::{Fault, Size, onward, with_low};
 
@@ -77,26 +76,12 @@ fn load_peripheral(ram: &Ram, fault: &mut Fault, pc: u32, a: u32, size: Size) ->
 {
     let second = onward(a, 2);
     let third = onward(second, 2);
-    let high = byte_at(ram, fault, pc, a)? * 0x100;
-    let high = high + byte_at(ram, fault, pc, second)?;
+    let high = load(ram, fault, pc, a, Size::One)? * 0x100;
+    let high = high + load(ram, fault, pc, second, Size::One)?;
     if size.bytes() == 2 {
         return Some(high);
     }
-    let low = byte_at(ram, fault, pc, third)? * 0x100;
-    let low = low + byte_at(ram, fault, pc, onward(third, 2))?;
+    let low = load(ram, fault, pc, third, Size::One)? * 0x100;
+    let low = low + load(ram, fault, pc, onward(third, 2), Size::One)?;
     Some(high * 0x1_0000 + low)
-}
-
-/// The byte at an address, or the fault in the cell.
-fn byte_at(ram: &Ram, fault: &mut Fault, pc: u32, a: u32) -> Option<u32>
-    ensures is { Gives (loaded_at pc ram.now a One) result fault.new }
-    ensures below { IfSome result (λ v. v < 2 ^ 8) }
-{
-    match ram.load_byte(a) {
-        Ok(value) => Some(value),
-        Err(access) => {
-            *fault = access.fault(pc);
-            None
-        }
-    }
 }

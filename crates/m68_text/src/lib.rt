@@ -18,7 +18,6 @@ mod text;
 
 pub use form::{Choice, Form, Place};
 pub use laws::{form_laws, text_laws};
-pub use operand::{Operand, Operands};
-pub use operands::operands68;
+pub use operand::Operand;
 pub use table::form_of;
 pub use text::text68;

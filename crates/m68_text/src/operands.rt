@@ -1,4 +1,4 @@
-ghost use Rattle.std.specs.Prelude.{◌≡◌, ◌<◌, ◌^◌, slice_index};
+ghost use Rattle.std.specs.Prelude.{◌≡◌, ◌<◌};
 ghost use Rattle.m68_text.specs.Operands.{counted as counted_of, directed as directed_of, exchanged as exchanged_of, immediate as immediate_of, listed, operands, paired as paired_of, displacement as displacement_of, place as place_of, with_registers as with_registers_of};
 ghost use Rattle.m68_text.specs.Lines.{IsFromLine5};
 
@@ -8,23 +8,11 @@ use super::operand::Operand::{
     StatusRegister, Target, Word,
 };
 use super::operand::Operands::{self, One, Three, Two};
-use m68_isa::{Ea, Exchange, Instr68, ShiftCount, branch_target};
+use m68_isa::{Ea, Exchange, Instr68, ShiftCount, branch_target, word_at};
 use mix_bits::Size;
 
-/// The word with this number, 0 behind the last one.
-pub fn word_at(words: &[u16], at: usize) -> u32
-    ensures value { result ≡ slice_index words.now at }
-    ensures below { result < 2 ^ 16 }
-{
-    if at < words.len() {
-        u32::from(words[at])
-    } else {
-        0
-    }
-}
-
 /// The extension words of an immediate, which begin with this one.
-fn immediate(size: Size, words: &[u16], word: usize) -> Operand
+fn immediate(size: Size, words: &[u16], word: u32) -> Operand
     requires { word < 50 }
     ensures { result ≡ immediate_of size words.now word }
 {
@@ -35,7 +23,7 @@ fn immediate(size: Size, words: &[u16], word: usize) -> Operand
 }
 
 /// An effective address, or in the place of one the immediate of this size that begins with this word.
-fn place(size: Size, words: &[u16], word: usize, ea: Ea) -> Operand
+fn place(size: Size, words: &[u16], word: u32, ea: Ea) -> Operand
     requires { word < 50 }
     ensures { result ≡ place_of size words.now word ea }
 {

@@ -6,8 +6,8 @@ ghost use Rattle.m68_text.specs.Text.{text_of};
 use super::append::add_hex;
 use super::names::name_of;
 use super::operand::add_operands;
-use super::operands::{operands68, word_at};
-use m68_isa::Decoded68;
+use super::operands::operands68;
+use m68_isa::{Decoded68, word_at};
 use mix_bits::Line;
 
 /// Writes the text of an instruction whose words stand at an address: its name and operands, or

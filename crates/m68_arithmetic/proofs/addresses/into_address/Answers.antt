@@ -8,7 +8,7 @@ use Rattle.m68_effects.specs.Places.{with_address}
 use Rattle.m68_effects.specs.Parts.{Effect, goes_on}
 use Rattle.m68_effects.specs.Words.{words_at}
 use Rattle.m68_arithmetic.specs.Parts.{away, with_away}
-use Rattle.m68_arithmetic.proofs.Steps.{goes, operand_is, refused, taken}
+use Rattle.m68_effects.proofs.Steps.{goes, operand_is, refused, taken}
 use Rattle.m68_arithmetic.proofs.addresses.into_address.Goals as goal
 
 pub returns-in_default : goal.returns-in_default

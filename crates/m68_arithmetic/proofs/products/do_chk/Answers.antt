@@ -10,7 +10,7 @@ use Rattle.m68_effects.specs.Arithmetic.{is_out}
 use Rattle.m68_effects.specs.Places.{with_address}
 use Rattle.m68_effects.specs.Parts.{Effect, after, goes_on, vector, with_ccr}
 use Rattle.m68_effects.specs.Words.{words_at}
-use Rattle.m68_arithmetic.proofs.Steps.{goes, operand_is, refused, taken}
+use Rattle.m68_effects.proofs.Steps.{goes, operand_is, refused, taken}
 use Rattle.m68_arithmetic.proofs.products.do_chk.Goals as goal
 
 pub returns-in_default : goal.returns-in_default

@@ -8,7 +8,7 @@ use Rattle.m68_alu.specs.Products.{multiplied}
 use Rattle.m68_effects.specs.Arithmetic.{with_long}
 use Rattle.m68_effects.specs.Parts.{Effect, goes_on}
 use Rattle.m68_effects.specs.Words.{words_at}
-use Rattle.m68_arithmetic.proofs.Steps.{goes, operand_is, refused, taken}
+use Rattle.m68_effects.proofs.Steps.{goes, operand_is, refused, taken}
 use Rattle.m68_arithmetic.proofs.products.multiply.Goals as goal
 
 pub returns-in_default : goal.returns-in_default

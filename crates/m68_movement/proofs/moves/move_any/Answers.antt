@@ -8,13 +8,9 @@ move_from_register-requires-clause-alterable g c = rw (c.move_mode_of.ensures.is
 pub move_between-requires-clause-alterable : goal.move_between-requires-clause-alterable
 move_between-requires-clause-alterable g c = rw (c.move_mode_of.ensures.is, c.upper_of.ensures.is) c.requires
 
-pub returns-then-to-eq0 : goal.returns-then-to-eq0
-returns-then-to-eq0 g c =
-    by_operands g.W.Width.SIZE c.SIZE.result c.args.word c.mode_of.result c.lower_of.result 0 c.upper_of.result _ _ _ _ _ _ c.SIZE.ensures c.mode_of.ensures.is c.lower_of.ensures.is (sym c.if-to-eq0.true ∙ c.move_mode_of.ensures.is) c.upper_of.ensures.is c.move_to_register.ensures
-
 pub returns-then-from-eq0 : goal.returns-then-from-eq0
 returns-then-from-eq0 g c =
-    by_operands g.W.Width.SIZE c.SIZE-then-from-eq0.result c.args.word 0 c.lower_of.result c.move_mode_of.result c.upper_of.result _ _ _ _ _ _ c.SIZE-then-from-eq0.ensures (sym c.if-from-eq0.true ∙ c.mode_of.ensures.is) c.lower_of.ensures.is c.move_mode_of.ensures.is c.upper_of.ensures.is c.move_from_register.ensures
+    by_operands g.W.Width.SIZE c.SIZE.result c.args.word 0 c.lower_of.result c.move_mode_of.result c.upper_of.result _ _ _ _ _ _ c.SIZE.ensures (sym c.if-from-eq0.true ∙ c.mode_of.ensures.is) c.lower_of.ensures.is c.move_mode_of.ensures.is c.upper_of.ensures.is c.move_from_register.ensures
 
 pub returns-else-from-eq0 : goal.returns-else-from-eq0
 returns-else-from-eq0 g c =

@@ -13,7 +13,7 @@ returns-in_default c =
       is = (
         c.loop-k.invariant.0
             ∙ ap (λ ks. loaded_along c.args.regs.now.pc c.loop-k.regs c.args.ram.now c.loop-k.at c.args.size ks) (left_has c.args.mask c.loop-k.k below is)
-            ∙ one_refused _ _ _ _ _ _ _ _ c.in_default.ensures,
+            ∙ one_refused _ _ _ _ _ _ _ _ c.in_default.ensures.is,
         refl,
       );
     }
@@ -28,7 +28,7 @@ loop-k-preserved c =
           let long : length (filter (has c.args.mask) (range_with_len c.loop-k.k (16 - c.loop-k.k))) ≡ suc (length (filter (has c.args.mask) (range_with_len (c.loop-k.k + 1) (16 - (c.loop-k.k + 1))))) = ap length left in (
             c.loop-k.invariant.0
                 ∙ ap (λ ks. loaded_along c.args.regs.now.pc c.loop-k.regs c.args.ram.now c.loop-k.at c.args.size ks) left
-                ∙ one_loaded _ _ _ _ _ _ _ _ w.in-Some.ensures
+                ∙ one_loaded _ _ _ _ _ _ _ _ w.in-Some.ensures.is
                 ∙ rw (w.regs-is, w.set_register.ensures, w.sext.ensures, w.at-is, w.onward-at.ensures, w.bytes.ensures) refl,
             omega (arith, c.loop-k.invariant.1, long, w.count-is),
             omega (arith, c.loop-k.invariant.2, w.count-is),

@@ -1,5 +1,35 @@
-use Rattle.std.proofs.Common.{rules}
+use Rattle.std.proofs.Common.{ℕ, ◌*◌, refl, ◌∙◌}
+use Rattle.mix_bits.specs.Addresses.{onward}
+use Rattle.mix_bits.specs.declared.size.Size.TheVariants.{Two}
+use Rattle.m68_isa.specs.declared.registers.Regs68.{Regs68}
+use Rattle.m68_isa.specs.First.{first_of}
+use Rattle.m68_isa.specs.Operands.{operand_at}
+use Rattle.m68_isa.specs.Registers.{ccr_of}
+use Rattle.m68_effects.specs.Parts.{Effect, goes_on, with_ccr}
+use Rattle.m68_effects.specs.Words.{words_at}
+use Rattle.m68_effects.proofs.Steps.{goes, operand_is, refused, taken}
 use Rattle.m68_movement.proofs.status.do_move_to_ccr.Goals as goal
 
+pub returns-in_default : goal.returns-in_default
+returns-in_default c =
+    let r = c.args.regs.now in
+    let m = c.args.ram.now in
+    let f = first_of c.args.word in
+    let same = operand_is (words_at m r.pc) Two 1 1 c.mode_of-mode.result f.mode c.lower_of-lower.result f.lower refl c.mode_of-mode.ensures.is c.lower_of-lower.ensures.is in
+    let row : ℕ → Regs68 × ℕ → Effect = λ next. λ (q, v). goes_on next (with_ccr q (ccr_of v)) m in
+    (refused r m c.args.word Two (operand_at (words_at m r.pc) 1 Two c.mode_of-mode.result c.lower_of-lower.result) (operand_at (words_at m r.pc) 1 Two f.mode f.lower) row c.source.new.fault same c.in_default.ensures.is.0, c.in_default.ensures.is.1, refl)
+
 pub returns : goal.returns
-returns c = rw (← c.mode_of-mode.ensures.is, ← c.lower_of-lower.ensures.is) (search rules)
+returns c =
+    let r = c.args.regs.now in
+    let m = c.args.ram.now in
+    let f = first_of c.args.word in
+    let q = c.source.new.regs in
+    let v = c.in-Some.value in
+    let next = c.source.new.next in
+    let took = c.in-Some.ensures.is in
+    let same = operand_is (words_at m r.pc) Two 1 1 c.mode_of-mode.result f.mode c.lower_of-lower.result f.lower refl c.mode_of-mode.ensures.is c.lower_of-lower.ensures.is in
+    let row : ℕ → Regs68 × ℕ → Effect = λ next. λ (q, v). goes_on next (with_ccr q (ccr_of v)) m in
+    let step = taken r q m c.args.word Two (operand_at (words_at m r.pc) 1 Two c.mode_of-mode.result c.lower_of-lower.result) (operand_at (words_at m r.pc) 1 Two f.mode f.lower) v next row same took.0 took.1 took.2 in
+    goes _ r c.go_on.new.regs (record (with_ccr q (ccr_of v)) { pc = onward r.pc (2 * next) }) c.go_on.result c.source.new.fault m c.go_on.ensures.next step
+    (c.go_on.ensures.registers ∙ (λ i. record (with_ccr q (c.from_bits-regs.ensures.value i)) { pc = onward (took.3.pc i) (2 * next) }))

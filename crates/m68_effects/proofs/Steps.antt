@@ -13,7 +13,9 @@ use Rattle.big_memory.specs.declared.steps.Did.TheVariants.{Next}
 use Rattle.big_memory.specs.Memory.{Memory}
 use Rattle.big_memory.specs.Steps.{After, Does}
 use Rattle.big_memory.specs.Steps.After.{Goes, Stops}
-use Rattle.m68_effects.specs.Operands.{sourced, unless_illegal}
+use Rattle.m68_effects.specs.declared.places.Place68.{Place68}
+use Rattle.m68_effects.specs.Finds.{IsAt}
+use Rattle.m68_effects.specs.Operands.{loaded_at, sourced, unless_illegal, value_at}
 use Rattle.m68_effects.specs.Operations.{runs_with}
 use Rattle.m68_effects.specs.Parts.{Effect, after}
 use Rattle.m68_effects.specs.Step.{stops}
@@ -47,3 +49,18 @@ taken r q m word size e made v next row same good is behind =
 pub goes : (step : After Regs68) (r next last : Regs68) (did : Did) (cell : Fault) (m : Memory) → did ≡ Next → step ≡ Goes last m → next ≡ last → Does step did cell r next m m
 goes step r next last did cell m is steps same =
     subst (λ d. Does step d cell r next m m) (sym is) (steps ∙ ap (λ x. Goes x m) (sym same), record { marks = refl; long = refl; kept = λ a below free. refl })
+
+-- an operand that stands in memory at `a`
+abbrev pub with_value : Regs68 → ℕ → Result (Regs68 × ℕ) Fault
+with_value r v = Ok (r, v)
+
+abbrev pub from_place : Memory → Size → Regs68 × Place68 → Result (Regs68 × ℕ) Fault
+from_place m size at = value_at at.0 m at.1 size >>= with_value at.0
+
+pub source_at : (r : Regs68) (m : Memory) (size : Size) (e : Operand) (a next v : ℕ) → IsAt r size e a next → loaded_at r.pc m a size ≡ Ok v → sourced r m size e.ea ≡ Ok (r, v)
+source_at r m size e a next v at is = ap (from_place m size) at.stands ∙ ap (λ x. x >>= with_value r) is
+
+pub no_source_at : (r : Regs68) (m : Memory) (word : ℕ) (size : Size) (e : Operand) (a next : ℕ) (cell : Fault) → IsAt r size e a next → loaded_at r.pc m a size ≡ Err cell
+    → unless_illegal r.pc word e.good (sourced r m size e.ea) ≡ Err cell
+no_source_at r m word size e a next cell at is =
+    (λ i. unless_illegal r.pc word (at.good i) (from_place m size (at.stands i))) ∙ ap (λ x. x >>= with_value r) is

@@ -1,0 +1,41 @@
+use Rattle.std.proofs.Common.{◌≡◌, ℕ, ◌*◌, slice_index, refl, ◌∙◌}
+use Rattle.mix_bits.specs.Addresses.{onward}
+use Rattle.mix_bits.specs.Sizes.{low_replaced}
+use Rattle.m68_isa.specs.declared.registers.Regs68.{Regs68}
+use Rattle.m68_isa.specs.First.{first_of}
+use Rattle.m68_isa.specs.Operands.{operand_at}
+use Rattle.m68_effects.specs.Operations.{result_of}
+use Rattle.m68_effects.specs.Parts.{Effect, goes_on, with_ccr, with_result}
+use Rattle.m68_effects.specs.Places.{with_data}
+use Rattle.m68_effects.specs.Words.{words_at}
+use Rattle.m68_effects.proofs.Steps.{goes, operand_is, refused, taken}
+use Rattle.m68_effects.proofs.registers.take_sized.Goals as goal
+
+pub returns-in_default : goal.returns-in_default
+returns-in_default c =
+    let r = c.args.regs.now in
+    let m = c.args.ram.now in
+    let f = first_of c.args.word in
+    let size = c.args.size in
+    let same = operand_is (words_at m r.pc) size 1 1 c.mode_of-mode.result f.mode c.lower_of-lower.result f.lower refl c.mode_of-mode.ensures.is c.lower_of-lower.ensures.is in
+    let row : ℕ → Regs68 × ℕ → Effect = λ next. λ (q, s). goes_on next (with_result q f.upper size (result_of c.args.op size r.ccr (slice_index q.d f.upper) s)) m in
+    (refused r m c.args.word size (operand_at (words_at m r.pc) 1 size c.mode_of-mode.result c.lower_of-lower.result) (operand_at (words_at m r.pc) 1 size f.mode f.lower) row c.source.new.fault same c.in_default.ensures.is.0, c.in_default.ensures.is.1, refl)
+
+pub returns : goal.returns
+returns c =
+    let r = c.args.regs.now in
+    let m = c.args.ram.now in
+    let f = first_of c.args.word in
+    let size = c.args.size in
+    let q = c.source.new.regs in
+    let v = c.in-Some.value in
+    let next = c.source.new.next in
+    let took = c.in-Some.ensures.is in
+    let upper = c.upper_of-upper.ensures.is in
+    let same = operand_is (words_at m r.pc) size 1 1 c.mode_of-mode.result f.mode c.lower_of-lower.result f.lower refl c.mode_of-mode.ensures.is c.lower_of-lower.ensures.is in
+    let row : ℕ → Regs68 × ℕ → Effect = λ next. λ (q, s). goes_on next (with_result q f.upper size (result_of c.args.op size r.ccr (slice_index q.d f.upper) s)) m in
+    let step = taken r q m c.args.word size (operand_at (words_at m r.pc) 1 size c.mode_of-mode.result c.lower_of-lower.result) (operand_at (words_at m r.pc) 1 size f.mode f.lower) v next row same took.0 took.1 took.2 in
+    let out : c.apply-out.result ≡ result_of c.args.op size r.ccr (slice_index q.d f.upper) v = c.apply-out.ensures ∙ (λ i. result_of c.args.op size (took.3.ccr i) (slice_index q.d (upper i)) v) in
+    let low : c.with_low.result ≡ low_replaced (slice_index q.d f.upper) c.apply-out.result.value size = c.with_low.ensures ∙ (λ i. low_replaced (slice_index q.d (upper i)) c.apply-out.result.value size) in
+    goes _ r c.go_on.new.regs (record (with_result q f.upper size (result_of c.args.op size r.ccr (slice_index q.d f.upper) v)) { pc = onward r.pc (2 * next) }) c.go_on.result c.source.new.fault m c.go_on.ensures.next step
+    (c.go_on.ensures.registers ∙ (λ i. record (with_ccr (with_data q (upper i) (low i)) c.apply-out.result.ccr) { pc = onward (took.3.pc i) (2 * next) }) ∙ (λ i. record (with_result q f.upper size (out i)) { pc = onward r.pc (2 * next) }))
