@@ -32,7 +32,8 @@ use Rattle.mix_text.specs.Spelling.{content, contents, following, way}
 use Rattle.mix_text.specs.Spelling.Ending.{Extended, Paired}
 use Rattle.mix_text.proofs.Texts.{IsTold, cut}
 use Rattle.mix_text.proofs.Places.{IsShown, Shows, immediate_shown, long_back, plain_word, shown, when, word_back, words_from}
-use Rattle.mix_text.proofs.FirstWords.{ending_of, is_near, padded}
+use Rattle.mix_text.proofs.Numbers.{padded}
+use Rattle.mix_text.proofs.FirstWords.{ending_of, is_near}
 use Rattle.mix_text.proofs.Shapes.{AreTold, Given, IsNone, IsTelling, Tells, and_mask, and_place, no_alterable}
 
 -- Small operands.
