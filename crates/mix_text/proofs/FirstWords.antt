@@ -1,6 +1,6 @@
 -- An instruction's name and operands spell its first word: computed over the parts of all first words, whatever
 -- words follow, but for the numbers of registers, which the operands have from the first word.
-use Rattle.std.proofs.Common.{◌≡◌, ℕ, zero, suc, ◌+◌, ◌*◌, ◌/◌, ◌%◌, ◌<◌, ◌==◌, not, List, [], ◌∷◌, map, Bool, true, false, Option, Some, None, if◌then◌else◌, arith, refl, sym, ap, subst, ◌∙◌}
+use Rattle.std.proofs.Common.{◌≡◌, ℕ, ◌+◌, ◌*◌, ◌/◌, ◌%◌, ◌<◌, ◌==◌, not, List, [], ◌∷◌, Bool, true, false, Option, Some, None, if◌then◌else◌, arith, refl, ap, subst}
 use Rattle.std.proofs.lemmas.Bool.{eqb-true}
 use Rattle.mix_bits.specs.Names.{no_space}
 use Rattle.mix_bits.specs.Digits.{digit_of}

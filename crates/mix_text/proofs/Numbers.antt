@@ -1,6 +1,6 @@
 -- Whose numbers the first two operands of each operation have: that of the register in bits 11 to 9 of the first word or
 -- in bits 2 to 0, or none.
-use Rattle.std.proofs.Common.{◌≡◌, ℕ, zero, suc, ◌+◌, ◌*◌, ◌%◌, ◌<◌, ◌==◌, nat_lt, List, [], ◌∷◌, map, slice_index, Bool, true, false, if◌then◌else◌, arith, refl}
+use Rattle.std.proofs.Common.{◌≡◌, ℕ, zero, suc, ◌+◌, ◌%◌, ◌<◌, ◌==◌, nat_lt, List, [], ◌∷◌, map, slice_index, Bool, true, false, if◌then◌else◌, arith, refl}
 use Rattle.mix_bits.specs.declared.size.Size.{Size}
 use Rattle.mix_bits.specs.declared.size.Size.TheVariants.{Zero, One, Two, Four}
 use Rattle.m68_isa.specs.declared.instructions.Exchange.{Exchange}
