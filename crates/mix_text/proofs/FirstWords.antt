@@ -9,7 +9,8 @@ use Rattle.m68_isa.specs.declared.instructions.Instr68.{Instr68}
 use Rattle.m68_isa.specs.declared.instructions.Instr68.TheVariants.{Bcc, MulLong, DivLong}
 use Rattle.m68_isa.specs.declared.found.Found.{Found}
 use Rattle.m68_isa.specs.declared.found.Found.TheVariants.{Made, Privileged as RowPrivileged, Illegal as RowIllegal}
-use Rattle.m68_isa.specs.First.{First, first_of, low_byte}
+use Rattle.m68_isa.specs.declared.op.Op68.{Op68}
+use Rattle.m68_isa.specs.First.{First, first_of}
 use Rattle.m68_isa.specs.Made.{made}
 use Rattle.m68_isa.specs.Decode.{operation}
 use Rattle.m68_text.specs.declared.operand.Operand.{Operand}
@@ -26,7 +27,7 @@ use Rattle.mix_text.specs.Spelling.Ending.{Alone, Distance, Extended, Paired}
 use Rattle.mix_text.proofs.Digits.{negated}
 use Rattle.mix_text.proofs.Numbers.{AreFrom, IsFrom, Source, are_from, number, sources, told}
 use Rattle.mix_text.proofs.Numbers.Source.{Lower, Neither, Unknown, Upper}
-use Rattle.mix_text.proofs.Parts.{at_word, of_parts}
+use Rattle.mix_text.proofs.Parts.{at_word, of_near, of_parts}
 
 abbrev pub are_few : List Operand → Bool
 are_few [] = true
@@ -214,15 +215,6 @@ first_word_of (Far base) o p = omega arith
 first_word_of (Registers base registers) o p = refl
 first_word_of (Chosen choice place base other word) o p = chosen_word (holds choice o p) place other base word (bits_of o) (bits_of p)
 
--- the displacement that a first word of these parts has
-abbrev low_known : Form → First → ℕ
-low_known (Near base) f = low_byte f
-low_known _ f = 0
-
-low_same : (form : Form) (f : First) (w : ℕ) → w % 256 ≡ low_byte f → low_part form w ≡ low_known form f
-low_same (Near base) f w same = same
-low_same form f w same = refl
-
 -- whether a register's number can be told to be in bits 11 to 9, or in bits 2 to 0; and the number where it is not
 abbrev is_upper : Source → Bool
 is_upper Upper = true
@@ -271,41 +263,54 @@ lower_from Both s f m n first second = first
 abbrev whole : First → ℕ → ℕ → ℕ
 whole f upper lower = f.line * 4096 + upper * 512 + f.bit8 * 256 + f.size * 64 + f.mode * 8 + lower
 
--- a form and operands come to the first word, where their registers' numbers are those that they are
+-- a form and operands at its places come to the first word, where their registers' numbers are those that they are
 abbrev is_sum : Form → Operand → Operand → Source × Source → First → Bool
 is_sum form o p s f =
     if is_upper (in_upper (place_of form o p) Neither s.0 s.1) then
     (if is_lower (in_lower (place_of form o p) Neither s.0 s.1) then
-    base_of form o p + place_known (place_of form o p) o p + low_known form f
+    base_of form o p + place_known (place_of form o p) o p
     == whole f (but (in_upper (place_of form o p) Neither s.0 s.1) f.upper) (but (in_lower (place_of form o p) Neither s.0 s.1) f.lower)
     else false) else false
+
+-- or, with a displacement in its low byte, to its high byte
+abbrev is_whole : Form → Operand → Operand → Source × Source → First → Bool
+is_whole (Near base) o p s f = base == f.line * 4096 + f.upper * 512 + f.bit8 * 256
+is_whole form o p s f = is_sum form o p s f
 
 whole_word : (w : ℕ) → w < 65536 → whole (first_of w) (digit_of w 9 3) (digit_of w 0 3) ≡ w
 whole_word w below = omega (arith, below)
 
-sum_is : (form : Form) (o p : Operand) (s : Source × Source) (w : ℕ) → w < 65536 → IsFrom s.0 (first_of w) (number o) → IsFrom s.1 (first_of w) (number p) → is_sum form o p s (first_of w) ≡ true → first_word form o p + low_part form w ≡ w
+sum_is : (form : Form) (o p : Operand) (s : Source × Source) (w : ℕ) → w < 65536 → IsFrom s.0 (first_of w) (number o) → IsFrom s.1 (first_of w) (number p) → is_sum form o p s (first_of w) ≡ true → first_word form o p + 0 ≡ w
 sum_is form o p s w below first second is =
     let f = first_of w in
     let place = place_of form o p in
     let upper = in_upper place Neither s.0 s.1 in
     let lower = in_lower place Neither s.0 s.1 in
-    let test : Bool = base_of form o p + place_known place o p + low_known form f == whole f (but upper f.upper) (but lower f.lower) in
+    let test : Bool = base_of form o p + place_known place o p == whole f (but upper f.upper) (but lower f.lower) in
     let upper_is = both (is_upper upper) (if is_lower lower then test else false) is in
     let lower_is = both (is_lower lower) test upper_is.1 in
-    join (base_of form o p) (place_known place o p) (low_known form f) (but upper f.upper) (but lower f.lower) (in_upper place 0 (number o) (number p)) (in_lower place 0 (number o) (number p)) (placed place (bits_of o) (bits_of p)) (first_word form o p) (low_part form w)
-    (first_word_of form o p) (placed_sum place o p) (low_same form f w (omega arith)) (eqb-true _ _ lower_is.1)
+    join (base_of form o p) (place_known place o p) (but upper f.upper) (but lower f.lower) (in_upper place 0 (number o) (number p)) (in_lower place 0 (number o) (number p)) (placed place (bits_of o) (bits_of p)) (first_word form o p)
+    (first_word_of form o p) (placed_sum place o p) (eqb-true _ _ lower_is.1)
     (upper_whole upper f _ upper_is.0 (upper_from place s f _ _ first second)) (lower_whole lower f _ lower_is.0 (lower_from place s f _ _ first second))
   where
-    join : (base k low u r m n q v z : ℕ) → v ≡ base + q → (m < 8 → q ≡ k + m * 512 + n) → z ≡ low → base + k + low ≡ whole (first_of w) u r → u + m ≡ digit_of w 9 3 → r + n ≡ digit_of w 0 3 → v + z ≡ w
-    join base k low u r m n q v z is_word is_placed is_low is_whole is_upper_whole is_lower_whole =
+    join : (base k u r m n q v : ℕ) → v ≡ base + q → (m < 8 → q ≡ k + m * 512 + n) → base + k ≡ whole (first_of w) u r → u + m ≡ digit_of w 9 3 → r + n ≡ digit_of w 0 3 → v + 0 ≡ w
+    join base k u r m n q v is_word is_placed is_all is_upper_whole is_lower_whole =
         let sum = is_placed (omega (arith, is_upper_whole)) in
         let all = whole_word w below in
-        omega (arith, sum, all, is_word, is_low, is_whole, is_upper_whole, is_lower_whole)
+        omega (arith, sum, all, is_word, is_all, is_upper_whole, is_lower_whole)
+
+whole_is : (form : Form) (o p : Operand) (s : Source × Source) (w : ℕ) → w < 65536 → IsFrom s.0 (first_of w) (number o) → IsFrom s.1 (first_of w) (number p) → is_whole form o p s (first_of w) ≡ true → first_word form o p + low_part form w ≡ w
+whole_is (Near base) o p s w below first second is = let same = eqb-true _ _ is in omega (arith, below, same)
+whole_is DataWord o p s w below first second is = sum_is DataWord o p s w below first second is
+whole_is (Always place base) o p s w below first second is = sum_is (Always place base) o p s w below first second is
+whole_is (Far base) o p s w below first second is = sum_is (Far base) o p s w below first second is
+whole_is (Registers base registers) o p s w below first second is = sum_is (Registers base registers) o p s w below first second is
+whole_is (Chosen choice place base other word) o p s w below first second is = sum_is (Chosen choice place base other word) o p s w below first second is
 
 abbrev by_form : Option Form → Instr68 → ℕ → List ℕ → ℕ → Source × Source → First → Bool
 by_form None i used ws at s f = false
 by_form (Some form) i used ws at s f =
-    if is_sum form (told i ws at).first (told i ws at).second s f then
+    if is_whole form (told i ws at).first (told i ws at).second s f then
     (if same_ending (ending form) (ending_of i used) then
     (if not (is_data_form form) then near_as (is_near_form form) (is_near i used) else false) else false) else false
 
@@ -326,12 +331,16 @@ found_spells (Made i used good) ws at s f = spells_each i used ws at s f
 found_spells RowPrivileged ws at s f = true
 found_spells RowIllegal ws at s f = true
 
-first_spells : List ℕ → ℕ → First → Bool
-first_spells ws at f = found_spells (made (operation f) f ws) ws at (sources (operation f) f) f
+first_spells : List ℕ → ℕ → Op68 → First → Bool
+first_spells ws at op f = found_spells (made op f ws) ws at (sources op f) f
 
-all_spell : (ws : List ℕ) (at u r : ℕ) → of_parts (first_spells ws at) u r ≡ true
+all_spell : (ws : List ℕ) (at u r : ℕ) → of_parts (λ f. first_spells ws at (operation f) f) u r ≡ true
 unfolding first_spells form_of form_by rows_a rows_b rows_c rows_d rows_e rows_j rows_l rows_m rows_n rows_o rows_p rows_r rows_s rows_t rows_u
 all_spell ws at u r = refl
+
+near_spell : (ws : List ℕ) (at s m r : ℕ) → of_near (first_spells ws at) s m r ≡ true
+unfolding first_spells form_of form_by rows_a rows_b rows_c rows_d rows_e rows_j rows_l rows_m rows_n rows_o rows_p rows_r rows_s rows_t rows_u
+near_spell ws at s m r = refl
 
 implied : (form i : Bool) → near_as form i ≡ true → form ≡ true → i ≡ true
 implied true i h is = h
@@ -347,7 +356,7 @@ spells_by (Some form) i used ws at w s below have clear few named h =
     let o = (told i ws at).first in
     let p = (told i ws at).second in
     let rest : Bool = near_as (is_near_form form) (is_near i used) in
-    let first = both (is_sum form o p s (first_of w)) (if same_ending (ending form) (ending_of i used) then (if not (is_data_form form) then rest else false) else false) h in
+    let first = both (is_whole form o p s (first_of w)) (if same_ending (ending form) (ending_of i used) then (if not (is_data_form form) then rest else false) else false) h in
     let second = both (same_ending (ending form) (ending_of i used)) (if not (is_data_form form) then rest else false) first.1 in
     let third = both (not (is_data_form form)) rest second.1 in
     record {
@@ -355,7 +364,7 @@ spells_by (Some form) i used ws at w s below have clear few named h =
       few = few;
       form = form;
       named = named;
-      word = sum_is form o p s w below have.0 have.1 first.0;
+      word = whole_is form o p s w below have.0 have.1 first.0;
       ended = same_endings (ending form) (ending_of i used) second.0;
       is_instruction = negated (is_data_form form) third.0;
       is_branch = implied (is_near_form form) (is_near i used) third.1;
@@ -396,4 +405,4 @@ first_spelled w ws at i used good below is =
     let f = first_of w in
     found_spelled (made (operation f) f (w ∷ ws)) i used good (w ∷ ws) at w (sources (operation f) f) below is
     (are_from at (w ∷ ws) f (omega arith) (omega arith) (operation f))
-    (at_word (first_spells (w ∷ ws) at) w (all_spell (w ∷ ws) at))
+    (at_word (first_spells (w ∷ ws) at) w (all_spell (w ∷ ws) at) (near_spell (w ∷ ws) at))

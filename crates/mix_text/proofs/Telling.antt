@@ -21,7 +21,7 @@ use Rattle.m68_isa.specs.Shifts.{shift_op}
 use Rattle.m68_isa.specs.Widths.{is_any}
 use Rattle.m68_text.specs.declared.operand.Operand.TheVariants.{Data, Address, Word, Number, ConditionCodes, StatusRegister}
 use Rattle.mix_text.proofs.Places.{plain_word}
-use Rattle.mix_text.proofs.Parts.{at_word, of_parts}
+use Rattle.mix_text.proofs.Parts.{at_word, of_near, of_parts}
 use Rattle.mix_text.proofs.Rows.{bits_none, counted_alone, counted_told, distance_shown, either_none, exchanged_alone, exchanged_told, ext_row, extended_shown, first_word_shown, from_memory_row, front, immediate_row, last, long_shown, mode_none, move_row, movep_row, near_back, paired_alone, paired_told, product_row, quick_told, quotient_row, target_shown, to_memory_row, trap_told}
 use Rattle.mix_text.proofs.Shapes.{Given, IsTelling, after, and_place, before, no_control, no_control_alterable, single, some_long, some_size}
 
@@ -42,14 +42,14 @@ asks MovemFromMemory f = in_class Control f.mode f.lower || (f.mode == 3)
 asks Trap f = nat_lt f.mode 2
 asks _ f = true
 
-abbrev is_asked : First → Bool
-is_asked f = asks (operation f) f
-
-all_asked : (u r : ℕ) → of_parts is_asked u r ≡ true
+all_asked : (u r : ℕ) → of_parts (λ f. asks (operation f) f) u r ≡ true
 all_asked u r = refl
 
+near_asked : (s m r : ℕ) → of_near asks s m r ≡ true
+near_asked s m r = refl
+
 pub asked : (w : ℕ) → w < 2 ^ 16 → asks (operation (first_of w)) (first_of w) ≡ true
-asked w below = at_word is_asked w all_asked
+asked w below = at_word asks w all_asked near_asked
 
 told_immediate : (at : ℕ) (ws : List ℕ) (f : First) (g : Given at ws f) → in_class DataAlterable f.mode f.lower ≡ true → (op : ImmediateOp) → IsTelling at ws (immediate_with op f ws)
 told_immediate at ws f g alterable op = immediate_row at ws f g alterable (size_of f.size) (some_size f.size) (λ e. Instr.Immediate op (size_of f.size) (immediate_at ws 1 (size_of f.size)) e) (λ e. refl) (λ e n. (refl, refl))
