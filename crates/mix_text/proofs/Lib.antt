@@ -18,6 +18,8 @@ pub mod Digits
 pub mod Texts
 pub mod Commas
 pub mod Places
+pub mod Parts
+pub mod Numbers
 pub mod FirstWords
 pub mod Shapes
 pub mod Rows

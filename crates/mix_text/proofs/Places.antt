@@ -1,12 +1,11 @@
 -- The extension words of an effective address are its text's.
-use Rattle.std.proofs.Common.{◌≡◌, ℕ, zero, suc, ◌+◌, ◌*◌, ◌/◌, ◌%◌, ◌<◌, ◌≤◌, ◌==◌, List, [], ◌∷◌, slice_index, Bool, true, false, if◌then◌else◌, arith, refl, sym, ap, subst, ◌∙◌}
+use Rattle.std.proofs.Common.{◌≡◌, ℕ, zero, suc, ◌+◌, ◌*◌, ◌/◌, ◌%◌, ◌^◌, ◌<◌, ◌≤◌, ◌==◌, nat_lt, List, [], ◌∷◌, slice_index, Bool, true, false, if◌then◌else◌, arith, rules, refl, sym, ap, subst, ◌∙◌}
 use Rattle.std.proofs.lemmas.Bool.{eqb-true}
 use Rattle.std.proofs.lemmas.Bool.Decides.{nat_tests}
-use Rattle.mix_bits.specs.Ranges.{every}
+use Rattle.mix_bits.specs.Digits.{digit_of}
 use Rattle.mix_bits.specs.Sizes.{sign_extended}
 use Rattle.mix_bits.specs.declared.size.Size.{Size}
 use Rattle.mix_bits.specs.declared.size.Size.TheVariants.{Zero, One, Two, Four}
-use Rattle.mix_bits.proofs.Every.{every_at}
 use Rattle.m68_isa.specs.declared.ea.Ea.TheVariants.{Imm}
 use Rattle.m68_isa.specs.declared.operand.Operand.{Operand as Read}
 use Rattle.m68_isa.specs.Operands.{immediate_at, immediate_words, plain, index_of, is_index, operand_at, special_at}
@@ -14,7 +13,7 @@ use Rattle.m68_isa.specs.Widths.{is_any}
 use Rattle.m68_text.specs.declared.operand.Operand.{Operand}
 use Rattle.m68_text.specs.Operands.{immediate, place}
 use Rattle.mix_text.specs.Code.{long_words}
-use Rattle.mix_text.specs.Spelling.{content, index_word}
+use Rattle.mix_text.specs.Spelling.{content, index_word, scale_bits}
 use Rattle.mix_text.proofs.Texts.{IsTold, cut, is_scale}
 
 -- so many words from one on
@@ -29,30 +28,54 @@ pub record Shows (at : ℕ) (ws : List ℕ) (k : ℕ) (next : ℕ) (o : Operand)
   pub upto : next ≡ k + count
   pub words : content at (cut o) ≡ words_from ws k count
 
-words_back : every 16 0 (λ w. sign_extended w Two % 65536 % 65536 == w) ≡ true
-words_back = refl
+-- the sign of a word and of a byte of it
+pub word_signed : (w : ℕ) → w < 65536 → sign_extended w Two ≡ (if nat_lt w 32768 then w else w + 4294901760)
+word_signed w below = search rules
+
+byte_signed : (w : ℕ) → sign_extended w One ≡ (if nat_lt (w % 256) 128 then w % 256 else w % 256 + 4294967040)
+byte_signed w = search rules
+
+low_word : (b : Bool) (w : ℕ) → w < 65536 → (if b then w else w + 4294901760) % 65536 % 65536 ≡ w
+low_word true w below = omega (arith, below)
+low_word false w below = omega (arith, below)
+
+low_byte_of : (b : Bool) (v : ℕ) → v < 256 → (if b then v else v + 4294967040) % 256 % 256 ≡ v
+low_byte_of true v below = omega (arith, below)
+low_byte_of false v below = omega (arith, below)
 
 pub word_back : (w : ℕ) → w < 65536 → sign_extended w Two % 65536 % 65536 ≡ w
-word_back w below = eqb-true _ _ (every_at 16 (λ v. sign_extended v Two % 65536 % 65536 == v) w words_back below)
+word_back w below = ap (λ v. v % 65536 % 65536) (word_signed w below) ∙ low_word (nat_lt w 32768) w below
 
 abbrev pub cut_index_word : ℕ → ℕ
 cut_index_word w = let i = index_of w in index_word (record i { disp = i.disp % 256 }) % 65536
 
-indices_back : every 16 0 (λ w. if is_index w then cut_index_word w == w else true) ≡ true
-indices_back = refl
+-- a bit that is tested, and a scale, are worth their digits
+pub bit_value : (d k : ℕ) → d < 2 → (if d == 1 then k else 0) ≡ d * k
+bit_value zero k below = omega arith
+bit_value (suc zero) k below = omega arith
+bit_value (suc (suc d)) k below = absurd (omega (arith, below))
 
-pub when : (b c : Bool) → (if b then c else true) ≡ true → b ≡ true → c ≡ true
-when true c h is = h
-when false c h is = cc
+scale_value : (d : ℕ) → d < 4 → (scale_bits (2 ^ d) ≡ d * 512) × (is_scale (2 ^ d) ≡ true)
+scale_value zero below = (refl, refl)
+scale_value (suc zero) below = (refl, refl)
+scale_value (suc (suc zero)) below = (refl, refl)
+scale_value (suc (suc (suc zero))) below = (refl, refl)
+scale_value (suc (suc (suc (suc d)))) below = absurd (omega (arith, below))
 
 pub index_back : (w : ℕ) → w < 65536 → is_index w ≡ true → cut_index_word w ≡ w
-index_back w below is = eqb-true _ _ (when (is_index w) (cut_index_word w == w) (every_at 16 (λ v. if is_index v then cut_index_word v == v else true) w indices_back below) is)
-
-scales : every 16 0 (λ w. is_scale ((index_of w).scale)) ≡ true
-scales = refl
+index_back w below is =
+    let none : digit_of w 8 1 ≡ 0 = eqb-true _ _ is in
+    let address = bit_value (digit_of w 15 1) 32768 (omega arith) in
+    let long = bit_value (digit_of w 11 1) 2048 (omega arith) in
+    let scale = (scale_value (digit_of w 9 2) (omega arith)).0 in
+    let low = ap (λ v. v % 256 % 256) (byte_signed w) ∙ low_byte_of (nat_lt (w % 256) 128) (w % 256) (omega arith) in
+    sum _ _ _ _ address long scale low none
+  where
+    sum : (address long scale low : ℕ) → address ≡ digit_of w 15 1 * 32768 → long ≡ digit_of w 11 1 * 2048 → scale ≡ digit_of w 9 2 * 512 → low ≡ w % 256 → digit_of w 8 1 ≡ 0 → (address + digit_of w 12 3 * 4096 + long + scale + low) % 65536 ≡ w
+    sum address long scale low is_address is_long is_scale_value is_low none = omega (arith, below, is_address, is_long, is_scale_value, is_low, none)
 
 pub scale_told : (w : ℕ) → w < 65536 → is_scale ((index_of w).scale) ≡ true
-scale_told w below = every_at 16 (λ v. is_scale ((index_of v).scale)) w scales below
+scale_told w below = (scale_value (digit_of w 9 2) (omega arith)).1
 
 pub long_back : (a b : ℕ) → a < 65536 → b < 65536 → long_words ((a * 65536 + b) % 4294967296) ≡ a ∷ b ∷ []
 long_back a b high low =

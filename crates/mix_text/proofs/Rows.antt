@@ -1,6 +1,7 @@
 -- What operations make tells the words, by their shapes.
-use Rattle.std.proofs.Common.{◌≡◌, ℕ, suc, ◌+◌, ◌-◌, ◌*◌, ◌%◌, ◌<◌, ◌==◌, ◌&&◌, ◌||◌, not, nat_lt, List, [], ◌∷◌, map, slice_index, Bool, true, false, if◌then◌else◌, arith, refl, sym, ap, subst, ◌∙◌}
+use Rattle.std.proofs.Common.{◌≡◌, ℕ, zero, suc, ◌+◌, ◌-◌, ◌*◌, ◌%◌, ◌<◌, ◌==◌, ◌&&◌, ◌||◌, not, nat_lt, List, [], ◌∷◌, map, slice_index, Bool, true, false, if◌then◌else◌, arith, refl, sym, ap, subst, ◌∙◌}
 use Rattle.std.proofs.lemmas.Bool.{and_parts, eqb-true, ltb-true}
+use Rattle.mix_bits.specs.Digits.{digit_of}
 use Rattle.mix_bits.specs.Ranges.{every}
 use Rattle.mix_bits.specs.Sizes.{sign_extended}
 use Rattle.mix_bits.specs.declared.size.Size.{Size}
@@ -31,8 +32,9 @@ use Rattle.mix_text.specs.Code.{long_words}
 use Rattle.mix_text.specs.Spelling.{content, contents, following, way}
 use Rattle.mix_text.specs.Spelling.Ending.{Extended, Paired}
 use Rattle.mix_text.proofs.Texts.{IsTold, cut}
-use Rattle.mix_text.proofs.Places.{IsShown, Shows, immediate_shown, long_back, plain_word, shown, when, word_back, words_from}
-use Rattle.mix_text.proofs.FirstWords.{ending_of, is_near, padded}
+use Rattle.mix_text.proofs.Places.{IsShown, Shows, bit_value, immediate_shown, long_back, plain_word, shown, word_back, word_signed, words_from}
+use Rattle.mix_text.proofs.Numbers.{padded}
+use Rattle.mix_text.proofs.FirstWords.{ending_of, is_near}
 use Rattle.mix_text.proofs.Shapes.{AreTold, Given, IsNone, IsTelling, Tells, and_mask, and_place, no_alterable}
 
 -- Small operands.
@@ -90,11 +92,12 @@ counted_alone at false q n m = refl
 pub extended_shown : (at : ℕ) (ws : List ℕ) (f : First) (g : Given at ws f) → (extended_word ws 1 % 65536 % 65536 ∷ []) ≡ words_from ws 1 1
 extended_shown at ws f g = ap (λ x. x ∷ []) (word_back (slice_index ws 1) (g.words.below 1))
 
-signed_fits : every 16 0 (λ w. nat_lt (sign_extended w Two) 4294967296) ≡ true
-signed_fits = refl
-
 extended_fits : (at : ℕ) (ws : List ℕ) (f : First) (g : Given at ws f) → extended_word ws 1 < 4294967296
-extended_fits at ws f g = ltb-true _ _ (every_at 16 (λ w. nat_lt (sign_extended w Two) 4294967296) (slice_index ws 1) signed_fits (g.words.below 1))
+extended_fits at ws f g = subst (λ v. v < 4294967296) (sym (word_signed (slice_index ws 1) (g.words.below 1))) (fits (nat_lt (slice_index ws 1) 32768) (slice_index ws 1) (g.words.below 1))
+  where
+    fits : (b : Bool) (w : ℕ) → w < 65536 → (if b then w else w + 4294901760) < 4294967296
+    fits true w below = omega (arith, below)
+    fits false w below = omega (arith, below)
 
 way_back : (at d : ℕ) → at < 4294967296 → d < 4294967296 → way at (branch_target at d % 4294967296) ≡ d
 way_back at d fits small = omega (arith, fits, small)
@@ -180,11 +183,18 @@ from_memory_row at ws f g none s some good =
 abbrev register_word : Bool → Bool → ℕ → ℕ → ℕ
 register_word signed wide high low = ((if signed then 2048 else 0) + (if wide then 1024 + low * 4096 + high else low * 4096 + high)) % 65536
 
-registers_back : every 16 0 (λ w. if is_register_word w then register_word (is_signed w) (is_wide w) (high_of w) (low_of w) == w else true) ≡ true
-registers_back = refl
-
 register_back : (w : ℕ) → w < 65536 → is_register_word w ≡ true → register_word (is_signed w) (is_wide w) (high_of w) (low_of w) ≡ w
-register_back w below is = eqb-true _ _ (when (is_register_word w) (register_word (is_signed w) (is_wide w) (high_of w) (low_of w) == w) (every_at 16 (λ v. if is_register_word v then register_word (is_signed v) (is_wide v) (high_of v) (low_of v) == v else true) w registers_back below) is)
+register_back w below is =
+    let parts = and_parts (digit_of w 15 1 == 0) (digit_of w 3 7 == 0) is in
+    sum _ _ (bit_value (digit_of w 11 1) 2048 (omega arith)) (wide_value (digit_of w 10 1) (low_of w * 4096) (high_of w) (omega arith)) (eqb-true _ _ parts.0) (eqb-true _ _ parts.1)
+  where
+    wide_value : (d low high : ℕ) → d < 2 → (if d == 1 then 1024 + low + high else low + high) ≡ d * 1024 + (low + high)
+    wide_value zero low high below = omega arith
+    wide_value (suc zero) low high below = omega arith
+    wide_value (suc (suc d)) low high below = absurd (omega (arith, below))
+
+    sum : (signed wide : ℕ) → signed ≡ digit_of w 11 1 * 2048 → wide ≡ digit_of w 10 1 * 1024 + (low_of w * 4096 + high_of w) → digit_of w 15 1 ≡ 0 → digit_of w 3 7 ≡ 0 → (signed + wide) % 65536 ≡ w
+    sum signed wide is_signed_value is_wide_value high between = omega (arith, below, is_signed_value, is_wide_value, high, between)
 
 registers_told : (wide : Bool) (high low : ℕ) (ws : List ℕ) (by : Ea) → high < 8 → low < 8 → IsTold (place Four ws 2 by) → AreTold (with_registers wide high low ws by)
 registers_told true high low ws by first second source = (source, ((first, second), tt))

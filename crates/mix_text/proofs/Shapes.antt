@@ -23,7 +23,8 @@ use Rattle.mix_text.specs.Spelling.{content, contents, following, is_word, way_o
 use Rattle.mix_text.specs.Spelling.Ending.{Extended}
 use Rattle.mix_text.proofs.Texts.{IsTold, cut}
 use Rattle.mix_text.proofs.Places.{IsShown, Shows, Words, shown, words_from}
-use Rattle.mix_text.proofs.FirstWords.{ending_of, is_near, padded, told}
+use Rattle.mix_text.proofs.Numbers.{padded, told}
+use Rattle.mix_text.proofs.FirstWords.{ending_of, is_near}
 
 abbrev pub AreTold : List Operand → Type 0
 AreTold [] = Unit {0}

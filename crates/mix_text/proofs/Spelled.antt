@@ -29,7 +29,8 @@ use Rattle.mix_text.proofs.Digits.{four_digits}
 use Rattle.mix_text.proofs.Texts.{IsTold, cut, read_back}
 use Rattle.mix_text.proofs.Commas.{outside, past, scan_hex, whole}
 use Rattle.mix_text.proofs.Places.{words_from}
-use Rattle.mix_text.proofs.FirstWords.{Spells, are_few, first_spelled, is_data_form, is_near_form, low_part, padded, told}
+use Rattle.mix_text.proofs.Numbers.{padded, told}
+use Rattle.mix_text.proofs.FirstWords.{Spells, are_few, first_spelled, is_data_form, is_near_form, low_part}
 use Rattle.mix_text.proofs.Shapes.{AreTold, Given, IsTelling, Tells}
 use Rattle.mix_text.proofs.Telling.{asked, tells}
 

@@ -1,7 +1,5 @@
 -- The words of each operation are what its text tells.
-use Rattle.std.proofs.Common.{◌≡◌, ℕ, suc, ◌%◌, ◌<◌, ◌^◌, ◌==◌, ◌&&◌, ◌||◌, not, nat_lt, List, slice_index, Bool, true, false, if◌then◌else◌, arith, refl, ◌∙◌}
-use Rattle.mix_bits.specs.Ranges.{every}
-use Rattle.mix_bits.proofs.Every.{every_at}
+use Rattle.std.proofs.Common.{◌≡◌, ℕ, ◌%◌, ◌<◌, ◌^◌, ◌==◌, ◌&&◌, ◌||◌, not, nat_lt, List, slice_index, Bool, true, false, arith, refl, ◌∙◌}
 use Rattle.mix_bits.specs.declared.size.Size.{Size}
 use Rattle.mix_bits.specs.declared.size.Size.TheVariants.{One, Two, Four}
 use Rattle.m68_isa.specs.declared.instructions.ImmediateOp.{ImmediateOp}
@@ -23,6 +21,7 @@ use Rattle.m68_isa.specs.Shifts.{shift_op}
 use Rattle.m68_isa.specs.Widths.{is_any}
 use Rattle.m68_text.specs.declared.operand.Operand.TheVariants.{Data, Address, Word, Number, ConditionCodes, StatusRegister}
 use Rattle.mix_text.proofs.Places.{plain_word}
+use Rattle.mix_text.proofs.Parts.{at_word, of_near, of_parts}
 use Rattle.mix_text.proofs.Rows.{bits_none, counted_alone, counted_told, distance_shown, either_none, exchanged_alone, exchanged_told, ext_row, extended_shown, first_word_shown, from_memory_row, front, immediate_row, last, long_shown, mode_none, move_row, movep_row, near_back, paired_alone, paired_told, product_row, quick_told, quotient_row, target_shown, to_memory_row, trap_told}
 use Rattle.mix_text.proofs.Shapes.{Given, IsTelling, after, and_place, before, no_control, no_control_alterable, single, some_long, some_size}
 
@@ -43,27 +42,14 @@ asks MovemFromMemory f = in_class Control f.mode f.lower || (f.mode == 3)
 asks Trap f = nat_lt f.mode 2
 asks _ f = true
 
-abbrev is_asked : ℕ → Bool
-is_asked w = asks (operation (first_of w)) (first_of w)
+all_asked : (u r : ℕ) → of_parts (λ f. asks (operation f) f) u r ≡ true
+all_asked u r = refl
 
--- a test holds of all numbers where it holds of each quarter of them: these are computed one by one
-by_quarters : (k : ℕ) (p : ℕ → Bool) → every k 0 p ≡ true → every k 1 p ≡ true → every k 2 p ≡ true → every k 3 p ≡ true → every (suc (suc k)) 0 p ≡ true
-by_quarters k p first second third fourth = λ i. if (if first i then second i else false) then (if third i then fourth i else false) else false
-
-quarter_0 : every 14 0 is_asked ≡ true
-quarter_0 = refl
-
-quarter_1 : every 14 1 is_asked ≡ true
-quarter_1 = refl
-
-quarter_2 : every 14 2 is_asked ≡ true
-quarter_2 = refl
-
-quarter_3 : every 14 3 is_asked ≡ true
-quarter_3 = refl
+near_asked : (s m r : ℕ) → of_near asks s m r ≡ true
+near_asked s m r = refl
 
 pub asked : (w : ℕ) → w < 2 ^ 16 → asks (operation (first_of w)) (first_of w) ≡ true
-asked w below = every_at 16 is_asked w (by_quarters 14 is_asked quarter_0 quarter_1 quarter_2 quarter_3) below
+asked w below = at_word asks w all_asked near_asked
 
 told_immediate : (at : ℕ) (ws : List ℕ) (f : First) (g : Given at ws f) → in_class DataAlterable f.mode f.lower ≡ true → (op : ImmediateOp) → IsTelling at ws (immediate_with op f ws)
 told_immediate at ws f g alterable op = immediate_row at ws f g alterable (size_of f.size) (some_size f.size) (λ e. Instr.Immediate op (size_of f.size) (immediate_at ws 1 (size_of f.size)) e) (λ e. refl) (λ e n. (refl, refl))
