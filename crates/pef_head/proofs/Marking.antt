@@ -12,14 +12,23 @@ holds_at bytes l i j low high = and_from _ _ (le-leb _ _ low) (lt-ltb _ _ high)
 pub held_below : (bytes : List ℕ) (l : Loader) (i j : ℕ) → holds bytes l i j ≡ true → i < symbols_end bytes l j
 held_below bytes l i j has = ltb-true _ _ (and_parts _ _ has).1
 
--- no symbol is marked before the first one
-pub none_yet : (n start end first k : ℕ) (b : Bool) → (start ≤ k → first ≤ k) → n ≡ from_bool b
-    → n + from_bool (nat_le start k && nat_lt k end && nat_lt k first) ≡ from_bool b
-none_yet n start end first k b behind is = ap (λ (t : Bool). n + from_bool t) (by (nat_le start k) refl) ∙ omega (arith, is)
+-- no symbol before the first one is looked at
+pub before_first : (start end first k : ℕ) → (start ≤ k → first ≤ k) → (nat_le start k && nat_lt k end && nat_lt k first) ≡ false
+before_first start end first k behind = by (nat_le start k) refl
   where
     by : (t : Bool) → nat_le start k ≡ t → (t && nat_lt k end && nat_lt k first) ≡ false
     by false q = refl
     by true q = and_right (true && nat_lt k end) (nat_lt k first) (le-ltb k first (behind (leb-true start k q)))
+
+-- each symbol that the library has is looked at in the end
+pub held_before : (has : Bool) (k i : ℕ) → (has ≡ true → k < i) → has ≡ (has && nat_lt k i)
+held_before true k i before = sym (lt-ltb k i (before refl))
+held_before false k i before = refl
+
+-- none of them is marked yet
+pub none_yet : (n start end first k : ℕ) (b : Bool) → (start ≤ k → first ≤ k) → n ≡ from_bool b
+    → n + from_bool (nat_le start k && nat_lt k end && nat_lt k first) ≡ from_bool b
+none_yet n start end first k b behind is = ap (λ (t : Bool). n + from_bool t) (before_first start end first k behind) ∙ omega (arith, is)
 
 or_no : (b : Bool) → (b || false) ≡ b
 or_no true = refl
@@ -58,11 +67,8 @@ module _ (test : ℕ → Bool) (j : ℕ) where
   -- a symbol before the last one that was looked at
   pub with_library : (k i : ℕ) (b : Bool) → (test j ≡ true → k < i) → count_below test j + from_bool (test j && nat_lt k i) ≡ from_bool b
       → count_below test (j + 1) ≡ from_bool b
-  with_library k i b before is = ap (count_below test) (add-one j) ∙ (ap (λ (t : Bool). count_below test j + from_bool t) (by (test j) refl) ∙ is)
-    where
-      by : (t : Bool) → test j ≡ t → t ≡ (t && nat_lt k i)
-      by true q = sym (lt-ltb k i (before q))
-      by false q = refl
+  with_library k i b before is =
+      ap (count_below test) (add-one j) ∙ (ap (λ (t : Bool). count_below test j + from_bool t) (held_before (test j) k i before) ∙ is)
 
   -- a symbol that was marked before is in two libraries
   pub in_two : (i : ℕ) (b : Bool) → test j ≡ true → b ≡ true → count_below test j + from_bool (test j && nat_lt i i) ≡ from_bool b → 2 ≤ count_below test (j + 1)
