@@ -13,9 +13,6 @@ use mix_bits::{Isa, round_up};
 use ppc_isa::RegsPpc;
 use switch_frame::{Active, Program, start_sp_of};
 
-/// How many bytes below the end of RAM the stack pointer of PowerPC code starts.
-const PPC_STACK: u32 = 64;
-
 /// The registers in which 68K code starts.
 fn start_m68(image: &Image, len: u32) -> Regs68
     requires { 131072 ≤ len }
@@ -42,7 +39,7 @@ fn start_ppc(image: &Image, len: u32) -> RegsPpc
         let vector = image.vector;
         (image.ram.read_long(vector), image.ram.read_long(vector + 4))
     };
-    regs.gpr[1] = len - PPC_STACK;
+    regs.gpr[1] = start_sp_of(Isa::Ppc, len);
     regs.gpr[2] = toc;
     regs.lr = exit_gate(Isa::Ppc);
     regs.pc = code;
