@@ -15,6 +15,7 @@ mod sums;
 pub use decimal::{abcd, sbcd};
 pub use laws::overflow_laws;
 pub use logical::logic;
+pub use m68_isa::{LogicOp, ShiftOp};
 pub use products::{Wide, mul, mul_long};
 pub use quotients::{
     LongQuotient, Quotient, div, div_long, signed_long_quotient, unsigned_long_quotient,

@@ -76,6 +76,12 @@ start_within bytes start n = sections_grow bytes start 0 n (omega arith)
 pub section_above : (bytes : List ℕ) (start k : ℕ) → start ≤ section_base bytes start k
 section_above bytes start k = omega (arith, start_within bytes start k, base_above (section_at bytes k) (sections_end bytes start k))
 
+-- the end behind one more segment
+pub step-end : (resources : List Resource) (start id end : ℕ) (segment : Option (List ℕ)) (next : ℕ) → end ≡ segments_end resources start id → segment ≡ segment_at resources id
+    → next ≡ with_segment end segment → next ≡ segments_end resources start (suc id)
+step-end resources start id end segment next end_is segment_is is =
+    is ∙ (ap (λ (e : ℕ). with_segment e segment) end_is ∙ ap (λ (o : Option (List ℕ)). with_segment (segments_end resources start id) o) segment_is)
+
 -- one segment more
 pub step-memory : (resources : List Resource) (start id end : ℕ) (segment : Option (List ℕ)) (new old first : Memory) → end ≡ segments_end resources start id → segment ≡ segment_at resources id
     → new ≡ with_pieces (added_segment (rounded_up 16 end) segment []) old → old ≡ with_pieces (segment_pieces resources start id) first → new ≡ with_pieces (segment_pieces resources start (suc id)) first

@@ -36,7 +36,7 @@ start_m68 image len = record cleared_m68 {
 -- PowerPC code has its stack pointer, its TOC, and the address to which it returns
 abbrev pub start_ppc : Image → ℕ → RegsPpc
 start_ppc image len = record cleared_ppc {
-  gpr = slice_set (slice_set cleared_ppc.gpr 1 (len - 64)) 2 (toc_of image);
+  gpr = slice_set (slice_set cleared_ppc.gpr 1 (start_sp_of set_ppc len)) 2 (toc_of image);
   lr = exit_gate set_ppc;
   pc = code_of image;
 }

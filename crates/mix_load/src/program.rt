@@ -11,7 +11,7 @@ use big_memory::{Ram, exit_gate};
 use m68_isa::Regs68;
 use mix_bits::{Isa, round_up};
 use ppc_isa::RegsPpc;
-use switch_frame::{Active, PPC_STACK, PROGRAM_START, Program, start_sp_of};
+use switch_frame::{Active, PROGRAM_START, Program, start_sp_of};
 
 /// The registers in which 68K code starts.
 fn start_m68(image: &Image, len: u32) -> Regs68
@@ -39,7 +39,7 @@ fn start_ppc(image: &Image, len: u32) -> RegsPpc
         let vector = image.vector;
         (image.ram.read_long(vector), image.ram.read_long(vector + 4))
     };
-    regs.gpr[1] = len - PPC_STACK;
+    regs.gpr[1] = start_sp_of(Isa::Ppc, len);
     regs.gpr[2] = toc;
     regs.lr = exit_gate(Isa::Ppc);
     regs.pc = code;

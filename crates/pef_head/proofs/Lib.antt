@@ -8,4 +8,5 @@ pub mod Counts
 pub mod Tables
 pub mod Cuts
 pub mod MarkBits
+pub mod Marking
 pub mod Views

@@ -1,5 +1,5 @@
 -- A symbol that is in one library.
-use Rattle.std.proofs.Common.{◌≡◌, ◌≢◌, ◌∙◌, sym, ap, refl, ℕ, ◌+◌, ◌<◌, ◌≤◌, Bool, true, false, ◌&&◌, nat_eq, nat_lt, Option, Some, None, unwrap_or, List, length, slice_index, slice_set, arith, subst}
+use Rattle.std.proofs.Common.{◌≡◌, ◌≢◌, ◌∙◌, sym, ap, refl, ℕ, ◌+◌, ◌<◌, ◌≤◌, Bool, true, false, ◌&&◌, nat_eq, nat_lt, Option, Some, None, unwrap_or, List, length, slice_index, slice_set, add-one, arith, subst}
 use Rattle.std.proofs.lemmas.Bool.Decides.{nat_tests}
 use Rattle.std.proofs.lemmas.List.{get_or-set_same, get_or-set_other}
 use Rattle.pef_head.specs.declared.loader.Loader.{Loader}
@@ -9,6 +9,7 @@ use Rattle.pef_head.specs.Places.{holds, symbols_start, symbols_end}
 use Rattle.mix_bits.specs.Search.{◌or◌, refused, least, count_below}
 use Rattle.pef_head.specs.Whole.{OnlyBelow}
 use Rattle.pef_head.proofs.Counts.{only_counted}
+use Rattle.pef_head.proofs.Marking.{before_first, held_before}
 use Rattle.mix_bits.proofs.Searches.{least_first, least_none}
 
 module _ (test : ℕ → Bool) (n : ℕ) (one : count_below test n ≡ 1) where
@@ -62,3 +63,22 @@ filled_step bytes l table i j k owned below len low high inside lt before = by (
         let same : nat_lt k i ≡ nat_lt k (i + 1) = grind (arith, nat_tests) in
         get_or-set_other table i k j 0 other
         ∙ (before ∙ ap (λ (t : Bool). unwrap_or (least (holds bytes l k) j or refused (holds bytes l k j && t) j) 0) same)
+
+or_nothing : (o : Option ℕ) → o ≡ (o or None)
+or_nothing None = refl
+or_nothing (Some k) = refl
+
+-- before the first symbol of a library nothing more is written
+pub filled_start : (bytes : List ℕ) (l : Loader) (table : List ℕ) (j k first : ℕ) → first ≡ symbols_start bytes l j → slice_index table k ≡ unwrap_or (least (holds bytes l k) j) 0
+    → slice_index table k ≡ unwrap_or (least (holds bytes l k) j or refused (holds bytes l k j && nat_lt k first) j) 0
+filled_start bytes l table j k first is before =
+    let none : (holds bytes l k j && nat_lt k first) ≡ false =
+    before_first (symbols_start bytes l j) (symbols_end bytes l j) first k (λ (le : symbols_start bytes l j ≤ k). omega (arith, is, le)) in
+    before ∙ ap (λ (o : Option ℕ). unwrap_or o 0) (or_nothing (least (holds bytes l k) j) ∙ ap (λ (t : Bool). least (holds bytes l k) j or refused t j) (sym none))
+
+-- and in the end all of its symbols are
+pub filled_end : (bytes : List ℕ) (l : Loader) (table : List ℕ) (j k i : ℕ) → (holds bytes l k j ≡ true → k < i)
+    → slice_index table k ≡ unwrap_or (least (holds bytes l k) j or refused (holds bytes l k j && nat_lt k i) j) 0 → slice_index table k ≡ unwrap_or (least (holds bytes l k) (j + 1)) 0
+filled_end bytes l table j k i below before =
+    before ∙ (ap (λ (t : Bool). unwrap_or (least (holds bytes l k) j or refused t j) 0) (sym (held_before (holds bytes l k j) k i below))
+    ∙ ap (λ (n : ℕ). unwrap_or (least (holds bytes l k) n) 0) (sym (add-one j)))

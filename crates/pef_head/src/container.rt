@@ -26,6 +26,24 @@ const EXECUTABLE_DATA: u8 = 6;
 /// The greatest exponent of an alignment: that of 4096 bytes.
 const GREATEST_EXPONENT: u8 = 12;
 
+/// Where a section header has its fields, counted from its first byte: a long for the total size.
+pub const TOTAL: u32 = 8;
+
+/// A long for the unpacked size.
+pub const UNPACKED: u32 = 12;
+
+/// A long for the packed size.
+pub const PACKED: u32 = 16;
+
+/// A long for the place of the packed bytes in the file.
+pub const PLACE: u32 = 20;
+
+/// A byte for the kind.
+pub const KIND: usize = 24;
+
+/// A byte for the alignment, as an exponent of two.
+pub const ALIGNMENT: usize = 26;
+
 pub fn section_count(bytes: &[u8]) -> u16
     requires { 40 ≤ length bytes.now }
     ensures { result ≡ section_count bytes.now }
@@ -79,7 +97,7 @@ fn leaves_file(bytes: &[u8], k: u16) -> bool
     ensures { result ≡ leaves_file bytes.now k }
 {
     let header = section_header(k as u32);
-    let end = long_at(bytes, header + 20) as u64 + long_at(bytes, header + 16) as u64;
+    let end = long_at(bytes, header + PLACE) as u64 + long_at(bytes, header + PACKED) as u64;
     (bytes.len() as u64) < end
 }
 
@@ -89,12 +107,15 @@ fn is_malformed(bytes: &[u8], k: u16) -> bool
     ensures { result ≡ is_malformed bytes.now k }
 {
     let header = section_header(k as u32);
-    let (unpacked, packed) = (long_at(bytes, header + 12), long_at(bytes, header + 16));
-    let kind = bytes[header as usize + 24];
+    let (unpacked, packed) = (
+        long_at(bytes, header + UNPACKED),
+        long_at(bytes, header + PACKED),
+    );
+    let kind = bytes[header as usize + KIND];
     let uninstantiable = kind == LOADER || kind == DEBUG || EXECUTABLE_DATA < kind;
     uninstantiable
-        || GREATEST_EXPONENT < bytes[header as usize + 26]
-        || long_at(bytes, header + 8) < unpacked
+        || GREATEST_EXPONENT < bytes[header as usize + ALIGNMENT]
+        || long_at(bytes, header + TOTAL) < unpacked
         || (kind != PATTERN && packed != unpacked)
 }
 
@@ -139,7 +160,7 @@ fn is_loader(bytes: &[u8], k: u16) -> bool
     requires { section_header k + 28 ≤ length bytes.now }
     ensures { result ≡ is_loader bytes.now k }
 {
-    bytes[section_header(k as u32) as usize + 24] == LOADER
+    bytes[section_header(k as u32) as usize + KIND] == LOADER
 }
 
 /// The number of the first loader section.

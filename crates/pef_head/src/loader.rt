@@ -6,7 +6,7 @@ ghost use Rattle.pef_head.specs.Loader.{loader_in};
 ghost use Rattle.pef_head.specs.Places.{HasTables, library, relocation, symbol};
 ghost use Rattle.pef_head.specs.Refusals.{tables_refusal};
 
-use crate::container::section_header;
+use crate::container::{PACKED, PLACE, section_header};
 use crate::error::PefError;
 use mix_bits::long_at;
 
@@ -34,10 +34,10 @@ fn loader_in(bytes: &[u8], k: u16) -> Loader
     ensures { result ≡ loader_in bytes.now k }
 {
     let header = section_header(k as u32);
-    let start = long_at(bytes, header + 20);
+    let start = long_at(bytes, header + PLACE);
     Loader {
         start,
-        end: start + long_at(bytes, header + 16),
+        end: start + long_at(bytes, header + PACKED),
         libraries: long_at(bytes, start + 24),
         symbols: long_at(bytes, start + 28),
         headers: long_at(bytes, start + 32),
@@ -81,8 +81,8 @@ pub fn read_loader(bytes: &[u8], k: u16) -> Result<Loader, PefError>
     ensures tables { IfOk result (HasTables bytes.now) }
 {
     let header = section_header(k as u32);
-    if long_at(bytes, header + 16) < 56 {
-        return Err(PefError::Loader(long_at(bytes, header + 20)));
+    if long_at(bytes, header + PACKED) < 56 {
+        return Err(PefError::Loader(long_at(bytes, header + PLACE)));
     }
     let loader = loader_in(bytes, k);
     test_tables(loader)?;

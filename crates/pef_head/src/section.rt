@@ -2,7 +2,7 @@ ghost use Rattle.std.specs.Prelude.{◌≡◌, ◌^◌, ◌≤◌, length};
 ghost use Rattle.pef_head.specs.Container.{IsSection};
 ghost use Rattle.pef_head.specs.Parts.{parts, section_at};
 
-use crate::container::{PATTERN, section_header};
+use crate::container::{ALIGNMENT, KIND, PACKED, PATTERN, PLACE, TOTAL, UNPACKED, section_header};
 use mix_bits::long_at;
 
 /// An instantiated section: one that is loaded.
@@ -39,13 +39,13 @@ pub fn section_at<'a>(bytes: &'a [u8], k: u32) -> Section<'a>
     ensures { parts result ≡ section_at bytes.now k }
 {
     let header = section_header(k);
-    let start = long_at(bytes, header + 20) as usize;
-    let end = start + long_at(bytes, header + 16) as usize;
+    let start = long_at(bytes, header + PLACE) as usize;
+    let end = start + long_at(bytes, header + PACKED) as usize;
     Section {
-        kind: bytes[header as usize + 24],
-        total: long_at(bytes, header + 8),
-        unpacked: long_at(bytes, header + 12),
-        align: 1 << bytes[header as usize + 26],
+        kind: bytes[header as usize + KIND],
+        total: long_at(bytes, header + TOTAL),
+        unpacked: long_at(bytes, header + UNPACKED),
+        align: 1 << bytes[header as usize + ALIGNMENT],
         bytes: &bytes[start..end],
     }
 }

@@ -26,6 +26,6 @@ pub use gate::{A5_PLACE, ENTRY_PLACE, MAIN_VECTOR_PLACE, RAM_SIZE_PLACE, check_g
 pub use held::Held;
 pub use kind::{Kind, LARGEST_FRAME, frame_size};
 pub use laws::{chain_laws, frame_laws, gate_laws, range_laws};
-pub use program::{PPC_STACK, PROGRAM_START, Program, start_sp_of};
+pub use program::{PROGRAM_START, Program, start_sp_of};
 pub use rooms::{MOST_FRAMES, room};
 pub use whole::{check, guard_frames};

@@ -9,7 +9,7 @@ use mix_bits::Isa;
 pub const PROGRAM_START: u32 = 0x1_0000;
 
 /// How many bytes below the end of RAM the stack pointer of PowerPC code starts.
-pub const PPC_STACK: u32 = 64;
+const PPC_STACK: u32 = 64;
 
 /// A loaded program, ready to start.
 #[derive(Drop)]

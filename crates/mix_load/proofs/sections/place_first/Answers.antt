@@ -1,4 +1,5 @@
-use Rattle.std.proofs.Common.{ℕ, ◌∷◌, [], ◌++◌, add-one, List, ap, ◌∙◌}
+use Rattle.std.proofs.Common.{◌≡◌, ℕ, ◌∷◌, [], ◌++◌, add-one, le_antisymm, List, refl, ap, subst, ◌∙◌}
+use Rattle.std.proofs.lemmas.Result.{err_from_is_err_and}
 use Rattle.pef_head.specs.Parts.{SectionParts}
 use Rattle.mix_load.specs.Sections.{bases, totals}
 use Rattle.mix_load.proofs.Next.{base-is, base-small, end-small, next-end, section-near}
@@ -33,3 +34,46 @@ loop-k-preserved c =
       totals = rw add-one (c.in_ok-push-2.ensures.items ∙ (ap (λ (xs : List ℕ). xs ++ c.section-section.result.total ∷ []) c.loop-k.invariant.totals
           ∙ ap (λ (t : ℕ). totals c.args.pef.now c.loop-k.k ++ t ∷ []) total));
     }
+
+pub returns-in_err-push-clause-start : goal.returns-in_err-push-clause-start
+returns-in_err-push-clause-start c =
+    let p = err_from_is_err_and c.from_residual.result c.from_residual.ensures.1 in
+    rw p.1 tt
+
+pub returns-in_err-push-clause-bases : goal.returns-in_err-push-clause-bases
+returns-in_err-push-clause-bases c =
+    let p = err_from_is_err_and c.from_residual.result c.from_residual.ensures.1 in
+    rw p.1 tt
+
+pub returns-in_err-push-clause-totals : goal.returns-in_err-push-clause-totals
+returns-in_err-push-clause-totals c =
+    let p = err_from_is_err_and c.from_residual.result c.from_residual.ensures.1 in
+    rw p.1 tt
+
+pub returns-in_err-push-2-clause-start : goal.returns-in_err-push-2-clause-start
+returns-in_err-push-2-clause-start c =
+    let p = err_from_is_err_and c.from_residual-in_err-push-2.result c.from_residual-in_err-push-2.ensures.1 in
+    rw p.1 tt
+
+pub returns-in_err-push-2-clause-bases : goal.returns-in_err-push-2-clause-bases
+returns-in_err-push-2-clause-bases c =
+    let p = err_from_is_err_and c.from_residual-in_err-push-2.result c.from_residual-in_err-push-2.ensures.1 in
+    rw p.1 tt
+
+pub returns-in_err-push-2-clause-totals : goal.returns-in_err-push-2-clause-totals
+returns-in_err-push-2-clause-totals c =
+    let p = err_from_is_err_and c.from_residual-in_err-push-2.result c.from_residual-in_err-push-2.ensures.1 in
+    rw p.1 tt
+
+pub returns-clause-start : goal.returns-clause-start
+returns-clause-start c = refl
+
+pub returns-clause-bases : goal.returns-clause-bases
+returns-clause-bases c =
+    let same : c.loop-k.k ≡ c.args.count = le_antisymm c.loop-k.auto.k-end c.loop-k-test.false in
+    subst (λ (n : ℕ). c.loop-k.bases.items ≡ bases c.args.pef.now c.args.start n) same c.loop-k.invariant.bases
+
+pub returns-clause-totals : goal.returns-clause-totals
+returns-clause-totals c =
+    let same : c.loop-k.k ≡ c.args.count = le_antisymm c.loop-k.auto.k-end c.loop-k-test.false in
+    subst (λ (n : ℕ). c.loop-k.totals.items ≡ totals c.args.pef.now n) same c.loop-k.invariant.totals
