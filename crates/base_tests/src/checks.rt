@@ -1,16 +1,7 @@
 // What the tests compare by, and make vectors by.
-ghost use Rattle.std.specs.Prelude.{◌≡◌, true};
-
 use std::alloc::Global;
 use std::fmt::Debug;
 use std::process::Abort;
-
-/// This holds. Code behind the call may rely on it.
-pub fn must(rt: &impl Abort, fact: bool)
-    ensures { fact ≡ true }
-{
-    assert!(rt; fact);
-}
 
 /// Fails the test, and shows both, unless it got what was wanted.
 pub fn same<T: PartialEq + Debug + Copy>(rt: &impl Abort, got: T, wanted: T) {

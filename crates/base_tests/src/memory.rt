@@ -1,6 +1,7 @@
 ghost use Rattle.std.specs.Prelude.{◌≡◌, ◌%◌, ◌^◌, ◌<◌, ◌≤◌, length};
 
-use crate::checks::{must, same};
+use crate::checks::same;
+use crate::equal::must;
 use big_memory::{Access, Did, Ram, leave, refuse, stop};
 use mix_bits::{Fault, FaultKind, Size};
 use std::alloc::Global;

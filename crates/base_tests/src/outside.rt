@@ -1,7 +1,8 @@
 // What no clause says: that the calls succeed with ample memory, and that the adapters reach the outside.
 ghost use Rattle.std.specs.Prelude.{◌≤◌, IfOk};
 
-use crate::checks::{must, same, vector};
+use crate::checks::{same, vector};
+use crate::equal::must;
 use crate::rack::{counter, script};
 use mix_io::{
     Device, Failed, FetchError, FileKeep, FileShelf, Keeper, MemKeep, MemShelf, MemSink, MemSource,

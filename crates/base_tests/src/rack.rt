@@ -1,7 +1,8 @@
 // What no clause says: that the calls succeed with ample memory, and that an ejected device is dropped.
 ghost use Rattle.std.specs.Prelude.{None};
 
-use crate::checks::{must, same, vector};
+use crate::checks::{same, vector};
+use crate::equal::must;
 use mix_io::{Answer, Asked, Counter, Device, Devices, Failed, Rack, ScriptDevice};
 use std::alloc::Global;
 use std::cell::Cell;

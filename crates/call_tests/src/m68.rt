@@ -1,5 +1,6 @@
 // Arguments and results in 68K code.
-use crate::bench::{LO, SELECTOR, VALUES, equal, memory, must, signature, words};
+use crate::arguments::{LO, SELECTOR, VALUES, memory, signature, words};
+use crate::equal::{equal, must};
 use big_memory::{Access, Ram};
 use m68_isa::{Ccr, Regs68};
 use mix_bits::Size;

@@ -1,4 +1,5 @@
-use crate::bench::{equal, signature};
+use crate::arguments::signature;
+use crate::equal::equal;
 use mix_bits::Size;
 use proc_info::{BadInfo, Conv, Param, Sig, read, write};
 use std::process::Abort;

@@ -5,7 +5,7 @@ use Rattle.big_memory.specs.Memory.{Memory, IsRam, zeroed}
 use Rattle.mix_bits.specs.declared.no_memory.NoMemory.{NoMemory}
 use Rattle.switch_frame.specs.Chain.{Chain, records}
 use Rattle.switch_frame.proofs.Linked.{begins_empty, reads_back}
-use Rattle.toolbox_tests.proofs.frames.memory.Goals as goal
+use Rattle.call_tests.proofs.frames.memory.Goals as goal
 
 unmarked : (n unit : ℕ) → get_or (replicate n false) unit false ≡ false
 unmarked n unit =

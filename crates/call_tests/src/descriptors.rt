@@ -1,4 +1,5 @@
-use crate::bench::{equal, memory, must};
+use crate::arguments::memory;
+use crate::equal::{equal, must};
 use big_memory::{Access, Ram};
 use mix_bits::{Isa, Size};
 use proc_info::{BadDesc, BadInfo, Desc, Rec, Sig, build, choose, read, read_desc};

@@ -1,5 +1,6 @@
 // Arguments and results in PowerPC code.
-use crate::bench::{LO, SELECTOR, VALUES, equal, memory, must, signature, words};
+use crate::arguments::{LO, SELECTOR, VALUES, memory, signature, words};
+use crate::equal::{equal, must};
 use big_memory::{Access, Ram};
 use mix_bits::Size;
 use mode_switch::{below_ppc, deliver_ppc, gather_ppc, put_result_ppc, result_ppc, select_ppc};

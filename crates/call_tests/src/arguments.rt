@@ -1,10 +1,8 @@
-// What the tests here share: a memory, signatures, arguments, and comparisons.
-ghost use Rattle.std.specs.Prelude.{◌≡◌, true};
-
+// What the tests of arguments share: a memory, signatures and words.
+use crate::equal::must;
 use big_memory::Ram;
 use proc_info::{Sig, Words, read};
 use std::alloc::Global;
-use std::fmt::{Debug, Display};
 use std::process::Abort;
 
 /// Where the stacks of callees end.
@@ -35,24 +33,4 @@ pub fn words(rt: &impl Abort, values: &[u32]) -> Words {
         count: values.len() as u8,
         value,
     }
-}
-
-/// This holds. Code behind the call may rely on it.
-pub fn must(rt: &impl Abort, fact: bool)
-    ensures { fact ≡ true }
-{
-    assert!(rt; fact);
-}
-
-/// What was found is what was wanted; `what` names it where it is not.
-pub fn equal<W: Display + Copy, T: PartialEq + Debug + Copy>(
-    rt: &impl Abort,
-    what: W,
-    found: T,
-    wanted: T,
-) {
-    assert!(rt;
-        found == wanted,
-        "{what}: found {found:?}, wanted {wanted:?}"
-    );
 }
