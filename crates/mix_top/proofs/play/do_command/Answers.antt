@@ -23,12 +23,6 @@ returns-in-Over-clause-does g c = does-as _ _ _ _ _ c.in-Over.is c.go_over.ensur
 pub returns-in-Over-clause-same : goal.returns-in-Over-clause-same
 returns-in-Over-clause-same g c = c.go_over.ensures.same
 
-pub returns-in-Go-clause-does : goal.returns-in-Go-clause-does
-returns-in-Go-clause-does g c = does-as _ _ _ _ _ c.in-Go.is c.go_forward-in-Go.ensures.does
-
-pub returns-in-Go-clause-same : goal.returns-in-Go-clause-same
-returns-in-Go-clause-same g c = c.go_forward-in-Go.ensures.same
-
 pub returns-in-Back-clause-does : goal.returns-in-Back-clause-does
 returns-in-Back-clause-does g c = does-as _ _ _ _ _ c.in-Back.is c.go_back.ensures.does
 
