@@ -1,5 +1,5 @@
--- What is sign extended stays so: computed over all words, and of a byte over all bytes.
-use Rattle.std.proofs.Common.{ℕ, ◌≡◌, ◌^◌, ◌%◌, ◌<◌, true, ◌==◌, refl, ap, subst, arith}
+-- What is sign extended stays so: of a byte computed over all bytes.
+use Rattle.std.proofs.Common.{ℕ, ◌≡◌, ◌+◌, ◌^◌, ◌%◌, ◌<◌, Bool, true, false, ◌==◌, nat_lt, if◌then◌else◌, refl, ap, ◌∙◌, subst, arith, rules}
 use Rattle.std.specs.Int.{cast_unsigned, w32}
 use Rattle.std.proofs.Math.Nat.{mod-mod}
 use Rattle.std.proofs.lemmas.Bool.{eqb-true}
@@ -9,11 +9,16 @@ use Rattle.mix_bits.proofs.Every.{every_at}
 use Rattle.mix_bits.specs.Sizes.{sign_extended, signed_below}
 use Rattle.mix_bits.specs.declared.size.Size.TheVariants.{One, Two}
 
-words_stay : every 16 0 (λ w. sign_extended (sign_extended w Two) Two == sign_extended w Two) ≡ true
-words_stay = refl
+-- a word's sign
+word_signed : (w : ℕ) → w < 65536 → sign_extended w Two ≡ (if nat_lt w 32768 then w else w + 4294901760)
+word_signed w below = search rules
+
+low_word : (b : Bool) (w : ℕ) → (if b then w else w + 4294901760) % 65536 ≡ w % 65536
+low_word true w = refl
+low_word false w = omega arith
 
 pub word_twice : (w : ℕ) → w < 2 ^ 16 → sign_extended (sign_extended w Two) Two ≡ sign_extended w Two
-word_twice w below = eqb-true _ _ (every_at 16 (λ v. sign_extended (sign_extended v Two) Two == sign_extended v Two) w words_stay below)
+word_twice w below = ap (λ t. cast_unsigned w32 (signed_below 65536 t)) (ap (λ v. v % 65536) (word_signed w below) ∙ low_word (nat_lt w 32768) w)
 
 -- a byte alone decides
 low_alone : (w : ℕ) → sign_extended (w % 256) One ≡ sign_extended w One

@@ -1,4 +1,4 @@
-use Rattle.std.proofs.Common.{◌≡◌, ◌≢◌, ◌<◌, ℕ, ◌+◌, inl, inr, List, length, get_or, set, get_or-set_same, get_or-set_other, length-set, ◌∙◌, sym, subst, arith}
+use Rattle.std.proofs.Common.{◌<◌, ℕ, ◌+◌, inl, inr, List, length, get_or, set, get_or-set_same, get_or-set_other, length-set, ◌∙◌, sym, subst, arith}
 use Rattle.std.proofs.lemmas.Bool.{cases_eq}
 use Rattle.m68_isa.specs.declared.op.Op68.{Op68}
 use Rattle.m68_isa.specs.Operations.{AreSoFar, IsOperation}
