@@ -12,7 +12,7 @@ register_text bank k v = joined (codes " " ∷ bank ∷ decimal k ∷ codes "=" 
 
 -- registers of a bank from a number on, and the end of their line
 abbrev pub bank_text : List ℕ → ℕ → List ℕ → List ℕ
-bank_text bank k [] = joined (codes "\n" ∷ [])
+bank_text bank k [] = codes "\n"
 bank_text bank k (v ∷ vs) = register_text bank k v ++ bank_text bank (k + 1) vs
 
 abbrev pub flag : Bool → List ℕ

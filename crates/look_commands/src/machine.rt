@@ -9,7 +9,7 @@ use crate::run::Ending;
 use crate::step::{Step, step_at};
 use crate::steps::{add_step, add_steps};
 use call_trace::fault_name;
-use look_text::{Piece, add_line};
+use look_text::{Piece, add, add_line};
 use mix_bits::{Fault, NoMemory};
 use mix_engine::{Machine, Stop};
 use std::alloc::Global;
@@ -42,7 +42,7 @@ fn add_run(text: &mut Vec<u8>, ending: Ending, steps: &[Step]) -> Result<(), NoM
 fn add_machine(alloc: Global, text: &mut Vec<u8>, machine: &Machine) -> Result<(), NoMemory>
     requires { IsWhole machine.now.body (isa_of machine.now.active) }
 {
-    add_line(text, &[Piece::Text("next: ")])?;
+    add(text, "next: ")?;
     add_step(text, &step_at(machine))?;
     add_registers(text, &machine.active)?;
     add_frames(alloc, text, &machine.body.ram, machine.body.top, 1)?;
@@ -52,7 +52,7 @@ fn add_machine(alloc: Global, text: &mut Vec<u8>, machine: &Machine) -> Result<(
 
 /// Appends how a run ended, and after how many steps.
 fn add_ending(text: &mut Vec<u8>, ending: Ending) -> Result<(), NoMemory> {
-    add_line(text, &[Piece::Text("end: ")])?;
+    add(text, "end: ")?;
     add_stop(text, ending.stop)?;
     add_line(
         text,
@@ -68,10 +68,10 @@ fn add_stop(text: &mut Vec<u8>, stop: Stop) -> Result<(), NoMemory> {
     match stop {
         Stop::Exit(code) => add_line(text, &[Piece::Text("exit "), Piece::Number(code)]),
         Stop::Fault(fault) => add_fault(text, fault),
-        Stop::Limit => add_line(text, &[Piece::Text("the step limit")]),
-        Stop::ReadFault => add_line(text, &[Piece::Text("the input failed")]),
-        Stop::OutFault => add_line(text, &[Piece::Text("the output failed")]),
-        Stop::TraceFault => add_line(text, &[Piece::Text("the trace failed")]),
+        Stop::Limit => add(text, "the step limit"),
+        Stop::ReadFault => add(text, "the input failed"),
+        Stop::OutFault => add(text, "the output failed"),
+        Stop::TraceFault => add(text, "the trace failed"),
     }
 }
 

@@ -1,6 +1,6 @@
 // The bytes around the stack pointer, and the blocks of the heap.
 use big_memory::Ram;
-use look_text::{Piece, add_line};
+use look_text::{Piece, add, add_line};
 use mix_bits::{NoMemory, backward, onward};
 use toolbox::Heap;
 
@@ -26,14 +26,14 @@ fn add_row(text: &mut Vec<u8>, ram: &Ram, from: u32) -> Result<(), NoMemory> {
     for k in 0..ROW {
         add_byte(text, ram, onward(from, k))?;
     }
-    add_line(text, &[Piece::Text("\n")])
+    add(text, "\n")
 }
 
 /// Appends the byte at an address, if there is one.
 fn add_byte(text: &mut Vec<u8>, ram: &Ram, at: u32) -> Result<(), NoMemory> {
     match ram.load_byte(at) {
         Ok(byte) => add_line(text, &[Piece::Text(" "), Piece::Byte(byte)]),
-        Err(_) => add_line(text, &[Piece::Text(" --")]),
+        Err(_) => add(text, " --"),
     }
 }
 

@@ -2,7 +2,7 @@
 ghost use Rattle.std.specs.Prelude.{◌≡◌, ◌+◌, ◌≤◌, ◌++◌, OnOk, length};
 ghost use Rattle.look_commands.specs.Registers.{bank_text, codes_line, flag as flag_of, register_text, registers_text, special_line};
 
-use look_text::{Piece, add_line};
+use look_text::{Piece, add, add_line};
 use m68_isa::{Ccr, Regs68};
 use mix_bits::NoMemory;
 use ppc_isa::RegsPpc;
@@ -45,7 +45,7 @@ fn add_bank(text: &mut Vec<u8>, bank: &str, first: u32, values: &[u32]) -> Resul
     ensures { OnOk result (text.new.items ≡ text.old.items ++ bank_text bank.now first values.now) }
 {
     match values {
-        [] => add_line(text, &[Piece::Text("\n")]),
+        [] => add(text, "\n"),
         [value, rest @ ..] => {
             add_register(text, bank, first, *value)?;
             add_bank(text, bank, first + 1, rest)

@@ -3,7 +3,7 @@ ghost use Rattle.std.specs.Prelude.{◌≡◌, []};
 
 use crate::step::Step;
 use big_memory::{host_code, in_gate_page};
-use look_text::{Piece, add_line};
+use look_text::{Piece, add, add_line};
 use mix_bits::{Isa, Line, NoMemory};
 use mix_text::write_words;
 use ppc_text::text_ppc;
@@ -54,7 +54,7 @@ fn add_gate(text: &mut Vec<u8>, at: u32) -> Result<(), NoMemory> {
                 Piece::Text("\n"),
             ],
         ),
-        None => add_line(text, &[Piece::Text("the gate page\n")]),
+        None => add(text, "the gate page\n"),
     }
 }
 

@@ -1,3 +1,4 @@
 pub mod Refused
 pub mod Mapping
 pub mod Sizes
+pub mod Lines

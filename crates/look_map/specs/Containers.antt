@@ -40,14 +40,13 @@ host_line k vector = joined (codes ", host function " ∷ decimal k ∷ codes " 
 -- the host function of an import; one that may be missing is 0 then
 abbrev pub host_text : Option ℕ → Bool → List ℕ
 host_text (Some k) weak = host_line k (host_vector_at k)
-host_text None true = joined (codes ", not in the library, and may be missing\n" ∷ [])
-host_text None false = joined (codes ", not in the library\n" ∷ [])
-
-abbrev pub import_front : ℕ → ImportParts → List ℕ
-import_front i import = joined (codes "import " ∷ decimal i ∷ codes ": " ∷ import.library ∷ codes " " ∷ import.name ∷ [])
+host_text None true = codes ", not in the library, and may be missing\n"
+host_text None false = codes ", not in the library\n"
 
 unfoldable pub import_line : ℕ → ImportParts → List ℕ
-import_line i import = import_front i import ++ host_text (import_index import.library import.name) import.weak
+import_line i import =
+    joined (codes "import " ∷ decimal i ∷ codes ": " ∷ import.library ∷ codes " " ∷ import.name ∷ [])
+    ++ host_text (import_index import.library import.name) import.weak
 
 -- the first imports, with the first 255 bytes of their names: no name of a host function has so many
 abbrev pub imports_text : List ℕ → ℕ → List ℕ

@@ -28,7 +28,7 @@ entry_front i at offset segment inside =
     ∷ codes "(a5), CODE " ∷ decimal segment ∷ codes " + $" ∷ hexadecimal 4 inside ∷ [])
 
 abbrev pub target_text : Bool → ℕ → List ℕ
-target_text true target = joined (codes ", which is not there\n" ∷ [])
+target_text true target = codes ", which is not there\n"
 target_text false target = joined (codes ", to " ∷ hexadecimal 8 target ∷ codes "\n" ∷ [])
 
 -- an entry, where the segments stand at these places

@@ -40,11 +40,14 @@ abbrev pub container_file_text : ℕ → Option (List ℕ) → List ℕ
 container_file_text start None = []
 container_file_text start (Some bytes) = container_text bytes start
 
--- what could be read of files, with the CODEs below a count of ids
+-- the pieces of files, with the CODEs below a count of ids
+abbrev pub pieces_text : ℕ → Files → List ℕ
+pieces_text ids files =
+    flat_text files.flat ++ (fork_file_text ids files.rsrc ++ container_file_text (fork_file_end ids files.rsrc) files.pef)
+
+-- what could be read of files, behind the size of RAM
 abbrev pub files_text : ℕ → ℕ → Files → List ℕ
-files_text ids len files =
-    ram_line len ++ flat_text files.flat ++ fork_file_text ids files.rsrc
-    ++ container_file_text (fork_file_end ids files.rsrc) files.pef
+files_text ids len files = ram_line len ++ pieces_text ids files
 
 unfoldable pub vector_text : ℕ → List ℕ
 vector_text vector = if vector == 0 then [] else joined (codes "main vector: at " ∷ hexadecimal 8 vector ∷ codes "\n" ∷ [])
@@ -55,19 +58,15 @@ file_text (M68 r) =
 file_text (Ppc r) =
     joined (codes "entry: ppc at " ∷ hexadecimal 8 r.pc ∷ codes ", r1 " ∷ hexadecimal 8 (slice_index r.gpr 1) ∷ codes ", r2 " ∷ hexadecimal 8 (slice_index r.gpr 2) ∷ codes "\n" ∷ [])
 
-abbrev pub range_line : List ℕ → ℕ → ℕ → List ℕ
-range_line name from to = joined (name ∷ hexadecimal 8 from ∷ codes " to " ∷ hexadecimal 8 to ∷ codes "\n" ∷ [])
-
--- the main vector and the registers that count, and the heap with the stack behind it
-unfoldable pub begun_text : ℕ → Active → List ℕ
-begun_text vector active = vector_text vector ++ file_text active
-
+-- the heap, and the stack behind it
 unfoldable pub room_text : ℕ → ℕ → ℕ → List ℕ
-room_text low high end = range_line (codes "heap: from ") low high ++ range_line (codes "stack: from ") high end
+room_text low high end =
+    joined (codes "heap: from " ∷ hexadecimal 8 low ∷ codes " to " ∷ hexadecimal 8 high
+    ∷ codes "\nstack: from " ∷ hexadecimal 8 high ∷ codes " to " ∷ hexadecimal 8 end ∷ codes "\n" ∷ [])
 
 -- a program as it starts, with its main vector as the gate page tells it
 abbrev pub start_text : Program → List ℕ
-start_text p = begun_text (long_at 0x1024 p.ram.bytes) p.active ++ room_text p.heap_lo p.heap_hi (length p.ram.bytes)
+start_text p = vector_text (long_at 0x1024 p.ram.bytes) ++ (file_text p.active ++ room_text p.heap_lo p.heap_hi (length p.ram.bytes))
 
 -- the files of a job were loaded, or they were refused by this rule
 abbrev pub IsMapped : Files → Isa → ℕ → Mapped → Type 0

@@ -1,11 +1,11 @@
 // A container: its sections and its imports.
 ghost use Rattle.std.specs.Prelude.{◌≡◌, ℕ, ◌^◌, ◌<◌, ◌≤◌, ◌++◌, IfSome, OnOk, length, slice_index};
 ghost use Rattle.pef_head.specs.Parts.{cut, import_count, import_of, library_of, names};
-ghost use Rattle.look_map.specs.Containers.{container_text, host_line, host_text, import_front, import_line, imports_text, parts_text};
+ghost use Rattle.look_map.specs.Containers.{container_text, host_line, host_text, import_line, imports_text, parts_text};
 
 use crate::sections::add_sections;
 use big_memory::host_vector;
-use look_text::{Piece, add_line};
+use look_text::{Piece, add, add_line};
 use mix_bits::NoMemory;
 use pef_head::{Import, Pef};
 use std::alloc::Global;
@@ -64,13 +64,6 @@ fn add_imports(text: &mut Vec<u8>, pef: &Pef, owners: &[u32], count: u32) -> Res
 fn add_import(text: &mut Vec<u8>, i: u32, import: Import) -> Result<(), NoMemory>
     ensures { OnOk result (text.new.items ≡ text.old.items ++ import_line i (names import.entry)) }
 {
-    add_names(text, i, import)?;
-    add_host(text, import.weak, import_index(import.library, import.name))
-}
-
-fn add_names(text: &mut Vec<u8>, i: u32, import: Import) -> Result<(), NoMemory>
-    ensures { OnOk result (text.new.items ≡ text.old.items ++ import_front i (names import.entry)) }
-{
     add_line(
         text,
         &[
@@ -81,7 +74,8 @@ fn add_names(text: &mut Vec<u8>, i: u32, import: Import) -> Result<(), NoMemory>
             Piece::Text(" "),
             Piece::Bytes(import.name),
         ],
-    )
+    )?;
+    add_host(text, import.weak, import_index(import.library, import.name))
 }
 
 /// Appends what the host has for an import.
@@ -91,7 +85,7 @@ fn add_host(text: &mut Vec<u8>, weak: bool, index: Option<u32>) -> Result<(), No
 {
     match index {
         Some(k) => add_function(text, k, host_vector(k)),
-        None => add_missing(text, weak),
+        None => add(text, missing(weak)),
     }
 }
 
@@ -110,15 +104,13 @@ fn add_function(text: &mut Vec<u8>, k: u32, vector: u32) -> Result<(), NoMemory>
     )
 }
 
-fn add_missing(text: &mut Vec<u8>, weak: bool) -> Result<(), NoMemory>
-    ensures { OnOk result (text.new.items ≡ text.old.items ++ host_text None weak) }
+/// What is said of an import that the host lacks.
+fn missing(weak: bool) -> &'static str
+    ensures { result.now ≡ host_text None weak }
 {
     if weak {
-        add_line(
-            text,
-            &[Piece::Text(", not in the library, and may be missing\n")],
-        )
+        ", not in the library, and may be missing\n"
     } else {
-        add_line(text, &[Piece::Text(", not in the library\n")])
+        ", not in the library\n"
     }
 }

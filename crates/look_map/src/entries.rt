@@ -3,7 +3,7 @@ ghost use Rattle.std.specs.Prelude.{◌≡◌, ◌+◌, ◌*◌, ◌^◌, ◌<�
 ghost use Rattle.mix_load.specs.Segments.{entry_place, header_of, jump_target as target_of};
 ghost use Rattle.look_map.specs.Forks.{entries_text, entry_front, entry_line, target_text};
 
-use look_text::{Piece, add_line};
+use look_text::{Piece, add, add_line};
 use mix_bits::NoMemory;
 use mix_load::{a5_of, is_bad_entry, offset_in, read_header, segment_in};
 use rsrc_fork::Fork;
@@ -97,7 +97,7 @@ fn add_target(text: &mut Vec<u8>, bad: bool, target: u32) -> Result<(), NoMemory
     ensures { OnOk result (text.new.items ≡ text.old.items ++ target_text bad target) }
 {
     if bad {
-        add_line(text, &[Piece::Text(", which is not there\n")])
+        add(text, ", which is not there\n")
     } else {
         add_line(
             text,

@@ -1,5 +1,5 @@
 // The CODEs of a fork.
-ghost use Rattle.std.specs.Prelude.{◌≡◌, ◌≢◌, ◌+◌, ◌^◌, ◌<◌, ◌≤◌, ◌++◌, IfOk, OnOk, true, length};
+ghost use Rattle.std.specs.Prelude.{◌≡◌, ◌≢◌, ◌+◌, ◌^◌, ◌<◌, ◌≤◌, ◌++◌, [], IfOk, OnOk, true, length};
 ghost use Rattle.rsrc_fork.specs.References.{resources_of};
 ghost use Rattle.rsrc_fork.specs.declared.error.RsrcError.TheVariants.{NoMemory as NoForkMemory};
 ghost use Rattle.switch_frame.specs.Program.{program_start};
@@ -79,12 +79,11 @@ fn add_bare(alloc: Global, text: &mut Vec<u8>, fork: &Fork, ids: u16) -> Result<
     ensures end { IfOk result (λ end. end ≡ segments_end fork.now program_start ids) }
     ensures near { IfOk result (λ end. end ≤ 2 ^ 42) }
 {
-    let start = u64::from(PROGRAM_START);
-    Ok(add_segments(text, fork, Vec::new(alloc), start, ids)?.end)
+    let mut places = Vec::new(alloc);
+    add_segments(text, fork, &mut places, u64::from(PROGRAM_START), ids)
 }
 
 /// Appends the lines of the world of A5, and of the segments.
-#[tactic(auto, using(std::proofs::Common::append_assoc))]
 fn add_world(
     alloc: Global,
     text: &mut Vec<u8>,
@@ -98,11 +97,31 @@ fn add_world(
     ensures end { IfOk result (λ end. end ≡ segments_end fork.now (start_in (header_of code0.now)) ids) }
     ensures near { IfOk result (λ end. end ≤ 2 ^ 42) }
 {
+    let mut places = Vec::new(alloc);
+    add_placed(text, fork, code0, &mut places, ids)
+}
+
+/// The same, with the places of the segments kept.
+#[tactic(auto, using(std::proofs::Common::append_assoc))]
+fn add_placed(
+    text: &mut Vec<u8>,
+    fork: &Fork,
+    code0: &[u8],
+    places: &mut Vec<u64>,
+    ids: u16,
+) -> Result<u64, NoMemory>
+    requires longs { 16 ≤ length code0.now }
+    requires small { length code0.now ≤ 2 ^ 24 }
+    requires empty { places.old.items ≡ [] }
+    ensures text { IfOk result (λ _. text.new.items ≡ text.old.items ++ world_text ids fork.now code0.now) }
+    ensures end { IfOk result (λ end. end ≡ segments_end fork.now (start_in (header_of code0.now)) ids) }
+    ensures near { IfOk result (λ end. end ≤ 2 ^ 42) }
+{
     let h = read_header(code0);
     add_a5(text, a5_of(h))?;
-    let segments = add_segments(text, fork, Vec::new(alloc), segments_start(h), ids)?;
-    add_table(text, fork, code0, &segments.places)?;
-    Ok(segments.end)
+    let end = add_segments(text, fork, places, segments_start(h), ids)?;
+    add_table(text, fork, code0, places)?;
+    Ok(end)
 }
 
 fn add_a5(text: &mut Vec<u8>, a5: u64) -> Result<(), NoMemory>

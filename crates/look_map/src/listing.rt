@@ -1,18 +1,17 @@
 // What could be read of the files of a program.
 ghost use Rattle.std.specs.Prelude.{◌≡◌, ◌*◌, ◌^◌, ◌<◌, ◌≤◌, ◌++◌, IfOk, OnOk, length};
 ghost use Rattle.mix_load.specs.Load.{AreLoadable, IsSmall};
-ghost use Rattle.look_map.specs.Maps.{container_file_text, files_text, flat_line, flat_text, fork_file_end, fork_file_text, ram_line};
+ghost use Rattle.look_map.specs.Maps.{container_file_text, files_text, flat_text, fork_file_end, fork_file_text, pieces_text};
 
 use crate::container::add_container;
 use crate::fork::add_fork;
-use look_text::{Piece, add_line};
+use look_text::{Piece, add_line, line_of};
 use mix_bits::NoMemory;
 use mix_load::{FileBytes, Files};
 use std::alloc::Global;
 use switch_frame::PROGRAM_START;
 
 /// The lines of files, with the CODEs below a count of ids, in `len` bytes of RAM.
-#[tactic(auto, using(std::proofs::Common::append_assoc))]
 pub fn listing(alloc: Global, files: &Files, len: u32, ids: u16) -> Result<Vec<u8>, NoMemory>
     requires flat { IsSmall files.now.flat }
     requires rsrc { IsSmall files.now.rsrc }
@@ -20,25 +19,30 @@ pub fn listing(alloc: Global, files: &Files, len: u32, ids: u16) -> Result<Vec<u
     requires few { 0 < ids }
     ensures { IfOk result (λ text. text.items ≡ files_text ids len files.now) }
 {
-    let mut text = Vec::new(alloc);
-    add_ram(&mut text, len)?;
-    add_flat(&mut text, &files.flat)?;
-    let end = add_fork_file(alloc, &mut text, &files.rsrc, ids)?;
-    add_container_file(alloc, &mut text, &files.pef, end)?;
-    Ok(text)
-}
-
-fn add_ram(text: &mut Vec<u8>, len: u32) -> Result<(), NoMemory>
-    ensures { OnOk result (text.new.items ≡ text.old.items ++ ram_line len) }
-{
-    add_line(
-        text,
+    let mut text = line_of(
+        alloc,
         &[
             Piece::Text("RAM: "),
             Piece::Number(len),
             Piece::Text(" bytes\n"),
         ],
-    )
+    )?;
+    add_files(alloc, &mut text, files, ids)?;
+    Ok(text)
+}
+
+/// Appends the lines of files.
+#[tactic(auto, using(std::proofs::Common::append_assoc))]
+fn add_files(alloc: Global, text: &mut Vec<u8>, files: &Files, ids: u16) -> Result<(), NoMemory>
+    requires flat { IsSmall files.now.flat }
+    requires rsrc { IsSmall files.now.rsrc }
+    requires pef { IsSmall files.now.pef }
+    requires few { 0 < ids }
+    ensures { OnOk result (text.new.items ≡ text.old.items ++ pieces_text ids files.now) }
+{
+    add_flat(text, &files.flat)?;
+    let end = add_fork_file(alloc, text, &files.rsrc, ids)?;
+    add_container_file(alloc, text, &files.pef, end)
 }
 
 /// Appends the line of a flat file, if there is one.
@@ -47,22 +51,16 @@ fn add_flat(text: &mut Vec<u8>, file: &Option<FileBytes>) -> Result<(), NoMemory
     ensures { OnOk result (text.new.items ≡ text.old.items ++ flat_text file.now) }
 {
     match file {
-        Some(file) => add_flat_line(text, file.bytes().len() as u32),
+        Some(file) => add_line(
+            text,
+            &[
+                Piece::Text("flat file: at 00010000, "),
+                Piece::Number(file.bytes().len() as u32),
+                Piece::Text(" bytes\n"),
+            ],
+        ),
         None => Ok(()),
     }
-}
-
-fn add_flat_line(text: &mut Vec<u8>, size: u32) -> Result<(), NoMemory>
-    ensures { OnOk result (text.new.items ≡ text.old.items ++ flat_line size) }
-{
-    add_line(
-        text,
-        &[
-            Piece::Text("flat file: at 00010000, "),
-            Piece::Number(size),
-            Piece::Text(" bytes\n"),
-        ],
-    )
 }
 
 /// Appends the lines of a fork's file, if there is one, and says where its CODEs end.

@@ -1,13 +1,12 @@
 // Why a program is not loaded, in a sentence.
-ghost use Rattle.std.specs.Prelude.{◌≡◌, ◌^◌, ◌≤◌, None, IfOk, IfSome, length, map};
+ghost use Rattle.std.specs.Prelude.{◌≡◌, ◌^◌, ◌≤◌, None, IfOk, IfSome, length};
 ghost use Rattle.mix_load.specs.Load.{IsSmall};
 ghost use Rattle.pef_head.specs.Parts.{names};
 ghost use Rattle.pef_head.specs.Refusals.{refusal_of};
-ghost use Rattle.look_text.specs.Pieces.{joined, piece_text};
 ghost use Rattle.look_map.specs.Sentences.{empty_text as empty_sentence, far_text, fork_refusal_text, lacking_by, lacking_in, lacking_text, large_by, large_text, no_code_text, resource_text, sentence_of, table_refusal_text};
 
 use crate::unmade::unmade_section;
-use look_text::{Piece, add, add_line};
+use look_text::{Piece, add, line_of};
 use mix_bits::NoMemory;
 use mix_load::{File, FileBytes, Files, LoadError};
 use pef_head::{Import, Pef};
@@ -67,7 +66,7 @@ fn resource(alloc: Global, kind: u32, id: i16, rest: &str) -> Result<Vec<u8>, No
 {
     let kind = kind.to_be_bytes();
     let id = format!(in alloc; "{id}")?;
-    line(
+    line_of(
         alloc,
         &[
             Piece::Text("the resource "),
@@ -87,7 +86,7 @@ fn no_code(alloc: Global, id: i16) -> Result<Vec<u8>, NoMemory>
         return told(alloc, "the fork has no CODE above 0");
     }
     let id = format!(in alloc; "{id}")?;
-    line(
+    line_of(
         alloc,
         &[
             Piece::Text("the fork has no CODE "),
@@ -101,7 +100,7 @@ fn far(alloc: Global, id: i16) -> Result<Vec<u8>, NoMemory>
     ensures { IfOk result (λ text. text.items ≡ far_text id) }
 {
     let id = format!(in alloc; "{id}")?;
-    line(
+    line_of(
         alloc,
         &[
             Piece::Text("CODE "),
@@ -121,7 +120,7 @@ fn jump_table(alloc: Global, at: u32) -> Result<Vec<u8>, NoMemory>
             "CODE 0 has no jump table above A5, or a CODE has fewer than 4 bytes",
         )
     } else {
-        line(
+        line_of(
             alloc,
             &[
                 Piece::Text("the jump table's entry at "),
@@ -146,7 +145,7 @@ fn too_large(alloc: Global, end: u64) -> Result<Vec<u8>, NoMemory>
 fn large(alloc: Global, end: u32) -> Result<Vec<u8>, NoMemory>
     ensures { IfOk result (λ text. text.items ≡ large_text end) }
 {
-    line(
+    line_of(
         alloc,
         &[
             Piece::Text("the program would end at $"),
@@ -195,7 +194,7 @@ fn unresolved_in(alloc: Global, pef: &Pef, i: u32) -> Result<Vec<u8>, NoMemory>
 fn named(alloc: Global, i: u32, import: Import) -> Result<Vec<u8>, NoMemory>
     ensures { IfOk result (λ text. text.items ≡ lacking_text i (names import.entry)) }
 {
-    line(
+    line_of(
         alloc,
         &[
             Piece::Text("the host has no "),
@@ -247,15 +246,6 @@ fn told(alloc: Global, sentence: &str) -> Result<Vec<u8>, NoMemory>
 {
     let mut text = Vec::new(alloc);
     add(&mut text, sentence)?;
-    Ok(text)
-}
-
-/// A text of pieces.
-fn line(alloc: Global, pieces: &[Piece]) -> Result<Vec<u8>, NoMemory>
-    ensures { IfOk result (λ text. text.items ≡ joined (map piece_text pieces.now)) }
-{
-    let mut text = Vec::new(alloc);
-    add_line(&mut text, pieces)?;
     Ok(text)
 }
 

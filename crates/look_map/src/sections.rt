@@ -3,7 +3,7 @@ ghost use Rattle.std.specs.Prelude.{◌≡◌, ◌+◌, ◌^◌, ◌≤◌, ◌+
 ghost use Rattle.pef_head.specs.Container.{instantiated_count};
 ghost use Rattle.pef_head.specs.Parts.{parts};
 ghost use Rattle.mix_load.specs.Sections.{base_behind as base_of};
-ghost use Rattle.look_map.specs.Containers.{kind_name as name_of_kind, section_line, section_text, sections_text};
+ghost use Rattle.look_map.specs.Containers.{kind_name as name_of_kind, section_text, sections_text};
 
 use look_text::{Piece, add_line};
 use mix_bits::NoMemory;
@@ -35,27 +35,21 @@ fn add_section(text: &mut Vec<u8>, k: u32, section: Section, end: u64) -> Result
     ensures near { IfOk result (λ next. next ≤ end + 2 ^ 33) }
 {
     let base = base_behind(section, end);
-    add_place(text, k, section.kind, base, section.total)?;
-    Ok(base + u64::from(section.total))
-}
-
-fn add_place(text: &mut Vec<u8>, k: u32, kind: u8, base: u64, size: u32) -> Result<(), NoMemory>
-    ensures { OnOk result (text.new.items ≡ text.old.items ++ section_line k kind base size) }
-{
     add_line(
         text,
         &[
             Piece::Text("section "),
             Piece::Number(k),
             Piece::Text(": "),
-            Piece::Text(kind_name(kind)),
+            Piece::Text(kind_name(section.kind)),
             Piece::Text(" at "),
             Piece::Address(base),
             Piece::Text(", "),
-            Piece::Number(size),
+            Piece::Number(section.total),
             Piece::Text(" bytes\n"),
         ],
-    )
+    )?;
+    Ok(base + u64::from(section.total))
 }
 
 /// The words for a kind of sections.

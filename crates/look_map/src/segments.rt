@@ -2,41 +2,35 @@
 ghost use Rattle.std.specs.Prelude.{◌≡◌, ◌+◌, ◌^◌, ◌<◌, ◌≤◌, ◌++◌, [], IfOk, IfSome, OnOk, length, option_map};
 ghost use Rattle.mix_bits.specs.Multiples.{rounded_up};
 ghost use Rattle.mix_load.specs.Segments.{segment_places, segments_end, with_segment};
-ghost use Rattle.look_map.specs.Forks.{code_line, segment_line, segments_text};
+ghost use Rattle.look_map.specs.Forks.{segment_line, segments_text};
 
 use look_text::{Piece, add_line};
 use mix_bits::{NoMemory, round_up};
 use mix_load::segment_at;
 use rsrc_fork::Fork;
 
-/// Where the segments stand, by their ids, and where they end.
-#[derive(Drop)]
-pub struct Segments {
-    pub places: Vec<u64>,
-    pub end: u64,
-}
-
-/// Appends the lines of the segments below a count of ids, which begin behind `start`, and says where they stand.
+/// Appends the lines of the segments below a count of ids, which begin behind `start`, and their places, and says where
+/// they end.
 pub fn add_segments(
     text: &mut Vec<u8>,
     fork: &Fork,
-    mut places: Vec<u64>,
+    places: &mut Vec<u64>,
     start: u64,
     ids: u16,
-) -> Result<Segments, NoMemory>
+) -> Result<u64, NoMemory>
     requires start { start ≤ 2 ^ 34 }
-    requires empty { places.items ≡ [] }
+    requires empty { places.old.items ≡ [] }
     ensures text { IfOk result (λ _. text.new.items ≡ text.old.items ++ segments_text fork.now start ids) }
-    ensures places { IfOk result (λ s. s.places.items ≡ segment_places fork.now start ids) }
-    ensures end { IfOk result (λ s. s.end ≡ segments_end fork.now start ids) }
-    ensures few { IfOk result (λ s. s.end ≤ 2 ^ 42) }
+    ensures places { IfOk result (λ _. places.new.items ≡ segment_places fork.now start ids) }
+    ensures end { IfOk result (λ end. end ≡ segments_end fork.now start ids) }
+    ensures near { IfOk result (λ end. end ≤ 2 ^ 42) }
 {
     let mut end = start;
     for id in 0..ids {
         places.push(round_up(end, 16))?;
         end = add_segment(text, id, end, segment_at(fork, id))?;
     }
-    Ok(Segments { places, end })
+    Ok(end)
 }
 
 /// Appends the line of a segment, if there is one, behind an end, and gives the end behind it.
@@ -55,14 +49,7 @@ fn add_segment(
     let Some(code) = segment else {
         return Ok(end);
     };
-    let place = round_up(end, 16);
-    add_place(text, id, place, code.len() as u32)?;
-    Ok(place + code.len() as u64)
-}
-
-fn add_place(text: &mut Vec<u8>, id: u16, place: u64, size: u32) -> Result<(), NoMemory>
-    ensures { OnOk result (text.new.items ≡ text.old.items ++ code_line id place size) }
-{
+    let (place, size) = (round_up(end, 16), code.len() as u32);
     add_line(
         text,
         &[
@@ -74,5 +61,6 @@ fn add_place(text: &mut Vec<u8>, id: u16, place: u64, size: u32) -> Result<(), N
             Piece::Number(size),
             Piece::Text(" bytes\n"),
         ],
-    )
+    )?;
+    Ok(place + u64::from(size))
 }

@@ -1,7 +1,7 @@
 // A program as it starts.
 ghost use Rattle.std.specs.Prelude.{◌≡◌, ◌++◌, OnOk};
 ghost use Rattle.switch_frame.specs.Program.{IsProgram};
-ghost use Rattle.look_map.specs.Maps.{begun_text, file_text, range_line, room_text, start_text, vector_text};
+ghost use Rattle.look_map.specs.Maps.{file_text, room_text, start_text, vector_text};
 
 use look_text::{Piece, add_line};
 use m68_isa::Regs68;
@@ -15,28 +15,12 @@ pub fn add_start(text: &mut Vec<u8>, program: &Program) -> Result<(), NoMemory>
     requires { IsProgram program.now }
     ensures { OnOk result (text.new.items ≡ text.old.items ++ start_text program.now) }
 {
-    let len = program.ram.len();
-    let vector = program.ram.read_long(MAIN_VECTOR_PLACE);
-    add_begun(text, vector, &program.active)?;
-    add_room(text, program.heap_lo, program.heap_hi, len)
+    add_vector(text, program.ram.read_long(MAIN_VECTOR_PLACE))?;
+    add_file(text, &program.active)?;
+    add_room(text, program.heap_lo, program.heap_hi, program.ram.len())
 }
 
-#[tactic(auto, using(std::proofs::Common::append_assoc), unfolding(crate::specs::Maps::begun_text))]
-fn add_begun(text: &mut Vec<u8>, vector: u32, file: &Active) -> Result<(), NoMemory>
-    ensures { OnOk result (text.new.items ≡ text.old.items ++ begun_text vector file.now) }
-{
-    add_vector(text, vector)?;
-    add_file(text, file)
-}
-
-#[tactic(auto, using(std::proofs::Common::append_assoc), unfolding(crate::specs::Maps::room_text))]
-fn add_room(text: &mut Vec<u8>, low: u32, high: u32, end: u32) -> Result<(), NoMemory>
-    ensures { OnOk result (text.new.items ≡ text.old.items ++ room_text low high end) }
-{
-    add_range(text, "heap: from ", low, high)?;
-    add_range(text, "stack: from ", high, end)
-}
-
+/// Appends the main vector, if there is one.
 #[tactic(auto, unfolding(crate::specs::Maps::vector_text))]
 fn add_vector(text: &mut Vec<u8>, vector: u32) -> Result<(), NoMemory>
     ensures { OnOk result (text.new.items ≡ text.old.items ++ vector_text vector) }
@@ -97,17 +81,22 @@ fn add_ppc(text: &mut Vec<u8>, regs: &RegsPpc) -> Result<(), NoMemory>
     )
 }
 
-/// Appends a name and the range from an address up to another.
-fn add_range(text: &mut Vec<u8>, name: &str, from: u32, to: u32) -> Result<(), NoMemory>
-    ensures { OnOk result (text.new.items ≡ text.old.items ++ range_line name.now from to) }
+/// Appends the heap from `low` on, and the stack behind it up to `end`.
+#[tactic(auto, unfolding(crate::specs::Maps::room_text))]
+fn add_room(text: &mut Vec<u8>, low: u32, high: u32, end: u32) -> Result<(), NoMemory>
+    ensures { OnOk result (text.new.items ≡ text.old.items ++ room_text low high end) }
 {
     add_line(
         text,
         &[
-            Piece::Text(name),
-            Piece::Long(from),
+            Piece::Text("heap: from "),
+            Piece::Long(low),
             Piece::Text(" to "),
-            Piece::Long(to),
+            Piece::Long(high),
+            Piece::Text("\nstack: from "),
+            Piece::Long(high),
+            Piece::Text(" to "),
+            Piece::Long(end),
             Piece::Text("\n"),
         ],
     )

@@ -12,21 +12,26 @@ use Rattle.look_text.specs.declared.look.Look.{Look}
 use Rattle.look_text.specs.declared.look.Look.TheVariants.{Info, Trace, Picture, Fork, Map, End, Image, Words}
 use Rattle.look_text.specs.declared.look.Refusal.{Refusal}
 use Rattle.look_text.specs.declared.look.Refusal.TheVariants.{Empty, Command, Unknown, Twice, Value, Missing}
+use Rattle.look_text.specs.declared.look.Topic.{Topic}
+use Rattle.look_text.specs.declared.look.Topic.TheVariants.{ToInfo, ToTrace, ToPicture, ToFork, ToImage}
 use Rattle.look_text.specs.declared.look.Verb.{Verb}
-use Rattle.look_text.specs.declared.look.Verb.TheVariants.{ToInfo, ToTrace, ToPicture, ToFork, ToMap, ToEnd, ToImage, ToWords}
+use Rattle.look_text.specs.declared.look.Verb.TheVariants.{Of, ToMap, ToEnd, ToWords}
+
+abbrev pub topic_text : Topic → List ℕ
+topic_text ToInfo = codes "info"
+topic_text ToTrace = codes "trace"
+topic_text ToPicture = codes "picture"
+topic_text ToFork = codes "fork"
+topic_text ToImage = codes "image"
 
 abbrev pub verb_text : Verb → List ℕ
-verb_text ToInfo = codes "info"
-verb_text ToTrace = codes "trace"
-verb_text ToPicture = codes "picture"
-verb_text ToFork = codes "fork"
+verb_text (Of topic) = topic_text topic
 verb_text ToMap = codes "map"
 verb_text ToEnd = codes "end"
-verb_text ToImage = codes "image"
 verb_text ToWords = codes "words"
 
 abbrev pub all_verbs : List Verb
-all_verbs = ToInfo ∷ (ToTrace ∷ (ToPicture ∷ (ToFork ∷ (ToMap ∷ (ToEnd ∷ (ToImage ∷ (ToWords ∷ [])))))))
+all_verbs = Of ToInfo ∷ (Of ToTrace ∷ (Of ToPicture ∷ (Of ToFork ∷ (Of ToImage ∷ (ToMap ∷ (ToEnd ∷ (ToWords ∷ [])))))))
 
 -- the first of some commands with this word
 abbrev pub verb_in : List Verb → List ℕ → Option Verb
@@ -36,16 +41,13 @@ verb_in (verb ∷ verbs) word = if bytes_eq word (verb_text verb) then Some verb
 abbrev pub verb_for : List ℕ → Option Verb
 verb_for word = verb_in all_verbs word
 
--- the keys that each command knows
-abbrev pub keys_of : Verb → List Key
+-- the keys that each command knows whose words give a draft
+abbrev pub keys_of : Topic → List Key
 keys_of ToInfo = Word ∷ []
 keys_of ToTrace = File ∷ (Names ∷ [])
 keys_of ToPicture = File ∷ (Names ∷ [])
 keys_of ToFork = File ∷ []
 keys_of ToImage = image_key ∷ []
-keys_of ToMap = []
-keys_of ToEnd = []
-keys_of ToWords = []
 
 abbrev pub key_text : Key → List ℕ
 key_text Word = codes "word"
@@ -70,28 +72,18 @@ is_given draft image_key = is_some draft.file
 is_given draft Last = false
 
 -- a procInfo word
-abbrev pub with_read : Draft → ℕ → Option ℕ → Result Draft Refusal
-with_read draft place (Some word) = Ok (record draft { word = Some word })
-with_read draft place None = Err (Value place Word)
-
-abbrev pub with_number : Draft → ℕ → List ℕ → Result Draft Refusal
-with_number draft place value = with_read draft place (hexadecimal_number 8 value)
+abbrev pub word_given : ℕ → List ℕ → Result ℕ Refusal
+word_given place value = ok_or (hexadecimal_number 8 value) (Value place Word)
 
 -- the place of a word whose value, the name of a file, is not empty
-abbrev pub with_file : Draft → ℕ → List ℕ → Result Draft Refusal
-with_file draft place value = if length value == 0 then Err (Value place File) else Ok (record draft { file = Some place })
-
-abbrev pub with_names : Draft → ℕ → List ℕ → Result Draft Refusal
-with_names draft place value = if length value == 0 then Err (Value place Names) else Ok (record draft { names = Some place })
-
-abbrev pub with_image : Draft → ℕ → List ℕ → Result Draft Refusal
-with_image draft place value = if length value == 0 then Err (Value place image_key) else Ok (record draft { file = Some place })
+abbrev pub file_given : ℕ → Key → List ℕ → Result ℕ Refusal
+file_given place key value = if length value == 0 then Err (Value place key) else Ok place
 
 abbrev pub with_given : Draft → ℕ → Key → List ℕ → Result Draft Refusal
-with_given draft place Word value = with_number draft place value
-with_given draft place File value = with_file draft place value
-with_given draft place Names value = with_names draft place value
-with_given draft place image_key value = with_image draft place value
+with_given draft place Word value = word_given place value >>= λ word. Ok (record draft { word = Some word })
+with_given draft place File value = file_given place File value >>= λ file. Ok (record draft { file = Some file })
+with_given draft place Names value = file_given place Names value >>= λ file. Ok (record draft { names = Some file })
+with_given draft place image_key value = file_given place image_key value >>= λ file. Ok (record draft { file = Some file })
 with_given draft place Last value = Err (Unknown place)
 
 abbrev pub with_value : Draft → ℕ → Key → List ℕ → Result Draft Refusal
@@ -102,28 +94,25 @@ with_key draft place (Some key) value = with_value draft place key value
 with_key draft place None value = Err (Unknown place)
 
 -- the draft with what a word sets
-unfoldable pub with_word : Verb → ℕ → List ℕ → Draft → Result Draft Refusal
-with_word verb place word draft =
-    if has_equals word then with_key draft place (key_for (keys_of verb) (key_in word)) (value_in word) else Err (Unknown place)
+unfoldable pub with_word : Topic → ℕ → List ℕ → Draft → Result Draft Refusal
+with_word topic place word draft =
+    if has_equals word then with_key draft place (key_for (keys_of topic) (key_in word)) (value_in word) else Err (Unknown place)
 
 -- the draft after all words from a place on, or the first refusal
-abbrev pub draft_of : Verb → ℕ → List (List ℕ) → Draft → Result Draft Refusal
-draft_of verb place [] draft = Ok draft
-draft_of verb place (word ∷ words) draft = with_word verb place word draft >>= draft_of verb (place + 1) words
+abbrev pub draft_of : Topic → ℕ → List (List ℕ) → Draft → Result Draft Refusal
+draft_of topic place [] draft = Ok draft
+draft_of topic place (word ∷ words) draft = with_word topic place word draft >>= draft_of topic (place + 1) words
 
 -- the command of a draft
-abbrev pub made : Verb → Draft → Result Look Refusal
+abbrev pub made : Topic → Draft → Result Look Refusal
 made ToInfo draft = ok_or draft.word (Missing Word) >>= λ word. Ok (Info word)
 made ToTrace draft = ok_or draft.file (Missing File) >>= λ file. Ok (Trace file draft.names)
 made ToPicture draft = ok_or draft.file (Missing File) >>= λ file. Ok (Picture file draft.names)
 made ToFork draft = ok_or draft.file (Missing File) >>= λ file. Ok (Fork file)
 made ToImage draft = ok_or draft.file (Missing image_key) >>= λ file. Ok (Image file)
-made ToMap draft = Ok Map
-made ToEnd draft = Ok (End 16)
-made ToWords draft = Ok Words
 
-abbrev pub command_by : Verb → List (List ℕ) → Result Look Refusal
-command_by verb words = draft_of verb 1 words nothing >>= made verb
+abbrev pub command_by : Topic → List (List ℕ) → Result Look Refusal
+command_by topic words = draft_of topic 1 words nothing >>= made topic
 
 -- whether a word has this key
 abbrev pub has_key : List ℕ → List ℕ → Bool
@@ -152,13 +141,15 @@ abbrev pub last_given : ℕ → List ℕ → Option ℕ → Result ℕ Refusal
 last_given place word (Some count) = Err (Twice place)
 last_given place word None = last_in place (decimal_number (value_in word))
 
--- `end` takes the words of a run but `save`, and one of its own
+-- `end` takes the words of a run but `save`, and one of its own: the number of steps behind a word
+abbrev pub last_by : ℕ → List ℕ → Option ℕ → Result (Option ℕ) Refusal
+last_by place word last =
+    if has_key (codes "save") word then Err (Unknown place)
+    else (if is_last word then (last_given place word last >>= λ count. Ok (Some count)) else Ok last)
+
 abbrev pub end_of : ℕ → List (List ℕ) → Option ℕ → Result Look Refusal
 end_of place [] last = Ok (End (unwrap_or last 16))
-end_of place (word ∷ words) last =
-    if has_key (codes "save") word then Err (Unknown place)
-    else (if is_last word then (last_given place word last >>= λ count. end_of (place + 1) words (Some count))
-    else end_of (place + 1) words last)
+end_of place (word ∷ words) last = last_by place word last >>= end_of (place + 1) words
 
 -- the words of mixedrun for those of `map` and `end`
 abbrev pub run_words : List (List ℕ) → List (List ℕ)
@@ -167,14 +158,10 @@ run_words (command ∷ words) = codes "run" ∷ filter (λ word. not (is_last wo
 
 -- `words` takes whatever follows
 abbrev pub by_verb : Option Verb → List (List ℕ) → Result Look Refusal
-by_verb (Some ToWords) words = Ok Words
-by_verb (Some ToInfo) words = command_by ToInfo words
-by_verb (Some ToTrace) words = command_by ToTrace words
-by_verb (Some ToPicture) words = command_by ToPicture words
-by_verb (Some ToFork) words = command_by ToFork words
-by_verb (Some ToImage) words = command_by ToImage words
+by_verb (Some (Of topic)) words = command_by topic words
 by_verb (Some ToMap) words = map_of 1 words
 by_verb (Some ToEnd) words = end_of 1 words None
+by_verb (Some ToWords) words = Ok Words
 by_verb None words = Err Command
 
 abbrev pub look_of : List (List ℕ) → Result Look Refusal

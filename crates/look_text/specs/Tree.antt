@@ -11,26 +11,27 @@ use Rattle.call_trace.specs.Events.{args_of}
 use Rattle.call_trace.specs.declared.event.Crossing.{Crossing}
 use Rattle.call_trace.specs.declared.event.Event.{Event}
 use Rattle.call_trace.specs.declared.event.Event.TheVariants.{Called, Returned, Asked, Ended}
+use Rattle.look_text.specs.Pieces.{joined}
 
--- a value behind the word for its size
-abbrev pub sized_text : Size → ℕ → List ℕ
-sized_text Zero v = codes "nothing"
-sized_text One v = codes "byte " ++ hexadecimal 2 v
-sized_text Two v = codes "word " ++ hexadecimal 4 v
-sized_text Four v = codes "long " ++ hexadecimal 8 v
+-- a value behind a mark and the word for its size
+abbrev pub sized_text : List ℕ → Size → ℕ → List ℕ
+sized_text mark Zero v = joined (mark ∷ codes "nothing" ∷ [])
+sized_text mark One v = joined (mark ∷ codes "byte " ∷ hexadecimal 2 v ∷ [])
+sized_text mark Two v = joined (mark ∷ codes "word " ∷ hexadecimal 4 v ∷ [])
+sized_text mark Four v = joined (mark ∷ codes "long " ∷ hexadecimal 8 v ∷ [])
 
 -- arguments, the first one behind a mark
 abbrev pub args_text : List ℕ → List Param → List ℕ → List ℕ
 args_text mark [] vs = []
 args_text mark (p ∷ ps) [] = []
-args_text mark (p ∷ ps) (v ∷ vs) = mark ++ sized_text p.size v ++ args_text (codes ", ") ps vs
+args_text mark (p ∷ ps) (v ∷ vs) = sized_text mark p.size v ++ args_text (codes ", ") ps vs
 
 -- the selector and the arguments of a call
 abbrev pub selected_text : Size → List Param → ℕ → List ℕ → List ℕ
 selected_text Zero ps selector vs = args_text (codes ": ") ps vs
-selected_text One ps selector vs = codes ": selector " ++ sized_text One selector ++ args_text (codes ", ") ps vs
-selected_text Two ps selector vs = codes ": selector " ++ sized_text Two selector ++ args_text (codes ", ") ps vs
-selected_text Four ps selector vs = codes ": selector " ++ sized_text Four selector ++ args_text (codes ", ") ps vs
+selected_text One ps selector vs = sized_text (codes ": selector ") One selector ++ args_text (codes ", ") ps vs
+selected_text Two ps selector vs = sized_text (codes ": selector ") Two selector ++ args_text (codes ", ") ps vs
+selected_text Four ps selector vs = sized_text (codes ": selector ") Four selector ++ args_text (codes ", ") ps vs
 
 abbrev pub values_text : Signature → Crossing → List ℕ
 values_text s c = selected_text s.selector s.params c.selector (args_of c)
@@ -38,16 +39,13 @@ values_text s c = selected_text s.selector s.params c.selector (args_of c)
 -- a call of a routine with a name
 abbrev pub called_text : List ℕ → Crossing → List ℕ
 called_text name c =
-    set_name (caller_isa c.kind) ++ codes " to " ++ set_name (callee_isa c.kind) ++ codes " " ++ name ++ values_text (signature_in c.info) c
-
--- a result
-abbrev pub result_text : Size → ℕ → List ℕ
-result_text size value = codes "gave " ++ sized_text size value
+    joined (set_name (caller_isa c.kind) ∷ codes " to " ∷ set_name (callee_isa c.kind) ∷ codes " " ∷ name ∷ [])
+    ++ values_text (signature_in c.info) c
 
 -- an event; what is neither a call nor a return stays as its line is
 abbrev pub event_text : List ℕ → List ℕ → Event → List ℕ
 event_text name line (Called c) = called_text name c
-event_text name line (Returned size value) = result_text size value
+event_text name line (Returned size value) = sized_text (codes "gave ") size value
 event_text name line (Asked slot word answer) = line
 event_text name line (Ended end) = line
 

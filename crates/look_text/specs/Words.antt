@@ -1,5 +1,5 @@
--- Words of sizes, conventions, rules and condition bits.
-use Rattle.std.specs.Prelude.{ℕ, ◌==◌, List, codes, if◌then◌else◌}
+-- Words of sizes, conventions and rules.
+use Rattle.std.specs.Prelude.{ℕ, List, codes}
 use Rattle.mix_bits.specs.declared.size.Size.{Size}
 use Rattle.mix_bits.specs.declared.size.Size.TheVariants.{Zero, One, Two, Four}
 use Rattle.proc_info.specs.declared.bad_info.BadInfo.{BadInfo}
@@ -28,11 +28,3 @@ rule_text TopBit = codes "2, TopBit: bit 31 is set in a register convention"
 rule_text Place = codes "3, Place: bits 6 to 10 are no place of a result, or name one where there is no result"
 rule_text Gap = codes "4, Gap: the selector has no size, or something stands behind the last parameter"
 rule_text Twice = codes "5, Twice: a register is named by two parameters"
-
--- a condition bit by its number in a procInfo
-abbrev pub flag_name : ℕ → List ℕ
-flag_name code =
-    if code == 16 then codes "condition bit C"
-    else (if code == 17 then codes "condition bit V"
-    else (if code == 18 then codes "condition bit Z"
-    else (if code == 19 then codes "condition bit N" else codes "condition bit X")))

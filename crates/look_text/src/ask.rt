@@ -10,9 +10,10 @@ use std::alloc::Global;
 pub fn is_refused(alloc: Global, command: &str, word: &str) -> Result<bool, NoMemory>
     ensures { IfOk result (λ refused. refused ≡ is_refused command.now word.now) }
 {
-    let mut words = Vec::new(alloc);
-    words.push(String::from_str(alloc, command)?)?;
-    words.push(String::from_str(alloc, word)?)?;
+    let words = [
+        String::from_str(alloc, command)?,
+        String::from_str(alloc, word)?,
+    ];
     Ok(match read_words(&words) {
         Ok(_) => false,
         Err(bad) => bad.place == 1,

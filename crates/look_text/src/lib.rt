@@ -24,7 +24,7 @@ mod words;
 
 pub use info::info_text;
 pub use label::Label;
-pub use line::{Piece, add_line};
+pub use line::{Piece, add_line, line_of};
 pub use look::{Key, Look, Refusal, read_look};
 pub use pieces::{add, add_bytes, add_hex};
 pub use program::run_words;

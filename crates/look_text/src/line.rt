@@ -1,9 +1,12 @@
 // Lines of pieces.
-ghost use Rattle.std.specs.Prelude.{◌≡◌, ◌++◌, OnOk, map};
+ghost use Rattle.std.specs.Prelude.{◌≡◌, ◌++◌, IfOk, OnOk, map};
 ghost use Rattle.look_text.specs.Pieces.{address_text, joined, piece_text};
 
 use super::pieces::{add, add_bytes, add_dec, add_hex};
+use super::place::{add_place, add_ppc_word};
 use mix_bits::NoMemory;
+use mode_switch::Place;
+use std::alloc::Global;
 
 /// A piece of a line.
 #[derive(Clone, Copy)]
@@ -18,6 +21,19 @@ pub enum Piece<'a> {
     Long(u32),
     /// Eight hexadecimal digits, or that the address has more.
     Address(u64),
+    /// A place in 68K code.
+    Place(Place),
+    /// The place of a word of a PowerPC call, counted from 0.
+    PpcWord(u8),
+}
+
+/// The text of pieces.
+pub fn line_of(alloc: Global, pieces: &[Piece]) -> Result<Vec<u8>, NoMemory>
+    ensures { IfOk result (λ text. text.items ≡ joined (map piece_text pieces.now)) }
+{
+    let mut text = Vec::new(alloc);
+    add_line(&mut text, pieces)?;
+    Ok(text)
 }
 
 /// Appends pieces, one behind the other.
@@ -44,6 +60,8 @@ fn add_piece(text: &mut Vec<u8>, piece: Piece) -> Result<(), NoMemory>
         Piece::Word(v) => add_hex(text, v, 4),
         Piece::Long(v) => add_hex(text, v, 8),
         Piece::Address(address) => add_address(text, address),
+        Piece::Place(place) => add_place(text, place),
+        Piece::PpcWord(word) => add_ppc_word(text, word),
     }
 }
 

@@ -2,7 +2,7 @@
 ghost use Rattle.std.specs.Prelude.{◌≡◌, ◌+◌, ◌^◌, ◌<◌, length, map};
 ghost use Rattle.std.specs.Option.{ok_or};
 ghost use Rattle.std.specs.String.{string_bytes};
-ghost use Rattle.look_text.specs.Looks.{command_by, draft_of, is_given as is_given_in, key_for, key_text, keys_of, look_of, made, verb_for, verb_in, verb_text, with_file as draft_file, with_image as draft_image, with_names as draft_names, with_value as draft_with, with_word, with_number as draft_word};
+ghost use Rattle.look_text.specs.Looks.{by_verb, command_by, draft_of, file_given, is_given as is_given_in, key_for, key_text, keys_of, look_of, made, topic_text, verb_in, verb_text, with_given as draft_given, with_value as draft_with, with_word, word_given};
 
 use super::program::{read_end, read_map};
 use mix_bits::read_hexadecimal;
@@ -58,25 +58,32 @@ pub enum Key {
 /// The command that the first word is.
 #[derive(Clone, Copy)]
 pub enum Verb {
+    /// One whose words give a draft.
+    Of(Topic),
+    ToMap,
+    ToEnd,
+    ToWords,
+}
+
+/// A command whose words give a draft.
+#[derive(Clone, Copy)]
+pub enum Topic {
     ToInfo,
     ToTrace,
     ToPicture,
     ToFork,
-    ToMap,
-    ToEnd,
     ToImage,
-    ToWords,
 }
 
 impl Verb {
     const ALL: [Verb; 8] = [
-        Verb::ToInfo,
-        Verb::ToTrace,
-        Verb::ToPicture,
-        Verb::ToFork,
+        Verb::Of(Topic::ToInfo),
+        Verb::Of(Topic::ToTrace),
+        Verb::Of(Topic::ToPicture),
+        Verb::Of(Topic::ToFork),
+        Verb::Of(Topic::ToImage),
         Verb::ToMap,
         Verb::ToEnd,
-        Verb::ToImage,
         Verb::ToWords,
     ];
 
@@ -85,14 +92,38 @@ impl Verb {
         ensures { result.now ≡ verb_text self }
     {
         match self {
-            Verb::ToInfo => "info",
-            Verb::ToTrace => "trace",
-            Verb::ToPicture => "picture",
-            Verb::ToFork => "fork",
+            Verb::Of(topic) => topic.text(),
             Verb::ToMap => "map",
             Verb::ToEnd => "end",
-            Verb::ToImage => "image",
             Verb::ToWords => "words",
+        }
+    }
+}
+
+impl Topic {
+    /// The word for the command.
+    fn text(self) -> &'static str
+        ensures { result.now ≡ topic_text self }
+    {
+        match self {
+            Topic::ToInfo => "info",
+            Topic::ToTrace => "trace",
+            Topic::ToPicture => "picture",
+            Topic::ToFork => "fork",
+            Topic::ToImage => "image",
+        }
+    }
+
+    /// The keys that the command knows.
+    fn keys(self) -> &'static [Key]
+        ensures { result.now ≡ keys_of self }
+    {
+        match self {
+            Topic::ToInfo => &[Key::Word],
+            Topic::ToTrace => &[Key::File, Key::Names],
+            Topic::ToPicture => &[Key::File, Key::Names],
+            Topic::ToFork => &[Key::File],
+            Topic::ToImage => &[Key::Image],
         }
     }
 }
@@ -105,38 +136,28 @@ pub struct Draft {
     pub names: Option<usize>,
 }
 
-/// The keys that each command knows.
-const INFO: [Key; 1] = [Key::Word];
-
-const TRACE: [Key; 2] = [Key::File, Key::Names];
-
-const FORK: [Key; 1] = [Key::File];
-
-const IMAGE: [Key; 1] = [Key::Image];
-
-const WORDS: [Key; 0] = [];
-
 /// Reads the words of a command line.
 pub fn read_look(words: &[String]) -> Result<Look, Refusal>
     ensures { result ≡ look_of (map string_bytes words.now) }
 {
     match words {
         [] => Err(Refusal::Empty),
-        [command, rest @ ..] => match verb_named(command.as_str()) {
-            Some(Verb::ToWords) => Ok(Look::Words),
-            Some(Verb::ToMap) => read_map(1, rest),
-            Some(Verb::ToEnd) => read_end(1, rest, None),
-            Some(verb) => read_command(verb, rest),
-            None => Err(Refusal::Command),
-        },
+        [command, rest @ ..] => read_behind(find_verb(&Verb::ALL, command.as_str()), rest),
     }
 }
 
-/// The command of a first word.
-fn verb_named(word: &str) -> Option<Verb>
-    ensures { result ≡ verb_for word.now }
+/// Reads the words behind a command.
+fn read_behind(verb: Option<Verb>, words: &[String]) -> Result<Look, Refusal>
+    requires { 1 + length words.now < 2 ^ 64 }
+    ensures { result ≡ by_verb verb (map string_bytes words.now) }
 {
-    find_verb(&Verb::ALL, word)
+    match verb {
+        Some(Verb::Of(topic)) => read_command(topic, words),
+        Some(Verb::ToMap) => read_map(1, words),
+        Some(Verb::ToEnd) => read_end(1, words, None),
+        Some(Verb::ToWords) => Ok(Look::Words),
+        None => Err(Refusal::Command),
+    }
 }
 
 /// The first of these commands that has a word.
@@ -151,28 +172,33 @@ fn find_verb(verbs: &[Verb], word: &str) -> Option<Verb>
     None
 }
 
-/// Reads the words behind a command.
-fn read_command(verb: Verb, words: &[String]) -> Result<Look, Refusal>
+/// Reads the words behind a command, which give a draft.
+fn read_command(topic: Topic, words: &[String]) -> Result<Look, Refusal>
     requires { 1 + length words.now < 2 ^ 64 }
-    ensures { result ≡ command_by verb (map string_bytes words.now) }
+    ensures { result ≡ command_by topic (map string_bytes words.now) }
 {
     let nothing = Draft {
         word: None,
         file: None,
         names: None,
     };
-    make(verb, read_settings(verb, 1, words, nothing)?)
+    make(topic, read_settings(topic, 1, words, nothing)?)
 }
 
 /// Reads the words from place `place` on.
-fn read_settings(verb: Verb, place: usize, words: &[String], draft: Draft) -> Result<Draft, Refusal>
+fn read_settings(
+    topic: Topic,
+    place: usize,
+    words: &[String],
+    draft: Draft,
+) -> Result<Draft, Refusal>
     requires { place + length words.now < 2 ^ 64 }
-    ensures { result ≡ draft_of verb place (map string_bytes words.now) draft }
+    ensures { result ≡ draft_of topic place (map string_bytes words.now) draft }
 {
     match words {
         [] => Ok(draft),
-        [word, rest @ ..] => match read_word(verb, place, word.as_str(), draft) {
-            Ok(next) => read_settings(verb, place + 1, rest, next),
+        [word, rest @ ..] => match read_word(topic, place, word.as_str(), draft) {
+            Ok(next) => read_settings(topic, place + 1, rest, next),
             Err(refusal) => Err(refusal),
         },
     }
@@ -180,31 +206,15 @@ fn read_settings(verb: Verb, place: usize, words: &[String], draft: Draft) -> Re
 
 /// The draft with what a word sets.
 #[tactic(auto, unfolding(crate::specs::Looks::with_word))]
-fn read_word(verb: Verb, place: usize, word: &str, draft: Draft) -> Result<Draft, Refusal>
-    ensures { result ≡ with_word verb place word.now draft }
+fn read_word(topic: Topic, place: usize, word: &str, draft: Draft) -> Result<Draft, Refusal>
+    ensures { result ≡ with_word topic place word.now draft }
 {
     match word.split_once('=') {
-        Some((key, value)) => match find(keys(verb), key) {
+        Some((key, value)) => match find(topic.keys(), key) {
             Some(key) => set(draft, place, key, value),
             None => Err(Refusal::Unknown(place)),
         },
         None => Err(Refusal::Unknown(place)),
-    }
-}
-
-/// The keys that a command knows.
-fn keys(verb: Verb) -> &'static [Key]
-    ensures { result.now ≡ keys_of verb }
-{
-    match verb {
-        Verb::ToInfo => &INFO,
-        Verb::ToTrace => &TRACE,
-        Verb::ToPicture => &TRACE,
-        Verb::ToFork => &FORK,
-        Verb::ToImage => &IMAGE,
-        Verb::ToMap => &WORDS,
-        Verb::ToEnd => &WORDS,
-        Verb::ToWords => &WORDS,
     }
 }
 
@@ -240,14 +250,9 @@ fn set(draft: Draft, place: usize, key: Key, value: &str) -> Result<Draft, Refus
     ensures { result ≡ draft_with draft place key value.now }
 {
     if is_given(&draft, key) {
-        return Err(Refusal::Twice(place));
-    }
-    match key {
-        Key::Word => set_word(draft, place, value),
-        Key::File => set_file(draft, place, value),
-        Key::Names => set_names(draft, place, value),
-        Key::Image => set_image(draft, place, value),
-        Key::Last => Err(Refusal::Unknown(place)),
+        Err(Refusal::Twice(place))
+    } else {
+        give(draft, place, key, value)
     }
 }
 
@@ -263,64 +268,54 @@ fn is_given(draft: &Draft, key: Key) -> bool
     }
 }
 
-fn set_word(mut draft: Draft, place: usize, value: &str) -> Result<Draft, Refusal>
-    ensures { result ≡ draft_word draft place value.now }
+/// The draft with the value of a key.
+fn give(mut draft: Draft, place: usize, key: Key, value: &str) -> Result<Draft, Refusal>
+    ensures { result ≡ draft_given draft place key value.now }
+{
+    match key {
+        Key::Word => draft.word = Some(word_in(place, value)?),
+        Key::File => draft.file = Some(named(place, key, value)?),
+        Key::Names => draft.names = Some(named(place, key, value)?),
+        Key::Image => draft.file = Some(named(place, key, value)?),
+        Key::Last => return Err(Refusal::Unknown(place)),
+    }
+    Ok(draft)
+}
+
+/// The procInfo word that a value is.
+fn word_in(place: usize, value: &str) -> Result<u32, Refusal>
+    ensures { result ≡ word_given place value.now }
 {
     match read_hexadecimal(value.as_bytes(), 8) {
-        Some(word) => {
-            draft.word = Some(word);
-            Ok(draft)
-        }
+        Some(word) => Ok(word),
         None => Err(Refusal::Value(place, Key::Word)),
     }
 }
 
-fn set_file(mut draft: Draft, place: usize, value: &str) -> Result<Draft, Refusal>
-    ensures { result ≡ draft_file draft place value.now }
+/// The place of a word whose value, the name of a file, is not empty.
+fn named(place: usize, key: Key, value: &str) -> Result<usize, Refusal>
+    ensures { result ≡ file_given place key value.now }
 {
     if value.is_empty() {
-        return Err(Refusal::Value(place, Key::File));
+        Err(Refusal::Value(place, key))
+    } else {
+        Ok(place)
     }
-    draft.file = Some(place);
-    Ok(draft)
-}
-
-fn set_names(mut draft: Draft, place: usize, value: &str) -> Result<Draft, Refusal>
-    ensures { result ≡ draft_names draft place value.now }
-{
-    if value.is_empty() {
-        return Err(Refusal::Value(place, Key::Names));
-    }
-    draft.names = Some(place);
-    Ok(draft)
-}
-
-fn set_image(mut draft: Draft, place: usize, value: &str) -> Result<Draft, Refusal>
-    ensures { result ≡ draft_image draft place value.now }
-{
-    if value.is_empty() {
-        return Err(Refusal::Value(place, Key::Image));
-    }
-    draft.file = Some(place);
-    Ok(draft)
 }
 
 /// The command of a draft.
-fn make(verb: Verb, draft: Draft) -> Result<Look, Refusal>
-    ensures { result ≡ made verb draft }
+fn make(topic: Topic, draft: Draft) -> Result<Look, Refusal>
+    ensures { result ≡ made topic draft }
 {
-    match verb {
-        Verb::ToInfo => match draft.word {
+    match topic {
+        Topic::ToInfo => match draft.word {
             Some(word) => Ok(Look::Info(word)),
             None => Err(Refusal::Missing(Key::Word)),
         },
-        Verb::ToTrace => Ok(Look::Trace(needed(draft.file, Key::File)?, draft.names)),
-        Verb::ToPicture => Ok(Look::Picture(needed(draft.file, Key::File)?, draft.names)),
-        Verb::ToFork => Ok(Look::Fork(needed(draft.file, Key::File)?)),
-        Verb::ToImage => Ok(Look::Image(needed(draft.file, Key::Image)?)),
-        Verb::ToMap => Ok(Look::Map),
-        Verb::ToEnd => Ok(Look::End(16)),
-        Verb::ToWords => Ok(Look::Words),
+        Topic::ToTrace => Ok(Look::Trace(needed(draft.file, Key::File)?, draft.names)),
+        Topic::ToPicture => Ok(Look::Picture(needed(draft.file, Key::File)?, draft.names)),
+        Topic::ToFork => Ok(Look::Fork(needed(draft.file, Key::File)?)),
+        Topic::ToImage => Ok(Look::Image(needed(draft.file, Key::Image)?)),
     }
 }
 

@@ -1,7 +1,7 @@
 // The words of the commands that load a program: mixedrun judges most of them.
 ghost use Rattle.std.specs.Prelude.{◌≡◌, ◌+◌, ◌^◌, ◌<◌, ◌≤◌, ◌++◌, ◌∷◌, [], if◌then◌else◌, not, IfOk, OnOk, filter, length, map};
 ghost use Rattle.std.specs.String.{string_bytes};
-ghost use Rattle.look_text.specs.Looks.{end_of, has_key as has_key_by, is_last as is_last_by, is_unmapped as is_unmapped_by, last_given, last_in, map_of, run_words as run_words_of};
+ghost use Rattle.look_text.specs.Looks.{end_of, has_key as has_key_by, is_last as is_last_by, is_unmapped as is_unmapped_by, last_by, last_given, last_in, map_of, run_words as run_words_of};
 
 use super::look::{Key, Look, Refusal};
 use mix_bits::{NoMemory, read_decimal};
@@ -70,16 +70,23 @@ pub fn read_end(place: usize, words: &[String], last: Option<u32>) -> Result<Loo
 {
     match words {
         [] => Ok(Look::End(last.unwrap_or(FEW))),
-        [word, rest @ ..] => {
-            if has_key(word.as_str(), "save") {
-                Err(Refusal::Unknown(place))
-            } else if is_last(word.as_str()) {
-                let count = give_last(place, word.as_str(), last)?;
-                read_end(place + 1, rest, Some(count))
-            } else {
-                read_end(place + 1, rest, last)
-            }
-        }
+        [word, rest @ ..] => match read_last(place, word.as_str(), last) {
+            Ok(last) => read_end(place + 1, rest, last),
+            Err(refusal) => Err(refusal),
+        },
+    }
+}
+
+/// The number of steps behind a word of `end`.
+fn read_last(place: usize, word: &str, last: Option<u32>) -> Result<Option<u32>, Refusal>
+    ensures { result ≡ last_by place word.now last }
+{
+    if has_key(word, "save") {
+        Err(Refusal::Unknown(place))
+    } else if is_last(word) {
+        Ok(Some(give_last(place, word, last)?))
+    } else {
+        Ok(last)
     }
 }
 
@@ -89,11 +96,11 @@ fn give_last(place: usize, word: &str, last: Option<u32>) -> Result<u32, Refusal
 {
     match last {
         Some(_) => Err(Refusal::Twice(place)),
-        None => read_last(place, word),
+        None => last_in_word(place, word),
     }
 }
 
-fn read_last(place: usize, word: &str) -> Result<u32, Refusal>
+fn last_in_word(place: usize, word: &str) -> Result<u32, Refusal>
     ensures { result ≡ last_given place word.now None }
 {
     match word.split_once('=') {

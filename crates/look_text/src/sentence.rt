@@ -14,34 +14,25 @@ use std::alloc::{AllocError, Global};
 pub fn refusal_text(alloc: Global, words: &[String], refusal: Refusal) -> Result<String, NoMemory>
     ensures { IfOk result (λ text. string_bytes text ≡ refusal_of (map string_bytes words.now) refusal) }
 {
-    Ok(refusal_sentence(alloc, words, refusal)?)
+    let (word, said, wants) = refused(words, refusal);
+    Ok(format!(in alloc; "{word}{said}{wants}")?)
 }
 
-fn refusal_sentence(alloc: Global, words: &[String], refusal: Refusal) -> Result<String, AllocError>
-    ensures { IfOk result (λ text. string_bytes text ≡ refusal_of (map string_bytes words.now) refusal) }
+/// The word or the key that is refused or missing, what is said of it, and what a key wants.
+fn refused<'a>(words: &'a [String], refusal: Refusal) -> (&'a str, &'a str, &'a str)
+    ensures { result.0.now ++ (result.1.now ++ result.2.now) ≡ refusal_of (map string_bytes words.now) refusal }
 {
     match refusal {
-        Refusal::Empty => String::from_str(alloc, "a command is missing"),
-        Refusal::Command => {
-            let word = word_at(words, 0);
-            format!(in alloc; "{word} is no command")
-        }
-        Refusal::Unknown(place) => {
-            let word = word_at(words, place);
-            format!(in alloc; "{word} is no KEY=VALUE of this command")
-        }
-        Refusal::Twice(place) => {
-            let word = word_at(words, place);
-            format!(in alloc; "{word}: the key stands twice")
-        }
-        Refusal::Value(place, key) => {
-            let (word, wants) = (word_at(words, place), key_wants(key));
-            format!(in alloc; "{word}: wants {wants}")
-        }
-        Refusal::Missing(key) => {
-            let (text, wants) = (key.text(), key_wants(key));
-            format!(in alloc; "{text}= is missing, {wants}")
-        }
+        Refusal::Empty => ("", "a command is missing", ""),
+        Refusal::Command => (word_at(words, 0), " is no command", ""),
+        Refusal::Unknown(place) => (
+            word_at(words, place),
+            " is no KEY=VALUE of this command",
+            "",
+        ),
+        Refusal::Twice(place) => (word_at(words, place), ": the key stands twice", ""),
+        Refusal::Value(place, key) => (word_at(words, place), ": wants ", key_wants(key)),
+        Refusal::Missing(key) => (key.text(), "= is missing, ", key_wants(key)),
     }
 }
 

@@ -1,12 +1,12 @@
 // The lines of a trace as a tree.
-ghost use Rattle.std.specs.Prelude.{◌≡◌, ◌⊎◌, ◌++◌, IfOk, OnOk};
-ghost use Rattle.mix_bits.specs.Text.{hexadecimal};
+ghost use Rattle.std.specs.Prelude.{◌≡◌, ◌++◌, IfOk, OnOk};
 ghost use Rattle.proc_info.specs.Signature.{signature_in};
 ghost use Rattle.proc_info.specs.Views.{signature};
 ghost use Rattle.call_trace.specs.Events.{args_of};
-ghost use Rattle.look_text.specs.Tree.{args_text, called_text, event_text, indent_text, result_text, sized_text, tree_of, values_text};
+ghost use Rattle.look_text.specs.Tree.{args_text, called_text, event_text, indent_text, sized_text, tree_of, values_text};
 
-use super::pieces::{add, add_bytes, add_hex};
+use super::line::{Piece, add_line};
+use super::pieces::{add, add_bytes};
 use call_trace::{Crossing, Event, set_name};
 use mix_bits::{NoMemory, Size};
 use proc_info::{Param, Sig, read};
@@ -45,7 +45,7 @@ fn add_event(text: &mut Vec<u8>, name: &[u8], line: &[u8], event: &Event) -> Res
 {
     match event {
         Event::Called(call) => add_call(text, name, call),
-        Event::Returned(size, value) => add_result(text, *size, *value),
+        Event::Returned(size, value) => add_sized(text, "gave ", *size, *value),
         Event::Asked(_, _, _) => add_bytes(text, line),
         Event::Ended(_) => add_bytes(text, line),
     }
@@ -56,11 +56,16 @@ fn add_event(text: &mut Vec<u8>, name: &[u8], line: &[u8], event: &Event) -> Res
 fn add_call(text: &mut Vec<u8>, name: &[u8], call: &Crossing) -> Result<(), NoMemory>
     ensures { OnOk result (text.new.items ≡ text.old.items ++ called_text name.now call.now) }
 {
-    add(text, set_name(call.kind.caller()))?;
-    add(text, " to ")?;
-    add(text, set_name(call.kind.callee()))?;
-    add(text, " ")?;
-    add_bytes(text, name)?;
+    add_line(
+        text,
+        &[
+            Piece::Text(set_name(call.kind.caller())),
+            Piece::Text(" to "),
+            Piece::Text(set_name(call.kind.callee())),
+            Piece::Text(" "),
+            Piece::Bytes(name),
+        ],
+    )?;
     add_values(text, &signature_for(call.info), call)
 }
 
@@ -75,14 +80,14 @@ pub fn signature_for(info: u32) -> Sig
 }
 
 /// Appends the selector and the arguments of a call.
+#[tactic(auto, using(std::proofs::Common::append_assoc))]
 fn add_values(text: &mut Vec<u8>, sig: &Sig, call: &Crossing) -> Result<(), NoMemory>
     ensures { OnOk result (text.new.items ≡ text.old.items ++ values_text (signature sig.now) call.now) }
 {
     match sig.selector {
         Size::Zero => add_args(text, ": ", sig.params(), args(call)),
-        _ => {
-            add(text, ": selector ")?;
-            add_sized(text, sig.selector, call.selector)?;
+        size => {
+            add_sized(text, ": selector ", size, call.selector)?;
             add_args(text, ", ", sig.params(), args(call))
         }
     }
@@ -95,7 +100,7 @@ fn args(call: &Crossing) -> &[u32]
     &call.args[..usize::from(call.count).min(13)]
 }
 
-/// Appends arguments with their sizes.
+/// Appends arguments with their sizes, the first one behind a mark.
 #[tactic(auto, using(std::proofs::Common::append_assoc))]
 fn add_args(text: &mut Vec<u8>, mark: &str, params: &[Param], args: &[u32]) -> Result<(), NoMemory>
     ensures { OnOk result (text.new.items ≡ text.old.items ++ args_text mark.now params.now args.now) }
@@ -105,40 +110,30 @@ fn add_args(text: &mut Vec<u8>, mark: &str, params: &[Param], args: &[u32]) -> R
         [param, params @ ..] => match args {
             [] => Ok(()),
             [arg, args @ ..] => {
-                add(text, mark)?;
-                add_sized(text, param.size, *arg)?;
+                add_sized(text, mark, param.size, *arg)?;
                 add_args(text, ", ", params, args)
             }
         },
     }
 }
 
-/// Appends a value behind the word for its size.
-fn add_sized(text: &mut Vec<u8>, size: Size, value: u32) -> Result<(), NoMemory>
-    ensures { OnOk result (text.new.items ≡ text.old.items ++ sized_text size value) }
+/// Appends a value behind a mark and the word for its size.
+fn add_sized(text: &mut Vec<u8>, mark: &str, size: Size, value: u32) -> Result<(), NoMemory>
+    ensures { OnOk result (text.new.items ≡ text.old.items ++ sized_text mark.now size value) }
 {
     match size {
-        Size::Zero => add(text, "nothing"),
-        Size::One => add_value(text, "byte ", value, 2),
-        Size::Two => add_value(text, "word ", value, 4),
-        Size::Four => add_value(text, "long ", value, 8),
+        Size::Zero => add_line(text, &[Piece::Text(mark), Piece::Text("nothing")]),
+        Size::One => add_line(
+            text,
+            &[Piece::Text(mark), Piece::Text("byte "), Piece::Byte(value)],
+        ),
+        Size::Two => add_line(
+            text,
+            &[Piece::Text(mark), Piece::Text("word "), Piece::Word(value)],
+        ),
+        Size::Four => add_line(
+            text,
+            &[Piece::Text(mark), Piece::Text("long "), Piece::Long(value)],
+        ),
     }
-}
-
-#[tactic(auto, using(std::proofs::Common::append_assoc))]
-fn add_value(text: &mut Vec<u8>, mark: &str, value: u32, digits: u32) -> Result<(), NoMemory>
-    requires { (digits ≡ 2) ⊎ (digits ≡ 4) ⊎ (digits ≡ 8) }
-    ensures { OnOk result (text.new.items ≡ text.old.items ++ (mark.now ++ hexadecimal digits value)) }
-{
-    add(text, mark)?;
-    add_hex(text, value, digits)
-}
-
-/// `gave SIZE VALUE`
-#[tactic(auto, using(std::proofs::Common::append_assoc))]
-fn add_result(text: &mut Vec<u8>, size: Size, value: u32) -> Result<(), NoMemory>
-    ensures { OnOk result (text.new.items ≡ text.old.items ++ result_text size value) }
-{
-    add(text, "gave ")?;
-    add_sized(text, size, value)
 }

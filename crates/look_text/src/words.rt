@@ -1,6 +1,6 @@
 // Words of sizes, conventions and rules.
 ghost use Rattle.std.specs.Prelude.{◌≡◌};
-ghost use Rattle.look_text.specs.Words.{conv_name as name_of_conv, flag_name as name_of_flag, rule_text as text_of_rule, size_name as name_of_size};
+ghost use Rattle.look_text.specs.Words.{conv_name as name_of_conv, rule_text as text_of_rule, size_name as name_of_size};
 
 use mix_bits::Size;
 use proc_info::{BadInfo, Conv};
@@ -46,18 +46,5 @@ pub fn rule_text(bad: BadInfo) -> &'static str
             "4, Gap: the selector has no size, or something stands behind the last parameter"
         }
         BadInfo::Twice => "5, Twice: a register is named by two parameters",
-    }
-}
-
-/// The condition bit with this number in a procInfo.
-pub fn flag_name(code: u8) -> &'static str
-    ensures { result.now ≡ name_of_flag code }
-{
-    match code {
-        16 => "condition bit C",
-        17 => "condition bit V",
-        18 => "condition bit Z",
-        19 => "condition bit N",
-        _ => "condition bit X",
     }
 }

@@ -6,7 +6,7 @@ use crate::names::Names;
 use crate::reading::Reading;
 use crate::tree::{name_of, write};
 use call_trace::{Crossing, Event};
-use look_text::{Piece, add, add_bytes, add_line, tree_line};
+use look_text::{Piece, add, add_bytes, add_line, line_of, tree_line};
 use mix_bits::{Isa, NoMemory};
 use std::alloc::Global;
 use std::io::{BufRead, Write};
@@ -204,16 +204,14 @@ impl Picture {
 
 /// What is said of calls that are not drawn.
 fn note(alloc: Global, calls: u32) -> Result<Vec<u8>, NoMemory> {
-    let mut text = Vec::new(alloc);
-    add_line(
-        &mut text,
+    line_of(
+        alloc,
         &[
             Piece::Text("the first 1000 of "),
             Piece::Number(calls),
             Piece::Text(" calls\n"),
         ],
-    )?;
-    Ok(text)
+    )
 }
 
 /// A bar that ends so many rows below its first one.
@@ -264,9 +262,8 @@ fn add_letter(texts: &mut Vec<u8>, byte: u8) -> Result<(), NoMemory> {
 
 /// The front of a file of this size.
 fn front(alloc: Global, width: u32, height: u32) -> Result<Vec<u8>, NoMemory> {
-    let mut text = Vec::new(alloc);
-    add_line(
-        &mut text,
+    line_of(
+        alloc,
         &[
             Piece::Text("<svg xmlns=\"http://www.w3.org/2000/svg\" width=\""),
             Piece::Number(width),
@@ -274,8 +271,7 @@ fn front(alloc: Global, width: u32, height: u32) -> Result<Vec<u8>, NoMemory> {
             Piece::Number(height),
             Piece::Text(STYLE),
         ],
-    )?;
-    Ok(text)
+    )
 }
 
 /// Where the column of a set begins.

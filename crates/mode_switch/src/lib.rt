@@ -35,7 +35,10 @@ pub use laws::switch_laws;
 pub use m68_deliver::{below68, deliver68};
 pub use m68_gather::{gather68, select68};
 pub use m68_laws::{args68_laws, place68_laws, result68_laws};
-pub use m68_places::{width, widths};
+pub use m68_places::{
+    Flag, Place, Route, next_base, place_for, result_place, route_for, selector_place,
+    selector_width, widths,
+};
 pub use m68_results::{popped, put_result68, removed68, result68};
 pub use passed::{Entry, Passed, pass};
 pub use ppc_deliver::{below_ppc, deliver_ppc};

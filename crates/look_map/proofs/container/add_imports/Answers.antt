@@ -1,12 +1,8 @@
 -- One import more.
-use Rattle.std.proofs.Common.{◌≡◌, List, ℕ, ◌++◌, add-one, ap, append_assoc, ◌∙◌}
+use Rattle.std.proofs.Common.{add-one, ap}
 use Rattle.look_map.specs.Containers.{import_line}
+use Rattle.look_map.proofs.Lines.{next}
 use Rattle.look_map.proofs.container.add_imports.Goals as goal
-
--- one more piece behind those so far
-next : (new text old front line is : List ℕ) → new ≡ text ++ line → text ≡ old ++ front → line ≡ is → new ≡ old ++ (front ++ is)
-next new text old front line is made before same =
-    made ∙ ap (λ t. t ++ line) before ∙ append_assoc old front line ∙ ap (λ t. old ++ (front ++ t)) same
 
 pub loop-i-preserved : goal.loop-i-preserved
 loop-i-preserved c =
