@@ -1,11 +1,21 @@
 -- Laws of operands, of the words of an instruction, and of steps over them.
-use Rattle.std.specs.Prelude.{◌≡◌, ℕ, ◌+◌, ◌≤◌, Bool, false, length, drop, slice_index}
+use Rattle.std.specs.Prelude.{◌≡◌, ℕ, ◌+◌, ◌*◌, ◌≤◌, Bool, true, false, List, length, drop, slice_index, Ok, Err}
 use Rattle.byteorder.specs.Endian.{big_number}
+use Rattle.mix_bits.specs.declared.size.Size.{Size}
 use Rattle.mix_bits.specs.declared.fault.Fault.{Fault}
+use Rattle.mix_bits.specs.Addresses.{onward}
+use Rattle.mix_bits.specs.Results.{◌>>=◌}
 use Rattle.m68_isa.specs.declared.registers.Regs68.{Regs68}
+use Rattle.m68_isa.specs.declared.operand.Operand.{Operand}
+use Rattle.m68_isa.specs.Operands.{operand_at}
 use Rattle.big_memory.specs.Memory.{Memory}
 use Rattle.big_memory.specs.declared.steps.Did.{Did}
+use Rattle.big_memory.specs.declared.steps.Did.TheVariants.{Next}
 use Rattle.big_memory.specs.Steps.{After, Does}
+use Rattle.big_memory.specs.Steps.After.{Goes, Stops}
+use Rattle.m68_effects.specs.Operands.{sourced, unless_illegal}
+use Rattle.m68_effects.specs.Operations.{runs_with}
+use Rattle.m68_effects.specs.Parts.{Effect, after}
 use Rattle.m68_effects.specs.Usual.{Tries}
 use Rattle.m68_effects.specs.Words.{words_at}
 
@@ -19,3 +29,17 @@ OthersDo =
 pub record WordsLie : Type 0 where
   pub five : (pc : ℕ) (m : Memory) → length m.bytes ≤ 16777216 → pc + 10 ≤ length m.bytes → 5 ≤ length (words_at m pc)
   pub first : (pc : ℕ) (m : Memory) → length m.bytes ≤ 16777216 → pc + 10 ≤ length m.bytes → slice_index (words_at m pc) 0 ≡ big_number 2 (drop pc m.bytes)
+
+-- a step of a row that reads an operand first, which is made at its place in the words: where the operand is refused the
+-- step stops, else it is what the row does with the value; and it goes on where the registers behind it are known
+pub record ReadsFirst : Type 0 where
+  pub made : (ws : List ℕ) (size : Size) (at at_too mode mode_too lower lower_too : ℕ)
+      → at ≡ at_too → mode ≡ mode_too → lower ≡ lower_too → operand_at ws at size mode lower ≡ operand_at ws at_too size mode_too lower_too
+  pub refused : (r : Regs68) (m : Memory) (word : ℕ) (size : Size) (e made : Operand) (row : ℕ → Regs68 × ℕ → Effect) (cell : Fault)
+      → e ≡ made → unless_illegal r.pc word e.good (sourced r m size e.ea) ≡ Err cell
+      → runs_with r word made (λ n. sourced r m size made.ea >>= row n) ≡ Stops cell
+  pub taken : (r q : Regs68) (m : Memory) (word : ℕ) (size : Size) (e made : Operand) (v next : ℕ) (row : ℕ → Regs68 × ℕ → Effect)
+      → e ≡ made → e.good ≡ true → sourced r m size e.ea ≡ Ok (q, v) → next ≡ e.next
+      → runs_with r word made (λ n. sourced r m size made.ea >>= row n) ≡ after (row (onward r.pc (2 * next)) (q, v))
+  pub goes : (step : After Regs68) (r next last : Regs68) (did : Did) (cell : Fault) (m : Memory)
+      → did ≡ Next → step ≡ Goes last m → next ≡ last → Does step did cell r next m m

@@ -24,7 +24,7 @@ pub use changes::{
     change, change_by_immediate, change_by_register, change_operand, change_register, change_sized,
 };
 pub use laws::effect_laws;
-pub use operand_laws::{tried_laws, word_laws};
+pub use operand_laws::{reading_laws, tried_laws, word_laws};
 pub use operands::{Target, control, data_address, find, put, source, value};
 pub use operation::{Operation, apply};
 pub use places::{Place68, backward, place};

@@ -1,4 +1,4 @@
-ghost use Rattle.m68_effects.specs.OperandLaws.{OthersDo, WordsLie};
+ghost use Rattle.m68_effects.specs.OperandLaws.{OthersDo, ReadsFirst, WordsLie};
 
 /// What follows from the definitions of a step that is tried. It does nothing: the clause is its point.
 pub fn tried_laws()
@@ -8,4 +8,9 @@ pub fn tried_laws()
 /// What follows of the words of an instruction from where it lies. It does nothing: the clause is its point.
 pub fn word_laws()
     ensures { WordsLie }
+{}
+
+/// What follows from the definitions of a step that reads an operand first. It does nothing: the clause is its point.
+pub fn reading_laws()
+    ensures { ReadsFirst }
 {}
