@@ -1,4 +1,3 @@
 pub mod Statuses
 pub mod Told
-pub mod Registers
 pub mod Counted

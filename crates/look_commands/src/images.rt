@@ -3,12 +3,11 @@ ghost use Rattle.std.specs.Prelude.{◌≡◌, ◌≢◌, ◌≤◌, ◌⊎◌, 
 ghost use Rattle.switch_frame.specs.Records.{isa_of};
 ghost use Rattle.mixed_machine.specs.Machine.{IsWhole};
 
-use super::report;
 use crate::files::fetch;
-use crate::refused::image_text;
 use crate::said::{print, say};
 use crate::status::{NO_MEMORY, REFUSED};
 use crate::streams::Streams;
+use look_state::{image_text, report};
 use mix_bits::NoMemory;
 use mix_engine::Machine;
 use mix_image::{ImageError, restore};

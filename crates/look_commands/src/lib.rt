@@ -5,35 +5,24 @@
 //! handed on only as the other crates want them: the files of a proper job, and machines that are whole. `write_fork` and
 //! `write_map` are its `fork` and `map` over bytes and files that are given.
 //!
-//! `run_keeping` is one run of the machine, a step at a time, that keeps its last steps; `report` tells the state of a
-//! machine as text: how its run ended, its registers, frames, last steps, stack and heap. The text of the registers is
-//! exactly that of a definition; the rest is told by the calls that the other crates have for it.
+//! `run_keeping` is one run of the machine, a step at a time, that keeps its last steps.
 #![tactic(auto)]
 
 mod commands;
 mod files;
-mod frames;
 mod images;
-mod machine;
 mod maps;
-mod memory;
 mod program;
-mod refused;
-mod registers;
 mod run;
 mod runs;
 mod said;
 /// The statuses of a call.
 pub mod status;
-mod step;
-mod steps;
 mod streams;
 mod traces;
 
 pub use commands::{answer, write_fork};
-pub use machine::report;
 pub use maps::write_map;
-pub use run::{Ending, run_keeping};
+pub use run::run_keeping;
 pub use said::{print, tell};
-pub use step::Step;
 pub use streams::Streams;

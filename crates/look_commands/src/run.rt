@@ -11,17 +11,10 @@ ghost use Rattle.mixed_machine.specs.Outside.{at};
 ghost use Rattle.mix_io.specs.Streams.{output};
 ghost use Rattle.look_commands.specs.Counted.{RanSteps, ends as ends_at, is_done as is_done_at};
 
-use crate::step::{Step, step_at};
 use circular_buffer::HeapCircularBuffer;
+use look_state::{Ending, Step, step_at};
 use mix_engine::{Machine, Stop, run};
 use mix_io::{Devices, Sink, Source};
-
-/// How a run ended, and how many steps were done.
-#[derive(Clone, Copy)]
-pub struct Ending {
-    pub stop: Stop,
-    pub done: u32,
-}
 
 /// Runs at most `steps` steps, and puts each that is done behind those that are kept. The lines of calls, returns and asks
 /// go to the trace, as in any run.

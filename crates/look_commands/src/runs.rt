@@ -9,13 +9,14 @@ ghost use Rattle.mix_io.specs.Words.{command_of};
 ghost use Rattle.look_commands.specs.Statuses.{status_at};
 ghost use Rattle.look_commands.specs.Told.{IsLost, Loads, is_run};
 
-use super::{Ending, Step, report, run_keeping};
+use super::run_keeping;
 use crate::maps::refuse;
 use crate::program::{Request, fetch_files, requested};
 use crate::status::{INPUT_FAILED, NO_MEMORY, OUTPUT_FAILED, SUCCESS, TRACE_FAILED};
 use crate::streams::Streams;
 use call_trace::{End, put_end};
 use circular_buffer::HeapCircularBuffer;
+use look_state::{Ending, Step, report};
 use mix_bits::NoMemory;
 use mix_engine::{Machine, Stop};
 use mix_io::{Counter, Device, Devices, Failed, Rack, Sink, StdSink, StdSource, Tape};

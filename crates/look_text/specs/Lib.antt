@@ -9,3 +9,4 @@ pub mod Wants
 pub mod Reasons
 pub mod Whys
 pub mod Sentences
+pub mod Registers

@@ -6,12 +6,11 @@
 
 mod calls;
 mod error;
+mod files;
 mod names;
 mod picture;
 mod reading;
 mod tree;
 
 pub use error::LookError;
-pub use names::Names;
-pub use picture::write_picture;
-pub use tree::write_tree;
+pub use files::{Shape, Untold, write_trace};

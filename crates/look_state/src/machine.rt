@@ -4,15 +4,20 @@ ghost use Rattle.mixed_machine.specs.Machine.{IsWhole};
 
 use crate::frames::add_frames;
 use crate::memory::{add_heap, add_stack};
-use crate::registers::add_registers;
-use crate::run::Ending;
 use crate::step::{Step, step_at};
 use crate::steps::{add_step, add_steps};
 use call_trace::fault_name;
-use look_text::{Piece, add, add_line};
+use look_text::{Piece, add, add_line, add_registers};
 use mix_bits::{Fault, NoMemory};
 use mix_engine::{Machine, Stop};
 use std::alloc::Global;
+
+/// How a run ended, and how many steps were done.
+#[derive(Clone, Copy)]
+pub struct Ending {
+    pub stop: Stop,
+    pub done: u32,
+}
 
 /// How a run ended, if there was one, its last steps, and the machine as it is: the code at pc, the registers, the
 /// suspended callers from the innermost outward, the bytes around the stack pointer, and the heap.
