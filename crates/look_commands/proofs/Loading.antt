@@ -1,16 +1,21 @@
--- The files of a proper job can be loaded, and a machine that was restored is whole.
-use Rattle.std.proofs.Common.{◌≡◌, ℕ, List, Option, Some, None, refl, sym, ap, ◌∙◌, is_some, true≢false}
-use Rattle.std.specs.Prelude.{IfSome, IfNone, IsSome}
+-- The files of a proper job can be loaded, a machine that was restored is whole, and a program that was not had is told by
+-- its status.
+use Rattle.std.proofs.Common.{◌≡◌, ℕ, List, Option, Some, None, refl, sym, ap, ◌∙◌, is_some, true≢false, inl, inr, Bool, true, false}
+use Rattle.std.specs.Prelude.{Result, Ok, IfSome, IfNone, IsSome}
 use Rattle.mix_bits.specs.declared.isa.Isa.{Isa}
 use Rattle.mix_bits.specs.declared.isa.Isa.TheVariants.{M68, Ppc}
 use Rattle.mix_io.specs.Drafts.{main_file}
 use Rattle.mix_io.specs.Jobs.{IsProperJob}
+use Rattle.mix_io.specs.declared.job.BadWord.{BadWord}
+use Rattle.mix_io.specs.declared.job.Command.{Command}
+use Rattle.mix_io.specs.declared.job.Command.TheVariants.{Run}
 use Rattle.mix_io.specs.declared.job.Job.{Job}
 use Rattle.mix_load.specs.Load.{AreLoadable, IsAlone, IsSmall}
 use Rattle.switch_frame.specs.Records.{isa_of}
 use Rattle.mixed_machine.specs.Machine.{IsWhole}
 use Rattle.mix_engine.specs.declared.machine.Machine.{Machine}
 use Rattle.mix_image.specs.Spelling.{HasSpelling}
+use Rattle.look_commands.specs.Told.{IsUnmet, Loads, WritesMap, is_run}
 
 none : {A B : Type 0} (o : Option A) (q : Option B) → is_some o ≡ is_some q → q ≡ None → o ≡ None
 none None q same is = refl
@@ -35,3 +40,17 @@ loadable job flat rsrc pef proper e er ep small_flat small_rsrc small_pef =
 
 pub spelled_whole : (m : Machine) → HasSpelling m → IsWhole m.body (isa_of m.active)
 spelled_whole m spelled = spelled.whole
+
+pub unmet : (asked : Bool) → IsUnmet asked 9
+unmet true = inr (inr refl)
+unmet false = inr refl
+
+pub unmapped : (words : Result Command BadWord) (old new : Option (List ℕ)) (status : ℕ) → IsUnmet (is_run words) status → new ≡ old → WritesMap words old new status
+unmapped (Ok (Run job)) old new status lost same = inr (lost, same)
+unmapped words old new status lost same = (lost, same)
+
+pub unloaded : (asked : Bool) (old new : Option (List ℕ)) (status : ℕ) → IsUnmet asked status → new ≡ old → Loads asked old new status
+unloaded true old new status (inl lost) same = λ is. cc
+unloaded true old new status (inr (inl lost)) same = λ is. cc
+unloaded true old new status (inr (inr lost)) same = λ is. cc
+unloaded false old new status lost same = (lost, same)

@@ -41,6 +41,11 @@ abbrev pub behind : List (List ℕ) → List (List ℕ)
 behind [] = []
 behind (word ∷ words) = words
 
+-- the status where nothing came of words that ask for a run, or ask for none
+abbrev pub IsUnmet : Bool → ℕ → Type 0
+IsUnmet true status = IsLost status
+IsUnmet false status = (status ≡ 2) ⊎ (status ≡ 9)
+
 -- nothing is put, since there was no memory
 abbrev pub LacksMemory : Option (List ℕ) → Option (List ℕ) → ℕ → Type 0
 LacksMemory old new status = (status ≡ 9) × (new ≡ old)

@@ -1,22 +1,22 @@
 // What words ask for.
 ghost use Rattle.std.specs.Prelude.{◌≡◌, ◌^◌, ◌<◌, ◌++◌, IfOk, codes, length, map};
 ghost use Rattle.std.specs.String.{string_bytes};
-ghost use Rattle.look_text.specs.Info.{info_of};
 ghost use Rattle.look_text.specs.Sentences.{why_text as why_of};
 ghost use Rattle.look_text.specs.Whys.{Explains};
 ghost use Rattle.look_text.specs.declared.why.Why.{Why};
 ghost use Rattle.rsrc_fork.specs.Forks.{fork_of};
-ghost use Rattle.look_commands.specs.Told.{Answers, PutsFork, Writes, WritesFork, WritesWhy, behind};
+ghost use Rattle.look_commands.specs.Told.{Answers, PutsFork, WritesFork, WritesWhy, behind};
 
 use crate::files::{fetch, name_at};
 use crate::images::image;
 use crate::maps::map;
+use crate::program::sentence;
 use crate::runs::end;
-use crate::said::{print, say, tell};
+use crate::said::{print, print_made, say, tell};
 use crate::status::{BAD_WORDS, NO_MEMORY, REFUSED};
 use crate::streams::Streams;
 use crate::traces::trace;
-use look_text::{Look, Refusal, explain, info_text, read_look, refusal_text, why_text};
+use look_text::{Look, Refusal, info_text, read_look, refusal_text};
 use look_trace::Shape;
 use mix_bits::{File, NoMemory};
 use mix_io::Key;
@@ -52,7 +52,7 @@ fn obey<F: Files, R: Read + Drop, W: Write + Drop, E: Write + Drop>(
     ensures { Answers (map string_bytes words.now) (W.contents streams.old.out) (W.contents streams.new.out) result }
 {
     match read_look(words) {
-        Ok(Look::Info(word)) => info(alloc, word, &mut streams.out),
+        Ok(Look::Info(word)) => print_made(&mut streams.out, info_text(alloc, word)),
         Ok(Look::Trace(file, names)) => trace(
             alloc,
             files,
@@ -80,16 +80,6 @@ fn obey<F: Files, R: Read + Drop, W: Write + Drop, E: Write + Drop>(
     }
 }
 
-/// Writes what a procInfo word says.
-fn info<W: Write>(alloc: Global, word: u32, out: &mut W) -> u8
-    ensures { Writes (info_of word) (W.contents out.old) (W.contents out.new) result }
-{
-    match info_text(alloc, word) {
-        Ok(text) => print(out, &text),
-        Err(_) => NO_MEMORY,
-    }
-}
-
 /// Writes the raw fork of a file.
 fn fork<F: Files, R: Read + Drop, W: Write + Drop, E: Write + Drop>(
     alloc: Global,
@@ -99,8 +89,13 @@ fn fork<F: Files, R: Read + Drop, W: Write + Drop, E: Write + Drop>(
 ) -> u8
     ensures { WritesFork (W.contents streams.old.out) (W.contents streams.new.out) result }
 {
-    let most = Key::Program(File::Rsrc).limit();
-    match fetch(alloc, files, name, most, &mut streams.errors) {
+    match fetch(
+        alloc,
+        files,
+        name,
+        Key::Program(File::Rsrc),
+        &mut streams.errors,
+    ) {
         Ok(bytes) => write_fork(alloc, name, &bytes, streams),
         Err(status) => status,
     }
@@ -138,7 +133,7 @@ pub fn write_fork<R: Read + Drop, W: Write + Drop, E: Write + Drop>(
 fn why<W: Write>(alloc: Global, words: &[String], out: &mut W) -> u8
     ensures { WritesWhy (behind (map string_bytes words.now)) (W.contents out.old) (W.contents out.new) result }
 {
-    match sentence(alloc, asked(words)) {
+    match line(alloc, asked(words)) {
         Ok(text) => print(out, text.as_bytes()),
         Err(NoMemory) => NO_MEMORY,
     }
@@ -155,11 +150,10 @@ fn asked(words: &[String]) -> &[String]
 }
 
 /// Why mixedrun refuses words, as a line.
-fn sentence(alloc: Global, words: &[String]) -> Result<String, NoMemory>
+fn line(alloc: Global, words: &[String]) -> Result<String, NoMemory>
     ensures { IfOk result (λ text. (why : Why) × Explains (map string_bytes words.now) why × (string_bytes text ≡ why_of (map string_bytes words.now) why ++ codes "\n")) }
 {
-    let why = explain(alloc, words)?;
-    let mut text = why_text(alloc, words, why)?;
+    let mut text = sentence(alloc, words)?;
     text.push_str("\n")?;
     Ok(text)
 }

@@ -5,9 +5,9 @@ ghost use Rattle.look_text.specs.Looks.{run_words as run_words_of};
 ghost use Rattle.mix_io.specs.Jobs.{IsProperJob};
 ghost use Rattle.mix_io.specs.Words.{command_of};
 ghost use Rattle.mix_load.specs.Load.{AreLoadable, IsSmall};
-ghost use Rattle.look_commands.specs.Told.{MapsJob, PutsMapOf, PutsPieces, WritesMap};
+ghost use Rattle.look_commands.specs.Told.{PutsMapOf, PutsPieces, WritesMap};
 
-use crate::program::{Request, fetch_files, requested};
+use crate::program::requested;
 use crate::said::{print, say_bytes};
 use crate::status::{NO_MEMORY, REFUSED, SUCCESS};
 use crate::streams::Streams;
@@ -20,6 +20,7 @@ use std::io::{Read, Write};
 use std::rt::Files;
 
 /// Writes where the pieces lie of the program that words name.
+#[tactic(auto, using(crate::proofs::Loading::unmapped))]
 pub fn map<F: Files, R: Read + Drop, W: Write + Drop, E: Write + Drop>(
     alloc: Global,
     files: &F,
@@ -28,24 +29,8 @@ pub fn map<F: Files, R: Read + Drop, W: Write + Drop, E: Write + Drop>(
 ) -> u8
     ensures { WritesMap (command_of (run_words_of (map_list string_bytes words.now))) (W.contents streams.old.out) (W.contents streams.new.out) result }
 {
-    match requested(alloc, words, &mut streams.errors) {
-        Ok(request) => map_job(alloc, files, &request, streams),
-        Err(status) => status,
-    }
-}
-
-/// The same of what words ask mixedrun to run.
-fn map_job<F: Files, R: Read + Drop, W: Write + Drop, E: Write + Drop>(
-    alloc: Global,
-    files: &F,
-    request: &Request,
-    streams: &mut Streams<R, W, E>,
-) -> u8
-    requires { IsProperJob request.now.job }
-    ensures { MapsJob request.now.job (W.contents streams.old.out) (W.contents streams.new.out) result }
-{
-    match fetch_files(alloc, files, request, &mut streams.errors) {
-        Ok(program) => write_map(alloc, &program, request.job, streams),
+    match requested(alloc, files, words, &mut streams.errors) {
+        Ok(request) => write_map(alloc, &request.program, request.job, streams),
         Err(status) => status,
     }
 }

@@ -1,17 +1,19 @@
 // Runs, and how they ended.
-ghost use Rattle.std.specs.Prelude.{◌≡◌, ◌≢◌, IfErr, IfOk, map};
+ghost use Rattle.std.specs.Prelude.{◌≡◌, ◌≢◌, IfOk, map};
 ghost use Rattle.std.specs.String.{string_bytes};
 ghost use Rattle.switch_frame.specs.Records.{isa_of};
+ghost use Rattle.switch_frame.specs.Program.{IsProgram};
 ghost use Rattle.mixed_machine.specs.Machine.{IsWhole};
+ghost use Rattle.mix_load.specs.Load.{AreLoadable};
 ghost use Rattle.look_text.specs.Looks.{run_words as run_words_of};
 ghost use Rattle.mix_io.specs.Jobs.{IsProperJob};
 ghost use Rattle.mix_io.specs.Words.{command_of};
 ghost use Rattle.look_commands.specs.Statuses.{status_at};
-ghost use Rattle.look_commands.specs.Told.{IsLost, Loads, is_run};
+ghost use Rattle.look_commands.specs.Told.{Loads, is_run};
 
 use super::run_keeping;
 use crate::maps::refuse;
-use crate::program::{Request, fetch_files, requested};
+use crate::program::{Request, requested};
 use crate::status::{INPUT_FAILED, NO_MEMORY, OUTPUT_FAILED, SUCCESS, TRACE_FAILED};
 use crate::streams::Streams;
 use call_trace::{End, put_end};
@@ -24,8 +26,10 @@ use mix_load::{LoadError, load};
 use std::alloc::Global;
 use std::io::{BufReader, Read, Write};
 use std::rt::Files;
+use switch_frame::Program;
 
 /// Runs the program that words name, and writes how it ended behind its trace.
+#[tactic(auto, using(crate::proofs::Loading::unloaded))]
 pub fn end<F: Files, R: Read + Drop, W: Write + Drop, E: Write + Drop>(
     alloc: Global,
     files: &F,
@@ -35,66 +39,55 @@ pub fn end<F: Files, R: Read + Drop, W: Write + Drop, E: Write + Drop>(
 ) -> u8
     ensures { Loads (is_run (command_of (run_words_of (map string_bytes words.now)))) (W.contents streams.old.out) (W.contents streams.new.out) result }
 {
-    match requested(alloc, words, &mut streams.errors) {
-        Ok(request) => end_job(alloc, files, &request, last, streams),
+    match requested(alloc, files, words, &mut streams.errors) {
+        Ok(request) => end_job(alloc, &request, last, streams),
         Err(status) => status,
     }
 }
 
-/// The same of what words ask mixedrun to run.
-fn end_job<F: Files, R: Read + Drop, W: Write + Drop, E: Write + Drop>(
+/// The same of a job and its files.
+fn end_job<R: Read + Drop, W: Write + Drop, E: Write + Drop>(
     alloc: Global,
-    files: &F,
     request: &Request,
     last: u32,
     streams: &mut Streams<R, W, E>,
 ) -> u8
-    requires { IsProperJob request.now.job }
+    requires job { IsProperJob request.now.job }
+    requires files { AreLoadable request.now.program request.now.job.main }
     ensures { result ≢ 2 }
 {
-    match start(alloc, files, request, &mut streams.errors) {
-        Ok(mut machine) => run(
-            alloc,
-            &mut machine,
-            request.job.steps,
-            last,
-            &mut streams.input,
-            &mut streams.out,
-            &mut streams.errors,
-        )
-        .unwrap_or(NO_MEMORY),
-        Err(status) => status,
+    let Request { job, program } = request;
+    match load(alloc, program, job.main, job.kib) {
+        Ok(loaded) => run(alloc, loaded, job.steps, last, streams),
+        Err(LoadError::NoMemory) => NO_MEMORY,
+        Err(error) => refuse(alloc, program, error, &mut streams.errors),
     }
 }
 
-/// The machine at the start of a program, or else the status, once a sentence is said.
-fn start<F: Files, E: Write>(
+/// Runs a program over the streams.
+fn run<R: Read + Drop, W: Write + Drop, E: Write + Drop>(
     alloc: Global,
-    files: &F,
-    request: &Request,
-    errors: &mut E,
-) -> Result<Machine, u8>
-    requires { IsProperJob request.now.job }
-    ensures whole { IfOk result (λ m. IsWhole m.body (isa_of m.active)) }
-    ensures lost { IfErr result IsLost }
+    program: Program,
+    steps: u32,
+    last: u32,
+    streams: &mut Streams<R, W, E>,
+) -> u8
+    requires { IsProgram program }
+    ensures { result ≢ 2 }
 {
-    let program = fetch_files(alloc, files, request, errors)?;
-    match load(alloc, &program, request.job.main, request.job.kib) {
-        Ok(loaded) => Machine::start(alloc, loaded).map_err(|_| NO_MEMORY),
-        Err(LoadError::NoMemory) => Err(NO_MEMORY),
-        Err(error) => Err(refuse(alloc, &program, error, errors)),
-    }
+    let Ok(mut machine) = Machine::start(alloc, program) else {
+        return NO_MEMORY;
+    };
+    run_machine(alloc, &mut machine, steps, last, streams).unwrap_or(NO_MEMORY)
 }
 
 /// Runs a machine over the streams, with a counter in slot 0 and a tape in slot 1, as mixedrun does.
-fn run<R: Read, W: Write, E: Write>(
+fn run_machine<R: Read + Drop, W: Write + Drop, E: Write + Drop>(
     alloc: Global,
     machine: &mut Machine,
     steps: u32,
     last: u32,
-    input: &mut R,
-    out: &mut W,
-    errors: &mut E,
+    streams: &mut Streams<R, W, E>,
 ) -> Result<u8, NoMemory>
     requires { IsWhole machine.old.body (isa_of machine.old.active) }
     ensures { IfOk result (λ status. status ≢ 2) }
@@ -102,7 +95,16 @@ fn run<R: Read, W: Write, E: Write>(
     let counter: Box<dyn Device> = Box::new(alloc, Counter::new(alloc)?)?;
     let tape: Box<dyn Device> = Box::new(alloc, Tape::new(alloc)?)?;
     let mut rack = Rack::new(alloc, vec![in alloc; counter, tape]?)?;
-    run_beside(alloc, machine, steps, last, input, out, errors, &mut rack)
+    run_beside(
+        alloc,
+        machine,
+        steps,
+        last,
+        &mut streams.input,
+        &mut streams.out,
+        &mut streams.errors,
+        &mut rack,
+    )
 }
 
 /// Runs a machine over streams and devices, and keeps its last steps.
@@ -119,10 +121,12 @@ fn run_beside<R: Read, W: Write, E: Write, D: Devices>(
     requires { IsWhole machine.old.body (isa_of machine.old.active) }
     ensures { IfOk result (λ status. status ≢ 2) }
 {
+    let Ok(mut kept) = HeapCircularBuffer::with_capacity(alloc, last as usize) else {
+        return Err(NoMemory);
+    };
     let Ok(reader) = BufReader::new(alloc, input) else {
         return Err(NoMemory);
     };
-    let mut kept = HeapCircularBuffer::with_capacity(alloc, last as usize)?;
     let mut input = StdSource::new(reader);
     let mut out = StdSink::new(out);
     let mut trace = StdSink::new(errors);
@@ -145,8 +149,8 @@ fn finish<T: Sink>(
 {
     let ended = put_last_line(trace, machine, ending.stop);
     let text = report(alloc, machine, Some(ending), steps)?;
-    let reported = trace.put(&text);
-    Ok(status(ending.stop, ended.is_ok() && reported.is_ok()))
+    let reported = ended.and(trace.put(&text));
+    Ok(status(ending.stop, reported.is_ok()))
 }
 
 /// Puts the last line of a trace, if the run came to one.

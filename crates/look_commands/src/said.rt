@@ -1,7 +1,9 @@
 // What is said, and to whom.
-ghost use Rattle.look_commands.specs.Told.{Prints};
+ghost use Rattle.std.specs.Prelude.{◌≡◌, ◌⊎◌, IfErr, IfOk};
+ghost use Rattle.look_commands.specs.Told.{LacksMemory, Prints};
 
-use crate::status::{OUTPUT_FAILED, SUCCESS};
+use crate::status::{NO_MEMORY, OUTPUT_FAILED, SUCCESS};
+use mix_bits::NoMemory;
 use mix_io::write_whole;
 use std::io::Write;
 
@@ -9,6 +11,19 @@ use std::io::Write;
 pub fn say<E: Write>(errors: &mut E, text: Option<String>) {
     if let Some(text) = text {
         say_bytes(errors, text.as_bytes());
+    }
+}
+
+/// Says a sentence, and answers the status that goes with it, or else that there was no memory for the sentence.
+pub fn refuse<E: Write>(errors: &mut E, text: Result<String, NoMemory>, status: u8) -> u8
+    ensures { (result ≡ status) ⊎ (result ≡ 9) }
+{
+    match text {
+        Ok(text) => {
+            say_bytes(errors, text.as_bytes());
+            status
+        }
+        Err(NoMemory) => NO_MEMORY,
     }
 }
 
@@ -33,5 +48,16 @@ pub fn print<W: Write>(out: &mut W, text: &[u8]) -> u8
     match write_whole(out, &mut faults, text) {
         Ok(()) => SUCCESS,
         Err(_) => OUTPUT_FAILED,
+    }
+}
+
+/// Puts a text to the output, and answers the status, also where there was no memory for the text.
+pub fn print_made<W: Write>(out: &mut W, text: Result<Vec<u8>, NoMemory>) -> u8
+    ensures made { IfOk text (λ text. Prints text.items (W.contents out.old) (W.contents out.new) result) }
+    ensures lacks { IfErr text (λ _. LacksMemory (W.contents out.old) (W.contents out.new) result) }
+{
+    match text {
+        Ok(text) => print(out, &text),
+        Err(NoMemory) => NO_MEMORY,
     }
 }

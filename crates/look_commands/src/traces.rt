@@ -2,7 +2,7 @@
 ghost use Rattle.std.specs.Prelude.{◌≡◌, ◌≢◌};
 ghost use Rattle.look_commands.specs.Statuses.{status_for};
 
-use crate::files::{name_at, unfound};
+use crate::files::{name_at, name_if, unfound};
 use crate::said::say;
 use crate::status::{NO_FILE, NO_MEMORY, OUTPUT_FAILED, REFUSED, SUCCESS};
 use crate::streams::Streams;
@@ -24,7 +24,7 @@ pub fn trace<F: Files, R: Read + Drop, W: Write + Drop, E: Write + Drop>(
     ensures { result ≢ 2 }
 {
     let file = name_at(words, file);
-    let names = names.map(|place| name_at(words, place));
+    let names = name_if(words, names);
     let done = write_trace(alloc, files, shape, file, names, &mut streams.out);
     told(alloc, file, names, done, &mut streams.errors)
 }
@@ -44,7 +44,7 @@ fn told<E: Write>(
         Err(Untold::Trace) => unfound(alloc, file, errors),
         Err(Untold::Names) => unfound(alloc, names.unwrap_or(""), errors),
         Err(Untold::Told(error)) => {
-            say(errors, format!(in alloc; "{error}").ok());
+            say(errors, error.to_string(alloc).ok());
             status_of(error)
         }
     }
