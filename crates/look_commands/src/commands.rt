@@ -16,7 +16,7 @@ use crate::said::{print, print_made, say, tell};
 use crate::status::{BAD_WORDS, NO_MEMORY, REFUSED};
 use crate::streams::Streams;
 use crate::traces::trace;
-use look_text::{Look, Refusal, info_text, read_look, refusal_text};
+use look_text::{Look, info_text, read_look, refusal_text};
 use look_trace::Shape;
 use mix_bits::{File, NoMemory};
 use mix_io::Key;
@@ -76,7 +76,13 @@ fn obey<F: Files, R: Read + Drop, W: Write + Drop, E: Write + Drop>(
         Ok(Look::Map) => map(alloc, files, words, streams),
         Ok(Look::End(last)) => end(alloc, files, words, last, streams),
         Ok(Look::Image(file)) => image(alloc, files, name_at(words, file), streams),
-        Err(refusal) => refuse(alloc, words, refusal, &mut streams.errors),
+        Err(refusal) => {
+            say(
+                &mut streams.errors,
+                refusal_text(alloc, words, refusal).ok(),
+            );
+            BAD_WORDS
+        }
     }
 }
 
@@ -156,12 +162,4 @@ fn line(alloc: Global, words: &[String]) -> Result<String, NoMemory>
     let mut text = sentence(alloc, words)?;
     text.push_str("\n")?;
     Ok(text)
-}
-
-/// Says the sentence of a refusal.
-fn refuse<E: Write>(alloc: Global, words: &[String], refusal: Refusal, errors: &mut E) -> u8
-    ensures { result ≡ 2 }
-{
-    say(errors, refusal_text(alloc, words, refusal).ok());
-    BAD_WORDS
 }

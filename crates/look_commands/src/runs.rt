@@ -2,7 +2,6 @@
 ghost use Rattle.std.specs.Prelude.{◌≡◌, ◌≢◌, IfOk, map};
 ghost use Rattle.std.specs.String.{string_bytes};
 ghost use Rattle.switch_frame.specs.Records.{isa_of};
-ghost use Rattle.switch_frame.specs.Program.{IsProgram};
 ghost use Rattle.mixed_machine.specs.Machine.{IsWhole};
 ghost use Rattle.mix_load.specs.Load.{AreLoadable};
 ghost use Rattle.look_text.specs.Looks.{run_words as run_words_of};
@@ -26,7 +25,6 @@ use mix_load::{LoadError, load};
 use std::alloc::Global;
 use std::io::{BufReader, Read, Write};
 use std::rt::Files;
-use switch_frame::Program;
 
 /// Runs the program that words name, and writes how it ended behind its trace.
 #[tactic(auto, using(crate::proofs::Loading::unloaded))]
@@ -58,31 +56,19 @@ fn end_job<R: Read + Drop, W: Write + Drop, E: Write + Drop>(
 {
     let Request { job, program } = request;
     match load(alloc, program, job.main, job.kib) {
-        Ok(loaded) => run(alloc, loaded, job.steps, last, streams),
+        Ok(loaded) => match Machine::start(alloc, loaded) {
+            Ok(mut machine) => {
+                run(alloc, &mut machine, job.steps, last, streams).unwrap_or(NO_MEMORY)
+            }
+            Err(NoMemory) => NO_MEMORY,
+        },
         Err(LoadError::NoMemory) => NO_MEMORY,
         Err(error) => refuse(alloc, program, error, &mut streams.errors),
     }
 }
 
-/// Runs a program over the streams.
-fn run<R: Read + Drop, W: Write + Drop, E: Write + Drop>(
-    alloc: Global,
-    program: Program,
-    steps: u32,
-    last: u32,
-    streams: &mut Streams<R, W, E>,
-) -> u8
-    requires { IsProgram program }
-    ensures { result ≢ 2 }
-{
-    let Ok(mut machine) = Machine::start(alloc, program) else {
-        return NO_MEMORY;
-    };
-    run_machine(alloc, &mut machine, steps, last, streams).unwrap_or(NO_MEMORY)
-}
-
 /// Runs a machine over the streams, with a counter in slot 0 and a tape in slot 1, as mixedrun does.
-fn run_machine<R: Read + Drop, W: Write + Drop, E: Write + Drop>(
+fn run<R: Read + Drop, W: Write + Drop, E: Write + Drop>(
     alloc: Global,
     machine: &mut Machine,
     steps: u32,
