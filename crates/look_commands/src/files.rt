@@ -40,18 +40,14 @@ pub fn fetch<F: Files, E: Write>(
         Ok(bytes) => Ok(bytes),
         Err(FetchError::NoMemory) => Err(NO_MEMORY),
         Err(FetchError::Failed) => Err(unfound(alloc, name, errors)),
-        Err(FetchError::TooLong(_)) => Err(too_long(alloc, name, most, errors)),
+        Err(FetchError::TooLong(_)) => {
+            say(
+                errors,
+                format!(in alloc; "{name} has more than {most} bytes").ok(),
+            );
+            Err(REFUSED)
+        }
     }
-}
-
-fn too_long<E: Write>(alloc: Global, name: &str, most: u32, errors: &mut E) -> u8
-    ensures { result ≡ 3 }
-{
-    say(
-        errors,
-        format!(in alloc; "{name} has more than {most} bytes").ok(),
-    );
-    REFUSED
 }
 
 /// Says that a file could not be read, and answers the status.

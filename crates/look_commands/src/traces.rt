@@ -11,7 +11,8 @@ use std::alloc::Global;
 use std::io::{Read, Write};
 use std::rt::Files;
 
-/// Writes the trace in the file of a word, with the names in the file of another one.
+/// Writes the trace in the file of a word, with the names in the file of another one. A sentence says why it did not come
+/// to its end.
 pub fn trace<F: Files, R: Read + Drop, W: Write + Drop, E: Write + Drop>(
     alloc: Global,
     files: &F,
@@ -25,26 +26,12 @@ pub fn trace<F: Files, R: Read + Drop, W: Write + Drop, E: Write + Drop>(
 {
     let file = name_at(words, file);
     let names = name_if(words, names);
-    let done = write_trace(alloc, files, shape, file, names, &mut streams.out);
-    told(alloc, file, names, done, &mut streams.errors)
-}
-
-/// The status of a command over a trace, with a sentence where it did not come to its end.
-fn told<E: Write>(
-    alloc: Global,
-    file: &str,
-    names: Option<&str>,
-    done: Result<(), Untold>,
-    errors: &mut E,
-) -> u8
-    ensures { result ≢ 2 }
-{
-    match done {
+    match write_trace(alloc, files, shape, file, names, &mut streams.out) {
         Ok(()) => SUCCESS,
-        Err(Untold::Trace) => unfound(alloc, file, errors),
-        Err(Untold::Names) => unfound(alloc, names.unwrap_or(""), errors),
+        Err(Untold::Trace) => unfound(alloc, file, &mut streams.errors),
+        Err(Untold::Names) => unfound(alloc, names.unwrap_or(""), &mut streams.errors),
         Err(Untold::Told(error)) => {
-            say(errors, error.to_string(alloc).ok());
+            say(&mut streams.errors, error.to_string(alloc).ok());
             status_of(error)
         }
     }
