@@ -95,13 +95,8 @@ fn fork<F: Files, R: Read + Drop, W: Write + Drop, E: Write + Drop>(
 ) -> u8
     ensures { WritesFork (W.contents streams.old.out) (W.contents streams.new.out) result }
 {
-    match fetch(
-        alloc,
-        files,
-        name,
-        Key::Program(File::Rsrc),
-        &mut streams.errors,
-    ) {
+    let key = Key::Program(File::Rsrc);
+    match fetch(alloc, files, name, key, &mut streams.errors) {
         Ok(bytes) => write_fork(alloc, name, &bytes, streams),
         Err(status) => status,
     }

@@ -5,7 +5,7 @@ ghost use Rattle.look_text.specs.Looks.{run_words as run_words_of};
 ghost use Rattle.mix_io.specs.Jobs.{IsProperJob};
 ghost use Rattle.mix_io.specs.Words.{command_of};
 ghost use Rattle.mix_load.specs.Load.{AreLoadable, IsSmall};
-ghost use Rattle.look_commands.specs.Told.{PutsMapOf, PutsPieces, WritesMap};
+ghost use Rattle.look_commands.specs.Told.{PutsMapOf, WritesMap};
 
 use crate::program::requested;
 use crate::said::{print, say_bytes};
@@ -49,25 +49,13 @@ pub fn write_map<R: Read + Drop, W: Write + Drop, E: Write + Drop>(
 {
     match map_program(alloc, program, job.main, job.kib) {
         Ok(Mapped::Loaded(text)) => print(&mut streams.out, &text),
-        Ok(Mapped::Refused(text, error)) => write_refused(alloc, program, &text, error, streams),
+        Ok(Mapped::Refused(text, error)) => {
+            let printed = print(&mut streams.out, &text);
+            let refused = refuse(alloc, program, error, &mut streams.errors);
+            if printed == SUCCESS { refused } else { printed }
+        }
         Err(NoMemory) => NO_MEMORY,
     }
-}
-
-/// Writes what could be read of files that are refused, and says why to the errors.
-fn write_refused<R: Read + Drop, W: Write + Drop, E: Write + Drop>(
-    alloc: Global,
-    program: &Program,
-    pieces: &[u8],
-    error: LoadError,
-    streams: &mut Streams<R, W, E>,
-) -> u8
-    requires { IsSmall program.now.pef }
-    ensures { PutsPieces pieces.now (W.contents streams.old.out) (W.contents streams.new.out) result }
-{
-    let printed = print(&mut streams.out, pieces);
-    let refused = refuse(alloc, program, error, &mut streams.errors);
-    if printed == SUCCESS { refused } else { printed }
 }
 
 /// Says why files are not loaded.
