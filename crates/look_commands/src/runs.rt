@@ -81,7 +81,7 @@ fn run<R: Read + Drop, W: Write + Drop, E: Write + Drop>(
     let counter: Box<dyn Device> = Box::new(alloc, Counter::new(alloc)?)?;
     let tape: Box<dyn Device> = Box::new(alloc, Tape::new(alloc)?)?;
     let mut rack = Rack::new(alloc, vec![in alloc; counter, tape]?)?;
-    run_beside(
+    Ok(run_beside(
         alloc,
         machine,
         steps,
@@ -90,7 +90,7 @@ fn run<R: Read + Drop, W: Write + Drop, E: Write + Drop>(
         &mut streams.out,
         &mut streams.errors,
         &mut rack,
-    )
+    ))
 }
 
 /// Runs a machine over streams and devices, and keeps its last steps.
@@ -103,15 +103,15 @@ fn run_beside<R: Read, W: Write, E: Write, D: Devices>(
     out: &mut W,
     errors: &mut E,
     rack: &mut D,
-) -> Result<u8, NoMemory>
+) -> u8
     requires { IsWhole machine.old.body (isa_of machine.old.active) }
-    ensures { IfOk result (λ status. status ≢ 2) }
+    ensures { result ≢ 2 }
 {
     let Ok(mut kept) = HeapCircularBuffer::with_capacity(alloc, last as usize) else {
-        return Err(NoMemory);
+        return NO_MEMORY;
     };
     let Ok(reader) = BufReader::new(alloc, input) else {
-        return Err(NoMemory);
+        return NO_MEMORY;
     };
     let mut input = StdSource::new(reader);
     let mut out = StdSink::new(out);
@@ -129,14 +129,16 @@ fn finish<T: Sink>(
     ending: Ending,
     steps: &[Step],
     trace: &mut T,
-) -> Result<u8, NoMemory>
+) -> u8
     requires { IsWhole machine.now.body (isa_of machine.now.active) }
-    ensures { IfOk result (λ status. status ≢ 2) }
+    ensures { result ≢ 2 }
 {
     let ended = put_last_line(trace, machine, ending.stop);
-    let text = report(alloc, machine, Some(ending), steps)?;
+    let Ok(text) = report(alloc, machine, Some(ending), steps) else {
+        return NO_MEMORY;
+    };
     let reported = ended.and(trace.put(&text));
-    Ok(status(ending.stop, reported.is_ok()))
+    status(ending.stop, reported.is_ok())
 }
 
 /// Puts the last line of a trace, if the run came to one.
