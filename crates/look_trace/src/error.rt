@@ -1,10 +1,9 @@
 use mix_bits::NoMemory;
-use std::alloc::{AllocError, AllocFailed};
 use std::io;
 use thiserror::Error;
 
 /// Why a trace was not told to its end.
-#[derive(Clone, Copy, Debug, PartialEq, Eq, Error)]
+#[derive(Clone, Copy, Debug, Error)]
 pub enum LookError {
     /// The line of this number, counted from 1, or what stands behind the last line feed.
     #[error("line {0} is no line of a trace")]
@@ -40,18 +39,6 @@ impl LookError {
 
 impl From<NoMemory> for LookError {
     fn from(_: NoMemory) -> Self {
-        LookError::NoMemory
-    }
-}
-
-impl From<AllocError> for LookError {
-    fn from(_: AllocError) -> Self {
-        LookError::NoMemory
-    }
-}
-
-impl<T: Drop> From<AllocFailed<T>> for LookError {
-    fn from(_: AllocFailed<T>) -> Self {
         LookError::NoMemory
     }
 }

@@ -2,6 +2,7 @@
 use crate::error::LookError;
 use crate::names::Names;
 use crate::picture::write_picture;
+use crate::reading::Reading;
 use crate::tree::write_tree;
 use std::alloc::Global;
 use std::fs;
@@ -75,9 +76,10 @@ fn write_named<R: BufRead + Drop, W: Write>(
     let Ok(mut out) = BufWriter::new(alloc, out) else {
         return Err(Untold::Told(LookError::NoMemory));
     };
+    let mut reading = Reading::new(alloc, trace);
     let done = match shape {
-        Shape::Tree => write_tree(alloc, trace, names, &mut out),
-        Shape::Picture => write_picture(alloc, trace, names, &mut out),
+        Shape::Tree => write_tree(alloc, &mut reading, names, &mut out),
+        Shape::Picture => write_picture(alloc, &mut reading, names, &mut out),
     };
     finish(done, out.flush())
 }

@@ -1,8 +1,9 @@
 use crate::error::LookError;
 use indexmap::IndexMap;
-use look_text::add_hex;
+use look_text::Piece;
+use mix_bits::NoMemory;
 use std::alloc::Global;
-use std::io::BufRead;
+use std::io::{self, BufRead};
 
 /// Names of routines by their addresses, as `nm` lists them.
 #[derive(Drop)]
@@ -23,27 +24,30 @@ impl Names {
     pub fn read<R: BufRead + Drop>(alloc: Global, reader: R) -> Result<Names, LookError> {
         let mut names = Names::new(alloc);
         for line in reader.lines(alloc) {
-            let line = line.map_err(LookError::of_read)?;
-            names.add_line(alloc, line.as_str())?;
+            names.add_read(alloc, line)?;
         }
         Ok(names)
     }
 
-    fn add_line(&mut self, alloc: Global, line: &str) -> Result<(), LookError> {
-        let mut words = line.split_whitespace();
-        let Some(address) = words.next().and_then(address) else {
-            return Ok(());
-        };
-        let Some(_kind) = words.next() else {
-            return Ok(());
-        };
-        match words.next() {
-            Some(name) => self.add(alloc, address, name),
-            None => Ok(()),
+    /// Adds the name in a line that could be read.
+    fn add_read(&mut self, alloc: Global, line: io::Result<String>) -> Result<(), LookError> {
+        match line {
+            Ok(line) => Ok(self.add_line(alloc, line.as_str())?),
+            Err(error) => Err(LookError::of_read(error)),
         }
     }
 
-    fn add(&mut self, alloc: Global, address: u32, name: &str) -> Result<(), LookError> {
+    fn add_line(&mut self, alloc: Global, line: &str) -> Result<(), NoMemory> {
+        let mut words = line.split_whitespace();
+        let address = words.next().and_then(address);
+        let _kind = words.next();
+        match (address, words.next()) {
+            (Some(address), Some(name)) => self.add(alloc, address, name),
+            _ => Ok(()),
+        }
+    }
+
+    fn add(&mut self, alloc: Global, address: u32, name: &str) -> Result<(), NoMemory> {
         if !self.list.contains_key(&address) {
             self.list.insert(address, String::from_str(alloc, name)?)?;
         }
@@ -51,13 +55,11 @@ impl Names {
     }
 
     /// The name of an address, else its eight hexadecimal digits.
-    pub fn name(&self, alloc: Global, address: u32) -> Result<Vec<u8>, LookError> {
-        let mut text = Vec::new(alloc);
+    pub fn name(&self, address: u32) -> Piece {
         match self.list.get(&address) {
-            Some(name) => text.extend_from_slice(name.as_bytes())?,
-            None => add_hex(&mut text, address, 8)?,
+            Some(name) => Piece::Text(name.as_str()),
+            None => Piece::Long(address),
         }
-        Ok(text)
     }
 }
 

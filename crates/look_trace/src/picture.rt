@@ -4,9 +4,9 @@ ghost use Rattle.std.specs.Prelude.{◌≤◌};
 use crate::error::LookError;
 use crate::names::Names;
 use crate::reading::Reading;
-use crate::tree::{name_of, write};
+use crate::tree::{named_line, write};
 use call_trace::{Crossing, Event};
-use look_text::{Piece, add, add_bytes, add_line, line_of, tree_line};
+use look_text::{Piece, add, add_bytes, add_line, line_of};
 use mix_bits::{Isa, NoMemory};
 use std::alloc::Global;
 use std::io::{BufRead, Write};
@@ -68,22 +68,20 @@ struct Picture {
 /// Writes a trace as an SVG file. Of more than a thousand calls the first thousand are drawn, and a note says so.
 pub fn write_picture<R: BufRead + Drop, W: Write>(
     alloc: Global,
-    trace: R,
+    reading: &mut Reading<R>,
     names: &Names,
     out: &mut W,
 ) -> Result<(), LookError> {
-    let mut reading = Reading::new(alloc, trace);
     let mut picture = Picture::new(alloc);
-    draw_events(&mut reading, names, &mut picture)?;
-    picture.finish()?;
-    picture.write(out)
+    draw(reading, names, &mut picture, out)
 }
 
-/// Draws each event.
-fn draw_events<R: BufRead + Drop>(
+/// Draws each event, and writes what was drawn.
+fn draw<R: BufRead + Drop, W: Write>(
     reading: &mut Reading<R>,
     names: &Names,
     picture: &mut Picture,
+    out: &mut W,
 ) -> Result<(), LookError> {
     for _ in 0..u64::MAX {
         let Some(event) = reading.next()? else {
@@ -91,7 +89,8 @@ fn draw_events<R: BufRead + Drop>(
         };
         picture.add_event(reading.text(), &event, names)?;
     }
-    Ok(())
+    picture.finish()?;
+    picture.write(out)
 }
 
 impl Picture {
@@ -108,19 +107,18 @@ impl Picture {
     }
 
     /// Draws what an event says, as long as there were no more than a thousand calls.
-    fn add_event(&mut self, line: &[u8], event: &Event, names: &Names) -> Result<(), LookError> {
+    fn add_event(&mut self, line: &[u8], event: &Event, names: &Names) -> Result<(), NoMemory> {
         if let Event::Called(_) = event {
             self.calls = self.calls.saturating_add(1);
         }
         if self.calls > MOST {
             return Ok(());
         }
-        let name = name_of(self.alloc, event, names)?;
-        let text = tree_line(self.alloc, 0, &name, line, event)?;
+        let text = named_line(self.alloc, 0, names, line, event)?;
         self.add_row(event, &text)
     }
 
-    fn add_row(&mut self, event: &Event, text: &[u8]) -> Result<(), LookError> {
+    fn add_row(&mut self, event: &Event, text: &[u8]) -> Result<(), NoMemory> {
         match event {
             Event::Called(call) => self.begin(call, text)?,
             Event::Returned(_, _) => self.end(text)?,
@@ -130,7 +128,7 @@ impl Picture {
         Ok(())
     }
 
-    fn begin(&mut self, call: &Crossing, text: &[u8]) -> Result<(), LookError> {
+    fn begin(&mut self, call: &Crossing, text: &[u8]) -> Result<(), NoMemory> {
         let depth = (self.open.len() as u64).min(u64::from(DEEPEST)) as u32;
         let x = column(call.kind.callee()) + STEP * depth;
         self.open.push(Bar { x, row: self.row })?;
@@ -145,7 +143,7 @@ impl Picture {
         }
     }
 
-    fn end(&mut self, text: &[u8]) -> Result<(), LookError> {
+    fn end(&mut self, text: &[u8]) -> Result<(), NoMemory> {
         match self.open.pop() {
             Some(bar) => {
                 self.add_bar(bar)?;
@@ -156,7 +154,7 @@ impl Picture {
     }
 
     /// Ends the bars that are still open, and says what was left out.
-    fn finish(&mut self) -> Result<(), LookError> {
+    fn finish(&mut self) -> Result<(), NoMemory> {
         for _ in 0..self.open.len() {
             if let Some(bar) = self.open.pop() {
                 self.add_bar(bar)?;
@@ -171,14 +169,13 @@ impl Picture {
     }
 
     /// A bar from its first row to this one.
-    fn add_bar(&mut self, bar: Bar) -> Result<(), LookError> {
+    fn add_bar(&mut self, bar: Bar) -> Result<(), NoMemory> {
         let rows = self.row.saturating_sub(bar.row);
-        add_rectangle(&mut self.bars, bar, rows)?;
-        Ok(())
+        add_rectangle(&mut self.bars, bar, rows)
     }
 
     /// A text in this row, up to its line feed.
-    fn add_label(&mut self, x: u32, text: &[u8]) -> Result<(), LookError> {
+    fn add_label(&mut self, x: u32, text: &[u8]) -> Result<(), NoMemory> {
         add_text(&mut self.texts, x, self.row, text)?;
         self.right = self.right.max(end_of(x, text.len()));
         Ok(())
@@ -251,13 +248,15 @@ fn add_text(texts: &mut Vec<u8>, x: u32, row: u32, text: &[u8]) -> Result<(), No
 
 /// A byte of a text, as XML writes it.
 fn add_letter(texts: &mut Vec<u8>, byte: u8) -> Result<(), NoMemory> {
-    match byte {
-        b'&' => add(texts, "&amp;"),
-        b'<' => add(texts, "&lt;"),
-        b'>' => add(texts, "&gt;"),
-        0..=31 => Ok(()),
-        _ => add_bytes(texts, &[byte]),
-    }
+    let letter = [byte];
+    let piece: &[u8] = match byte {
+        b'&' => b"&amp;",
+        b'<' => b"&lt;",
+        b'>' => b"&gt;",
+        0..=31 => b"",
+        _ => &letter,
+    };
+    add_bytes(texts, piece)
 }
 
 /// The front of a file of this size.

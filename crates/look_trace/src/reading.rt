@@ -29,22 +29,21 @@ impl<R: BufRead + Drop> Reading<R> {
         self.number = self.number.saturating_add(1);
         self.line.clear();
         self.from.set_limit(MOST_BYTES);
-        let count = self
-            .from
-            .read_until(b'\n', &mut self.line)
-            .map_err(LookError::of_read)?;
-        if count == 0 {
-            return Ok(None);
-        }
-        match self.line.pop() {
-            Some(b'\n') => self.event().map(Some),
-            _ => Err(LookError::Line(self.number)),
+        match self.from.read_until(b'\n', &mut self.line) {
+            Ok(0) => Ok(None),
+            Ok(_) => self.event(),
+            Err(error) => Err(LookError::of_read(error)),
         }
     }
 
-    fn event(&self) -> Result<Event, LookError> {
-        match read_event(&self.line) {
-            Some(event) => Ok(event),
+    /// The event of the line that was read, which has to end.
+    fn event(&mut self) -> Result<Option<Event>, LookError> {
+        let event = match self.line.pop() {
+            Some(b'\n') => read_event(&self.line),
+            _ => None,
+        };
+        match event {
+            Some(_) => Ok(event),
             None => Err(LookError::Line(self.number)),
         }
     }

@@ -3,7 +3,8 @@ use crate::error::LookError;
 use crate::names::Names;
 use crate::reading::Reading;
 use call_trace::Event;
-use look_text::tree_line;
+use look_text::{line_of, tree_line};
+use mix_bits::NoMemory;
 use std::alloc::Global;
 use std::io::{BufRead, Write};
 
@@ -11,18 +12,16 @@ use std::io::{BufRead, Write};
 /// What came before a line that is refused is written.
 pub fn write_tree<R: BufRead + Drop, W: Write>(
     alloc: Global,
-    trace: R,
+    reading: &mut Reading<R>,
     names: &Names,
     out: &mut W,
 ) -> Result<(), LookError> {
-    let mut reading = Reading::new(alloc, trace);
     let mut calls = Calls::new(alloc);
-    write_events(alloc, &mut reading, names, &mut calls, out)?;
-    write_table(alloc, &mut calls, names, out)
+    write_calls(alloc, reading, names, &mut calls, out)
 }
 
-/// Writes the line of each event.
-fn write_events<R: BufRead + Drop, W: Write>(
+/// Writes the line of each event, and the table of the calls.
+fn write_calls<R: BufRead + Drop, W: Write>(
     alloc: Global,
     reading: &mut Reading<R>,
     names: &Names,
@@ -35,7 +34,7 @@ fn write_events<R: BufRead + Drop, W: Write>(
         };
         write_event(alloc, reading.text(), &event, names, calls, out)?;
     }
-    Ok(())
+    write_table(alloc, calls, names, out)
 }
 
 /// Writes the lines of the routes behind their heading, if there are any.
@@ -62,23 +61,25 @@ fn write_event<W: Write>(
     calls: &mut Calls,
     out: &mut W,
 ) -> Result<(), LookError> {
-    if let Event::Returned(_, _) = event {
-        calls.leave();
-    }
-    let name = name_of(alloc, event, names)?;
-    write(out, &tree_line(alloc, calls.depth(), &name, line, event)?)?;
-    if let Event::Called(call) = event {
-        calls.enter(call)?;
-    }
+    let text = named_line(alloc, calls.depth(event), names, line, event)?;
+    write(out, &text)?;
+    calls.follow(event)?;
     Ok(())
 }
 
-/// The name of a call's target; none of another event.
-pub fn name_of(alloc: Global, event: &Event, names: &Names) -> Result<Vec<u8>, LookError> {
-    match event {
-        Event::Called(call) => names.name(alloc, call.target),
-        _ => Ok(Vec::new(alloc)),
-    }
+/// The line of an event in the tree, with the name of a call's target.
+pub fn named_line(
+    alloc: Global,
+    depth: u32,
+    names: &Names,
+    line: &[u8],
+    event: &Event,
+) -> Result<Vec<u8>, NoMemory> {
+    let name = match event {
+        Event::Called(call) => line_of(alloc, &[names.name(call.target)])?,
+        _ => Vec::new(alloc),
+    };
+    tree_line(alloc, depth, &name, line, event)
 }
 
 pub fn write<W: Write>(out: &mut W, piece: &[u8]) -> Result<(), LookError> {
