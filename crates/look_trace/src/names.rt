@@ -1,21 +1,21 @@
 use crate::error::LookError;
-use indexmap::IndexMap;
 use look_text::Piece;
 use mix_bits::NoMemory;
 use std::alloc::Global;
+use std::collections::BTreeMap;
 use std::io::{self, BufRead};
 
 /// Names of routines by their addresses, as `nm` lists them.
 #[derive(Drop)]
 pub struct Names {
-    list: IndexMap<u32, String>,
+    list: BTreeMap<u32, String>,
 }
 
 impl Names {
     /// No names.
     pub fn new(alloc: Global) -> Names {
         Names {
-            list: IndexMap::new(alloc),
+            list: BTreeMap::new(alloc),
         }
     }
 
@@ -39,15 +39,17 @@ impl Names {
 
     fn add_line(&mut self, alloc: Global, line: &str) -> Result<(), NoMemory> {
         let mut words = line.split_whitespace();
-        let address = words.next().and_then(address);
-        let _kind = words.next();
-        match (address, words.next()) {
-            (Some(address), Some(name)) => self.add(alloc, address, name),
+        match (words.next(), words.next(), words.next()) {
+            (Some(address), Some(_kind), Some(name)) => self.add(alloc, address, name),
             _ => Ok(()),
         }
     }
 
-    fn add(&mut self, alloc: Global, address: u32, name: &str) -> Result<(), NoMemory> {
+    /// Adds the name of an address in hexadecimal digits, if it has 32 bits and no name yet.
+    fn add(&mut self, alloc: Global, address: &str, name: &str) -> Result<(), NoMemory> {
+        let Ok(address) = u32::from_str_radix(address, 16) else {
+            return Ok(());
+        };
         if !self.list.contains_key(&address) {
             self.list.insert(address, String::from_str(alloc, name)?)?;
         }
@@ -61,10 +63,4 @@ impl Names {
             None => Piece::Long(address),
         }
     }
-}
-
-/// The address in hexadecimal digits, if it has 32 bits.
-fn address(word: &str) -> Option<u32> {
-    let wide = u64::from_str_radix(word, 16).ok()?;
-    u32::try_from(wide).ok()
 }
