@@ -3,7 +3,7 @@ use look_text::Piece;
 use mix_bits::NoMemory;
 use std::alloc::Global;
 use std::collections::BTreeMap;
-use std::io::{self, BufRead};
+use std::io::BufRead;
 
 /// Names of routines by their addresses, as `nm` lists them.
 #[derive(Drop)]
@@ -24,17 +24,12 @@ impl Names {
     pub fn read<R: BufRead + Drop>(alloc: Global, reader: R) -> Result<Names, LookError> {
         let mut names = Names::new(alloc);
         for line in reader.lines(alloc) {
-            names.add_read(alloc, line)?;
+            match line {
+                Ok(line) => names.add_line(alloc, line.as_str())?,
+                Err(error) => return Err(LookError::of_read(error)),
+            }
         }
         Ok(names)
-    }
-
-    /// Adds the name in a line that could be read.
-    fn add_read(&mut self, alloc: Global, line: io::Result<String>) -> Result<(), LookError> {
-        match line {
-            Ok(line) => Ok(self.add_line(alloc, line.as_str())?),
-            Err(error) => Err(LookError::of_read(error)),
-        }
     }
 
     fn add_line(&mut self, alloc: Global, line: &str) -> Result<(), NoMemory> {

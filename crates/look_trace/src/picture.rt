@@ -120,10 +120,10 @@ impl Picture {
 
     fn add_row(&mut self, event: &Event, text: &[u8]) -> Result<(), NoMemory> {
         match event {
-            Event::Called(call) => self.begin(call, text)?,
-            Event::Returned(_, _) => self.end(text)?,
-            _ => self.add_label(self.inside(), text)?,
-        }
+            Event::Called(call) => self.begin(call, text),
+            Event::Returned(_, _) => self.end(text),
+            _ => self.add_label(self.inside(), text),
+        }?;
         self.row = self.row.saturating_add(1);
         Ok(())
     }
