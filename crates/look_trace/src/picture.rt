@@ -171,7 +171,19 @@ impl Picture {
     /// A bar from its first row to this one.
     fn add_bar(&mut self, bar: Bar) -> Result<(), NoMemory> {
         let rows = self.row.saturating_sub(bar.row);
-        add_rectangle(&mut self.bars, bar, rows)
+        let height = rows.saturating_mul(ROW).saturating_add(ROW - 2);
+        add_line(
+            &mut self.bars,
+            &[
+                Piece::Text("<rect x=\""),
+                Piece::Number(bar.x),
+                Piece::Text("\" y=\""),
+                Piece::Number(height_of(bar.row)),
+                Piece::Text("\" width=\"8\" height=\""),
+                Piece::Number(height),
+                Piece::Text("\"/>\n"),
+            ],
+        )
     }
 
     /// A text in this row, up to its line feed.
@@ -191,10 +203,15 @@ impl Picture {
 
     /// The front of the file, which has its size.
     fn head(&self) -> Result<Vec<u8>, NoMemory> {
-        front(
+        line_of(
             self.alloc,
-            self.right,
-            height_of(self.row).saturating_add(TOP),
+            &[
+                Piece::Text("<svg xmlns=\"http://www.w3.org/2000/svg\" width=\""),
+                Piece::Number(self.right),
+                Piece::Text("\" height=\""),
+                Piece::Number(height_of(self.row).saturating_add(TOP)),
+                Piece::Text(STYLE),
+            ],
         )
     }
 }
@@ -207,23 +224,6 @@ fn note(alloc: Global, calls: u32) -> Result<Vec<u8>, NoMemory> {
             Piece::Text("the first 1000 of "),
             Piece::Number(calls),
             Piece::Text(" calls\n"),
-        ],
-    )
-}
-
-/// A bar that ends so many rows below its first one.
-fn add_rectangle(bars: &mut Vec<u8>, bar: Bar, rows: u32) -> Result<(), NoMemory> {
-    let height = rows.saturating_mul(ROW).saturating_add(ROW - 2);
-    add_line(
-        bars,
-        &[
-            Piece::Text("<rect x=\""),
-            Piece::Number(bar.x),
-            Piece::Text("\" y=\""),
-            Piece::Number(height_of(bar.row)),
-            Piece::Text("\" width=\"8\" height=\""),
-            Piece::Number(height),
-            Piece::Text("\"/>\n"),
         ],
     )
 }
@@ -257,20 +257,6 @@ fn add_letter(texts: &mut Vec<u8>, byte: u8) -> Result<(), NoMemory> {
         _ => &letter,
     };
     add_bytes(texts, piece)
-}
-
-/// The front of a file of this size.
-fn front(alloc: Global, width: u32, height: u32) -> Result<Vec<u8>, NoMemory> {
-    line_of(
-        alloc,
-        &[
-            Piece::Text("<svg xmlns=\"http://www.w3.org/2000/svg\" width=\""),
-            Piece::Number(width),
-            Piece::Text("\" height=\""),
-            Piece::Number(height),
-            Piece::Text(STYLE),
-        ],
-    )
 }
 
 /// Where the column of a set begins.
