@@ -34,7 +34,7 @@ abbrev pub sections_text : List ℕ → ℕ → ℕ → List ℕ
 sections_text bytes start zero = []
 sections_text bytes start (suc k) = sections_text bytes start k ++ section_text k (section_at bytes k) (section_base bytes start k)
 
-abbrev pub host_line : ℕ → ℕ → List ℕ
+unfoldable pub host_line : ℕ → ℕ → List ℕ
 host_line k vector = joined (codes ", host function " ∷ decimal k ∷ codes " at " ∷ hexadecimal 8 vector ∷ codes "\n" ∷ [])
 
 -- the host function of an import; one that may be missing is 0 then

@@ -8,7 +8,7 @@ use Rattle.mix_load.specs.Segments.{a5_of, code_at, entry_count, has_table, head
 use Rattle.look_text.specs.Pieces.{address_text, joined}
 
 -- `CODE ID: at ADDRESS, SIZE bytes`
-abbrev pub code_line : ℕ → ℕ → ℕ → List ℕ
+unfoldable pub code_line : ℕ → ℕ → ℕ → List ℕ
 code_line id place size = joined (codes "CODE " ∷ decimal id ∷ codes ": at " ∷ address_text place ∷ codes ", " ∷ decimal size ∷ codes " bytes\n" ∷ [])
 
 abbrev pub segment_line : ℕ → ℕ → Option (List ℕ) → List ℕ
@@ -22,17 +22,17 @@ segments_text resources start (suc id) = segments_text resources start id ++ seg
 
 -- `entry I: at ADDRESS, $OFFSET(a5), CODE ID + $OFFSET`: where the entry's jump stands, which has its place in the world of
 -- A5, and what it names
-abbrev pub entry_front : ℕ → ℕ → ℕ → ℕ → ℕ → List ℕ
+unfoldable pub entry_front : ℕ → ℕ → ℕ → ℕ → ℕ → List ℕ
 entry_front i at offset segment inside =
     joined (codes "entry " ∷ decimal i ∷ codes ": at " ∷ address_text at ∷ codes ", $" ∷ hexadecimal 4 offset
     ∷ codes "(a5), CODE " ∷ decimal segment ∷ codes " + $" ∷ hexadecimal 4 inside ∷ [])
 
-abbrev pub target_text : Bool → ℕ → List ℕ
+unfoldable pub target_text : Bool → ℕ → List ℕ
 target_text true target = codes ", which is not there\n"
 target_text false target = joined (codes ", to " ∷ hexadecimal 8 target ∷ codes "\n" ∷ [])
 
 -- an entry, where the segments stand at these places
-abbrev pub entry_line : List Resource → List ℕ → List ℕ → ℕ → List ℕ
+unfoldable pub entry_line : List Resource → List ℕ → List ℕ → ℕ → List ℕ
 entry_line resources places code0 i =
     let h = header_of code0 in
     let offset = h.table_offset + 8 * i + 2 in
@@ -44,10 +44,10 @@ abbrev pub entries_text : List Resource → List ℕ → List ℕ → ℕ → Li
 entries_text resources places code0 zero = []
 entries_text resources places code0 (suc i) = entries_text resources places code0 i ++ entry_line resources places code0 i
 
-abbrev pub a5_line : ℕ → List ℕ
+unfoldable pub a5_line : ℕ → List ℕ
 a5_line a5 = joined (codes "A5: " ∷ address_text a5 ∷ codes "\n" ∷ [])
 
-abbrev pub table_line : ℕ → ℕ → List ℕ
+unfoldable pub table_line : ℕ → ℕ → List ℕ
 table_line at count = joined (codes "jump table: at " ∷ address_text at ∷ codes ", " ∷ decimal count ∷ codes " entries\n" ∷ [])
 
 -- the jump table, if CODE 0 has one, with the segments below a count of ids

@@ -17,10 +17,10 @@ use Rattle.look_map.specs.Forks.{fork_end, fork_text}
 use Rattle.look_map.specs.Containers.{container_text}
 use Rattle.look_text.specs.Pieces.{joined}
 
-abbrev pub ram_line : ℕ → List ℕ
+unfoldable pub ram_line : ℕ → List ℕ
 ram_line len = joined (codes "RAM: " ∷ decimal len ∷ codes " bytes\n" ∷ [])
 
-abbrev pub flat_line : ℕ → List ℕ
+unfoldable pub flat_line : ℕ → List ℕ
 flat_line size = joined (codes "flat file: at 00010000, " ∷ decimal size ∷ codes " bytes\n" ∷ [])
 
 abbrev pub flat_text : Option (List ℕ) → List ℕ
@@ -52,7 +52,7 @@ files_text ids len files = ram_line len ++ pieces_text ids files
 unfoldable pub vector_text : ℕ → List ℕ
 vector_text vector = if vector == 0 then [] else joined (codes "main vector: at " ∷ hexadecimal 8 vector ∷ codes "\n" ∷ [])
 
-abbrev pub file_text : Active → List ℕ
+unfoldable pub file_text : Active → List ℕ
 file_text (M68 r) =
     joined (codes "entry: 68k at " ∷ hexadecimal 8 r.pc ∷ codes ", a5 " ∷ hexadecimal 8 (slice_index r.a 5) ∷ codes ", a7 " ∷ hexadecimal 8 (slice_index r.a 7) ∷ codes "\n" ∷ [])
 file_text (Ppc r) =

@@ -89,6 +89,7 @@ fn add_host(text: &mut Vec<u8>, weak: bool, index: Option<u32>) -> Result<(), No
     }
 }
 
+#[tactic(auto, unfolding(crate::specs::Containers::host_line))]
 fn add_function(text: &mut Vec<u8>, k: u32, vector: u32) -> Result<(), NoMemory>
     ensures { OnOk result (text.new.items ≡ text.old.items ++ host_line k vector) }
 {

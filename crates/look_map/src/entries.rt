@@ -30,7 +30,7 @@ pub fn add_entries(
 }
 
 /// Appends the line of an entry.
-#[tactic(auto, using(std::proofs::Common::append_assoc))]
+#[tactic(auto, using(std::proofs::Common::append_assoc), unfolding(crate::specs::Forks::entry_line))]
 fn add_entry(
     text: &mut Vec<u8>,
     fork: &Fork,
@@ -66,6 +66,7 @@ fn table_offset(code0: &[u8], i: u32) -> u32
     read_header(code0).table_offset + 8 * i + 2
 }
 
+#[tactic(auto, unfolding(crate::specs::Forks::entry_front))]
 fn add_front(
     text: &mut Vec<u8>,
     i: u32,
@@ -93,6 +94,7 @@ fn add_front(
     )
 }
 
+#[tactic(auto, unfolding(crate::specs::Forks::target_text))]
 fn add_target(text: &mut Vec<u8>, bad: bool, target: u32) -> Result<(), NoMemory>
     ensures { OnOk result (text.new.items ≡ text.old.items ++ target_text bad target) }
 {

@@ -124,6 +124,7 @@ fn add_placed(
     Ok(end)
 }
 
+#[tactic(auto, unfolding(crate::specs::Forks::a5_line))]
 fn add_a5(text: &mut Vec<u8>, a5: u64) -> Result<(), NoMemory>
     ensures { OnOk result (text.new.items ≡ text.old.items ++ a5_line a5) }
 {
@@ -165,6 +166,7 @@ fn add_whole_table(
     add_entries(text, fork, code0, places, count)
 }
 
+#[tactic(auto, unfolding(crate::specs::Forks::table_line))]
 fn add_table_line(text: &mut Vec<u8>, at: u64, count: u32) -> Result<(), NoMemory>
     ensures { OnOk result (text.new.items ≡ text.old.items ++ table_line at count) }
 {

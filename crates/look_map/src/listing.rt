@@ -12,6 +12,7 @@ use std::alloc::Global;
 use switch_frame::PROGRAM_START;
 
 /// The lines of files, with the CODEs below a count of ids, in `len` bytes of RAM.
+#[tactic(auto, unfolding(crate::specs::Maps::ram_line))]
 pub fn listing(alloc: Global, files: &Files, len: u32, ids: u16) -> Result<Vec<u8>, NoMemory>
     requires flat { IsSmall files.now.flat }
     requires rsrc { IsSmall files.now.rsrc }
@@ -46,6 +47,7 @@ fn add_files(alloc: Global, text: &mut Vec<u8>, files: &Files, ids: u16) -> Resu
 }
 
 /// Appends the line of a flat file, if there is one.
+#[tactic(auto, unfolding(crate::specs::Maps::flat_line))]
 fn add_flat(text: &mut Vec<u8>, file: &Option<FileBytes>) -> Result<(), NoMemory>
     requires { IsSmall file.now }
     ensures { OnOk result (text.new.items ≡ text.old.items ++ flat_text file.now) }

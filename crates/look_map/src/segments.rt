@@ -34,6 +34,7 @@ pub fn add_segments(
 }
 
 /// Appends the line of a segment, if there is one, behind an end, and gives the end behind it.
+#[tactic(auto, unfolding(crate::specs::Forks::code_line))]
 fn add_segment(
     text: &mut Vec<u8>,
     id: u16,

@@ -47,6 +47,7 @@ fn add_file(text: &mut Vec<u8>, file: &Active) -> Result<(), NoMemory>
     }
 }
 
+#[tactic(auto, unfolding(crate::specs::Maps::file_text))]
 fn add_m68(text: &mut Vec<u8>, regs: &Regs68) -> Result<(), NoMemory>
     ensures { OnOk result (text.new.items ≡ text.old.items ++ file_text (Active.M68 regs.now)) }
 {
@@ -64,6 +65,7 @@ fn add_m68(text: &mut Vec<u8>, regs: &Regs68) -> Result<(), NoMemory>
     )
 }
 
+#[tactic(auto, unfolding(crate::specs::Maps::file_text))]
 fn add_ppc(text: &mut Vec<u8>, regs: &RegsPpc) -> Result<(), NoMemory>
     ensures { OnOk result (text.new.items ≡ text.old.items ++ file_text (Active.Ppc regs.now)) }
 {
