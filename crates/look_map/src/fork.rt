@@ -16,7 +16,6 @@ use std::alloc::Global;
 use switch_frame::PROGRAM_START;
 
 /// Appends the lines of the fork in a file's bytes, with the CODEs below a count of ids, and says where they end.
-#[tactic(auto, using(crate::proofs::Refused::refused_text, crate::proofs::Refused::refused_end))]
 pub fn add_fork(alloc: Global, text: &mut Vec<u8>, bytes: &[u8], ids: u16) -> Result<u64, NoMemory>
     requires small { length bytes.now ≤ 2 ^ 24 }
     requires few { 0 < ids }

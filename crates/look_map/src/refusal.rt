@@ -1,5 +1,7 @@
 // Why a program is not loaded, in a sentence.
 ghost use Rattle.std.specs.Prelude.{◌≡◌, ◌^◌, ◌≤◌, None, IfOk, IfSome, length};
+ghost use Rattle.std.specs.Fmt.{signed_decimal};
+ghost use Rattle.std.specs.String.{string_bytes};
 ghost use Rattle.mix_load.specs.Load.{IsSmall};
 ghost use Rattle.pef_head.specs.Parts.{names};
 ghost use Rattle.pef_head.specs.Refusals.{refusal_of};
@@ -12,7 +14,7 @@ use mix_load::{File, FileBytes, Files, LoadError};
 use pef_head::{Import, Pef};
 use pef_reloc::RelocError;
 use rsrc_fork::RsrcError;
-use std::alloc::{AllocError, Global};
+use std::alloc::Global;
 
 /// How many bytes of a name are told.
 const NAME_BYTES: usize = 255;
@@ -23,17 +25,16 @@ pub fn refusal_text(alloc: Global, files: &Files, error: LoadError) -> Result<Ve
     ensures { IfOk result (λ text. IfSome (sentence_of files.now.pef error) (λ sentence. text.items ≡ sentence)) }
 {
     match error {
-        LoadError::NoMemory => plain(alloc, error),
         LoadError::Empty(file) => told(alloc, empty_text(file)),
         LoadError::Rsrc(e) => fork_refusal(alloc, e),
         LoadError::NoCode(id) => no_code(alloc, id),
         LoadError::Far(id) => far(alloc, id),
         LoadError::JumpTable(at) => jump_table(alloc, at),
-        LoadError::Pef(_) => plain(alloc, error),
+        LoadError::Pef(_) => plain(alloc, "the container is none: ", error),
         LoadError::TooLarge(end) => too_large(alloc, end),
         LoadError::Reloc(e) => unmade(alloc, &files.pef, e),
         LoadError::Unresolved(i) => unresolved(alloc, &files.pef, i),
-        LoadError::NoMain => plain(alloc, error),
+        LoadError::NoMemory | LoadError::NoMain => plain(alloc, "", error),
     }
 }
 
@@ -53,10 +54,8 @@ fn fork_refusal(alloc: Global, error: RsrcError) -> Result<Vec<u8>, NoMemory>
     match error {
         RsrcError::Twice(kind, id) => resource(alloc, kind, id, " stands twice in the fork"),
         RsrcError::Compressed(kind, id) => resource(alloc, kind, id, " is compressed"),
-        RsrcError::NoMemory => plain(alloc, LoadError::Rsrc(error)),
-        RsrcError::Short(_) => plain(alloc, LoadError::Rsrc(error)),
-        RsrcError::Overlap => plain(alloc, LoadError::Rsrc(error)),
-        RsrcError::BadOffset(_) => plain(alloc, LoadError::Rsrc(error)),
+        RsrcError::NoMemory | RsrcError::Short(_) | RsrcError::Overlap | RsrcError::BadOffset(_) =>
+            plain(alloc, "the fork is none: ", LoadError::Rsrc(error)),
     }
 }
 
@@ -65,7 +64,7 @@ fn resource(alloc: Global, kind: u32, id: i16, rest: &str) -> Result<Vec<u8>, No
     ensures { IfOk result (λ text. text.items ≡ resource_text kind id rest.now) }
 {
     let kind = kind.to_be_bytes();
-    let id = format!(in alloc; "{id}")?;
+    let id = numeral(alloc, id)?;
     line_of(
         alloc,
         &[
@@ -78,6 +77,13 @@ fn resource(alloc: Global, kind: u32, id: i16, rest: &str) -> Result<Vec<u8>, No
     )
 }
 
+/// A number in decimal.
+fn numeral(alloc: Global, number: i16) -> Result<String, NoMemory>
+    ensures { IfOk result (λ text. string_bytes text ≡ signed_decimal number) }
+{
+    Ok(format!(in alloc; "{number}")?)
+}
+
 /// A sentence about a CODE that is missing.
 fn no_code(alloc: Global, id: i16) -> Result<Vec<u8>, NoMemory>
     ensures { IfOk result (λ text. text.items ≡ no_code_text id) }
@@ -85,7 +91,7 @@ fn no_code(alloc: Global, id: i16) -> Result<Vec<u8>, NoMemory>
     if id == 1 {
         return told(alloc, "the fork has no CODE above 0");
     }
-    let id = format!(in alloc; "{id}")?;
+    let id = numeral(alloc, id)?;
     line_of(
         alloc,
         &[
@@ -99,7 +105,7 @@ fn no_code(alloc: Global, id: i16) -> Result<Vec<u8>, NoMemory>
 fn far(alloc: Global, id: i16) -> Result<Vec<u8>, NoMemory>
     ensures { IfOk result (λ text. text.items ≡ far_text id) }
 {
-    let id = format!(in alloc; "{id}")?;
+    let id = numeral(alloc, id)?;
     line_of(
         alloc,
         &[
@@ -138,7 +144,7 @@ fn too_large(alloc: Global, end: u64) -> Result<Vec<u8>, NoMemory>
     if end < 0x1_0000_0000 {
         large(alloc, end as u32)
     } else {
-        plain(alloc, LoadError::TooLarge(end))
+        larger(alloc, end)
     }
 }
 
@@ -155,6 +161,14 @@ fn large(alloc: Global, end: u32) -> Result<Vec<u8>, NoMemory>
     )
 }
 
+/// The same of an end above all addresses.
+fn larger(alloc: Global, end: u64) -> Result<Vec<u8>, NoMemory> {
+    let sentence = format!(in alloc;
+        "the program would end at ${end:X}, in the quarter of RAM that is the stack's"
+    )?;
+    told(alloc, sentence.as_str())
+}
+
 /// The sentence about an import that the host lacks.
 fn unresolved(alloc: Global, file: &Option<FileBytes>, i: u32) -> Result<Vec<u8>, NoMemory>
     requires { IsSmall file.now }
@@ -162,7 +176,7 @@ fn unresolved(alloc: Global, file: &Option<FileBytes>, i: u32) -> Result<Vec<u8>
 {
     match file {
         Some(file) => unresolved_by(alloc, file.bytes(), i),
-        None => plain(alloc, LoadError::Unresolved(i)),
+        None => plain(alloc, "", LoadError::Unresolved(i)),
     }
 }
 
@@ -172,7 +186,7 @@ fn unresolved_by(alloc: Global, bytes: &[u8], i: u32) -> Result<Vec<u8>, NoMemor
 {
     match Pef::read(bytes) {
         Ok(pef) => unresolved_in(alloc, &pef, i),
-        Err(_) => plain(alloc, LoadError::Unresolved(i)),
+        Err(_) => plain(alloc, "", LoadError::Unresolved(i)),
     }
 }
 
@@ -180,7 +194,7 @@ fn unresolved_in(alloc: Global, pef: &Pef, i: u32) -> Result<Vec<u8>, NoMemory>
     ensures { IfOk result (λ text. IfSome (lacking_in None pef.now i) (λ sentence. text.items ≡ sentence)) }
 {
     if pef.imports() <= i {
-        return plain(alloc, LoadError::Unresolved(i));
+        return plain(alloc, "", LoadError::Unresolved(i));
     }
     let owners = pef.owners(alloc)?;
     named(
@@ -212,11 +226,23 @@ fn named(alloc: Global, i: u32, import: Import) -> Result<Vec<u8>, NoMemory>
 fn unmade(alloc: Global, file: &Option<FileBytes>, error: RelocError) -> Result<Vec<u8>, NoMemory>
     requires { IsSmall file.now }
 {
-    let sentence = match unmade_in(alloc, file, error)? {
-        Some(k) => format!(in alloc; "section {k} is not made: {error}")?,
-        None => format!(in alloc; "a section is not made: {error}")?,
-    };
-    told(alloc, sentence.as_str())
+    match unmade_in(alloc, file, error)? {
+        Some(k) => unmade_at(alloc, k, error),
+        None => plain(alloc, "a section is not made: ", LoadError::Reloc(error)),
+    }
+}
+
+fn unmade_at(alloc: Global, k: u32, error: RelocError) -> Result<Vec<u8>, NoMemory> {
+    let reason = reason(alloc, LoadError::Reloc(error))?;
+    line_of(
+        alloc,
+        &[
+            Piece::Text("section "),
+            Piece::Number(k),
+            Piece::Text(" is not made: "),
+            Piece::Text(reason.as_str()),
+        ],
+    )
 }
 
 /// The number of that section.
@@ -236,26 +262,18 @@ fn unmade_in(
 }
 
 /// A sentence that ends in the text of an error.
-fn plain(alloc: Global, error: LoadError) -> Result<Vec<u8>, NoMemory> {
-    let sentence = sentence(alloc, error)?;
-    told(alloc, sentence.as_str())
+fn plain(alloc: Global, front: &str, error: LoadError) -> Result<Vec<u8>, NoMemory> {
+    let reason = reason(alloc, error)?;
+    line_of(alloc, &[Piece::Text(front), Piece::Text(reason.as_str())])
+}
+
+/// The text of an error.
+fn reason(alloc: Global, error: LoadError) -> Result<String, NoMemory> {
+    Ok(format!(in alloc; "{error}")?)
 }
 
 fn told(alloc: Global, sentence: &str) -> Result<Vec<u8>, NoMemory>
     ensures { IfOk result (λ text. text.items ≡ sentence.now) }
 {
-    let mut text = Vec::new(alloc);
-    add(&mut text, sentence)?;
-    Ok(text)
-}
-
-fn sentence(alloc: Global, error: LoadError) -> Result<String, AllocError> {
-    match error {
-        LoadError::TooLarge(end) => format!(in alloc;
-            "the program would end at ${end:08X}, in the quarter of RAM that is the stack's"
-        ),
-        LoadError::Rsrc(e) => format!(in alloc; "the fork is none: {e}"),
-        LoadError::Pef(e) => format!(in alloc; "the container is none: {e}"),
-        _ => format!(in alloc; "{error}"),
-    }
+    Ok(Vec::from_slice(alloc, sentence.as_bytes())?)
 }

@@ -1,9 +1,9 @@
 // The section of a container that was refused while it was made.
-ghost use Rattle.std.specs.Prelude.{◌≡◌, ℕ, ◌^◌, ◌%◌, ◌<◌, ◌≤◌, None, IfOk, IfSome, is_some, length, slice_index, slice_index_or};
+ghost use Rattle.std.specs.Prelude.{◌≡◌, ℕ, ◌^◌, ◌%◌, ◌<◌, ◌≤◌, None, IfOk, IfSome, is_some, length, slice_index_or};
 ghost use Rattle.mix_bits.specs.Search.{least};
 ghost use Rattle.pef_head.specs.Container.{instantiated_count};
 ghost use Rattle.pef_head.specs.Parts.{IsLoadable, parts, reloc_header_of};
-ghost use Rattle.mix_load.specs.Sections.{pattern_refusal, total_at};
+ghost use Rattle.mix_load.specs.Sections.{pattern_refusal, totals as totals_of};
 ghost use Rattle.look_map.specs.Containers.{HasSizes, IsBadlyRelocated, IsUnmade, is_badly_packed as is_packed_badly, is_badly_relocated as is_relocated_badly};
 
 use big_memory::Ram;
@@ -73,15 +73,23 @@ fn badly_relocated(alloc: Global, pef: &Pef) -> Result<Option<u32>, NoMemory>
     ensures is { IfOk result (λ section. IsBadlyRelocated pef.now section) }
     ensures below { IfOk result (λ section. IfSome section (λ k. k < instantiated_count pef.now)) }
 {
-    let count = pef.sections();
     let headers = pef.reloc_headers(alloc)?;
-    let sections = Sections {
+    let sections = zeroed(alloc, pef)?;
+    let mut ram = memory(alloc, MOST)?;
+    Ok(first_refused(&mut ram, pef, &headers, &sections, pef.sections()))
+}
+
+/// The sections of a container at the address 0, and its imports as zeros.
+fn zeroed(alloc: Global, pef: &Pef) -> Result<Sections, NoMemory>
+    ensures sizes { IfOk result (λ sections. HasSizes pef.now sections.bases.items sections.totals.items sections.imports.items) }
+    ensures few { IfOk result (λ sections. length sections.imports.items < 2 ^ 32) }
+{
+    let count = pef.sections();
+    Ok(Sections {
         bases: vec![in alloc; 0; count as usize]?,
         totals: totals(alloc, pef, count)?,
         imports: vec![in alloc; 0; pef.imports() as usize]?,
-    };
-    let mut ram = memory(alloc, MOST)?;
-    Ok(first_refused(&mut ram, pef, &headers, &sections, count))
+    })
 }
 
 /// Memory of so many bytes.
@@ -97,8 +105,7 @@ fn memory(alloc: Global, bytes: u32) -> Result<Ram, NoMemory>
 /// The sizes of the first sections.
 fn totals(alloc: Global, pef: &Pef, count: u32) -> Result<Vec<u32>, NoMemory>
     requires { count ≤ instantiated_count pef.now }
-    ensures long { IfOk result (λ totals. length totals.items ≡ count) }
-    ensures each { IfOk result (λ totals. (k : ℕ) → k < count → slice_index totals.items k ≡ total_at pef.now k) }
+    ensures { IfOk result (λ totals. totals.items ≡ totals_of pef.now count) }
 {
     let mut totals = Vec::new(alloc);
     for k in 0..count {

@@ -3,8 +3,8 @@ use Rattle.std.proofs.Common.{◌≡◌, ◌∙◌, ℕ, List, [], ◌∷◌, �
 use Rattle.mix_bits.specs.Multiples.{rounded_up}
 use Rattle.rsrc_fork.specs.Resources.{Resource}
 use Rattle.mix_load.specs.Segments.{segment_at, segment_place, segment_places, segments_end, with_segment}
-use Rattle.look_map.specs.Forks.{segment_line}
-use Rattle.look_map.proofs.Lines.{next}
+use Rattle.look_map.specs.Forks.{segment_line, segments_text}
+use Rattle.look_map.proofs.Lines.{at_end, next}
 use Rattle.look_map.proofs.segments.add_segments.Goals as goal
 
 line_is : (fork : List Resource) (start id end : ℕ) (code : Option (List ℕ)) → code ≡ segment_at fork id → end ≡ segments_end fork start id
@@ -34,3 +34,15 @@ loop-id-preserved c = record {
   end = rw add-one (end_is c.args.fork.now c.args.start c.loop-id.id c.loop-id.end c.in_ok-end.end _ c.segment_at.ensures.is c.loop-id.invariant.end c.in_ok-end.ensures.end);
   few = omega (arith, c.in_ok-end.ensures.near, c.loop-id.invariant.few);
 }
+
+pub returns : goal.returns
+returns c =
+    let fork : List Resource = c.args.fork.now in
+    record {
+      text = at_end (λ (n : ℕ). c.loop-id.text.items ≡ c.args.text.now.items ++ segments_text fork c.args.start n) c.loop-id.id c.args.ids c.loop-id.invariant.text
+          c.loop-id.auto.id-end c.loop-id-test.false;
+      places = at_end (λ (n : ℕ). c.loop-id.places.items ≡ segment_places fork c.args.start n) c.loop-id.id c.args.ids c.loop-id.invariant.places
+          c.loop-id.auto.id-end c.loop-id-test.false;
+      end = at_end (λ (n : ℕ). c.loop-id.end ≡ segments_end fork c.args.start n) c.loop-id.id c.args.ids c.loop-id.invariant.end c.loop-id.auto.id-end c.loop-id-test.false;
+      near = omega (arith, c.loop-id.invariant.few, c.loop-id.auto.id-end, c.requires.start, c.ranges.ids);
+    }
