@@ -1,12 +1,15 @@
 // A container: its sections and its imports.
 ghost use Rattle.std.specs.Prelude.{◌≡◌, ℕ, ◌^◌, ◌<◌, ◌≤◌, ◌++◌, IfSome, OnOk, length, slice_index};
 ghost use Rattle.pef_head.specs.Parts.{cut, import_count, import_of, library_of, names};
-ghost use Rattle.look_map.specs.Containers.{container_text, host_line, host_text, import_line, imports_text, parts_text};
+ghost use Rattle.mix_load.specs.Load.{IsSmall};
+ghost use Rattle.look_map.specs.Maps.{container_file_text};
+ghost use Rattle.look_map.specs.Containers.{host_line, host_text, import_line, imports_text, parts_text};
 
 use crate::sections::add_sections;
 use big_memory::host_vector;
 use look_text::{Piece, add, add_line};
 use mix_bits::NoMemory;
+use mix_load::FileBytes;
 use pef_head::{Import, Pef};
 use std::alloc::Global;
 use toolbox::import_index;
@@ -14,18 +17,21 @@ use toolbox::import_index;
 /// How many bytes of a name are told.
 const NAME_BYTES: usize = 255;
 
-/// Appends the lines of the container in a file's bytes, whose sections begin behind `start`.
+/// Appends the lines of a container's file, if there is one, whose sections begin behind `start`.
 pub fn add_container(
     alloc: Global,
     text: &mut Vec<u8>,
-    bytes: &[u8],
+    file: &Option<FileBytes>,
     start: u64,
 ) -> Result<(), NoMemory>
-    requires small { length bytes.now ≤ 2 ^ 24 }
+    requires small { IsSmall file.now }
     requires near { start ≤ 2 ^ 43 }
-    ensures { OnOk result (text.new.items ≡ text.old.items ++ container_text bytes.now start) }
+    ensures { OnOk result (text.new.items ≡ text.old.items ++ container_file_text start file.now) }
 {
-    match Pef::read(bytes) {
+    let Some(file) = file else {
+        return Ok(());
+    };
+    match Pef::read(file.bytes()) {
         Ok(pef) => add_parts(alloc, text, &pef, start),
         Err(_) => Ok(()),
     }

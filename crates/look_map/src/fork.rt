@@ -40,69 +40,22 @@ fn end_without(e: RsrcError) -> Result<u64, NoMemory>
     }
 }
 
-/// Appends the lines of the CODEs.
+/// Appends the lines of the CODEs. Without the longs of CODE 0 there is no world of A5.
 fn add_codes(alloc: Global, text: &mut Vec<u8>, fork: &Fork, ids: u16) -> Result<u64, NoMemory>
     ensures text { IfOk result (λ _. text.new.items ≡ text.old.items ++ fork_text ids (Ok fork.now)) }
     ensures end { IfOk result (λ end. end ≡ fork_end ids (Ok fork.now)) }
     ensures near { IfOk result (λ end. end ≤ 2 ^ 42) }
 {
+    let mut places = Vec::new(alloc);
     match code_at(fork, 0) {
-        Some(code0) => add_all(alloc, text, fork, code0, ids),
-        None => add_bare(alloc, text, fork, ids),
+        Some(code0) if 16 <= code0.len() => add_world(text, fork, code0, &mut places, ids),
+        _ => add_segments(text, fork, &mut places, u64::from(PROGRAM_START), ids),
     }
 }
 
-/// Appends the lines of the CODEs, with a CODE 0 that may lack its longs.
-fn add_all(
-    alloc: Global,
-    text: &mut Vec<u8>,
-    fork: &Fork,
-    code0: &[u8],
-    ids: u16,
-) -> Result<u64, NoMemory>
-    requires { length code0.now ≤ 2 ^ 24 }
-    ensures text { IfOk result (λ _. text.new.items ≡ text.old.items ++ codes_by ids fork.now (Some code0.now)) }
-    ensures end { IfOk result (λ end. end ≡ codes_end ids fork.now (Some code0.now)) }
-    ensures near { IfOk result (λ end. end ≤ 2 ^ 42) }
-{
-    if code0.len() < 16 {
-        add_bare(alloc, text, fork, ids)
-    } else {
-        add_world(alloc, text, fork, code0, ids)
-    }
-}
-
-/// Appends the lines of the segments alone.
-fn add_bare(alloc: Global, text: &mut Vec<u8>, fork: &Fork, ids: u16) -> Result<u64, NoMemory>
-    ensures text { IfOk result (λ _. text.new.items ≡ text.old.items ++ segments_text fork.now program_start ids) }
-    ensures end { IfOk result (λ end. end ≡ segments_end fork.now program_start ids) }
-    ensures near { IfOk result (λ end. end ≤ 2 ^ 42) }
-{
-    let mut places = Vec::new(alloc);
-    add_segments(text, fork, &mut places, u64::from(PROGRAM_START), ids)
-}
-
-/// Appends the lines of the world of A5, and of the segments.
-fn add_world(
-    alloc: Global,
-    text: &mut Vec<u8>,
-    fork: &Fork,
-    code0: &[u8],
-    ids: u16,
-) -> Result<u64, NoMemory>
-    requires longs { 16 ≤ length code0.now }
-    requires small { length code0.now ≤ 2 ^ 24 }
-    ensures text { IfOk result (λ _. text.new.items ≡ text.old.items ++ world_text ids fork.now code0.now) }
-    ensures end { IfOk result (λ end. end ≡ segments_end fork.now (start_in (header_of code0.now)) ids) }
-    ensures near { IfOk result (λ end. end ≤ 2 ^ 42) }
-{
-    let mut places = Vec::new(alloc);
-    add_placed(text, fork, code0, &mut places, ids)
-}
-
-/// The same, with the places of the segments kept.
+/// Appends the lines of the world of A5, and of the segments, whose places are kept.
 #[tactic(auto, using(std::proofs::Common::append_assoc))]
-fn add_placed(
+fn add_world(
     text: &mut Vec<u8>,
     fork: &Fork,
     code0: &[u8],
@@ -134,31 +87,15 @@ fn add_a5(text: &mut Vec<u8>, a5: u64) -> Result<(), NoMemory>
 }
 
 /// Appends the lines of the jump table, if there is one.
+#[tactic(auto, using(std::proofs::Common::append_assoc))]
 fn add_table(text: &mut Vec<u8>, fork: &Fork, code0: &[u8], places: &[u64]) -> Result<(), NoMemory>
     requires longs { 16 ≤ length code0.now }
     requires small { length code0.now ≤ 2 ^ 24 }
     ensures { OnOk result (text.new.items ≡ text.old.items ++ table_text fork.now places.now code0.now (has_table_by code0.now)) }
 {
-    if has_table(code0) {
-        add_whole_table(text, fork, code0, places)
-    } else {
-        Ok(())
+    if !has_table(code0) {
+        return Ok(());
     }
-}
-
-/// Appends the lines of a jump table that there is.
-#[tactic(auto, using(std::proofs::Common::append_assoc))]
-fn add_whole_table(
-    text: &mut Vec<u8>,
-    fork: &Fork,
-    code0: &[u8],
-    places: &[u64],
-) -> Result<(), NoMemory>
-    requires table { HasTable code0.now }
-    requires room { (header_of code0.now).table_offset + (header_of code0.now).table_len < 2 ^ 32 }
-    requires small { length code0.now ≤ 2 ^ 24 }
-    ensures { OnOk result (text.new.items ≡ text.old.items ++ table_text fork.now places.now code0.now true) }
-{
     let h = read_header(code0);
     let count = h.table_len / 8;
     add_table_line(text, table_start(h), count)?;

@@ -1,7 +1,7 @@
 // What could be read of the files of a program.
 ghost use Rattle.std.specs.Prelude.{◌≡◌, ◌*◌, ◌^◌, ◌<◌, ◌≤◌, ◌++◌, IfOk, OnOk, length};
 ghost use Rattle.mix_load.specs.Load.{AreLoadable, IsSmall};
-ghost use Rattle.look_map.specs.Maps.{container_file_text, files_text, flat_text, fork_file_end, fork_file_text, pieces_text};
+ghost use Rattle.look_map.specs.Maps.{files_text, flat_text, fork_file_end, fork_file_text, pieces_text};
 
 use crate::container::add_container;
 use crate::fork::add_fork;
@@ -43,7 +43,7 @@ fn add_files(alloc: Global, text: &mut Vec<u8>, files: &Files, ids: u16) -> Resu
 {
     add_flat(text, &files.flat)?;
     let end = add_fork_file(alloc, text, &files.rsrc, ids)?;
-    add_container_file(alloc, text, &files.pef, end)
+    add_container(alloc, text, &files.pef, end)
 }
 
 /// Appends the line of a flat file, if there is one.
@@ -81,22 +81,5 @@ fn add_fork_file(
     match file {
         Some(file) => add_fork(alloc, text, file.bytes(), ids),
         None => Ok(u64::from(PROGRAM_START)),
-    }
-}
-
-/// Appends the lines of a container's file, if there is one.
-fn add_container_file(
-    alloc: Global,
-    text: &mut Vec<u8>,
-    file: &Option<FileBytes>,
-    start: u64,
-) -> Result<(), NoMemory>
-    requires small { IsSmall file.now }
-    requires near { start ≤ 2 ^ 43 }
-    ensures { OnOk result (text.new.items ≡ text.old.items ++ container_file_text start file.now) }
-{
-    match file {
-        Some(file) => add_container(alloc, text, file.bytes(), start),
-        None => Ok(()),
     }
 }

@@ -30,13 +30,13 @@ pub fn unmade_section(alloc: Global, pef: &Pef, error: RelocError) -> Result<Opt
 {
     match error {
         RelocError::Pattern(_) => badly_packed(alloc, pef, pef.sections()),
-        RelocError::Short(_) => badly_relocated(alloc, pef),
-        RelocError::Unsupported(_) => badly_relocated(alloc, pef),
-        RelocError::OutsideSection(_) => badly_relocated(alloc, pef),
-        RelocError::ImportIndex(_) => badly_relocated(alloc, pef),
-        RelocError::SectionIndex(_) => badly_relocated(alloc, pef),
-        RelocError::RepeatFront(_) => badly_relocated(alloc, pef),
-        RelocError::Work => badly_relocated(alloc, pef),
+        RelocError::Short(_)
+        | RelocError::Unsupported(_)
+        | RelocError::OutsideSection(_)
+        | RelocError::ImportIndex(_)
+        | RelocError::SectionIndex(_)
+        | RelocError::RepeatFront(_)
+        | RelocError::Work => badly_relocated(alloc, pef),
     }
 }
 

@@ -5,4 +5,4 @@ use Rattle.look_map.proofs.listing.add_files.Goals as goal
 pub returns : goal.returns
 returns c =
     three _ _ _ _ _ _ _ _ c.in_ok-add_flat.ensures c.in_ok-end.ensures.text
-    (rw c.in_ok-end.ensures.end at c.add_container_file.ensures)
+    (rw c.in_ok-end.ensures.end at c.add_container.ensures)

@@ -1,9 +1,9 @@
 -- One section more.
-use Rattle.std.proofs.Common.{◌≡◌, ◌∙◌, ℕ, ◌+◌, List, add-one, ap, arith}
+use Rattle.std.proofs.Common.{◌≡◌, ◌∙◌, ℕ, ◌+◌, ◌++◌, List, add-one, ap, arith}
 use Rattle.pef_head.specs.Parts.{SectionParts, section_at}
 use Rattle.mix_load.specs.Sections.{base_behind, section_base, sections_end}
-use Rattle.look_map.specs.Containers.{section_text}
-use Rattle.look_map.proofs.Lines.{next}
+use Rattle.look_map.specs.Containers.{section_text, sections_text}
+use Rattle.look_map.proofs.Lines.{at_end, next}
 use Rattle.look_map.proofs.sections.add_sections.Goals as goal
 
 line_is : (bytes : List ℕ) (start k end : ℕ) (s : SectionParts) → s ≡ section_at bytes k → end ≡ sections_end bytes start k
@@ -26,3 +26,8 @@ loop-k-preserved c = record {
   end = rw add-one (end_is c.args.pef.now c.args.start c.loop-k.k c.loop-k.end c.in_ok-end.end _ c.section.ensures.is c.loop-k.invariant.end c.in_ok-end.ensures.end);
   few = omega (arith, c.in_ok-end.ensures.near, c.loop-k.invariant.few);
 }
+
+pub returns : goal.returns
+returns c =
+    at_end (λ (n : ℕ). c.loop-k.text.items ≡ c.args.text.now.items ++ sections_text c.args.pef.now c.args.start n) c.loop-k.k c.args.count c.loop-k.invariant.text
+    c.loop-k.auto.k-end c.loop-k-test.false

@@ -1,15 +1,28 @@
 -- What is said of a refusal, by its kind.
-use Rattle.std.proofs.Common.{◌≡◌, sym, subst, ℕ, ◌<◌, List, Option, Result}
+use Rattle.std.proofs.Common.{◌≡◌, sym, subst, ℕ, ◌<◌, ◌⊎◌, inl, inr, List, Option, Result}
 use Rattle.std.specs.Prelude.{IfOk, IfSome}
 use Rattle.mix_bits.specs.Search.{least}
 use Rattle.pef_reloc.specs.declared.error.RelocError.{RelocError}
 use Rattle.pef_reloc.specs.declared.error.RelocError.TheVariants.{Pattern, Short, Unsupported, OutsideSection, ImportIndex, SectionIndex, RepeatFront, Work}
-use Rattle.look_map.specs.Containers.{IsUnmade, is_badly_packed}
+use Rattle.look_map.specs.Containers.{IsBadlyRelocated, IsUnmade, is_badly_packed}
 use Rattle.look_map.proofs.unmade.unmade_section.Goals as goal
 
 told : {E : Type 0} (bytes : List ℕ) (kind error : RelocError) (r : Result (Option ℕ) E) → error ≡ kind
     → IfOk r (λ (section : Option ℕ). IsUnmade bytes kind section) → IfOk r (λ (section : Option ℕ). IsUnmade bytes error section)
 told bytes kind error r is so = subst (λ (e : RelocError). IfOk r (λ (section : Option ℕ). IsUnmade bytes e section)) (sym is) so
+
+-- each refusal that is not one of pattern data is one of relocations
+told_any : {E : Type 0} (bytes : List ℕ) (error : RelocError) (r : Result (Option ℕ) E)
+    → ((at : ℕ) × (error ≡ Short at)) ⊎ (((word : ℕ) × (error ≡ Unsupported word)) ⊎ (((at : ℕ) × (error ≡ OutsideSection at)) ⊎ (((i : ℕ) × (error ≡ ImportIndex i))
+    ⊎ (((k : ℕ) × (error ≡ SectionIndex k)) ⊎ (((at : ℕ) × (error ≡ RepeatFront at)) ⊎ (error ≡ Work))))))
+    → IfOk r (λ (section : Option ℕ). IsBadlyRelocated bytes section) → IfOk r (λ (section : Option ℕ). IsUnmade bytes error section)
+told_any bytes error r (inl s) so = told bytes (Short s.0) error r s.1 so
+told_any bytes error r (inr (inl s)) so = told bytes (Unsupported s.0) error r s.1 so
+told_any bytes error r (inr (inr (inl s))) so = told bytes (OutsideSection s.0) error r s.1 so
+told_any bytes error r (inr (inr (inr (inl s)))) so = told bytes (ImportIndex s.0) error r s.1 so
+told_any bytes error r (inr (inr (inr (inr (inl s))))) so = told bytes (SectionIndex s.0) error r s.1 so
+told_any bytes error r (inr (inr (inr (inr (inr (inl s)))))) so = told bytes (RepeatFront s.0) error r s.1 so
+told_any bytes error r (inr (inr (inr (inr (inr (inr is)))))) so = told bytes Work error r is so
 
 least_to : {E : Type 0} (bytes : List ℕ) (count all : ℕ) (r : Result (Option ℕ) E) → count ≡ all
     → IfOk r (λ (section : Option ℕ). section ≡ least (is_badly_packed bytes) count) → IfOk r (λ (section : Option ℕ). section ≡ least (is_badly_packed bytes) all)
@@ -28,43 +41,7 @@ pub returns-in-Pattern-clause-below : goal.returns-in-Pattern-clause-below
 returns-in-Pattern-clause-below c = below_to c.sections.result _ c.badly_packed.result c.sections.ensures.is c.badly_packed.ensures.below
 
 pub returns-in-Short-clause-is : goal.returns-in-Short-clause-is
-returns-in-Short-clause-is c = told c.args.pef.now (Short c.in-Short.field-0) c.args.error c.badly_relocated.result c.in-Short.is c.badly_relocated.ensures.is
+returns-in-Short-clause-is c = told_any c.args.pef.now c.args.error c.badly_relocated.result c.in-Short.is c.badly_relocated.ensures.is
 
 pub returns-in-Short-clause-below : goal.returns-in-Short-clause-below
 returns-in-Short-clause-below c = c.badly_relocated.ensures.below
-
-pub returns-in-Unsupported-clause-is : goal.returns-in-Unsupported-clause-is
-returns-in-Unsupported-clause-is c = told c.args.pef.now (Unsupported c.in-Unsupported.field-0) c.args.error c.badly_relocated-in-Unsupported.result c.in-Unsupported.is c.badly_relocated-in-Unsupported.ensures.is
-
-pub returns-in-Unsupported-clause-below : goal.returns-in-Unsupported-clause-below
-returns-in-Unsupported-clause-below c = c.badly_relocated-in-Unsupported.ensures.below
-
-pub returns-in-OutsideSection-clause-is : goal.returns-in-OutsideSection-clause-is
-returns-in-OutsideSection-clause-is c = told c.args.pef.now (OutsideSection c.in-OutsideSection.field-0) c.args.error c.badly_relocated-in-OutsideSection.result c.in-OutsideSection.is c.badly_relocated-in-OutsideSection.ensures.is
-
-pub returns-in-OutsideSection-clause-below : goal.returns-in-OutsideSection-clause-below
-returns-in-OutsideSection-clause-below c = c.badly_relocated-in-OutsideSection.ensures.below
-
-pub returns-in-ImportIndex-clause-is : goal.returns-in-ImportIndex-clause-is
-returns-in-ImportIndex-clause-is c = told c.args.pef.now (ImportIndex c.in-ImportIndex.field-0) c.args.error c.badly_relocated-in-ImportIndex.result c.in-ImportIndex.is c.badly_relocated-in-ImportIndex.ensures.is
-
-pub returns-in-ImportIndex-clause-below : goal.returns-in-ImportIndex-clause-below
-returns-in-ImportIndex-clause-below c = c.badly_relocated-in-ImportIndex.ensures.below
-
-pub returns-in-SectionIndex-clause-is : goal.returns-in-SectionIndex-clause-is
-returns-in-SectionIndex-clause-is c = told c.args.pef.now (SectionIndex c.in-SectionIndex.field-0) c.args.error c.badly_relocated-in-SectionIndex.result c.in-SectionIndex.is c.badly_relocated-in-SectionIndex.ensures.is
-
-pub returns-in-SectionIndex-clause-below : goal.returns-in-SectionIndex-clause-below
-returns-in-SectionIndex-clause-below c = c.badly_relocated-in-SectionIndex.ensures.below
-
-pub returns-in-RepeatFront-clause-is : goal.returns-in-RepeatFront-clause-is
-returns-in-RepeatFront-clause-is c = told c.args.pef.now (RepeatFront c.in-RepeatFront.field-0) c.args.error c.badly_relocated-in-RepeatFront.result c.in-RepeatFront.is c.badly_relocated-in-RepeatFront.ensures.is
-
-pub returns-in-RepeatFront-clause-below : goal.returns-in-RepeatFront-clause-below
-returns-in-RepeatFront-clause-below c = c.badly_relocated-in-RepeatFront.ensures.below
-
-pub returns-in-Work-clause-is : goal.returns-in-Work-clause-is
-returns-in-Work-clause-is c = told c.args.pef.now Work c.args.error c.badly_relocated-in-Work.result c.in-Work.is c.badly_relocated-in-Work.ensures.is
-
-pub returns-in-Work-clause-below : goal.returns-in-Work-clause-below
-returns-in-Work-clause-below c = c.badly_relocated-in-Work.ensures.below

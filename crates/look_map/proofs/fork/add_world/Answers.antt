@@ -3,7 +3,7 @@ use Rattle.std.proofs.Common.{◌≡◌, ◌∙◌, ℕ, List, ◌++◌, ap}
 use Rattle.mix_load.specs.Segments.{a5_of, has_table, header_of, segment_places, segments_end, segments_start}
 use Rattle.look_map.specs.Forks.{a5_line, segments_text, table_text}
 use Rattle.look_map.proofs.Lines.{next}
-use Rattle.look_map.proofs.fork.add_placed.Goals as goal
+use Rattle.look_map.proofs.fork.add_world.Goals as goal
 
 pub returns-clause-text : goal.returns-clause-text
 returns-clause-text c =
