@@ -1,10 +1,10 @@
 // The CODEs of a fork.
-ghost use Rattle.std.specs.Prelude.{◌≡◌, ◌≢◌, ◌+◌, ◌^◌, ◌<◌, ◌≤◌, ◌++◌, [], IfOk, OnOk, true, length};
+ghost use Rattle.std.specs.Prelude.{◌≡◌, ◌≢◌, ◌^◌, ◌<◌, ◌≤◌, ◌++◌, [], IfOk, OnOk, length};
 ghost use Rattle.rsrc_fork.specs.References.{resources_of};
 ghost use Rattle.rsrc_fork.specs.declared.error.RsrcError.TheVariants.{NoMemory as NoForkMemory};
 ghost use Rattle.switch_frame.specs.Program.{program_start};
-ghost use Rattle.mix_load.specs.Segments.{HasTable, entry_count, has_table as has_table_by, header_of, segments_end, segments_start as start_in};
-ghost use Rattle.look_map.specs.Forks.{a5_line, codes_by, codes_end, fork_end, fork_text, segments_text, table_line, table_text, world_text};
+ghost use Rattle.mix_load.specs.Segments.{has_table as has_table_by, header_of, segments_end, segments_start as start_in};
+ghost use Rattle.look_map.specs.Forks.{a5_line, fork_end, fork_text, table_line, table_text, world_text};
 
 use crate::entries::add_entries;
 use crate::segments::add_segments;

@@ -1,6 +1,6 @@
 // What could be read of the files of a program.
-ghost use Rattle.std.specs.Prelude.{◌≡◌, ◌*◌, ◌^◌, ◌<◌, ◌≤◌, ◌++◌, IfOk, OnOk, length};
-ghost use Rattle.mix_load.specs.Load.{AreLoadable, IsSmall};
+ghost use Rattle.std.specs.Prelude.{◌≡◌, ◌^◌, ◌<◌, ◌≤◌, ◌++◌, IfOk, OnOk};
+ghost use Rattle.mix_load.specs.Load.{IsSmall};
 ghost use Rattle.look_map.specs.Maps.{files_text, flat_text, fork_file_end, fork_file_text, pieces_text};
 
 use crate::container::add_container;
