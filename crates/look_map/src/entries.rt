@@ -44,8 +44,9 @@ fn add_entry(
     requires above { (header_of code0.now).table_offset + 8 * i + 8 < 2 ^ 32 }
     ensures { OnOk result (text.new.items ≡ text.old.items ++ entry_line fork.now places.now code0.now i) }
 {
-    let offset = table_offset(code0, i);
-    let at = a5_of(read_header(code0)) + u64::from(offset);
+    let h = read_header(code0);
+    let offset = h.table_offset + 8 * i + 2;
+    let at = a5_of(h) + u64::from(offset);
     let segment = u32::from(segment_in(code0, i));
     let inside = u32::from(offset_in(code0, i));
     add_front(text, i, at, offset, segment, inside)?;
@@ -54,16 +55,6 @@ fn add_entry(
         is_bad_entry(fork, code0, i),
         jump_target(places, code0, i),
     )
-}
-
-/// How far behind A5 an entry's jump stands.
-fn table_offset(code0: &[u8], i: u32) -> u32
-    requires longs { 16 ≤ length code0.now }
-    requires few { i < 2 ^ 24 }
-    requires above { (header_of code0.now).table_offset + 8 * i + 8 < 2 ^ 32 }
-    ensures { result ≡ (header_of code0.now).table_offset + 8 * i + 2 }
-{
-    read_header(code0).table_offset + 8 * i + 2
 }
 
 #[tactic(auto, unfolding(crate::specs::Forks::entry_front))]

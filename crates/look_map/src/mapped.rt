@@ -1,16 +1,14 @@
 // A program that is loaded, and what is said of it.
-ghost use Rattle.std.specs.Prelude.{◌≡◌, ◌≢◌, ◌*◌, ◌≤◌, ◌++◌, IfOk};
-ghost use Rattle.switch_frame.specs.Program.{IsProgram};
+ghost use Rattle.std.specs.Prelude.{◌≡◌, ◌≢◌, ◌*◌, ◌≤◌, IfOk};
 ghost use Rattle.mix_load.specs.Load.{AreLoadable};
 ghost use Rattle.mix_load.specs.declared.error.LoadError.TheVariants.{NoMemory as NoLoadMemory};
-ghost use Rattle.look_map.specs.Maps.{IsMapped, start_text};
+ghost use Rattle.look_map.specs.Maps.{IsMapped};
 
 use crate::listing::listing;
 use crate::start::add_start;
 use mix_bits::{Isa, NoMemory};
 use mix_load::{Files, ID_COUNT, LoadError, load};
 use std::alloc::Global;
-use switch_frame::Program;
 
 /// Where the pieces of a program lie.
 #[derive(Drop)]
@@ -29,20 +27,14 @@ pub fn map_program(alloc: Global, files: &Files, main: Isa, kib: u32) -> Result<
     requires most { kib ≤ 16384 }
     ensures { IfOk result (IsMapped files.now main (1024 * kib)) }
 {
-    let text = listing(alloc, files, 1024 * kib, ID_COUNT)?;
+    let mut text = listing(alloc, files, 1024 * kib, ID_COUNT)?;
     match load(alloc, files, main, kib) {
-        Ok(program) => Ok(Mapped::Loaded(started(text, &program)?)),
+        Ok(program) => {
+            add_start(&mut text, &program)?;
+            Ok(Mapped::Loaded(text))
+        }
         Err(error) => Ok(Mapped::Refused(text, refusal(error)?)),
     }
-}
-
-/// A text with how a program starts behind it.
-fn started(mut text: Vec<u8>, program: &Program) -> Result<Vec<u8>, NoMemory>
-    requires { IsProgram program.now }
-    ensures { IfOk result (λ more. more.items ≡ text.items ++ start_text program.now) }
-{
-    add_start(&mut text, program)?;
-    Ok(text)
 }
 
 /// A refusal, unless it is that there was no memory.

@@ -1,5 +1,6 @@
 -- What an entry is, and what it names.
-use Rattle.std.proofs.Common.{◌≡◌, ◌∙◌, ℕ, ◌+◌, ◌++◌, Bool, List, OnOk, ap, subst}
+use Rattle.std.proofs.Common.{◌≡◌, ◌∙◌, ℕ, ◌+◌, ◌*◌, ◌++◌, Bool, List, OnOk, ap, subst}
+use Rattle.mix_load.specs.declared.header.CodeHeader.{CodeHeader}
 use Rattle.mix_load.specs.Segments.{a5_of, header_of}
 use Rattle.look_map.specs.Forks.{entry_front, entry_line, target_text}
 use Rattle.look_map.proofs.Lines.{two}
@@ -18,10 +19,12 @@ target_is a b c d p q = ap (λ (bad : Bool). target_text bad c) p ∙ ap (λ (n 
 pub returns : goal.returns
 unfolding entry_line
 returns c =
-    let a5 : c.a5_of.result ≡ a5_of (header_of c.args.code0.now) = c.a5_of.ensures.is ∙ ap a5_of c.read_header.ensures in
+    let a5 : c.a5_of.result ≡ a5_of (header_of c.args.code0.now) = c.a5_of.ensures.is ∙ ap a5_of c.read_header-h.ensures in
+    let offset : c.read_header-h.result.table_offset + 8 * c.args.i + 2 ≡ (header_of c.args.code0.now).table_offset + 8 * c.args.i + 2 =
+    ap (λ (h : CodeHeader). h.table_offset + 8 * c.args.i + 2) c.read_header-h.ensures in
     two _ _ _ _ _ _
     (c.in_ok-add_front.ensures ∙ ap (λ (t : List ℕ). c.args.text.now.items ++ t) (front_is c.args.i _ _ _ _ _ _ _ _
-    (place_is _ _ _ _ a5 (c.from.ensures ∙ c.table_offset-offset.ensures)) c.table_offset-offset.ensures (c.from-segment.ensures ∙ c.segment_in.ensures)
+    (place_is _ _ _ _ a5 (c.from.ensures ∙ offset)) offset (c.from-segment.ensures ∙ c.segment_in.ensures)
     (c.from-inside.ensures ∙ c.offset_in.ensures)))
     (subst (λ (t : List ℕ). OnOk c.add_target.result (c.add_target.new.text.items ≡ c.add_front.new.text.items ++ t))
     (target_is _ _ _ _ c.is_bad_entry.ensures c.jump_target.ensures) c.add_target.ensures)

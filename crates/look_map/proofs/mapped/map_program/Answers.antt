@@ -3,11 +3,11 @@ use Rattle.std.proofs.Common.{◌*◌}
 use Rattle.look_map.proofs.Mapping.{ids_are, more_text, refused_so, whole_text}
 use Rattle.look_map.proofs.mapped.map_program.Goals as goal
 
-pub returns-in_ok-started-in-Ok : goal.returns-in_ok-started-in-Ok
-returns-in_ok-started-in-Ok c = (
+pub returns-in_ok-add_start-in-Ok : goal.returns-in_ok-add_start-in-Ok
+returns-in_ok-add_start-in-Ok c = (
   c.in-Ok.program,
   c.in-Ok.ensures.is,
-  more_text _ _ _ _ c.in_ok-started-in-Ok.ensures (whole_text 32768 (1024 * c.args.kib) c.args.files.now _ ids_are c.in_ok-text.ensures),
+  more_text _ _ _ _ c.in_ok-add_start-in-Ok.ensures (whole_text 32768 (1024 * c.args.kib) c.args.files.now _ ids_are c.in_ok-text.ensures),
 )
 
 pub returns-in_ok-refusal-in-Err : goal.returns-in_ok-refusal-in-Err
