@@ -72,7 +72,7 @@ value_text label = codes ": " ++ (text_of label ++ (codes " wants " ++ wants_tex
 abbrev pub why_text : List (List ℕ) → Why → List ℕ
 why_text words Taken = codes "mixedrun takes these words"
 why_text words Empty = codes "no word: the first one is a command, run, continue, list, sample, assemble or debug"
-why_text words Command = codes "word 0, " ++ (at_place words 0 ++ codes ", is no command: run, continue, list, sample, assemble or debug")
+why_text words Command = of_word 0 (at_place words 0) (codes ", is no command: run, continue, list, sample, assemble or debug")
 why_text words Missing = missing_text (at_place words 0)
 why_text words (Keyless place) = of_word place (at_place words place) (codes ", has no key of mixedrun and an equals sign in front")
 why_text words (no_key place label) = of_word place (at_place words place) (unknown_text (at_place words 0) label)

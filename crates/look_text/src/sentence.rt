@@ -1,7 +1,7 @@
 // Sentences about words.
 ghost use Rattle.std.specs.Prelude.{◌≡◌, ◌++◌, IfOk, codes, map};
 ghost use Rattle.std.specs.String.{string_bytes};
-ghost use Rattle.look_text.specs.Sentences.{before_text, key_wants as key_wants_text, missing_text, needs_of, of_word, program_needs_of, refusal_text as refusal_of, unknown_text, value_text, why_text as why_of};
+ghost use Rattle.look_text.specs.Sentences.{before_text, key_wants as key_wants_text, missing_text, needs_of, of_word, program_needs_of, refusal_text as refusal_of, why_text as why_of};
 ghost use Rattle.look_text.specs.Whys.{at_place};
 
 use crate::label::Label;
@@ -67,51 +67,27 @@ fn why_sentence(alloc: Global, words: &[String], why: Why) -> Result<String, All
             alloc,
             "no word: the first one is a command, run, continue, list, sample, assemble or debug",
         ),
-        Why::Command => command_sentence(alloc, command),
         Why::Missing => missing_sentence(alloc, command),
-        Why::Keyless(place) => keyless_sentence(alloc, place, word_at(words, place as usize)),
+        Why::Command => word_sentence(
+            alloc,
+            words,
+            0,
+            ", is no command: run, continue, list, sample, assemble or debug",
+        ),
+        Why::Keyless(place) => word_sentence(
+            alloc,
+            words,
+            place,
+            ", has no key of mixedrun and an equals sign in front",
+        ),
         Why::Key(place, label) => {
-            key_sentence(alloc, place, word_at(words, place as usize), command, label)
+            key_sentence(alloc, words, place, command, " has no key ", label.text())
         }
         Why::Value(place, label) => {
-            value_sentence(alloc, place, word_at(words, place as usize), label)
+            key_sentence(alloc, words, place, label.text(), " wants ", label.wants())
         }
-        Why::Again(place, label) => {
-            again_sentence(alloc, place, word_at(words, place as usize), label)
-        }
+        Why::Again(place, label) => key_sentence(alloc, words, place, "", "", before(label)),
     }
-}
-
-/// That the first word is no command.
-fn command_sentence(alloc: Global, word: &str) -> Result<String, AllocError>
-    ensures { IfOk result (λ text. string_bytes text ≡ codes "word 0, " ++ (word.now ++ codes ", is no command: run, continue, list, sample, assemble or debug")) }
-{
-    format!(in alloc;
-        "word 0, {word}, is no command: run, continue, list, sample, assemble or debug"
-    )
-}
-
-/// That the word at a place has no key.
-fn keyless_sentence(alloc: Global, place: u32, word: &str) -> Result<String, AllocError>
-    ensures { IfOk result (λ text. string_bytes text ≡ of_word place word.now (codes ", has no key of mixedrun and an equals sign in front")) }
-{
-    format!(in alloc; "word {place}, {word}, has no key of mixedrun and an equals sign in front")
-}
-
-/// That the word at a place has a value that is none of its key's.
-fn value_sentence(alloc: Global, place: u32, word: &str, label: Label) -> Result<String, AllocError>
-    ensures { IfOk result (λ text. string_bytes text ≡ of_word place word.now (value_text label)) }
-{
-    let (key, wants) = (label.text(), label.wants());
-    format!(in alloc; "word {place}, {word}: {key} wants {wants}")
-}
-
-/// That the word at a place cannot stand behind those before.
-fn again_sentence(alloc: Global, place: u32, word: &str, label: Label) -> Result<String, AllocError>
-    ensures { IfOk result (λ text. string_bytes text ≡ of_word place word.now (codes ": " ++ before_text label)) }
-{
-    let before = before(label);
-    format!(in alloc; "word {place}, {word}: {before}")
 }
 
 /// That a command needs a word more.
@@ -122,18 +98,32 @@ fn missing_sentence(alloc: Global, command: &str) -> Result<String, AllocError>
     format!(in alloc; "a word is missing: {command} needs {needs}")
 }
 
-/// That a command does not know the key of the word at a place.
+/// What is said of the word at a place.
+fn word_sentence(
+    alloc: Global,
+    words: &[String],
+    place: u32,
+    said: &str,
+) -> Result<String, AllocError>
+    ensures { IfOk result (λ text. string_bytes text ≡ of_word place (at_place (map string_bytes words.now) place) said.now) }
+{
+    let word = word_at(words, place as usize);
+    format!(in alloc; "word {place}, {word}{said}")
+}
+
+/// What is said of the key of the word at a place.
 fn key_sentence(
     alloc: Global,
+    words: &[String],
     place: u32,
-    word: &str,
-    command: &str,
-    label: Label,
+    subject: &str,
+    verb: &str,
+    object: &str,
 ) -> Result<String, AllocError>
-    ensures { IfOk result (λ text. string_bytes text ≡ of_word place word.now (unknown_text command.now label)) }
+    ensures { IfOk result (λ text. string_bytes text ≡ of_word place (at_place (map string_bytes words.now) place) (codes ": " ++ (subject.now ++ (verb.now ++ object.now)))) }
 {
-    let key = label.text();
-    format!(in alloc; "word {place}, {word}: {command} has no key {key}")
+    let word = word_at(words, place as usize);
+    format!(in alloc; "word {place}, {word}: {subject}{verb}{object}")
 }
 
 /// What stands before a word that is good alone.
