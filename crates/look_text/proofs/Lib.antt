@@ -1,3 +1,2 @@
 pub mod Explained
 pub mod Ranges
-pub mod Appends

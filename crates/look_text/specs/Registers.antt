@@ -23,12 +23,12 @@ abbrev pub codes_line : Ccr → List ℕ
 codes_line c =
     joined (codes " x=" ∷ flag c.x ∷ codes " n=" ∷ flag c.n ∷ codes " z=" ∷ flag c.z ∷ codes " v=" ∷ flag c.v ∷ codes " c=" ∷ flag c.c ∷ codes "\n" ∷ [])
 
-abbrev pub special_line : RegsPpc → List ℕ
+unfoldable pub special_line : RegsPpc → List ℕ
 special_line r =
     joined (codes " cr=" ∷ hexadecimal 8 r.cr ∷ codes " lr=" ∷ hexadecimal 8 r.lr ∷ codes " ctr=" ∷ hexadecimal 8 r.ctr ∷ codes " xer=" ∷ hexadecimal 8 r.xer ∷ codes "\n" ∷ [])
 
 abbrev pub registers_text : Active → List ℕ
-registers_text (M68 r) = bank_text (codes "d") 0 r.d ++ bank_text (codes "a") 0 r.a ++ codes_line r.ccr
+registers_text (M68 r) = bank_text (codes "d") 0 r.d ++ (bank_text (codes "a") 0 r.a ++ codes_line r.ccr)
 registers_text (Ppc r) =
-    bank_text (codes "r") 0 (slice_range r.gpr 0 8) ++ bank_text (codes "r") 8 (slice_range r.gpr 8 16)
-    ++ bank_text (codes "r") 16 (slice_range r.gpr 16 24) ++ bank_text (codes "r") 24 (slice_range r.gpr 24 32) ++ special_line r
+    bank_text (codes "r") 0 (slice_range r.gpr 0 8) ++ (bank_text (codes "r") 8 (slice_range r.gpr 8 16)
+    ++ (bank_text (codes "r") 16 (slice_range r.gpr 16 24) ++ (bank_text (codes "r") 24 (slice_range r.gpr 24 32) ++ special_line r)))

@@ -1,8 +1,7 @@
 // The words of mixedlook.
 ghost use Rattle.std.specs.Prelude.{◌≡◌, ◌+◌, ◌^◌, ◌<◌, length, map};
-ghost use Rattle.std.specs.Option.{ok_or};
 ghost use Rattle.std.specs.String.{string_bytes};
-ghost use Rattle.look_text.specs.Looks.{by_verb, command_by, draft_of, file_given, is_given as is_given_in, key_for, key_text, keys_of, look_of, made, topic_text, verb_in, verb_text, with_given as draft_given, with_value as draft_with, with_word, word_given};
+ghost use Rattle.look_text.specs.Looks.{by_verb, command_by, draft_of, is_given as is_given_in, key_for, key_text, keys_of, look_of, made, topic_text, verb_in, verb_text, with_given as draft_given, with_value as draft_with, with_word};
 
 use super::program::{read_end, read_map};
 use mix_bits::read_hexadecimal;
@@ -261,69 +260,41 @@ fn is_given(draft: &Draft, key: Key) -> bool
 {
     match key {
         Key::Word => draft.word.is_some(),
-        Key::File => draft.file.is_some(),
+        Key::File | Key::Image => draft.file.is_some(),
         Key::Names => draft.names.is_some(),
-        Key::Image => draft.file.is_some(),
         Key::Last => false,
     }
 }
 
-/// The draft with the value of a key.
+/// The draft with the value of a key: a procInfo word, or the name of a file, which is not empty.
 fn give(mut draft: Draft, place: usize, key: Key, value: &str) -> Result<Draft, Refusal>
     ensures { result ≡ draft_given draft place key value.now }
 {
     match key {
-        Key::Word => draft.word = Some(word_in(place, value)?),
-        Key::File => draft.file = Some(named(place, key, value)?),
-        Key::Names => draft.names = Some(named(place, key, value)?),
-        Key::Image => draft.file = Some(named(place, key, value)?),
+        Key::Word => match read_hexadecimal(value.as_bytes(), 8) {
+            Some(word) => draft.word = Some(word),
+            None => return Err(Refusal::Value(place, key)),
+        },
         Key::Last => return Err(Refusal::Unknown(place)),
+        _ if value.is_empty() => return Err(Refusal::Value(place, key)),
+        Key::File | Key::Image => draft.file = Some(place),
+        Key::Names => draft.names = Some(place),
     }
     Ok(draft)
-}
-
-/// The procInfo word that a value is.
-fn word_in(place: usize, value: &str) -> Result<u32, Refusal>
-    ensures { result ≡ word_given place value.now }
-{
-    match read_hexadecimal(value.as_bytes(), 8) {
-        Some(word) => Ok(word),
-        None => Err(Refusal::Value(place, Key::Word)),
-    }
-}
-
-/// The place of a word whose value, the name of a file, is not empty.
-fn named(place: usize, key: Key, value: &str) -> Result<usize, Refusal>
-    ensures { result ≡ file_given place key value.now }
-{
-    if value.is_empty() {
-        Err(Refusal::Value(place, key))
-    } else {
-        Ok(place)
-    }
 }
 
 /// The command of a draft.
 fn make(topic: Topic, draft: Draft) -> Result<Look, Refusal>
     ensures { result ≡ made topic draft }
 {
-    match topic {
-        Topic::ToInfo => match draft.word {
-            Some(word) => Ok(Look::Info(word)),
-            None => Err(Refusal::Missing(Key::Word)),
-        },
-        Topic::ToTrace => Ok(Look::Trace(needed(draft.file, Key::File)?, draft.names)),
-        Topic::ToPicture => Ok(Look::Picture(needed(draft.file, Key::File)?, draft.names)),
-        Topic::ToFork => Ok(Look::Fork(needed(draft.file, Key::File)?)),
-        Topic::ToImage => Ok(Look::Image(needed(draft.file, Key::Image)?)),
-    }
-}
-
-fn needed(value: Option<usize>, key: Key) -> Result<usize, Refusal>
-    ensures { result ≡ ok_or value (Refusal.Missing key) }
-{
-    match value {
-        Some(place) => Ok(place),
-        None => Err(Refusal::Missing(key)),
+    match (topic, draft.word, draft.file) {
+        (Topic::ToInfo, Some(word), _) => Ok(Look::Info(word)),
+        (Topic::ToInfo, None, _) => Err(Refusal::Missing(Key::Word)),
+        (Topic::ToTrace, _, Some(file)) => Ok(Look::Trace(file, draft.names)),
+        (Topic::ToPicture, _, Some(file)) => Ok(Look::Picture(file, draft.names)),
+        (Topic::ToFork, _, Some(file)) => Ok(Look::Fork(file)),
+        (Topic::ToImage, _, Some(file)) => Ok(Look::Image(file)),
+        (Topic::ToImage, _, None) => Err(Refusal::Missing(Key::Image)),
+        (_, _, None) => Err(Refusal::Missing(Key::File)),
     }
 }

@@ -1,7 +1,8 @@
 // The words of the commands that load a program: mixedrun judges most of them.
 ghost use Rattle.std.specs.Prelude.{◌≡◌, ◌+◌, ◌^◌, ◌<◌, ◌≤◌, ◌++◌, ◌∷◌, [], if◌then◌else◌, not, IfOk, OnOk, filter, length, map};
 ghost use Rattle.std.specs.String.{string_bytes};
-ghost use Rattle.look_text.specs.Looks.{end_of, has_key as has_key_by, is_last as is_last_by, is_unmapped as is_unmapped_by, last_by, last_given, last_in, map_of, run_words as run_words_of};
+ghost use Rattle.mix_io.specs.Settings.{value_in};
+ghost use Rattle.look_text.specs.Looks.{end_of, has_key as has_key_by, is_last as is_last_by, is_unmapped as is_unmapped_by, last_by, map_of, run_words as run_words_of};
 
 use super::look::{Key, Look, Refusal};
 use mix_bits::{NoMemory, read_decimal};
@@ -25,25 +26,19 @@ pub fn run_words(alloc: Global, words: &[String]) -> Result<Vec<String>, NoMemor
     Ok(run)
 }
 
+/// Appends the words but those with the key `last`.
 fn add_words(run: &mut Vec<String>, words: &[String]) -> Result<(), NoMemory>
     ensures { OnOk result (map string_bytes run.new.items ≡ map string_bytes run.old.items ++ filter (λ word. not (is_last_by word)) (map string_bytes words.now)) }
 {
     match words {
         [] => Ok(()),
         [word, rest @ ..] => {
-            add_word(run, word)?;
+            if !is_last(word.as_str()) {
+                run.push(word.clone()?)?;
+            }
             add_words(run, rest)
         }
     }
-}
-
-fn add_word(run: &mut Vec<String>, word: &String) -> Result<(), NoMemory>
-    ensures { OnOk result (map string_bytes run.new.items ≡ map string_bytes run.old.items ++ (if is_last_by (string_bytes word.now) then [] else string_bytes word.now ∷ [])) }
-{
-    if !is_last(word.as_str()) {
-        run.push(word.clone()?)?;
-    }
-    Ok(())
 }
 
 /// Reads the words of `map` from a place on.
@@ -82,39 +77,25 @@ fn read_last(place: usize, word: &str, last: Option<u32>) -> Result<Option<u32>,
     ensures { result ≡ last_by place word.now last }
 {
     if has_key(word, "save") {
-        Err(Refusal::Unknown(place))
-    } else if is_last(word) {
-        Ok(Some(give_last(place, word, last)?))
-    } else {
-        Ok(last)
+        return Err(Refusal::Unknown(place));
+    }
+    if !is_last(word) {
+        return Ok(last);
+    }
+    match (last, read_decimal(value(word).as_bytes())) {
+        (Some(_), _) => Err(Refusal::Twice(place)),
+        (None, Some(count)) if count <= MOST => Ok(Some(count)),
+        (None, _) => Err(Refusal::Value(place, Key::Last)),
     }
 }
 
-/// The number of steps in a word, unless one before gave it.
-fn give_last(place: usize, word: &str, last: Option<u32>) -> Result<u32, Refusal>
-    ensures { result ≡ last_given place word.now last }
-{
-    match last {
-        Some(_) => Err(Refusal::Twice(place)),
-        None => last_in_word(place, word),
-    }
-}
-
-fn last_in_word(place: usize, word: &str) -> Result<u32, Refusal>
-    ensures { result ≡ last_given place word.now None }
+/// What stands behind the equals sign of a word.
+fn value(word: &str) -> &str
+    ensures { result.now ≡ value_in word.now }
 {
     match word.split_once('=') {
-        Some((_, value)) => kept_last(place, read_decimal(value.as_bytes())),
-        None => kept_last(place, read_decimal(b"")),
-    }
-}
-
-fn kept_last(place: usize, count: Option<u32>) -> Result<u32, Refusal>
-    ensures { result ≡ last_in place count }
-{
-    match count {
-        Some(count) if count <= MOST => Ok(count),
-        _ => Err(Refusal::Value(place, Key::Last)),
+        Some((_, value)) => value,
+        None => "",
     }
 }
 

@@ -19,7 +19,7 @@ pub fn add_registers(text: &mut Vec<u8>, file: &Active) -> Result<(), NoMemory>
     }
 }
 
-#[tactic(auto, using(crate::proofs::Appends::three))]
+#[tactic(auto, using(std::proofs::Common::append_assoc))]
 fn add_m68(text: &mut Vec<u8>, regs: &Regs68) -> Result<(), NoMemory>
     ensures { OnOk result (text.new.items ≡ text.old.items ++ registers_text (Active.M68 regs.now)) }
 {
@@ -28,7 +28,7 @@ fn add_m68(text: &mut Vec<u8>, regs: &Regs68) -> Result<(), NoMemory>
     add_codes(text, regs.ccr)
 }
 
-#[tactic(auto, using(crate::proofs::Appends::five))]
+#[tactic(auto, using(std::proofs::Common::append_assoc))]
 fn add_ppc(text: &mut Vec<u8>, regs: &RegsPpc) -> Result<(), NoMemory>
     ensures { OnOk result (text.new.items ≡ text.old.items ++ registers_text (Active.Ppc regs.now)) }
 {
@@ -40,7 +40,7 @@ fn add_ppc(text: &mut Vec<u8>, regs: &RegsPpc) -> Result<(), NoMemory>
 }
 
 /// Appends registers of a bank, the first of which has this number.
-#[tactic(auto, using(crate::proofs::Appends::two))]
+#[tactic(auto, using(std::proofs::Common::append_assoc))]
 fn add_bank(text: &mut Vec<u8>, bank: &str, first: u32, values: &[u32]) -> Result<(), NoMemory>
     requires { first + length values.now ≤ 100 }
     ensures { OnOk result (text.new.items ≡ text.old.items ++ bank_text bank.now first values.now) }
@@ -96,6 +96,7 @@ fn flag(set: bool) -> &'static str
     if set { "1" } else { "0" }
 }
 
+#[tactic(auto, unfolding(crate::specs::Registers::special_line))]
 fn add_special(text: &mut Vec<u8>, regs: &RegsPpc) -> Result<(), NoMemory>
     ensures { OnOk result (text.new.items ≡ text.old.items ++ special_line regs.now) }
 {

@@ -121,19 +121,11 @@ fn add_args(text: &mut Vec<u8>, mark: &str, params: &[Param], args: &[u32]) -> R
 fn add_sized(text: &mut Vec<u8>, mark: &str, size: Size, value: u32) -> Result<(), NoMemory>
     ensures { OnOk result (text.new.items ≡ text.old.items ++ sized_text mark.now size value) }
 {
-    match size {
-        Size::Zero => add_line(text, &[Piece::Text(mark), Piece::Text("nothing")]),
-        Size::One => add_line(
-            text,
-            &[Piece::Text(mark), Piece::Text("byte "), Piece::Byte(value)],
-        ),
-        Size::Two => add_line(
-            text,
-            &[Piece::Text(mark), Piece::Text("word "), Piece::Word(value)],
-        ),
-        Size::Four => add_line(
-            text,
-            &[Piece::Text(mark), Piece::Text("long "), Piece::Long(value)],
-        ),
-    }
+    let (word, digits) = match size {
+        Size::Zero => ("nothing", Piece::Text("")),
+        Size::One => ("byte ", Piece::Byte(value)),
+        Size::Two => ("word ", Piece::Word(value)),
+        Size::Four => ("long ", Piece::Long(value)),
+    };
+    add_line(text, &[Piece::Text(mark), Piece::Text(word), digits])
 }
