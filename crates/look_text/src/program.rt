@@ -18,8 +18,7 @@ const MOST: u32 = 1000;
 pub fn run_words(alloc: Global, words: &[String]) -> Result<Vec<String>, NoMemory>
     ensures { IfOk result (λ run. map string_bytes run.items ≡ run_words_of (map string_bytes words.now)) }
 {
-    let mut run = Vec::new(alloc);
-    run.push(String::from_str(alloc, "run")?)?;
+    let mut run = vec![in alloc; String::from_str(alloc, "run")?]?;
     if let [_, rest @ ..] = words {
         add_words(&mut run, rest)?;
     }
