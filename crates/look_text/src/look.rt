@@ -1,7 +1,7 @@
 // The words of mixedlook.
 ghost use Rattle.std.specs.Prelude.{◌≡◌, ◌+◌, ◌^◌, ◌<◌, length, map};
 ghost use Rattle.std.specs.String.{string_bytes};
-ghost use Rattle.look_text.specs.Looks.{by_verb, command_by, draft_of, is_given as is_given_in, key_for, key_text, keys_of, look_of, made, topic_text, verb_in, verb_text, with_given as draft_given, with_value as draft_with, with_word};
+ghost use Rattle.look_text.specs.Looks.{by_verb, command_by, draft_of, is_given as is_given_in, key_for, key_text, keys_of, look_of, made, verb_for, with_given as draft_given, with_value as draft_with, with_word};
 
 use super::program::{read_end, read_map};
 use mix_bits::read_hexadecimal;
@@ -75,44 +75,25 @@ pub enum Topic {
 }
 
 impl Verb {
-    const ALL: [Verb; 8] = [
-        Verb::Of(Topic::ToInfo),
-        Verb::Of(Topic::ToTrace),
-        Verb::Of(Topic::ToPicture),
-        Verb::Of(Topic::ToFork),
-        Verb::Of(Topic::ToImage),
-        Verb::ToMap,
-        Verb::ToEnd,
-        Verb::ToWords,
-    ];
-
-    /// The word for the command.
-    fn text(self) -> &'static str
-        ensures { result.now ≡ verb_text self }
+    /// The command that a word is.
+    fn of(word: &str) -> Option<Verb>
+        ensures { result ≡ verb_for word.now }
     {
-        match self {
-            Verb::Of(topic) => topic.text(),
-            Verb::ToMap => "map",
-            Verb::ToEnd => "end",
-            Verb::ToWords => "words",
+        match word {
+            "info" => Some(Verb::Of(Topic::ToInfo)),
+            "trace" => Some(Verb::Of(Topic::ToTrace)),
+            "picture" => Some(Verb::Of(Topic::ToPicture)),
+            "fork" => Some(Verb::Of(Topic::ToFork)),
+            "image" => Some(Verb::Of(Topic::ToImage)),
+            "map" => Some(Verb::ToMap),
+            "end" => Some(Verb::ToEnd),
+            "words" => Some(Verb::ToWords),
+            _ => None,
         }
     }
 }
 
 impl Topic {
-    /// The word for the command.
-    fn text(self) -> &'static str
-        ensures { result.now ≡ topic_text self }
-    {
-        match self {
-            Topic::ToInfo => "info",
-            Topic::ToTrace => "trace",
-            Topic::ToPicture => "picture",
-            Topic::ToFork => "fork",
-            Topic::ToImage => "image",
-        }
-    }
-
     /// The keys that the command knows.
     fn keys(self) -> &'static [Key]
         ensures { result.now ≡ keys_of self }
@@ -141,7 +122,7 @@ pub fn read_look(words: &[String]) -> Result<Look, Refusal>
 {
     match words {
         [] => Err(Refusal::Empty),
-        [command, rest @ ..] => read_behind(find_verb(&Verb::ALL, command.as_str()), rest),
+        [command, rest @ ..] => read_behind(Verb::of(command.as_str()), rest),
     }
 }
 
@@ -157,18 +138,6 @@ fn read_behind(verb: Option<Verb>, words: &[String]) -> Result<Look, Refusal>
         Some(Verb::ToWords) => Ok(Look::Words),
         None => Err(Refusal::Command),
     }
-}
-
-/// The first of these commands that has a word.
-fn find_verb(verbs: &[Verb], word: &str) -> Option<Verb>
-    ensures { result ≡ verb_in verbs.now word.now }
-{
-    for verb in verbs {
-        if word == verb.text() {
-            return Some(*verb);
-        }
-    }
-    None
 }
 
 /// Reads the words behind a command, which give a draft.

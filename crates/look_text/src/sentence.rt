@@ -1,7 +1,7 @@
 // Sentences about words.
 ghost use Rattle.std.specs.Prelude.{◌≡◌, ◌++◌, IfOk, codes, map};
 ghost use Rattle.std.specs.String.{string_bytes};
-ghost use Rattle.look_text.specs.Sentences.{before_text, key_wants as key_wants_text, missing_text, needs_of, of_word, program_needs_of, refusal_text as refusal_of, why_text as why_of};
+ghost use Rattle.look_text.specs.Sentences.{before_text, key_wants as key_wants_text, missing_text, needs_of, of_word, refusal_text as refusal_of, why_text as why_of};
 ghost use Rattle.look_text.specs.Whys.{at_place};
 
 use crate::label::Label;
@@ -142,27 +142,17 @@ fn before(label: Label) -> &'static str
 fn needs(command: &str) -> &'static str
     ensures { result.now ≡ needs_of command.now }
 {
-    if command == "sample" {
-        "n=N and depth=D"
-    } else if command == "assemble" {
-        "set=SET, text=FILE and at=ADDRESS"
-    } else if command == "continue" {
-        "image=FILE"
-    } else {
-        program_needs(command)
-    }
-}
-
-/// What a command needs that loads a program.
-fn program_needs(command: &str) -> &'static str
-    ensures { result.now ≡ program_needs_of command.now }
-{
-    if command == "list" {
-        "at=ADDRESS, count=N, and the file of the main set: flat=FILE, rsrc=FILE, or pef=FILE for main=ppc"
-    } else if command == "debug" {
-        "script=FILE, and the file of the main set: flat=FILE, rsrc=FILE, or pef=FILE for main=ppc"
-    } else {
-        "the file of the main set: flat=FILE, rsrc=FILE, or pef=FILE for main=ppc"
+    match command {
+        "sample" => "n=N and depth=D",
+        "assemble" => "set=SET, text=FILE and at=ADDRESS",
+        "continue" => "image=FILE",
+        "list" => {
+            "at=ADDRESS, count=N, and the file of the main set: flat=FILE, rsrc=FILE, or pef=FILE for main=ppc"
+        }
+        "debug" => {
+            "script=FILE, and the file of the main set: flat=FILE, rsrc=FILE, or pef=FILE for main=ppc"
+        }
+        _ => "the file of the main set: flat=FILE, rsrc=FILE, or pef=FILE for main=ppc",
     }
 }
 
