@@ -14,8 +14,13 @@ use Rattle.look_text.specs.declared.look.Refusal.{Refusal}
 use Rattle.look_text.specs.declared.look.Refusal.TheVariants.{Empty, Command, Unknown, Twice, Value, Missing}
 use Rattle.look_text.specs.declared.look.Topic.{Topic}
 use Rattle.look_text.specs.declared.look.Topic.TheVariants.{ToInfo, ToTrace, ToPicture, ToFork, ToImage}
-use Rattle.look_text.specs.declared.look.Verb.{Verb}
-use Rattle.look_text.specs.declared.look.Verb.TheVariants.{Of, ToMap, ToEnd, ToWords}
+
+-- a command: one whose words give a draft, or one of the others
+pub data Verb : Type 0 where
+  Of : (topic : Topic) → Verb
+  ToMap : Verb
+  ToEnd : Verb
+  ToWords : Verb
 
 abbrev pub topic_text : Topic → List ℕ
 topic_text ToInfo = codes "info"

@@ -54,16 +54,6 @@ pub enum Key {
     Last,
 }
 
-/// The command that the first word is.
-#[derive(Clone, Copy)]
-pub enum Verb {
-    /// One whose words give a draft.
-    Of(Topic),
-    ToMap,
-    ToEnd,
-    ToWords,
-}
-
 /// A command whose words give a draft.
 #[derive(Clone, Copy)]
 pub enum Topic {
@@ -72,25 +62,6 @@ pub enum Topic {
     ToPicture,
     ToFork,
     ToImage,
-}
-
-impl Verb {
-    /// The command that a word is.
-    fn of(word: &str) -> Option<Verb>
-        ensures { result ≡ verb_for word.now }
-    {
-        match word {
-            "info" => Some(Verb::Of(Topic::ToInfo)),
-            "trace" => Some(Verb::Of(Topic::ToTrace)),
-            "picture" => Some(Verb::Of(Topic::ToPicture)),
-            "fork" => Some(Verb::Of(Topic::ToFork)),
-            "image" => Some(Verb::Of(Topic::ToImage)),
-            "map" => Some(Verb::ToMap),
-            "end" => Some(Verb::ToEnd),
-            "words" => Some(Verb::ToWords),
-            _ => None,
-        }
-    }
 }
 
 impl Topic {
@@ -122,21 +93,25 @@ pub fn read_look(words: &[String]) -> Result<Look, Refusal>
 {
     match words {
         [] => Err(Refusal::Empty),
-        [command, rest @ ..] => read_behind(Verb::of(command.as_str()), rest),
+        [command, rest @ ..] => read_behind(command.as_str(), rest),
     }
 }
 
 /// Reads the words behind a command.
-fn read_behind(verb: Option<Verb>, words: &[String]) -> Result<Look, Refusal>
+fn read_behind(command: &str, words: &[String]) -> Result<Look, Refusal>
     requires { 1 + length words.now < 2 ^ 64 }
-    ensures { result ≡ by_verb verb (map string_bytes words.now) }
+    ensures { result ≡ by_verb (verb_for command.now) (map string_bytes words.now) }
 {
-    match verb {
-        Some(Verb::Of(topic)) => read_command(topic, words),
-        Some(Verb::ToMap) => read_map(1, words),
-        Some(Verb::ToEnd) => read_end(1, words, None),
-        Some(Verb::ToWords) => Ok(Look::Words),
-        None => Err(Refusal::Command),
+    match command {
+        "info" => read_command(Topic::ToInfo, words),
+        "trace" => read_command(Topic::ToTrace, words),
+        "picture" => read_command(Topic::ToPicture, words),
+        "fork" => read_command(Topic::ToFork, words),
+        "image" => read_command(Topic::ToImage, words),
+        "map" => read_map(1, words),
+        "end" => read_end(1, words, None),
+        "words" => Ok(Look::Words),
+        _ => Err(Refusal::Command),
     }
 }
 
