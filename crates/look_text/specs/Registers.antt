@@ -27,8 +27,10 @@ unfoldable pub special_line : RegsPpc → List ℕ
 special_line r =
     joined (codes " cr=" ∷ hexadecimal 8 r.cr ∷ codes " lr=" ∷ hexadecimal 8 r.lr ∷ codes " ctr=" ∷ hexadecimal 8 r.ctr ∷ codes " xer=" ∷ hexadecimal 8 r.xer ∷ codes "\n" ∷ [])
 
+-- the line of eight general registers from a number on
+abbrev pub row_text : List ℕ → ℕ → List ℕ
+row_text gpr first = bank_text (codes "r") first (slice_range gpr first (first + 8))
+
 abbrev pub registers_text : Active → List ℕ
 registers_text (M68 r) = bank_text (codes "d") 0 r.d ++ (bank_text (codes "a") 0 r.a ++ codes_line r.ccr)
-registers_text (Ppc r) =
-    bank_text (codes "r") 0 (slice_range r.gpr 0 8) ++ (bank_text (codes "r") 8 (slice_range r.gpr 8 16)
-    ++ (bank_text (codes "r") 16 (slice_range r.gpr 16 24) ++ (bank_text (codes "r") 24 (slice_range r.gpr 24 32) ++ special_line r)))
+registers_text (Ppc r) = row_text r.gpr 0 ++ (row_text r.gpr 8 ++ (row_text r.gpr 16 ++ (row_text r.gpr 24 ++ special_line r)))

@@ -1,6 +1,6 @@
 // The registers of the active set.
 ghost use Rattle.std.specs.Prelude.{◌≡◌, ◌+◌, ◌≤◌, ◌++◌, OnOk, length};
-ghost use Rattle.look_text.specs.Registers.{bank_text, codes_line, flag as flag_of, register_text, registers_text, special_line};
+ghost use Rattle.look_text.specs.Registers.{bank_text, codes_line, flag as flag_of, register_text, registers_text, row_text, special_line};
 
 use super::line::{Piece, add_line};
 use super::pieces::add;
@@ -32,11 +32,19 @@ fn add_m68(text: &mut Vec<u8>, regs: &Regs68) -> Result<(), NoMemory>
 fn add_ppc(text: &mut Vec<u8>, regs: &RegsPpc) -> Result<(), NoMemory>
     ensures { OnOk result (text.new.items ≡ text.old.items ++ registers_text (Active.Ppc regs.now)) }
 {
-    add_bank(text, "r", 0, &regs.gpr[0..8])?;
-    add_bank(text, "r", 8, &regs.gpr[8..16])?;
-    add_bank(text, "r", 16, &regs.gpr[16..24])?;
-    add_bank(text, "r", 24, &regs.gpr[24..32])?;
+    add_row(text, &regs.gpr, 0)?;
+    add_row(text, &regs.gpr, 8)?;
+    add_row(text, &regs.gpr, 16)?;
+    add_row(text, &regs.gpr, 24)?;
     add_special(text, regs)
+}
+
+/// Appends the eight general registers from a number on.
+fn add_row(text: &mut Vec<u8>, gpr: &[u32; 32], first: usize) -> Result<(), NoMemory>
+    requires { first ≤ 24 }
+    ensures { OnOk result (text.new.items ≡ text.old.items ++ row_text gpr.now first) }
+{
+    add_bank(text, "r", first as u32, &gpr[first..first + 8])
 }
 
 /// Appends registers of a bank, the first of which has this number.
