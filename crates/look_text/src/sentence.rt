@@ -6,7 +6,7 @@ ghost use Rattle.look_text.specs.Whys.{at_place};
 
 use crate::label::Label;
 use crate::look::{Key, Refusal};
-use crate::why::{Why, word_in};
+use crate::why::{Why, word_at};
 use mix_bits::NoMemory;
 use std::alloc::{AllocError, Global};
 
@@ -153,16 +153,5 @@ fn needs(command: &str) -> &'static str
             "script=FILE, and the file of the main set: flat=FILE, rsrc=FILE, or pef=FILE for main=ppc"
         }
         _ => "the file of the main set: flat=FILE, rsrc=FILE, or pef=FILE for main=ppc",
-    }
-}
-
-/// The word at a place, or nothing behind the last one.
-fn word_at(words: &[String], place: usize) -> &str
-    ensures { result.now ≡ at_place (map string_bytes words.now) place }
-{
-    if place < words.len() {
-        word_in(words, place)
-    } else {
-        ""
     }
 }

@@ -1,4 +1,4 @@
-ghost use Rattle.std.specs.Prelude.{◌≡◌, ◌<◌, IfOk, length, map};
+ghost use Rattle.std.specs.Prelude.{◌≡◌, IfOk, map};
 ghost use Rattle.std.specs.String.{string_bytes};
 ghost use Rattle.mix_io.specs.Words.{bad_at, command_of};
 ghost use Rattle.look_text.specs.Labels.{label_in, label_of as label_of_word};
@@ -56,16 +56,19 @@ fn reason(alloc: Global, words: &[String], place: u32) -> Result<Why, NoMemory>
     if words.len() <= place as usize {
         return Ok(Why::Missing);
     }
-    let word = word_in(words, place as usize);
-    word_reason(alloc, word_in(words, 0), word, place)
+    let word = word_at(words, place as usize);
+    word_reason(alloc, word_at(words, 0), word, place)
 }
 
-/// The word at a place.
-pub fn word_in(words: &[String], place: usize) -> &str
-    requires { place < length words.now }
+/// The word at a place, or nothing behind the last one.
+pub fn word_at(words: &[String], place: usize) -> &str
     ensures { result.now ≡ at_place (map string_bytes words.now) place }
 {
-    words[place].as_str()
+    if place < words.len() {
+        words[place].as_str()
+    } else {
+        ""
+    }
 }
 
 /// Why a word behind a command is refused.
