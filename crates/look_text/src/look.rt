@@ -1,7 +1,7 @@
 // The words of mixedlook.
 ghost use Rattle.std.specs.Prelude.{◌≡◌, ◌+◌, ◌^◌, ◌<◌, length, map};
 ghost use Rattle.std.specs.String.{string_bytes};
-ghost use Rattle.look_text.specs.Looks.{by_verb, command_by, draft_of, is_given as is_given_in, key_for, key_text, keys_of, look_of, made, verb_for, with_given as draft_given, with_value as draft_with, with_word};
+ghost use Rattle.look_text.specs.Looks.{by_verb, command_by, draft_of, is_given as is_given_in, key_for, key_text, keys_of, look_of, made, verb_for, with_value as draft_with, with_word};
 
 use super::program::{read_end, read_map};
 use mix_bits::read_hexadecimal;
@@ -188,17 +188,6 @@ impl Key {
     }
 }
 
-/// The draft with a value for a key that it has none for.
-fn set(draft: Draft, place: usize, key: Key, value: &str) -> Result<Draft, Refusal>
-    ensures { result ≡ draft_with draft place key value.now }
-{
-    if is_given(&draft, key) {
-        Err(Refusal::Twice(place))
-    } else {
-        give(draft, place, key, value)
-    }
-}
-
 fn is_given(draft: &Draft, key: Key) -> bool
     ensures { result ≡ is_given_in draft.now key }
 {
@@ -210,10 +199,13 @@ fn is_given(draft: &Draft, key: Key) -> bool
     }
 }
 
-/// The draft with the value of a key: a procInfo word, or the name of a file, which is not empty.
-fn give(mut draft: Draft, place: usize, key: Key, value: &str) -> Result<Draft, Refusal>
-    ensures { result ≡ draft_given draft place key value.now }
+/// The draft with a value for a key that it has none for: a procInfo word, or the name of a file, which is not empty.
+fn set(mut draft: Draft, place: usize, key: Key, value: &str) -> Result<Draft, Refusal>
+    ensures { result ≡ draft_with draft place key value.now }
 {
+    if is_given(&draft, key) {
+        return Err(Refusal::Twice(place));
+    }
     match key {
         Key::Word => match read_hexadecimal(value.as_bytes(), 8) {
             Some(word) => draft.word = Some(word),
