@@ -1,5 +1,5 @@
 // The program that words name: its words for mixedrun, its job and its files.
-ghost use Rattle.std.specs.Prelude.{◌≡◌, IfErr, IfOk, Ok, is_some, false, map};
+ghost use Rattle.std.specs.Prelude.{◌≡◌, IfErr, IfOk, Ok, is_some, map};
 ghost use Rattle.std.specs.String.{string_bytes};
 ghost use Rattle.mix_io.specs.Jobs.{IsProperJob};
 ghost use Rattle.mix_io.specs.Words.{command_of};

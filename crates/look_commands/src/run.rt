@@ -1,5 +1,5 @@
 // A run by single steps.
-ghost use Rattle.std.specs.Prelude.{◌≡◌, ◌+◌, ◌<◌, ◌≤◌};
+ghost use Rattle.std.specs.Prelude.{◌≡◌, ◌+◌, ◌<◌};
 ghost use Rattle.std.specs.Int.{from_bool};
 ghost use Rattle.switch_frame.specs.Records.{isa_of};
 ghost use Rattle.mix_io.specs.Accounts.{Accounts};

@@ -1,6 +1,6 @@
 // A container: its sections and its imports.
 ghost use Rattle.std.specs.Prelude.{◌≡◌, ℕ, ◌^◌, ◌<◌, ◌≤◌, ◌++◌, IfSome, OnOk, length, slice_index};
-ghost use Rattle.pef_head.specs.Parts.{cut, import_count, import_of, library_of, names};
+ghost use Rattle.pef_head.specs.Parts.{import_count, library_of, names};
 ghost use Rattle.mix_load.specs.Load.{IsSmall};
 ghost use Rattle.look_map.specs.Maps.{container_file_text};
 ghost use Rattle.look_map.specs.Containers.{host_line, host_text, import_line, imports_text, parts_text};

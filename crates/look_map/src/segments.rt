@@ -1,5 +1,5 @@
 // The segments of a fork: its CODEs above 0.
-ghost use Rattle.std.specs.Prelude.{◌≡◌, ◌+◌, ◌^◌, ◌<◌, ◌≤◌, ◌++◌, [], IfOk, IfSome, OnOk, length, option_map};
+ghost use Rattle.std.specs.Prelude.{◌≡◌, ◌+◌, ◌^◌, ◌<◌, ◌≤◌, ◌++◌, [], IfOk, IfSome, length, option_map};
 ghost use Rattle.mix_bits.specs.Multiples.{rounded_up};
 ghost use Rattle.mix_load.specs.Segments.{segment_places, segments_end, with_segment};
 ghost use Rattle.look_map.specs.Forks.{segment_line, segments_text};

@@ -4,10 +4,11 @@ ghost use Rattle.mixed_machine.specs.Machine.{IsWhole};
 
 use crate::frames::add_frames;
 use crate::memory::{add_heap, add_stack};
+use crate::registers::add_registers;
 use crate::step::{Step, step_at};
 use crate::steps::{add_step, add_steps};
 use call_trace::fault_name;
-use look_text::{Piece, add, add_line, add_registers};
+use look_text::{Piece, add, add_line};
 use mix_bits::{Fault, NoMemory};
 use mix_engine::{Machine, Stop};
 use std::alloc::Global;

@@ -9,4 +9,3 @@ pub mod Wants
 pub mod Reasons
 pub mod Whys
 pub mod Sentences
-pub mod Registers

@@ -1,9 +1,8 @@
 // The registers of the active set.
 ghost use Rattle.std.specs.Prelude.{◌≡◌, ◌+◌, ◌≤◌, ◌++◌, OnOk, length};
-ghost use Rattle.look_text.specs.Registers.{bank_text, codes_line, flag as flag_of, register_text, registers_text, row_text, special_line};
+ghost use Rattle.look_state.specs.Registers.{bank_text, codes_line, flag as flag_of, register_text, registers_text, row_text, special_line};
 
-use super::line::{Piece, add_line};
-use super::pieces::add;
+use look_text::{Piece, add, add_line};
 use m68_isa::{Ccr, Regs68};
 use mix_bits::NoMemory;
 use ppc_isa::RegsPpc;

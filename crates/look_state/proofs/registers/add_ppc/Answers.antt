@@ -1,6 +1,6 @@
 -- The lines of the rows, and the one behind them.
 use Rattle.std.proofs.Common.{append_assoc}
-use Rattle.look_text.proofs.registers.add_ppc.Goals as goal
+use Rattle.look_state.proofs.registers.add_ppc.Goals as goal
 
 pub returns : goal.returns
 returns c =
