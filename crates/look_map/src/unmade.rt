@@ -1,9 +1,9 @@
 // The section of a container that was refused while it was made.
-ghost use Rattle.std.specs.Prelude.{◌≡◌, ℕ, ◌^◌, ◌%◌, ◌<◌, ◌≤◌, None, IfOk, IfSome, is_some, length, slice_index_or};
+ghost use Rattle.std.specs.Prelude.{◌≡◌, ℕ, ◌^◌, ◌%◌, ◌<◌, ◌≤◌, None, IfOk, IfSome, is_some, length, slice_index, slice_index_or};
 ghost use Rattle.mix_bits.specs.Search.{least};
 ghost use Rattle.pef_head.specs.Container.{instantiated_count};
 ghost use Rattle.pef_head.specs.Parts.{IsLoadable, parts, reloc_header_of};
-ghost use Rattle.mix_load.specs.Sections.{pattern_refusal, totals as totals_of};
+ghost use Rattle.mix_load.specs.Sections.{pattern_refusal, total_at};
 ghost use Rattle.look_map.specs.Containers.{HasSizes, IsBadlyRelocated, IsUnmade, is_badly_packed as is_packed_badly, is_badly_relocated as is_relocated_badly};
 
 use big_memory::Ram;
@@ -105,7 +105,8 @@ fn memory(alloc: Global, bytes: u32) -> Result<Ram, NoMemory>
 /// The sizes of the first sections.
 fn totals(alloc: Global, pef: &Pef, count: u32) -> Result<Vec<u32>, NoMemory>
     requires { count ≤ instantiated_count pef.now }
-    ensures { IfOk result (λ totals. totals.items ≡ totals_of pef.now count) }
+    ensures long { IfOk result (λ totals. length totals.items ≡ count) }
+    ensures each { IfOk result (λ totals. (k : ℕ) → k < count → slice_index totals.items k ≡ total_at pef.now k) }
 {
     let mut totals = Vec::new(alloc);
     for k in 0..count {

@@ -3,8 +3,7 @@ use Rattle.std.proofs.Common.{◌≡◌, ◌∙◌, refl, sym, ap, subst, ℕ, z
 use Rattle.std.proofs.lemmas.List.{length-replicate}
 use Rattle.pef_head.specs.Container.{instantiated_count}
 use Rattle.pef_head.specs.Parts.{import_count}
-use Rattle.mix_load.specs.Sections.{total_at, totals}
-use Rattle.mix_load.proofs.Numbered.{numbered-at, numbered-length}
+use Rattle.mix_load.specs.Sections.{total_at}
 use Rattle.look_map.specs.Containers.{HasSizes}
 use Rattle.look_map.proofs.unmade.zeroed.Goals as goal
 
@@ -18,17 +17,18 @@ zero_at : (n : ℕ) (xs : List ℕ) (k : ℕ) → xs ≡ replicate n 0 → slice
 zero_at n xs k is = ap (λ (ys : List ℕ). slice_index ys k) is ∙ zero_in n k
 
 has_sizes : (bytes zeros sizes addresses : List ℕ) (count imports : ℕ) → count ≡ instantiated_count bytes → imports ≡ import_count bytes
-    → zeros ≡ replicate count 0 → sizes ≡ totals bytes count → addresses ≡ replicate imports 0 → HasSizes bytes zeros sizes addresses
-has_sizes bytes zeros sizes addresses count imports sections imported bases are there = record {
+    → zeros ≡ replicate count 0 → length sizes ≡ count → ((k : ℕ) → k < count → slice_index sizes k ≡ total_at bytes k) → addresses ≡ replicate imports 0
+    → HasSizes bytes zeros sizes addresses
+has_sizes bytes zeros sizes addresses count imports sections imported bases long each there = record {
   bases = ap (λ (xs : List ℕ). length xs) bases ∙ (length-replicate count 0 ∙ sections);
   low = λ k. zero_at count zeros k bases;
-  long = ap (λ (xs : List ℕ). length xs) are ∙ (numbered-length (total_at bytes) count ∙ sections);
-  totals = λ k below. ap (λ (xs : List ℕ). slice_index xs k) are ∙ numbered-at (total_at bytes) count k 0 (subst (λ (n : ℕ). k < n) (sym sections) below);
+  long = long ∙ sections;
+  totals = λ k below. each k (subst (λ (n : ℕ). k < n) (sym sections) below);
   imports = ap (λ (xs : List ℕ). length xs) there ∙ (length-replicate imports 0 ∙ imported);
 }
 
 pub returns-clause-sizes : goal.returns-clause-sizes
 returns-clause-sizes c =
     has_sizes c.args.pef.now c.in_ok-vec.field-0.items c.in_ok-totals.field-0.items c.in_ok-vec-2.field-0.items c.sections-count.result c.imports.result
-    c.sections-count.ensures.is c.imports.ensures.is (c.in_ok-vec.ensures.items_if_clones_equal (λ y is. is)) c.in_ok-totals.ensures
-    (c.in_ok-vec-2.ensures.items_if_clones_equal (λ y is. is))
+    c.sections-count.ensures.is c.imports.ensures.is (c.in_ok-vec.ensures.items_if_clones_equal (λ y is. is)) c.in_ok-totals.ensures.long
+    c.in_ok-totals.ensures.each (c.in_ok-vec-2.ensures.items_if_clones_equal (λ y is. is))
