@@ -1,17 +1,7 @@
--- The statuses of mixedlook.
+-- The statuses of runs.
 use Rattle.std.specs.Prelude.{ℕ, Bool, if◌then◌else◌}
-use Rattle.look_trace.specs.declared.error.LookError.{LookError}
-use Rattle.look_trace.specs.declared.error.LookError.TheVariants.{Line, Read, Names, Write, NoMemory}
 use Rattle.mixed_machine.specs.declared.stop.Stop.{Stop}
 use Rattle.mixed_machine.specs.declared.stop.Stop.TheVariants.{Exit, Fault, Limit, ReadFault, OutFault, TraceFault}
-
--- the status of a trace that was not told to its end
-abbrev pub status_for : LookError → ℕ
-status_for (Line number) = 3
-status_for Names = 3
-status_for Read = 4
-status_for Write = 6
-status_for NoMemory = 9
 
 -- the status of a run by how it stopped, and whether its last line and the report were put: only what the outside
 -- refused counts

@@ -11,40 +11,26 @@ use Rattle.mix_io.specs.declared.job.Command.{Command}
 use Rattle.mix_io.specs.declared.job.Command.TheVariants.{Run}
 use Rattle.mix_io.specs.declared.job.Job.{Job}
 use Rattle.mix_io.specs.Words.{command_of}
-use Rattle.look_map.specs.Maps.{files_text, start_text}
-use Rattle.look_text.specs.Info.{info_of}
-use Rattle.look_text.specs.Looks.{look_of, run_words}
-use Rattle.look_text.specs.Sentences.{why_text}
-use Rattle.look_text.specs.Whys.{Explains}
-use Rattle.look_text.specs.declared.look.Look.{Look}
-use Rattle.look_text.specs.declared.look.Look.TheVariants.{Info, Trace, Picture, Fork, Map, End, Image, Words}
-use Rattle.look_text.specs.declared.look.Refusal.{Refusal}
-use Rattle.look_text.specs.declared.why.Why.{Why}
+use Rattle.switch_frame.specs.declared.program.Program.{Program}
 use Rattle.mix_load.specs.declared.error.LoadError.{LoadError}
 use Rattle.mix_load.specs.declared.files.Files.{Files}
 use Rattle.mix_load.specs.Load.{load_of}
 use Rattle.mix_load.specs.Segments.{id_count}
-use Rattle.switch_frame.specs.declared.program.Program.{Program}
-
--- the status where a file, a program or a machine could not be had: it was refused, or it could not be read, or there
--- was no memory
-abbrev pub IsLost : ℕ → Type 0
-IsLost status = (status ≡ 3) ⊎ ((status ≡ 4) ⊎ (status ≡ 9))
-
--- whether mixedrun's words ask for a run
-abbrev pub is_run : Result Command BadWord → Bool
-is_run (Ok (Run job)) = true
-is_run words = false
+use Rattle.look_text.specs.Maps.{files_text, start_text}
+use Rattle.look_text.specs.Info.{info_of}
+use Rattle.look_text.specs.Whys.{Explains}
+use Rattle.look_text.specs.declared.why.Why.{Why}
+use Rattle.look_words.specs.Looks.{look_of, run_words}
+use Rattle.look_words.specs.Requests.{IsLost, is_run}
+use Rattle.look_words.specs.Sentences.{why_text}
+use Rattle.look_words.specs.declared.look.Look.{Look}
+use Rattle.look_words.specs.declared.look.Look.TheVariants.{Info, Trace, Picture, Fork, Map, End, Image, Words}
+use Rattle.look_words.specs.declared.look.Refusal.{Refusal}
 
 -- the words behind the first one
 abbrev pub behind : List (List ℕ) → List (List ℕ)
 behind [] = []
 behind (word ∷ words) = words
-
--- the status where nothing came of words that ask for a run, or ask for none
-abbrev pub IsUnmet : Bool → ℕ → Type 0
-IsUnmet true status = IsLost status
-IsUnmet false status = (status ≡ 2) ⊎ (status ≡ 9)
 
 -- nothing is put, since there was no memory
 abbrev pub LacksMemory : Option (List ℕ) → Option (List ℕ) → ℕ → Type 0

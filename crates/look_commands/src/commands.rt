@@ -1,23 +1,22 @@
 // What words ask for.
 ghost use Rattle.std.specs.Prelude.{◌≡◌, ◌^◌, ◌<◌, ◌++◌, IfOk, codes, length, map};
 ghost use Rattle.std.specs.String.{string_bytes};
-ghost use Rattle.look_text.specs.Sentences.{why_text as why_of};
 ghost use Rattle.look_text.specs.Whys.{Explains};
 ghost use Rattle.look_text.specs.declared.why.Why.{Why};
+ghost use Rattle.look_words.specs.Sentences.{why_text as why_of};
 ghost use Rattle.rsrc_fork.specs.Forks.{fork_of};
 ghost use Rattle.look_commands.specs.Told.{Answers, PutsFork, WritesFork, WritesWhy, behind};
 
-use crate::files::{fetch, name_at};
 use crate::images::image;
 use crate::maps::map;
-use crate::program::sentence;
 use crate::runs::end;
-use crate::said::{print, print_made, say, tell};
-use crate::status::{BAD_WORDS, NO_MEMORY, REFUSED};
+use crate::said::{fail, print, print_made, say, tell};
 use crate::streams::Streams;
 use crate::traces::trace;
-use look_text::{Look, info_text, read_look, refusal_text};
-use look_trace::Shape;
+use look_report::Shape;
+use look_text::info_text;
+use look_words::status::{BAD_WORDS, NO_MEMORY, REFUSED};
+use look_words::{Look, explanation, fetch, name_at, read_look, refusal_text};
 use mix_bits::{File, NoMemory};
 use mix_io::Key;
 use rsrc_fork::find_fork;
@@ -96,9 +95,9 @@ fn fork<F: Files, R: Read + Drop, W: Write + Drop, E: Write + Drop>(
     ensures { WritesFork (W.contents streams.old.out) (W.contents streams.new.out) result }
 {
     let key = Key::Program(File::Rsrc);
-    match fetch(alloc, files, name, key, &mut streams.errors) {
+    match fetch(alloc, files, name, key) {
         Ok(bytes) => write_fork(alloc, name, &bytes, streams),
-        Err(status) => status,
+        Err(failure) => fail(&mut streams.errors, failure),
     }
 }
 
@@ -154,7 +153,7 @@ fn asked(words: &[String]) -> &[String]
 fn line(alloc: Global, words: &[String]) -> Result<String, NoMemory>
     ensures { IfOk result (λ text. (why : Why) × Explains (map string_bytes words.now) why × (string_bytes text ≡ why_of (map string_bytes words.now) why ++ codes "\n")) }
 {
-    let mut text = sentence(alloc, words)?;
+    let mut text = explanation(alloc, words)?;
     text.push_str("\n")?;
     Ok(text)
 }

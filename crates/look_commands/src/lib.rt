@@ -9,15 +9,11 @@
 #![tactic(auto)]
 
 mod commands;
-mod files;
 mod images;
 mod maps;
-mod program;
 mod run;
 mod runs;
 mod said;
-/// The statuses of a call.
-pub mod status;
 mod streams;
 mod traces;
 

@@ -1,17 +1,17 @@
 // Where the pieces of a program lie.
 ghost use Rattle.std.specs.Prelude.{◌≡◌, ◌⊎◌, map as map_list};
 ghost use Rattle.std.specs.String.{string_bytes};
-ghost use Rattle.look_text.specs.Looks.{run_words as run_words_of};
 ghost use Rattle.mix_io.specs.Jobs.{IsProperJob};
 ghost use Rattle.mix_io.specs.Words.{command_of};
 ghost use Rattle.mix_load.specs.Load.{AreLoadable, IsSmall};
+ghost use Rattle.look_words.specs.Looks.{run_words as run_words_of};
 ghost use Rattle.look_commands.specs.Told.{PutsMapOf, WritesMap};
 
-use crate::program::requested;
-use crate::said::{print, say_bytes};
-use crate::status::{NO_MEMORY, REFUSED, SUCCESS};
+use crate::said::{fail, print, say_bytes};
 use crate::streams::Streams;
-use look_map::{Mapped, map_program, refusal_text};
+use look_text::{Mapped, map_program};
+use look_words::status::{NO_MEMORY, REFUSED, SUCCESS};
+use look_words::{load_error_text, requested};
 use mix_bits::NoMemory;
 use mix_io::Job;
 use mix_load::{Files as Program, LoadError};
@@ -29,9 +29,9 @@ pub fn map<F: Files, R: Read + Drop, W: Write + Drop, E: Write + Drop>(
 ) -> u8
     ensures { WritesMap (command_of (run_words_of (map_list string_bytes words.now))) (W.contents streams.old.out) (W.contents streams.new.out) result }
 {
-    match requested(alloc, files, words, &mut streams.errors) {
+    match requested(alloc, files, words) {
         Ok(request) => write_map(alloc, &request.program, request.job, streams),
-        Err(status) => status,
+        Err(failure) => fail(&mut streams.errors, failure),
     }
 }
 
@@ -63,7 +63,7 @@ pub fn refuse<E: Write>(alloc: Global, program: &Program, error: LoadError, erro
     requires { IsSmall program.now.pef }
     ensures { (result ≡ 3) ⊎ (result ≡ 9) }
 {
-    match refusal_text(alloc, program, error) {
+    match load_error_text(alloc, program, error) {
         Ok(text) => {
             say_bytes(errors, &text);
             REFUSED

@@ -12,7 +12,7 @@ ghost use Rattle.mix_io.specs.Streams.{output};
 ghost use Rattle.look_commands.specs.Counted.{RanSteps, ends as ends_at, is_done as is_done_at};
 
 use circular_buffer::HeapCircularBuffer;
-use look_state::{Ending, Step, step_at};
+use look_report::{Ending, Step, step_at};
 use mix_engine::{Machine, Stop, run};
 use mix_io::{Devices, Sink, Source};
 

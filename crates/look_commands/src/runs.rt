@@ -4,20 +4,22 @@ ghost use Rattle.std.specs.String.{string_bytes};
 ghost use Rattle.switch_frame.specs.Records.{isa_of};
 ghost use Rattle.mixed_machine.specs.Machine.{IsWhole};
 ghost use Rattle.mix_load.specs.Load.{AreLoadable};
-ghost use Rattle.look_text.specs.Looks.{run_words as run_words_of};
 ghost use Rattle.mix_io.specs.Jobs.{IsProperJob};
 ghost use Rattle.mix_io.specs.Words.{command_of};
+ghost use Rattle.look_words.specs.Looks.{run_words as run_words_of};
+ghost use Rattle.look_words.specs.Requests.{is_run};
 ghost use Rattle.look_commands.specs.Statuses.{status_at};
-ghost use Rattle.look_commands.specs.Told.{Loads, is_run};
+ghost use Rattle.look_commands.specs.Told.{Loads};
 
 use super::run_keeping;
 use crate::maps::refuse;
-use crate::program::{Request, requested};
-use crate::status::{INPUT_FAILED, NO_MEMORY, OUTPUT_FAILED, SUCCESS, TRACE_FAILED};
+use crate::said::fail;
 use crate::streams::Streams;
 use call_trace::{End, put_end};
 use circular_buffer::HeapCircularBuffer;
-use look_state::{Ending, Step, report};
+use look_report::{Ending, Step, report};
+use look_words::status::{INPUT_FAILED, NO_MEMORY, OUTPUT_FAILED, SUCCESS, TRACE_FAILED};
+use look_words::{Request, requested};
 use mix_bits::NoMemory;
 use mix_engine::{Machine, Stop};
 use mix_io::{Counter, Device, Devices, Failed, Rack, Sink, StdSink, StdSource, Tape};
@@ -37,9 +39,9 @@ pub fn end<F: Files, R: Read + Drop, W: Write + Drop, E: Write + Drop>(
 ) -> u8
     ensures { Loads (is_run (command_of (run_words_of (map string_bytes words.now)))) (W.contents streams.old.out) (W.contents streams.new.out) result }
 {
-    match requested(alloc, files, words, &mut streams.errors) {
+    match requested(alloc, files, words) {
         Ok(request) => end_job(alloc, &request, last, streams),
-        Err(status) => status,
+        Err(failure) => fail(&mut streams.errors, failure),
     }
 }
 
@@ -78,9 +80,10 @@ fn run<R: Read + Drop, W: Write + Drop, E: Write + Drop>(
     requires { IsWhole machine.old.body (isa_of machine.old.active) }
     ensures { IfOk result (λ status. status ≢ 2) }
 {
-    let counter: Box<dyn Device> = Box::new(alloc, Counter::new(alloc)?)?;
-    let tape: Box<dyn Device> = Box::new(alloc, Tape::new(alloc)?)?;
-    let mut rack = Rack::new(alloc, vec![in alloc; counter, tape]?)?;
+    let mut devices: Vec<Box<dyn Device>> = Vec::new(alloc);
+    devices.push(Box::new(alloc, Counter::new(alloc)?)?)?;
+    devices.push(Box::new(alloc, Tape::new(alloc)?)?)?;
+    let mut rack = Rack::new(alloc, devices)?;
     Ok(run_beside(
         alloc,
         machine,

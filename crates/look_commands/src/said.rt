@@ -1,8 +1,9 @@
 // What is said, and to whom.
-ghost use Rattle.std.specs.Prelude.{◌≡◌, ◌⊎◌, IfErr, IfOk};
+ghost use Rattle.std.specs.Prelude.{◌≡◌, IfErr, IfOk};
 ghost use Rattle.look_commands.specs.Told.{LacksMemory, Prints};
 
-use crate::status::{NO_MEMORY, OUTPUT_FAILED, SUCCESS};
+use look_words::Failure;
+use look_words::status::{NO_MEMORY, OUTPUT_FAILED, SUCCESS};
 use mix_bits::NoMemory;
 use mix_io::write_whole;
 use std::io::Write;
@@ -14,17 +15,12 @@ pub fn say<E: Write>(errors: &mut E, text: Option<String>) {
     }
 }
 
-/// Says a sentence, and answers the status that goes with it, or else that there was no memory for the sentence.
-pub fn refuse<E: Write>(errors: &mut E, text: Result<String, NoMemory>, status: u8) -> u8
-    ensures { (result ≡ status) ⊎ (result ≡ 9) }
+/// Says why a command is not done, and answers its status.
+pub fn fail<E: Write>(errors: &mut E, failure: Failure) -> u8
+    ensures { result ≡ failure.status }
 {
-    match text {
-        Ok(text) => {
-            say_bytes(errors, text.as_bytes());
-            status
-        }
-        Err(NoMemory) => NO_MEMORY,
-    }
+    say(errors, failure.sentence);
+    failure.status
 }
 
 /// Puts a sentence and a line feed to the errors.

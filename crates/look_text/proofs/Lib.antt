@@ -1,2 +1,5 @@
 pub mod Explained
 pub mod Ranges
+pub mod Refused
+pub mod Mapping
+pub mod Lines

@@ -1,10 +1,8 @@
 -- What the keys with a range want, as it is written.
 use Rattle.std.proofs.Common.{◌≡◌, codes, refl}
 use Rattle.std.specs.Fmt.{digits}
-use Rattle.look_text.specs.Sentences.{key_wants}
 use Rattle.look_text.specs.Wants.{wants_text}
 use Rattle.look_text.specs.declared.label.Label.TheVariants.{Ram, Steps, Count, Calls, Depth}
-use Rattle.look_text.specs.declared.look.Key.TheVariants.{Last}
 
 pub wants_ram : wants_text Ram ≡ codes "a number of KiB from 128 to 16384, in decimal without a leading zero"
 unfolding digits
@@ -26,8 +24,4 @@ pub wants_depth : wants_text Depth ≡ codes "a number from 1 to 300, in decimal
 unfolding digits
 wants_depth = refl
 
-pub wants_last : key_wants Last ≡ codes "a number from 0 to 1000, in decimal without a leading zero"
-unfolding digits
-wants_last = refl
-
-pub ruleset written = (wants_ram, wants_steps, wants_count, wants_calls, wants_depth, wants_last)
+pub ruleset written = (wants_ram, wants_steps, wants_count, wants_calls, wants_depth)

@@ -3,9 +3,10 @@ pub mod Places
 pub mod Info
 pub mod Tree
 pub mod Pieces
-pub mod Looks
 pub mod Labels
 pub mod Wants
 pub mod Reasons
 pub mod Whys
-pub mod Sentences
+pub mod Forks
+pub mod Containers
+pub mod Maps

@@ -2,8 +2,8 @@
 //! does behind its words is `answer` of look_commands.
 #![tactic(auto)]
 
-use look_commands::status::{BAD_WORDS, NO_MEMORY};
 use look_commands::{Streams, answer, print, tell};
+use look_words::status::{BAD_WORDS, NO_MEMORY};
 use std::env;
 use std::io::{self, ErrorKind};
 use std::process::ExitCode;

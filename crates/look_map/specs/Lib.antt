@@ -1,4 +1,0 @@
-pub mod Forks
-pub mod Containers
-pub mod Maps
-pub mod Sentences

@@ -1,7 +1,0 @@
--- The frames of a whole machine are a chain.
-use Rattle.mixed_machine.specs.Machine.{callers_of}
-use Rattle.look_state.proofs.machine.add_machine.Goals as goal
-
-pub add_frames-requires : goal.add_frames-requires
-unfolding callers_of
-add_frames-requires c = c.requires.chain.links

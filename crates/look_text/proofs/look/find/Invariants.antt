@@ -1,7 +1,0 @@
--- The text is none of the keys before.
-use Rattle.std.proofs.Common.{◌≡◌, drop}
-use Rattle.look_text.specs.Looks.{key_for}
-use Rattle.look_text.proofs.look.find.Given as goal
-
-abbrev pub invariant-loop-key : goal.invariant-loop-key
-invariant-loop-key l = key_for (drop l.key-index l.keys) l.text ≡ key_for l.keys l.text

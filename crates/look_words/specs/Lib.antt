@@ -1,0 +1,5 @@
+pub mod Looks
+pub mod Sentences
+pub mod Unmade
+pub mod Refusals
+pub mod Requests
