@@ -76,10 +76,9 @@ fn obey<F: Files, R: Read + Drop, W: Write + Drop, E: Write + Drop>(
         Ok(Look::End(last)) => end(alloc, files, words, last, streams),
         Ok(Look::Image(file)) => image(alloc, files, name_at(words, file), streams),
         Err(refusal) => {
-            say(
-                &mut streams.errors,
-                refusal_text(alloc, words, refusal).ok(),
-            );
+            if let Ok(text) = refusal_text(alloc, words, refusal) {
+                say(&mut streams.errors, text.as_bytes());
+            }
             BAD_WORDS
         }
     }
@@ -120,10 +119,9 @@ pub fn write_fork<R: Read + Drop, W: Write + Drop, E: Write + Drop>(
             )
         }
         Err(error) => {
-            say(
-                &mut streams.errors,
-                format!(in alloc; "{name}: {error}").ok(),
-            );
+            if let Ok(text) = format!(in alloc; "{name}: {error}") {
+                say(&mut streams.errors, text.as_bytes());
+            }
             REFUSED
         }
     }

@@ -7,7 +7,7 @@ ghost use Rattle.mix_load.specs.Load.{AreLoadable, IsSmall};
 ghost use Rattle.look_words.specs.Looks.{run_words as run_words_of};
 ghost use Rattle.look_commands.specs.Told.{PutsMapOf, WritesMap};
 
-use crate::said::{fail, print, say_bytes};
+use crate::said::{fail, print, say};
 use crate::streams::Streams;
 use look_text::{Mapped, map_program};
 use look_words::status::{NO_MEMORY, REFUSED, SUCCESS};
@@ -65,7 +65,7 @@ pub fn refuse<E: Write>(alloc: Global, program: &Program, error: LoadError, erro
 {
     match load_error_text(alloc, program, error) {
         Ok(text) => {
-            say_bytes(errors, &text);
+            say(errors, &text);
             REFUSED
         }
         Err(NoMemory) => NO_MEMORY,

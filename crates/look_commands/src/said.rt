@@ -8,23 +8,18 @@ use mix_bits::NoMemory;
 use mix_io::write_whole;
 use std::io::Write;
 
-/// Puts a sentence and a line feed to the errors, where there is memory for it.
-pub fn say<E: Write>(errors: &mut E, text: Option<String>) {
-    if let Some(text) = text {
-        say_bytes(errors, text.as_bytes());
-    }
-}
-
 /// Says why a command is not done, and answers its status.
 pub fn fail<E: Write>(errors: &mut E, failure: Failure) -> u8
     ensures { result ≡ failure.status }
 {
-    say(errors, failure.sentence);
+    if let Some(sentence) = &failure.sentence {
+        say(errors, sentence);
+    }
     failure.status
 }
 
 /// Puts a sentence and a line feed to the errors.
-pub fn say_bytes<E: Write>(errors: &mut E, text: &[u8]) {
+pub fn say<E: Write>(errors: &mut E, text: &[u8]) {
     tell(errors, b"mixedlook: ");
     tell(errors, text);
     tell(errors, b"\n");

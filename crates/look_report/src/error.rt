@@ -47,9 +47,13 @@ impl LookError {
         ensures status { result.status ≡ status_for self }
         ensures words { result.status ≢ 2 }
     {
+        let sentence = match self.to_string(alloc) {
+            Ok(text) => Some(text.into_bytes()),
+            Err(_) => None,
+        };
         Failure {
             status: self.status(),
-            sentence: self.to_string(alloc).ok(),
+            sentence,
         }
     }
 

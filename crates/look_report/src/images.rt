@@ -6,7 +6,7 @@ use crate::refused::image_text;
 use look_words::Failure;
 use look_words::status::REFUSED;
 use mix_bits::NoMemory;
-use mix_image::restore;
+use mix_image::{ImageError, restore};
 use std::alloc::Global;
 
 /// The report of the machine in a file's bytes, which had no run.
@@ -20,6 +20,7 @@ pub fn image_report(alloc: Global, name: &str, bytes: &[u8]) -> Result<Vec<u8>, 
             Ok(text) => Ok(text),
             Err(NoMemory) => Err(Failure::no_memory()),
         },
+        Err(ImageError::NoMemory) => Err(Failure::no_memory()),
         Err(error) => Err(Failure::told(image_text(alloc, name, error), REFUSED)),
     }
 }

@@ -6,6 +6,7 @@ use Rattle.mix_bits.specs.declared.size.Size.TheVariants.{Zero, One, Two, Four}
 use Rattle.proc_info.specs.declared.param.Param.{Param}
 use Rattle.proc_info.specs.Signature.{Signature, signature_in}
 use Rattle.switch_frame.specs.Sets.{caller_isa, callee_isa}
+use Rattle.switch_frame.specs.declared.kind.Kind.{Kind}
 use Rattle.call_trace.specs.Names.{set_name}
 use Rattle.call_trace.specs.Events.{args_of}
 use Rattle.call_trace.specs.declared.event.Crossing.{Crossing}
@@ -36,11 +37,13 @@ selected_text Four ps selector vs = sized_text (codes ": selector ") Four select
 abbrev pub values_text : Signature → Crossing → List ℕ
 values_text s c = selected_text s.selector s.params c.selector (args_of c)
 
+-- the sets of a call, and the name of its target
+abbrev pub way_text : List ℕ → Kind → List ℕ
+way_text name kind = joined (set_name (caller_isa kind) ∷ codes " to " ∷ set_name (callee_isa kind) ∷ codes " " ∷ name ∷ [])
+
 -- a call of a routine with a name
 abbrev pub called_text : List ℕ → Crossing → List ℕ
-called_text name c =
-    joined (set_name (caller_isa c.kind) ∷ codes " to " ∷ set_name (callee_isa c.kind) ∷ codes " " ∷ name ∷ [])
-    ++ values_text (signature_in c.info) c
+called_text name c = way_text name c.kind ++ values_text (signature_in c.info) c
 
 -- an event; what is neither a call nor a return stays as its line is
 abbrev pub event_text : List ℕ → List ℕ → Event → List ℕ

@@ -3,7 +3,7 @@ ghost use Rattle.std.specs.Prelude.{◌≡◌, ◌++◌, IfOk, OnOk};
 ghost use Rattle.proc_info.specs.Signature.{signature_in};
 ghost use Rattle.proc_info.specs.Views.{signature};
 ghost use Rattle.call_trace.specs.Events.{args_of};
-ghost use Rattle.look_text.specs.Tree.{args_text, called_text, event_text, indent_text, sized_text, tree_of, values_text};
+ghost use Rattle.look_text.specs.Tree.{args_text, called_text, event_text, indent_text, sized_text, tree_of, values_text, way_text};
 
 use super::line::{Piece, add_line};
 use super::pieces::{add, add_bytes};
@@ -11,6 +11,7 @@ use call_trace::{Crossing, Event, set_name};
 use mix_bits::{NoMemory, Size};
 use proc_info::{Param, Sig, read};
 use std::alloc::Global;
+use switch_frame::Kind;
 
 /// How many calls deep a line stands at most to the right.
 pub const DEEPEST: u32 = 256;
@@ -56,17 +57,24 @@ fn add_event(text: &mut Vec<u8>, name: &[u8], line: &[u8], event: &Event) -> Res
 fn add_call(text: &mut Vec<u8>, name: &[u8], call: &Crossing) -> Result<(), NoMemory>
     ensures { OnOk result (text.new.items ≡ text.old.items ++ called_text name.now call.now) }
 {
+    add_way(text, name, call.kind)?;
+    add_values(text, &signature_for(call.info), call)
+}
+
+/// Appends the sets of a call, and the name of its target.
+fn add_way(text: &mut Vec<u8>, name: &[u8], kind: Kind) -> Result<(), NoMemory>
+    ensures { OnOk result (text.new.items ≡ text.old.items ++ way_text name.now kind) }
+{
     add_line(
         text,
         &[
-            Piece::Text(set_name(call.kind.caller())),
+            Piece::Text(set_name(kind.caller())),
             Piece::Text(" to "),
-            Piece::Text(set_name(call.kind.callee())),
+            Piece::Text(set_name(kind.callee())),
             Piece::Text(" "),
             Piece::Bytes(name),
         ],
-    )?;
-    add_values(text, &signature_for(call.info), call)
+    )
 }
 
 /// The signature of a procInfo word, which has one; an empty one else.

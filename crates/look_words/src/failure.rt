@@ -5,7 +5,7 @@ use mix_bits::NoMemory;
 #[derive(Drop)]
 pub struct Failure {
     pub status: u8,
-    pub sentence: Option<String>,
+    pub sentence: Option<Vec<u8>>,
 }
 
 impl Failure {
@@ -22,7 +22,7 @@ impl Failure {
     }
 
     /// A status with its sentence, or that there was no memory for the sentence.
-    pub fn told(sentence: Result<String, NoMemory>, status: u8) -> Failure
+    pub fn told(sentence: Result<Vec<u8>, NoMemory>, status: u8) -> Failure
         ensures { (result.status ≡ status) ⊎ (result.status ≡ 9) }
     {
         match sentence {

@@ -8,7 +8,7 @@ ghost use Rattle.look_words.specs.Requests.{IsLost};
 use crate::failure::Failure;
 use crate::program::value;
 use crate::status::{NO_FILE, REFUSED};
-use look_text::word_at;
+use look_text::{Piece, line_of, word_at};
 use mix_io::{FetchError, FileShelf, Key, Shelf};
 use std::alloc::Global;
 use std::rt::Files;
@@ -39,7 +39,16 @@ fn too_long(alloc: Global, name: &str, most: u32) -> Failure
 {
     Failure {
         status: REFUSED,
-        sentence: format!(in alloc; "{name} has more than {most} bytes").ok(),
+        sentence: line_of(
+            alloc,
+            &[
+                Piece::Text(name),
+                Piece::Text(" has more than "),
+                Piece::Number(most),
+                Piece::Text(" bytes"),
+            ],
+        )
+        .ok(),
     }
 }
 
@@ -49,6 +58,10 @@ pub fn unread(alloc: Global, name: &str) -> Failure
 {
     Failure {
         status: NO_FILE,
-        sentence: format!(in alloc; "{name} could not be read").ok(),
+        sentence: line_of(
+            alloc,
+            &[Piece::Text(name), Piece::Text(" could not be read")],
+        )
+        .ok(),
     }
 }

@@ -42,7 +42,13 @@ pub fn requested<F: Files>(alloc: Global, files: &F, words: &[String]) -> Result
     };
     match read_words(&run) {
         Ok(Command::Run(job)) => fetch_files(alloc, files, &run, job),
-        _ => Err(Failure::told(explanation(alloc, &run), BAD_WORDS)),
+        _ => Err(match explanation(alloc, &run) {
+            Ok(text) => Failure {
+                status: BAD_WORDS,
+                sentence: Some(text.into_bytes()),
+            },
+            Err(NoMemory) => Failure::no_memory(),
+        }),
     }
 }
 
