@@ -1,5 +1,5 @@
-//! Tests of numbers and lines, of memory, of the objects that stand for what lies outside, and of the readers of resource
-//! forks and containers, with files made by hand.
+//! Tests of numbers and lines, of memory, of the objects that stand for what lies outside, of racks of devices, of the words
+//! of a command line, and of the readers of resource forks and containers, with files made by hand.
 #![tactic(auto)]
 
 #[cfg(test)]
@@ -28,3 +28,5 @@ mod shared;
 mod texts;
 #[cfg(test)]
 mod unpacking;
+#[cfg(test)]
+mod words;

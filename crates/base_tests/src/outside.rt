@@ -208,6 +208,13 @@ fn files_of_the_system_in_one_chunk_and_in_several(rt: HostRuntime) {
     fetch_files(&rt, path.as_str());
 }
 
+#[test]
+fn a_folder_opens_and_cannot_be_read(rt: HostRuntime) {
+    let mut shelf = FileShelf::new(&rt);
+    let failed = Err(FetchError::Failed);
+    check_fetch(&rt, rt.alloc(), &mut shelf, "/", 4096, failed);
+}
+
 /// A file of one read; and files that take several, of which the last is full or not.
 fn fetch_files<R: Abort + Files + AllocGlobal>(rt: &R, path: &str) {
     let mut shelf = FileShelf::new(rt);

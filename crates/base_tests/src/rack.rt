@@ -3,7 +3,8 @@ ghost use Rattle.std.specs.Prelude.{None};
 
 use crate::checks::{same, vector};
 use crate::equal::must;
-use mix_io::{Answer, Asked, Counter, Device, Devices, Failed, Rack, ScriptDevice};
+use dev_rack::{Answer, Asked, Devices, Rack};
+use mix_io::{Counter, Device, Failed, ScriptDevice};
 use std::alloc::Global;
 use std::cell::Cell;
 use std::process::Abort;

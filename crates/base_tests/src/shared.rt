@@ -60,18 +60,24 @@ fn reads_references_that_types_share(rt: HostRuntime) {
     check_fork(&rt, rt.alloc(), &file, GETS, &[]);
 }
 
-/// 1392470 of them.
+/// 1398101 of them, the most that there may be. The last id is 60786, or -4750 as a signed word.
 #[test]
 fn keeps_as_many_resources_as_fill_the_largest_file(rt: HostRuntime) {
-    let file = shared(&rt, rt.alloc(), 8191, 170);
-    equal(&rt, "the length", file.len(), 67618);
-    check_fork(&rt, rt.alloc(), &file, &[(8190, 169, Some(b""))], &[]);
+    let file = shared(&rt, rt.alloc(), 23, 60787);
+    equal(&rt, "the length", file.len(), 729678);
+    check_fork(
+        &rt,
+        rt.alloc(),
+        &file,
+        &[(22, -4750, Some(b"")), (22, -4749, None)],
+        &[],
+    );
 }
 
-/// 1400661 of them.
+/// 1398102 of them, one more.
 #[test]
 fn refuses_more_resources_than_fill_the_largest_file(rt: HostRuntime) {
-    let file = shared(&rt, rt.alloc(), 8191, 171);
+    let file = shared(&rt, rt.alloc(), 86, 16257);
     check_refused(&rt, rt.alloc(), &file, RsrcError::NoMemory);
 }
 

@@ -6,9 +6,10 @@ use Rattle.std.proofs.lemmas.Bool.{cases_lt}
 use Rattle.std.proofs.lemmas.Bool.Decides.{nat_tests}
 use Rattle.big_memory.specs.declared.refusals.Access.{Access}
 use Rattle.big_memory.specs.Lists.{part}
-use Rattle.big_memory.specs.Memory.{Memory, IsRam, IsDoneUnless, copied, copy_refusal, in_memory, refusal, with_bytes}
-use Rattle.big_memory.specs.Stores.{OnlyFree}
-use Rattle.big_memory.specs.Laws.{CopiesAreFree, DoneIsFree, FreeJoins, FreeKeepsPage, FreeKeepsRam, FreeKeepsRefusals, NothingIsFree, SamePart, StoresAreFree}
+use Rattle.big_memory.specs.Memory.{Memory, IsRam, copied, copy_refusal, in_memory, refusal, with_bytes}
+use Rattle.big_memory.specs.MemoryClauses.{IsDoneUnless}
+use Rattle.big_memory.specs.StoresClauses.{OnlyFree}
+use Rattle.big_memory.specs.laws.Laws.{CopiesAreFree, DoneIsFree, FreeJoins, FreeKeepsPage, FreeKeepsRam, FreeKeepsRefusals, NothingIsFree, SamePart, StoresAreFree}
 use Rattle.big_memory.proofs.Lists.{length-put, put-nil, get_or-put_outside}
 use Rattle.big_memory.proofs.Guarded.{Passes, passes, passes_within}
 

@@ -8,9 +8,10 @@ use Rattle.mix_bits.specs.declared.size.Size.TheVariants.{Zero, One, Two, Four}
 use Rattle.mix_bits.specs.Sizes.{bytes_of, truncated}
 use Rattle.byteorder.specs.Endian.{big_number, big_bytes}
 use Rattle.big_memory.specs.Lists.{put}
-use Rattle.big_memory.specs.Memory.{Memory, IsFree, meets_gate, meets_guard, refusal, in_memory, loaded, stored}
-pub use Rattle.big_memory.specs.Laws.{Passes}
-use Rattle.big_memory.specs.Laws.{PassesWithin, KeepsRefusals, LoadsBack}
+use Rattle.big_memory.specs.Memory.{Memory, meets_gate, meets_guard, refusal, in_memory, loaded, stored}
+use Rattle.big_memory.specs.laws.Memory.{IsFree}
+pub use Rattle.big_memory.specs.laws.Laws.{Passes}
+use Rattle.big_memory.specs.laws.Laws.{PassesWithin, KeepsRefusals, LoadsBack}
 use Rattle.big_memory.proofs.Lists.{length-put, drop-put}
 use Rattle.big_memory.proofs.Packed.{any_none, any_found}
 

@@ -9,9 +9,12 @@ use Rattle.mix_bits.specs.Addresses.{onward}
 use Rattle.mix_bits.specs.Results.{◌>>=◌}
 use Rattle.byteorder.specs.Endian.{big_bytes}
 use Rattle.big_memory.specs.declared.refusals.Access.{Access}
-use Rattle.big_memory.specs.Laws.{BytesOfSize, OpenInMemory, ProbePasses, ProbeRefuses, StoredLoads}
-use Rattle.big_memory.specs.Memory.{Memory, IsRam, IsDoneUnless, IsDoneUnlessRefused, in_memory, refusal, stored}
-use Rattle.big_memory.specs.Stores.{OnlyFree, Stores, first_refusal, longs_refusal, stored_longs, stored_unless, stored_value, with_longs}
+use Rattle.big_memory.specs.laws.Laws.{BytesOfSize, OpenInMemory, ProbePasses, ProbeRefuses, StoredLoads}
+use Rattle.big_memory.specs.Memory.{Memory, IsRam, in_memory, refusal, stored}
+use Rattle.big_memory.specs.MemoryClauses.{IsDoneUnless, IsDoneUnlessRefused}
+use Rattle.big_memory.specs.StoresClauses.{OnlyFree}
+use Rattle.big_memory.specs.inner.Stores.{Stores, first_refusal, longs_refusal, with_longs}
+use Rattle.big_memory.specs.Stores.{stored_longs, stored_unless, stored_value}
 use Rattle.big_memory.proofs.Lists.{length-put}
 use Rattle.big_memory.proofs.Guarded.{Passes, loads_back, passes, passes_within}
 use Rattle.big_memory.proofs.Free.{nothing_free, free_joins, free_ram, stores_free}

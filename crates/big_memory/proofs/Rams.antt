@@ -5,7 +5,7 @@ use Rattle.std.proofs.lemmas.Bool.Decides.{nat_tests}
 use Rattle.mix_bits.specs.declared.size.Size.TheVariants.{Zero, One, Two, Four}
 use Rattle.big_memory.specs.Lists.{put}
 use Rattle.big_memory.specs.Memory.{meets_gate, meets_guard}
-use Rattle.big_memory.specs.Laws.{BytesKeepRam, BytesStayBeside, InMemoryWithin, LoadsPart, MarksKeepRam, MarksOfRange, OpenBelowFloor}
+use Rattle.big_memory.specs.laws.Laws.{BytesKeepRam, BytesStayBeside, InMemoryWithin, LoadsPart, MarksKeepRam, MarksOfRange, OpenBelowFloor}
 use Rattle.big_memory.proofs.Lists.{length-put, get_or-put_outside, get_or-put_replicate}
 use Rattle.big_memory.proofs.Guarded.{refusal-none, test_from_free}
 

@@ -5,7 +5,8 @@ use Rattle.std.proofs.lemmas.Bool.Decides.{nat_tests}
 use Rattle.std.proofs.lemmas.Grind.{same_number_lists}
 use Rattle.big_memory.specs.declared.refusals.Access.{Access}
 use Rattle.big_memory.specs.Lists.{put}
-use Rattle.big_memory.specs.Memory.{Memory, IsDoneUnless, IsRam, in_memory, refusal, with_bytes}
+use Rattle.big_memory.specs.Memory.{Memory, IsRam, in_memory, refusal, with_bytes}
+use Rattle.big_memory.specs.MemoryClauses.{IsDoneUnless}
 use Rattle.big_memory.proofs.Lists.{length-put, put-nil}
 use Rattle.big_memory.proofs.Guarded.{passes}
 use Rattle.big_memory.proofs.Rams.{bytes_keep_ram}

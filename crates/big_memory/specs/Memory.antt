@@ -1,5 +1,5 @@
 -- Memory as a list of bytes with a mark for each unit of 16 bytes, and what a call on it answers.
-use Rattle.std.specs.Prelude.{◌≡◌, ℕ, ◌+◌, ◌-◌, ◌*◌, ◌/◌, ◌%◌, ◌<◌, ◌≤◌, ◌==◌, nat_lt, nat_le, Bool, false, not, ◌&&◌, ◌||◌, if◌then◌else◌, List, length, replicate, slice_range, slice_index_or, Option, Some, None, Result, Ok, Err, MatchOption}
+use Rattle.std.specs.Prelude.{◌≡◌, ℕ, ◌+◌, ◌-◌, ◌*◌, ◌/◌, ◌%◌, ◌<◌, ◌≤◌, ◌==◌, nat_lt, nat_le, Bool, false, ◌&&◌, ◌||◌, if◌then◌else◌, List, length, replicate, slice_range, slice_index_or, Option, Some, None, Result, Ok, Err}
 use Rattle.std.specs.List.{list_any}
 use Rattle.byteorder.specs.Endian.{big_bytes}
 use Rattle.mix_bits.specs.declared.size.Size.{Size}
@@ -35,9 +35,6 @@ zeroed len = record { bytes = zeros len; marks = replicate (len / 16) false }
 abbrev pub with_bytes : ℕ → List ℕ → Memory → Memory
 with_bytes at ys m = record m { bytes = put at ys m.bytes }
 
-abbrev pub with_marks : ℕ → List Bool → Memory → Memory
-with_marks unit ys m = record m { marks = put unit ys m.marks }
-
 -- whether the n bytes at a lie in memory; no bytes lie in it everywhere
 abbrev pub in_memory : Memory → ℕ → ℕ → Bool
 in_memory m a n = n == 0 || nat_le (a + n) (length m.bytes)
@@ -49,15 +46,6 @@ meets_gate a n = nat_lt a gate_page_end && nat_lt gate_page (a + n)
 -- whether one of the n bytes at a, at least one, lies in a guarded unit
 abbrev pub meets_guard : Memory → ℕ → ℕ → Bool
 meets_guard m a n = list_any (λ mark. mark) (slice_range m.marks (a / 16) ((a + n - 1) / 16 + 1))
-
--- whether the n bytes at a, at least one, lie in memory above the gate page, in one unit, which is not guarded
-abbrev pub is_open : Memory → ℕ → ℕ → Bool
-is_open m a n =
-    nat_lt 0 n && (nat_le gate_page_end a && (in_memory m a n && (nat_le (a % 16 + n) 16 && not (slice_index_or m.marks (a / 16) false))))
-
--- the same as a relation: no unit of these bytes is guarded
-abbrev pub IsFree : Memory → ℕ → ℕ → Type 0
-IsFree m a n = (unit : ℕ) → a < 16 * unit + 16 → 16 * unit < a + n → slice_index_or m.marks unit false ≡ false
 
 -- why a store of n bytes at a is refused, if it is
 abbrev pub refusal : Memory → ℕ → ℕ → Option Access
@@ -81,12 +69,3 @@ filled m a n = with_bytes a (zeros n) m
 
 abbrev pub copied : Memory → ℕ → ℕ → ℕ → Memory
 copied m from to n = with_bytes to (part from n m.bytes) m
-
--- a call that is done, or refused for a reason with nothing changed
-abbrev pub IsDoneUnless : {T : Type 0} → Option Access → Memory → Memory → Memory → Result T Access → T → Type 0
-IsDoneUnless reason old done new result ok =
-    MatchOption reason ((result ≡ Ok ok) × (new ≡ done)) (λ e. (result ≡ Err e) × (new ≡ old))
-
--- the same for a call that stores n bytes at a
-abbrev pub IsDoneUnlessRefused : {T : Type 0} → Memory → ℕ → ℕ → Memory → Memory → Result T Access → T → Type 0
-IsDoneUnlessRefused old a n done new result ok = IsDoneUnless (refusal old a n) old done new result ok

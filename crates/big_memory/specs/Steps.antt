@@ -1,12 +1,9 @@
 -- What a step of one instruction set answers, for any set's registers.
-use Rattle.std.specs.Prelude.{◌≡◌, ℕ, Result, Ok, Err}
+use Rattle.std.specs.Prelude.{ℕ, Result, Ok, Err}
 use Rattle.mix_bits.specs.declared.fault.Fault.{Fault}
 use Rattle.big_memory.specs.declared.refusals.Access.{Access}
-use Rattle.big_memory.specs.declared.steps.Did.{Did}
-use Rattle.big_memory.specs.declared.steps.Did.TheVariants.{Next, Leave, Stop}
 use Rattle.big_memory.specs.Memory.{Memory}
 use Rattle.big_memory.specs.Faults.{fault_of}
-use Rattle.big_memory.specs.Stores.{OnlyFree}
 
 -- a step goes on with registers and memory; or it leaves the set's code, for the host, by a number; or
 -- it stops at a fault. Only a step that goes on changes anything
@@ -24,10 +21,3 @@ after_store pc next (Err e) = Stops (fault_of pc e)
 abbrev pub after_load : {R T : Type 0} → ℕ → (T → After R) → Result T Access → After R
 after_load pc goes_on (Ok v) = goes_on v
 after_load pc goes_on (Err e) = Stops (fault_of pc e)
-
--- a call that does the step, from registers r and memory m to registers next and memory n. The fault,
--- or the number as its detail, stands in a cell beside them
-abbrev pub Does : {R : Type 0} → After R → Did → Fault → R → R → Memory → Memory → Type 0
-Does step Next cell r next m n = (step ≡ Goes next n) × OnlyFree m n
-Does step Leave cell r next m n = (step ≡ Leaves cell.detail) × (next ≡ r) × (n ≡ m)
-Does step Stop cell r next m n = (step ≡ Stops cell) × (next ≡ r) × (n ≡ m)

@@ -1,6 +1,6 @@
-ghost use Rattle.big_memory.specs.Laws.{BytesKeepRam, BytesOfSize, BytesStayBeside, CopiesAreFree, DoneIsFree, FreeJoins, FreeKeepsPage, FreeKeepsRam, FreeKeepsRefusals, FreeTests, InMemoryWithin, KeepsRefusals, LoadsBack, LoadsPart, MarksKeepRam, MarksOfRange, NothingIsFree, OpenBelowFloor, OpenInMemory, OpenPasses, PassesOpen, PassesWithin, ProbePasses, ProbeRefuses, SamePart, StoredLoads, StoresAreFree, TestsFree};
-ghost use Rattle.big_memory.specs.NumberLaws.{BytesJoin, FourLongs, LengthOfBytes, LengthOfLongs, LoadsLong, LoadsNumber, LongFits, LongInPart, LongOfLongs, LongOfPart, LongReadsBack, LongsAgain, LongsFit, LongsOfPart, LongsSplit, NumberInPart, SameNumber, WritesJoin};
-ghost use Rattle.big_memory.specs.PutLaws.{PutApart, PutFrom, PutHoldsInside, PutInside, PutJoins, PutKeepsBeside, PutKeepsLength, PutNothing, PutOver, PutReadsBack, PutReadsBeside, PutReadsInside, PutRun, PutSame};
+ghost use Rattle.big_memory.specs.laws.Laws.{BytesKeepRam, BytesOfSize, BytesStayBeside, CopiesAreFree, DoneIsFree, FreeJoins, FreeKeepsPage, FreeKeepsRam, FreeKeepsRefusals, FreeTests, InMemoryWithin, KeepsRefusals, LoadsBack, LoadsPart, MarksKeepRam, MarksOfRange, NothingIsFree, OpenBelowFloor, OpenInMemory, OpenPasses, PassesOpen, PassesWithin, ProbePasses, ProbeRefuses, SamePart, StoredLoads, StoresAreFree, TestsFree};
+ghost use Rattle.big_memory.specs.laws.NumberLaws.{BytesJoin, FourLongs, LengthOfBytes, LengthOfLongs, LoadsLong, LoadsNumber, LongFits, LongInPart, LongOfLongs, LongOfPart, LongReadsBack, LongsAgain, LongsFit, LongsOfPart, LongsSplit, NumberInPart, SameNumber, WritesJoin};
+ghost use Rattle.big_memory.specs.laws.PutLaws.{PutApart, PutFrom, PutHoldsInside, PutInside, PutJoins, PutKeepsBeside, PutKeepsLength, PutNothing, PutOver, PutReadsBack, PutReadsBeside, PutReadsInside, PutRun, PutSame};
 
 /// What follows from the definitions of memory. It does nothing: the clauses are its point.
 pub fn memory_laws()

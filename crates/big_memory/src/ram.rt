@@ -4,9 +4,12 @@ ghost use Rattle.byteorder.specs.Endian.{big_bytes};
 ghost use Rattle.mix_bits.specs.Sizes.{bytes_of, modulus};
 ghost use Rattle.mix_bits.specs.declared.size.Size.TheVariants.{One, Two, Four};
 ghost use Rattle.big_memory.specs.Lists.{part};
-ghost use Rattle.big_memory.specs.Memory.{IsDoneUnless, IsDoneUnlessRefused, IsRam, copied, copy_refusal, filled, floor_of, in_memory, is_open, loaded, meets_gate, meets_guard, refusal, stored, with_bytes, with_marks, zeroed};
+ghost use Rattle.big_memory.specs.MemoryClauses.{IsDoneUnless, IsDoneUnlessRefused, with_marks};
+ghost use Rattle.big_memory.specs.Memory.{IsRam, copied, copy_refusal, filled, floor_of, in_memory, loaded, meets_gate, meets_guard, refusal, stored, with_bytes, zeroed};
+ghost use Rattle.big_memory.specs.inner.Memory.{is_open};
 ghost use Rattle.big_memory.specs.Numbers.{AreBytes, AreLongs, bytes_of_longs, long_at, longs_at, number_at};
-ghost use Rattle.big_memory.specs.Stores.{Stores, StoresIf, longs_refusal, stored_long, stored_longs, stored_value, with_longs};
+ghost use Rattle.big_memory.specs.inner.Stores.{Stores, StoresIf, longs_refusal, with_longs};
+ghost use Rattle.big_memory.specs.Stores.{stored_long, stored_longs, stored_value};
 
 use super::map::{GATE_PAGE, GATE_PAGE_END};
 use super::refusals::Access;
@@ -207,7 +210,7 @@ impl Ram {
         self.store(a, s, v)
     }
 
-    /// Stores the low bytes of `v` at `a` where [`Ram::is_open`] tells that they may be stored into, and tells
+    /// Stores the low bytes of `v` at `a` where they lie above the gate page, in one unit that is not guarded, and tells
     /// whether it did; other bytes, some of which may be stored into as well, are left to [`Ram::store_value`].
     #[inline(always)]
     #[tactic(auto, unfolding(crate::specs::Stores::stored_value), using(crate::proofs::Free::stores_free))]
@@ -439,7 +442,7 @@ impl Ram {
     /// gate page, in one unit, which is not guarded. Others may be stored into as well.
     #[inline(always)]
     #[tactic(auto, using(crate::proofs::Guarded::open_unit))]
-    pub fn is_open(&self, a: u32, n: u32) -> bool
+    fn is_open(&self, a: u32, n: u32) -> bool
         ensures is { result ≡ is_open self.now a n }
         ensures open { IsTrue result → refusal self.now a n ≡ None }
         ensures within { IsTrue result → a + n ≤ length self.now.bytes }

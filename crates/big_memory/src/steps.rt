@@ -2,7 +2,7 @@ ghost use Rattle.std.specs.Prelude.{◌≡◌};
 ghost use Rattle.mix_bits.specs.Faults.{fault_at};
 ghost use Rattle.big_memory.specs.Faults.{fault_of};
 ghost use Rattle.big_memory.specs.Memory.{Memory};
-ghost use Rattle.big_memory.specs.Steps.{Does};
+ghost use Rattle.big_memory.specs.StepsClauses.{Does};
 ghost use Rattle.big_memory.specs.Steps.After.{Leaves, Stops};
 
 use super::refusals::Access;

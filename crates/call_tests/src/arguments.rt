@@ -1,7 +1,8 @@
 // What the tests of arguments share: a memory, signatures and words.
 use crate::equal::must;
+use args_m68::Words;
 use big_memory::Ram;
-use proc_info::{Sig, Words, read};
+use proc_info::{Sig, read};
 use std::alloc::Global;
 use std::process::Abort;
 

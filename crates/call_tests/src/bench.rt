@@ -6,13 +6,15 @@ use crate::case::{Case, refused};
 use crate::equal::{equal, must};
 use crate::numbers::BLOCK_MOVE;
 use big_memory::Ram;
+use dev_rack::{Asked, Devices, Rack};
+use host_heap::Heap;
 use mix_bits::{FaultKind, Size};
-use mix_io::{Asked, Device, Devices, MemSink, MemSource, Rack};
+use mix_io::{Device, MemSink, MemSource};
 use std::alloc::Global;
 use std::fmt::Display;
 use std::process::Abort;
 use switch_frame::Active;
-use toolbox::{Heap, HostOut, host_call};
+use toolbox::{HostOut, host_call};
 
 /// What a host does, or what is then to be seen of it.
 #[derive(Clone, Copy)]

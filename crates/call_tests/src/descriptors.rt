@@ -2,7 +2,8 @@ use crate::arguments::memory;
 use crate::equal::{equal, must};
 use big_memory::{Access, Ram};
 use mix_bits::{Isa, Size};
-use proc_info::{BadDesc, BadInfo, Desc, Rec, Sig, build, choose, read, read_desc};
+use proc_info::BadInfo;
+use routine_desc::{BadDesc, Desc, Rec, build, choose, read_desc};
 use std::process::Abort;
 
 /// Where the descriptors of these tests stand.
@@ -18,7 +19,6 @@ const FAT: [u8; 52] = [
 fn rec(info: u32, isa: Isa, flags: u32, target: u32, selector: u32) -> Rec {
     Rec {
         info,
-        sig: read(info).unwrap_or(Sig::empty()),
         isa,
         flags,
         target,
@@ -110,22 +110,12 @@ fn counts(rt: &impl Abort, ram: &Ram, wanted: u32) {
     equal(rt, "how many records", desc.count, wanted);
 }
 
-/// The fields beside the signature, for which there is no comparison.
-fn fields(rec: &Rec) -> (u32, Isa, u32, u32, u32) {
-    (rec.info, rec.isa, rec.flags, rec.target, rec.selector)
-}
-
 /// The record with this number has the procInfo $31, no selector and these fields, and is of CFM-68K code or not.
 fn is_rec(rt: &impl Abort, ram: &Ram, number: usize, isa: Isa, flags: u32, target: u32, cfm: bool) {
     must(rt, number < 64);
-    let rec = described(rt, ram).recs[number];
-    equal(
-        rt,
-        "the record",
-        fields(&rec),
-        (0x31, isa, flags, target, 0),
-    );
-    equal(rt, "CFM-68K code", rec.cfm, cfm);
+    let mut wanted = rec(0x31, isa, flags, target, 0);
+    wanted.cfm = cfm;
+    equal(rt, "the record", described(rt, ram).recs[number], wanted);
 }
 
 /// Stores a descriptor of 64 records.

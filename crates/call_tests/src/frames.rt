@@ -1,6 +1,6 @@
 // Switch frames: their layout, the callers that they give back, and where there is room for them.
 ghost use Rattle.std.specs.Prelude.{◌≡◌, ◌+◌, ◌*◌, ◌%◌, ◌^◌, ◌<◌, ◌≤◌, [], length, IfOk, OnOk};
-ghost use Rattle.switch_frame.specs.Calls.{IsCalled};
+ghost use Rattle.switch_frame.specs.CallsClauses.{IsCalled};
 ghost use Rattle.switch_frame.specs.Chain.{Chain, Links, records};
 ghost use Rattle.switch_frame.specs.Records.{isa_of};
 ghost use Rattle.switch_frame.specs.Sets.{caller_isa, callee_isa};

@@ -2,9 +2,9 @@ ghost use Rattle.std.specs.Prelude.{◌≡◌, ◌≤◌, ◌%◌};
 
 use crate::equal::equal;
 use Step::{Append, Block, Bounds, Count, Free, Get, Place};
+use host_heap::Heap;
 use std::alloc::Global;
 use std::process::Abort;
-use toolbox::Heap;
 
 /// A call and what it is to answer: of `get` the size, of `free` the address, of `place` and `append` both, of `block`
 /// the number.
@@ -21,7 +21,11 @@ enum Step {
 
 /// The address and the size of the block with this number.
 fn place_of(heap: &Heap, number: u32) -> Option<(u32, u32)> {
-    heap.block(number).map(|block| (block.address, block.size))
+    if number < heap.count() {
+        Some(heap.block(number))
+    } else {
+        None
+    }
 }
 
 /// Whether each call, in order, answers as it is to.

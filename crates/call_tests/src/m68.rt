@@ -1,12 +1,10 @@
 // Arguments and results in 68K code.
 use crate::arguments::{LO, SELECTOR, VALUES, memory, signature, words};
 use crate::equal::{equal, must};
+use args_m68::{below68, deliver68, gather68, popped, put_result68, removed68, result68, select68};
 use big_memory::{Access, Ram};
 use m68_isa::{Ccr, Regs68};
 use mix_bits::Size;
-use mode_switch::{
-    below68, deliver68, gather68, popped, put_result68, removed68, result68, select68,
-};
 use proc_info::Sig;
 use std::process::Abort;
 

@@ -1,9 +1,12 @@
 // Arguments and results in PowerPC code.
 use crate::arguments::{LO, SELECTOR, VALUES, memory, signature, words};
 use crate::equal::{equal, must};
+use args_m68::Words;
+use args_ppc::{
+    PpcWords, below_ppc, deliver_ppc, gather_ppc, put_result_ppc, result_ppc, select_ppc,
+};
 use big_memory::{Access, Ram};
 use mix_bits::Size;
-use mode_switch::{below_ppc, deliver_ppc, gather_ppc, put_result_ppc, result_ppc, select_ppc};
 use ppc_isa::RegsPpc;
 use proc_info::Sig;
 use std::process::Abort;
@@ -18,7 +21,8 @@ fn delivered(
 ) -> RegsPpc {
     must(rt, ram.len() == 0x2_0000);
     ram.fix(LO - 96, &[0xEE; 112]);
-    let args = words(rt, values);
+    let Words { count, value } = words(rt, values);
+    let args = PpcWords { count, value };
     must(rt, args.count == sig.count);
     must(rt, below_ppc(sig, selector.is_some()) <= LO);
     must(rt, ram.len() == 0x2_0000);

@@ -9,8 +9,8 @@ use Rattle.mix_bits.specs.declared.size.Size.TheVariants.{Zero, One, Two, Four}
 use Rattle.proc_info.specs.declared.param.Param.{Param}
 use Rattle.proc_info.specs.Signature.{Signature}
 use Rattle.switch_frame.specs.Records.{Record}
-use Rattle.mix_io.specs.declared.answers.Answer.{Answer}
-use Rattle.mix_io.specs.declared.answers.Answer.TheVariants.{Word, Failed, Empty, Full}
+use Rattle.dev_rack.specs.declared.answers.Answer.{Answer}
+use Rattle.dev_rack.specs.declared.answers.Answer.TheVariants.{Word, Failed, Empty, Full}
 use Rattle.call_trace.specs.declared.end.End.{End}
 use Rattle.call_trace.specs.declared.end.End.TheVariants.{Exit, Fault, Limit}
 use Rattle.call_trace.specs.Names.{set_name, set_names, fault_name}

@@ -3,12 +3,12 @@ ghost use Rattle.std.specs.Prelude.{◌≡◌, ◌+◌, ◌*◌, ◌≤◌, ◌�
 ghost use Rattle.mix_bits.specs.Text.{hexadecimal};
 ghost use Rattle.call_trace.specs.Lines.{answer_text as text_of_answer, arguments, ask_line, call_head, call_line, end_line, exit_line, fault_line, marked, ret_line};
 ghost use Rattle.proc_info.specs.Views.{signature};
-ghost use Rattle.switch_frame.specs.Records.{record_of};
+ghost use Rattle.switch_frame.specs.RecordsClauses.{record_of};
 
 use crate::End;
 use crate::names::{fault_name, set_name, set_names};
+use dev_rack::Answer;
 use mix_bits::{Fault, Isa, Line, Size};
-use mix_io::Answer;
 use proc_info::{Param, Sig};
 use switch_frame::Held;
 

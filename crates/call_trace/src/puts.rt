@@ -3,15 +3,16 @@
 ghost use Rattle.std.specs.Prelude.{◌≡◌, length};
 ghost use Rattle.call_trace.specs.Lines.{ask_line, call_line, end_line, ret_line};
 ghost use Rattle.mix_io.specs.Calls.{one_more};
-ghost use Rattle.mix_io.specs.Counts.{HasCause};
+ghost use Rattle.mix_io.specs.CountsClauses.{HasCause};
 ghost use Rattle.mix_io.specs.Told.{Puts};
 ghost use Rattle.proc_info.specs.Views.{params_of, signature};
-ghost use Rattle.switch_frame.specs.Records.{record_of};
+ghost use Rattle.switch_frame.specs.RecordsClauses.{record_of};
 
 use crate::End;
 use crate::lines::{put_ask_text, put_call_text, put_end_text, put_ret_text};
+use dev_rack::Answer;
 use mix_bits::Line;
-use mix_io::{Answer, Failed, Sink};
+use mix_io::{Failed, Sink};
 use proc_info::Sig;
 use switch_frame::Held;
 

@@ -3,8 +3,8 @@ use Rattle.std.proofs.Common.{◌≡◌, ◌≢◌, ℕ, suc, ◌+◌, ◌-◌, 
 use Rattle.std.specs.Int.{from_bool}
 use Rattle.mix_bits.specs.declared.fault.Fault.{Fault as AFault}
 use Rattle.switch_frame.specs.Records.{isa_of}
-use Rattle.mix_io.specs.Accounts.{Accounts}
-use Rattle.mix_io.proofs.Steps.{accounts-join, accounts-none}
+use Rattle.dev_rack.specs.Accounts.{Accounts}
+use Rattle.dev_rack.proofs.Steps.{accounts-join, accounts-none}
 use Rattle.toolbox.specs.Blames.{Calm}
 use Rattle.toolbox.proofs.Blaming.{blamed-after, calm-first}
 use Rattle.mixed_machine.specs.declared.stop.Stop.{Stop}
@@ -17,13 +17,14 @@ use Rattle.mixed_machine.specs.Exec.{How, Leads, exec_to, goes_on, is_back, rest
 use Rattle.mixed_machine.specs.Exec.End.{Ended}
 use Rattle.mixed_machine.specs.Exec.How.{Exited, Faulted, Limited}
 use Rattle.mixed_machine.specs.Machine.{IsWhole}
-use Rattle.mixed_machine.specs.Counts.{Blames, counts_of}
+use Rattle.mixed_machine.specs.CountsClauses.{Blames, counts_of}
 use Rattle.mixed_machine.specs.Events.{StopsAt}
-use Rattle.mixed_machine.specs.Outside.{At}
-use Rattle.mixed_machine.specs.Runs.{OutBroke, Ran, ReadBroke, Runs, Sinks, SinksTook, Stops, TraceBroke, sinks_of}
+use Rattle.mixed_machine.specs.OutsideClauses.{At}
+use Rattle.mixed_machine.specs.Runs.{OutBroke, Ran, ReadBroke, Sinks, SinksTook, Stops, TraceBroke}
+use Rattle.mixed_machine.specs.RunsClauses.{Runs, sinks_of}
 use Rattle.mixed_machine.proofs.Machines.{begins-at, cut-goes-on, limit-at, stops-imply}
 use Rattle.mixed_machine.proofs.Runs.{exec-stays, limits-last}
-use Rattle.look_commands.specs.Counted.{RanSteps, ends, is_done}
+use Rattle.look_commands.specs.inner.Counted.{RanSteps, ends, is_done}
 
 -- a run of one step that ended with an exit has no step left, and one with a fault has it left
 rests-exit : (b : Bool) (s t : State) (left code : ℕ) → rests b s ≡ Ended (Exited code) t left → left ≡ 0

@@ -1,3 +1,1 @@
-pub mod Statuses
-pub mod Told
-pub mod Counted
+pub mod inner

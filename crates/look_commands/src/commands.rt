@@ -1,11 +1,11 @@
 // What words ask for.
 ghost use Rattle.std.specs.Prelude.{◌≡◌, ◌^◌, ◌<◌, ◌++◌, IfOk, codes, length, map};
 ghost use Rattle.std.specs.String.{string_bytes};
-ghost use Rattle.look_text.specs.Whys.{Explains};
+ghost use Rattle.look_text.specs.inner.Whys.{Explains};
 ghost use Rattle.look_text.specs.declared.why.Why.{Why};
-ghost use Rattle.look_words.specs.Sentences.{why_text as why_of};
-ghost use Rattle.rsrc_fork.specs.Forks.{fork_of};
-ghost use Rattle.look_commands.specs.Told.{Answers, PutsFork, WritesFork, WritesWhy, behind};
+ghost use Rattle.look_words.specs.inner.Sentences.{why_text as why_of};
+ghost use Rattle.wrapped_forks.specs.inner.Forks.{fork_of};
+ghost use Rattle.look_commands.specs.inner.Told.{Answers, PutsFork, WritesFork, WritesWhy, behind};
 
 use crate::images::image;
 use crate::maps::map;
@@ -13,16 +13,16 @@ use crate::runs::end;
 use crate::said::{fail, print, print_made, say, tell};
 use crate::streams::Streams;
 use crate::traces::trace;
+use job_words::Key;
 use look_report::Shape;
 use look_text::info_text;
 use look_words::status::{BAD_WORDS, NO_MEMORY, REFUSED};
 use look_words::{Look, explanation, fetch, name_at, read_look, refusal_text};
 use mix_bits::{File, NoMemory};
-use mix_io::Key;
-use rsrc_fork::find_fork;
 use std::alloc::Global;
 use std::io::{Read, Write};
 use std::rt::Files;
+use wrapped_forks::find_fork;
 
 /// Does what the words ask for, and answers the status. Behind the refusal of words, `usage` is put to the errors.
 pub fn answer<F: Files, R: Read + Drop, W: Write + Drop, E: Write + Drop>(

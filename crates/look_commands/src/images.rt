@@ -3,9 +3,9 @@ ghost use Rattle.std.specs.Prelude.{◌≢◌};
 
 use crate::said::{fail, print};
 use crate::streams::Streams;
+use job_words::Key;
 use look_report::image_report;
 use look_words::fetch;
-use mix_io::Key;
 use std::alloc::Global;
 use std::io::{Read, Write};
 use std::rt::Files;

@@ -1,19 +1,19 @@
 // Where the pieces of a program lie.
 ghost use Rattle.std.specs.Prelude.{◌≡◌, ◌⊎◌, map as map_list};
 ghost use Rattle.std.specs.String.{string_bytes};
-ghost use Rattle.mix_io.specs.Jobs.{IsProperJob};
-ghost use Rattle.mix_io.specs.Words.{command_of};
-ghost use Rattle.mix_load.specs.Load.{AreLoadable, IsSmall};
-ghost use Rattle.look_words.specs.Looks.{run_words as run_words_of};
-ghost use Rattle.look_commands.specs.Told.{PutsMapOf, WritesMap};
+ghost use Rattle.job_words.specs.JobsClauses.{IsProperJob};
+ghost use Rattle.job_words.specs.Words.{command_of};
+ghost use Rattle.mix_load.specs.LoadClauses.{AreLoadable, IsSmall};
+ghost use Rattle.look_words.specs.inner.Looks.{run_words as run_words_of};
+ghost use Rattle.look_commands.specs.inner.Told.{PutsMapOf, WritesMap};
 
 use crate::said::{fail, print, say};
 use crate::streams::Streams;
+use job_words::Job;
 use look_text::{Mapped, map_program};
 use look_words::status::{NO_MEMORY, REFUSED, SUCCESS};
 use look_words::{load_error_text, requested};
 use mix_bits::NoMemory;
-use mix_io::Job;
 use mix_load::{Files as Program, LoadError};
 use std::alloc::Global;
 use std::io::{Read, Write};

@@ -2,19 +2,20 @@
 ghost use Rattle.std.specs.Prelude.{◌≡◌, ◌+◌, ◌<◌};
 ghost use Rattle.std.specs.Int.{from_bool};
 ghost use Rattle.switch_frame.specs.Records.{isa_of};
-ghost use Rattle.mix_io.specs.Accounts.{Accounts};
+ghost use Rattle.dev_rack.specs.Accounts.{Accounts};
 ghost use Rattle.toolbox.specs.Blames.{counts};
-ghost use Rattle.toolbox.specs.Calls.{outside as outside_of};
-ghost use Rattle.mixed_machine.specs.Counts.{Blames};
+ghost use Rattle.toolbox.specs.CallsClauses.{outside as outside_of};
+ghost use Rattle.mixed_machine.specs.CountsClauses.{Blames};
 ghost use Rattle.mixed_machine.specs.Machine.{IsWhole};
-ghost use Rattle.mixed_machine.specs.Outside.{at};
-ghost use Rattle.mix_io.specs.Streams.{output};
-ghost use Rattle.look_commands.specs.Counted.{RanSteps, ends as ends_at, is_done as is_done_at};
+ghost use Rattle.mixed_machine.specs.OutsideClauses.{at};
+ghost use Rattle.mix_io.specs.StreamsClauses.{output};
+ghost use Rattle.look_commands.specs.inner.Counted.{RanSteps, ends as ends_at, is_done as is_done_at};
 
 use circular_buffer::HeapCircularBuffer;
+use dev_rack::Devices;
 use look_report::{Ending, Step, step_at};
 use mix_engine::{Machine, Stop, run};
-use mix_io::{Devices, Sink, Source};
+use mix_io::{Sink, Source};
 
 /// Runs at most `steps` steps, and puts each that is done behind those that are kept. The lines of calls, returns and asks
 /// go to the trace, as in any run.

@@ -1,10 +1,11 @@
 // The calls that are open, and how often each routine was called.
 use crate::names::Names;
-use call_trace::{Crossing, Event, set_name};
+use call_trace::set_name;
 use indexmap::IndexMap;
 use look_text::{Piece, add_line};
 use mix_bits::NoMemory;
 use std::alloc::Global;
+use trace_lines::{Crossing, Event};
 
 /// A routine and who calls it.
 #[derive(Clone, Copy, PartialEq, Eq, Hash)]

@@ -23,7 +23,7 @@ pub enum LookError {
 
 impl LookError {
     ghost use Rattle.std.specs.Prelude.{◌≡◌, ◌≢◌};
-    ghost use Rattle.look_report.specs.Statuses.{status_for};
+    ghost use Rattle.look_report.specs.inner.Statuses.{status_for};
 
     /// A failure to read, where it is not for want of memory, or for bytes that are no text: a trace is read as bytes.
     pub(crate) fn of_read(error: io::Error) -> LookError {

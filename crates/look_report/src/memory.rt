@@ -1,8 +1,8 @@
 // The bytes around the stack pointer, and the blocks of the heap.
 use big_memory::Ram;
+use host_heap::Heap;
 use look_text::{Piece, add, add_line};
 use mix_bits::{NoMemory, backward, onward};
-use toolbox::Heap;
 
 /// How many bytes are told below the stack pointer, and how many from it on.
 const NEAR: u32 = 32;

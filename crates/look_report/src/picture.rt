@@ -5,11 +5,11 @@ use crate::error::LookError;
 use crate::names::Names;
 use crate::reading::Reading;
 use crate::tree::{named_line, write};
-use call_trace::{Crossing, Event};
 use look_text::{Piece, add, add_bytes, add_line, line_of};
 use mix_bits::{Isa, NoMemory};
 use std::alloc::Global;
 use std::io::{BufRead, Write};
+use trace_lines::{Crossing, Event};
 
 /// How many calls are drawn.
 const MOST: u32 = 1000;

@@ -1,8 +1,8 @@
 // The lines of a trace, one by one.
 use crate::error::LookError;
-use call_trace::{Event, read_event};
 use std::alloc::Global;
 use std::io::{BufRead, Read, Take};
+use trace_lines::{Event, read_event};
 
 /// As many bytes as are read for a line at most, more than a line of a trace has.
 const MOST_BYTES: u64 = 4096;

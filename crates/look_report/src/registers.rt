@@ -1,6 +1,6 @@
 // The registers of the active set.
 ghost use Rattle.std.specs.Prelude.{◌≡◌, ◌+◌, ◌≤◌, ◌++◌, OnOk, length};
-ghost use Rattle.look_report.specs.Registers.{bank_text, codes_line, flag as flag_of, register_text, registers_text, row_text, special_line};
+ghost use Rattle.look_report.specs.inner.Registers.{bank_text, codes_line, flag as flag_of, register_text, registers_text, row_text, special_line};
 
 use look_text::{Piece, add, add_line};
 use m68_isa::{Ccr, Regs68};
@@ -103,7 +103,7 @@ fn flag(set: bool) -> &'static str
     if set { "1" } else { "0" }
 }
 
-#[tactic(auto, unfolding(crate::specs::Registers::special_line))]
+#[tactic(auto, unfolding(crate::specs::inner::Registers::special_line))]
 fn add_special(text: &mut Vec<u8>, regs: &RegsPpc) -> Result<(), NoMemory>
     ensures { OnOk result (text.new.items ≡ text.old.items ++ special_line regs.now) }
 {

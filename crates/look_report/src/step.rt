@@ -1,7 +1,7 @@
 // The instruction that a machine is about to do.
 use arrayvec::ArrayVec;
 use big_memory::Ram;
-use m68_effects::read_words;
+use m68_ea::read_words;
 use mix_bits::Isa;
 use mix_engine::Machine;
 

@@ -2,11 +2,11 @@ use crate::calls::Calls;
 use crate::error::LookError;
 use crate::names::Names;
 use crate::reading::Reading;
-use call_trace::Event;
 use look_text::{line_of, tree_line};
 use mix_bits::NoMemory;
 use std::alloc::Global;
 use std::io::{BufRead, Write};
+use trace_lines::Event;
 
 /// Writes a trace as an indented tree, and behind it how often each routine was called across, by whom, if one was.
 /// What came before a line that is refused is written.

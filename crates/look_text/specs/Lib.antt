@@ -1,12 +1,1 @@
-pub mod Words
-pub mod Places
-pub mod Info
-pub mod Tree
-pub mod Pieces
-pub mod Labels
-pub mod Wants
-pub mod Reasons
-pub mod Whys
-pub mod Forks
-pub mod Containers
-pub mod Maps
+pub mod inner

@@ -1,22 +1,22 @@
 // A procInfo word in words.
 ghost use Rattle.std.specs.Prelude.{◌≡◌, ◌+◌, ◌*◌, ◌≤◌, ◌++◌, IfOk, OnOk, length};
 ghost use Rattle.proc_info.specs.Views.{signature};
-ghost use Rattle.look_text.specs.Info.{first_word as first_of, info_of, param_text, params_text, result_text, selector_text, signed_text, values_text};
+ghost use Rattle.look_text.specs.inner.Info.{first_word as first_of, info_of, param_text, params_text, result_text, selector_text, signed_text, values_text};
 
 use super::line::{Piece, add_line, line_of};
 use super::pieces::add;
 use super::words::{conv_name, rule_text, size_name};
-use mix_bits::{NoMemory, Size};
-use mode_switch::{
+use args_m68::{
     next_base, place_for, result_place, route_for, selector_place, selector_width, widths,
 };
+use mix_bits::{NoMemory, Size};
 use proc_info::{Conv, Param, Sig, read};
 use std::alloc::Global;
 
 /// What a procInfo word says: its convention, its result and each value that it declares, with the place of each in
 /// 68K code and in PowerPC code; or which rule it breaks. Places of 68K code are those where a callee begins, and that
 /// of a result is the one behind the return.
-#[tactic(auto, unfolding(crate::specs::Info::info_of))]
+#[tactic(auto, unfolding(crate::specs::inner::Info::info_of))]
 pub fn info_text(alloc: Global, word: u32) -> Result<Vec<u8>, NoMemory>
     ensures { IfOk result (λ text. text.items ≡ info_of word) }
 {

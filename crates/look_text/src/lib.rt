@@ -1,7 +1,7 @@
 //! Texts that explain: a procInfo word, the lines of a trace, and where the pieces of a program lie; and why words are
 //! refused.
 //!
-//! Each text is exactly that of a definition: `info_text` of the word's signature and of the places that `mode_switch`
+//! Each text is exactly that of a definition: `info_text` of the word's signature and of the places that `args_m68`
 //! defines, `tree_line` of a line's event, `map_program` of the places that `mix_load` defines, or, where the load is
 //! refused, of what could be read. `explain` finds the word that `mix_io` refuses, its key, and what is wrong with it by
 //! what `mix_io` says of that word alone.

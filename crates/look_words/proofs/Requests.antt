@@ -3,11 +3,11 @@ use Rattle.std.proofs.Common.{◌≡◌, ℕ, List, Option, Some, None, refl, sy
 use Rattle.std.specs.Prelude.{IfSome, IfNone, IsSome}
 use Rattle.mix_bits.specs.declared.isa.Isa.{Isa}
 use Rattle.mix_bits.specs.declared.isa.Isa.TheVariants.{M68, Ppc}
-use Rattle.mix_io.specs.Drafts.{main_file}
-use Rattle.mix_io.specs.Jobs.{IsProperJob}
-use Rattle.mix_io.specs.declared.job.Job.{Job}
-use Rattle.mix_load.specs.Load.{AreLoadable, IsAlone, IsSmall}
-use Rattle.look_words.specs.Requests.{IsUnmet}
+use Rattle.job_words.specs.Jobs.{main_file}
+use Rattle.job_words.specs.JobsClauses.{IsProperJob}
+use Rattle.job_words.specs.declared.job.Job.{Job}
+use Rattle.mix_load.specs.LoadClauses.{AreLoadable, IsAlone, IsSmall}
+use Rattle.look_words.specs.inner.Requests.{IsUnmet}
 
 none : {A B : Type 0} (o : Option A) (q : Option B) → is_some o ≡ is_some q → q ≡ None → o ≡ None
 none None q same is = refl

@@ -10,11 +10,13 @@ use Rattle.pef_head.specs.Container.{instantiated_count}
 use Rattle.pef_head.specs.Parts.{import_count, relocs_of}
 use Rattle.pef_reloc.specs.declared.error.RelocError.{RelocError}
 use Rattle.pef_reloc.specs.Additions.{Sources}
-use Rattle.pef_reloc.specs.Program.{relocated, relocated_in}
-use Rattle.pef_reloc.specs.Laws.{HasSameRefusal}
+use Rattle.pef_reloc.specs.Program.{relocated}
+use Rattle.pef_reloc.specs.ProgramClauses.{relocated_in}
+use Rattle.pef_reloc.specs.laws.Laws.{HasSameRefusal}
 use Rattle.mix_load.specs.Pieces.{numbered}
-use Rattle.mix_load.specs.Sections.{address_at, section_base, sources, total_at}
-use Rattle.look_words.specs.Unmade.{HasSizes, is_badly_relocated}
+use Rattle.mix_load.specs.Sections.{address_at, section_base, sources}
+use Rattle.mix_load.specs.laws.Sections.{total_at}
+use Rattle.look_words.specs.inner.Unmade.{HasSizes, is_badly_relocated}
 
 length-numbered : (f : ℕ → ℕ) (n : ℕ) → length (numbered f n) ≡ n
 length-numbered f zero = refl

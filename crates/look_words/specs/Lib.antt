@@ -1,5 +1,1 @@
-pub mod Looks
-pub mod Sentences
-pub mod Unmade
-pub mod Refusals
-pub mod Requests
+pub mod inner

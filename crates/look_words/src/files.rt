@@ -1,15 +1,16 @@
 // Files by the words that name them.
 ghost use Rattle.std.specs.Prelude.{◌≡◌, ◌≤◌, IfErr, IfOk, length, map};
 ghost use Rattle.std.specs.String.{string_bytes};
-ghost use Rattle.mix_io.specs.Jobs.{limit_of};
-ghost use Rattle.mix_io.specs.Words.{name_at as name_of};
-ghost use Rattle.look_words.specs.Requests.{IsLost};
+ghost use Rattle.job_words.specs.Jobs.{limit_of};
+ghost use Rattle.job_words.specs.Words.{name_at as name_of};
+ghost use Rattle.look_words.specs.inner.Requests.{IsLost};
 
 use crate::failure::Failure;
 use crate::program::value;
 use crate::status::{NO_FILE, REFUSED};
+use job_words::Key;
 use look_text::{Piece, line_of, word_at};
-use mix_io::{FetchError, FileShelf, Key, Shelf};
+use mix_io::{FetchError, FileShelf, Shelf};
 use std::alloc::Global;
 use std::rt::Files;
 

@@ -1,8 +1,8 @@
 // The words of the commands that load a program: mixedrun judges most of them.
 ghost use Rattle.std.specs.Prelude.{◌≡◌, ◌+◌, ◌^◌, ◌<◌, ◌++◌, [], not, IfOk, OnOk, filter, length, map};
 ghost use Rattle.std.specs.String.{string_bytes};
-ghost use Rattle.mix_io.specs.Settings.{value_in};
-ghost use Rattle.look_words.specs.Looks.{end_of, has_key as has_key_by, is_last as is_last_by, is_unmapped as is_unmapped_by, last_by, map_of, run_words as run_words_of};
+ghost use Rattle.job_words.specs.Settings.{value_in};
+ghost use Rattle.look_words.specs.inner.Looks.{end_of, has_key as has_key_by, is_last as is_last_by, is_unmapped as is_unmapped_by, last_by, map_of, run_words as run_words_of};
 
 use crate::look::{Key, Look, Refusal};
 use mix_bits::{NoMemory, read_decimal};

@@ -1,23 +1,23 @@
 // The program that words name: its words for mixedrun, its job and its files.
 ghost use Rattle.std.specs.Prelude.{◌≡◌, IfErr, IfOk, Ok, is_some, map};
 ghost use Rattle.std.specs.String.{string_bytes};
-ghost use Rattle.mix_io.specs.Jobs.{IsProperJob};
-ghost use Rattle.mix_io.specs.Words.{command_of};
-ghost use Rattle.mix_load.specs.Load.{AreLoadable, IsSmall};
-ghost use Rattle.look_text.specs.Whys.{Explains};
+ghost use Rattle.job_words.specs.JobsClauses.{IsProperJob};
+ghost use Rattle.job_words.specs.Words.{command_of};
+ghost use Rattle.mix_load.specs.LoadClauses.{AreLoadable, IsSmall};
+ghost use Rattle.look_text.specs.inner.Whys.{Explains};
 ghost use Rattle.look_text.specs.declared.why.Why.{Why};
-ghost use Rattle.look_words.specs.Looks.{run_words as run_words_of};
-ghost use Rattle.look_words.specs.Requests.{IsLost, IsUnmet, is_run};
-ghost use Rattle.look_words.specs.Sentences.{why_text as why_of};
+ghost use Rattle.look_words.specs.inner.Looks.{run_words as run_words_of};
+ghost use Rattle.look_words.specs.inner.Requests.{IsLost, IsUnmet, is_run};
+ghost use Rattle.look_words.specs.inner.Sentences.{why_text as why_of};
 
 use crate::failure::Failure;
 use crate::files::{fetch, name_at};
 use crate::program::run_words;
 use crate::sentence::why_text;
 use crate::status::BAD_WORDS;
+use job_words::{Command, Job, Key, read_words};
 use look_text::explain;
 use mix_bits::{File, NoMemory};
-use mix_io::{Command, Job, Key, read_words};
 use mix_load::{FileBytes, Files as Program};
 use std::alloc::Global;
 use std::rt::Files;

@@ -3,7 +3,7 @@ use Rattle.std.proofs.Common.{ℕ, ℤ, ◌≡◌, ◌≢◌, ◌<◌, ◌%◌, 
 use Rattle.mix_bits.specs.declared.size.Size.{Size}
 use Rattle.mix_bits.specs.declared.size.Size.TheVariants.{Zero}
 use Rattle.mix_bits.specs.Sizes.{modulus, signed_of}
-use Rattle.m68_alu.specs.Sizes.{half, leaves}
+use Rattle.mix_bits.specs.Signs.{half, leaves}
 use Rattle.std.specs.Int.{from_bool}
 use Rattle.m68_alu.proofs.Halves.{below, bit, difference_is, difference_stays, inside, sum_is, sum_stays, twice, whole}
 use Rattle.m68_alu.specs.Sums.{difference_value, signed_difference, signed_total, sum_value}

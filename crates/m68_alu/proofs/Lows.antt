@@ -7,7 +7,7 @@ use Rattle.std.proofs.lemmas.Int.{ints}
 use Rattle.mix_bits.specs.declared.size.Size.{Size}
 use Rattle.mix_bits.specs.declared.size.Size.TheVariants.{Zero, One, Two, Four}
 use Rattle.mix_bits.specs.Sizes.{signed_of}
-use Rattle.m68_alu.specs.Sizes.{leaves}
+use Rattle.mix_bits.specs.Signs.{leaves}
 
 pub low_leaves : (s : Size) (z : ℤ) → s ≢ Zero → neg_ℤ (pos 4294967296) ≤ℤ z → z ≤ℤ pos 4294967296
     → (int_lt z (signed_of (cast_unsigned w64 z % 2 ^ 32) s) || int_lt (signed_of (cast_unsigned w64 z % 2 ^ 32) s) z) ≡ leaves s z

@@ -12,7 +12,7 @@ use Rattle.mix_bits.specs.Sizes.{bytes_of, modulus, truncated}
 use Rattle.m68_isa.specs.declared.instructions.ShiftOp.TheVariants.{Ro, Rox}
 use Rattle.m68_isa.specs.declared.registers.Ccr.{Ccr}
 use Rattle.m68_alu.specs.declared.shifts.Shifting.{Shifting}
-use Rattle.m68_alu.specs.Sizes.{half}
+use Rattle.mix_bits.specs.Signs.{half}
 use Rattle.m68_alu.specs.Shifts.{begun, once}
 use Rattle.m68_alu.proofs.Repeats.{iterate-more}
 use Rattle.m68_alu.proofs.Turns.{all-lower, all-upper, bit_over, down_once, turned, turned-within, up_once}

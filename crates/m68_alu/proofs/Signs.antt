@@ -12,7 +12,7 @@ use Rattle.mix_bits.specs.Sizes.{modulus, truncated}
 use Rattle.m68_isa.specs.declared.instructions.ShiftOp.TheVariants.{As}
 use Rattle.m68_isa.specs.declared.registers.Ccr.{Ccr}
 use Rattle.m68_alu.specs.declared.shifts.Shifting.{Shifting}
-use Rattle.m68_alu.specs.Sizes.{half}
+use Rattle.mix_bits.specs.Signs.{half}
 use Rattle.m68_alu.specs.Shifts.{begun, once}
 use Rattle.m68_alu.proofs.Repeats.{iterate-more}
 use Rattle.m68_alu.proofs.Zeros.{after, cut, half-twice, halves, not-first, pow-more, right_after}

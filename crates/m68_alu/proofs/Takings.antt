@@ -4,7 +4,7 @@ use Rattle.std.specs.Int.{from_bool}
 use Rattle.mix_bits.specs.declared.size.Size.{Size}
 use Rattle.mix_bits.specs.declared.size.Size.TheVariants.{Zero}
 use Rattle.mix_bits.specs.Sizes.{modulus, signed_of}
-use Rattle.m68_alu.specs.Sizes.{half, leaves}
+use Rattle.mix_bits.specs.Signs.{half, leaves}
 use Rattle.m68_alu.specs.Sums.{difference_value, signed_difference, signed_total}
 use Rattle.m68_alu.proofs.Halves.{below, bit, difference_is, taken, twice, whole}
 

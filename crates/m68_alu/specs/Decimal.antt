@@ -29,10 +29,11 @@ decimal_difference d s x = (pos (high_digit d) -ℤ pos (high_digit s)) +ℤ low
 
 -- X and C are the carry, and Z is only cleared
 abbrev pub decimal_out : ℕ → Bool → Ccr → Out
-decimal_out value carry old = record {
-  value = value;
-  ccr = record { x = carry; n = false; z = old.z && (value == 0); v = false; c = carry };
-}
+decimal_out value carry old =
+    record {
+      value = value;
+      ccr = record { x = carry; n = false; z = old.z && (value == 0); v = false; c = carry };
+    }
 
 abbrev pub decimal_added : ℕ → ℕ → Ccr → Out
 decimal_added d s old =

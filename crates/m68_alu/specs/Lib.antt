@@ -1,7 +1,7 @@
+pub mod Decimal
+pub mod Logical
+pub mod Products
+pub mod Shifts
 pub mod Sizes
 pub mod Sums
-pub mod Logical
-pub mod Shifts
-pub mod Decimal
-pub mod Products
-pub mod Laws
+pub mod laws

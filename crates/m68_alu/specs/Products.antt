@@ -50,11 +50,12 @@ multiplied signed a b old = word_product (low_bits 32 (product signed 16 a b)) o
 -- two longs give 64 bits, whose flags tell of all of them where the product is wide; else they tell of the low
 -- long, and whether the product leaves it
 abbrev pub long_product : Bool → Bool → ℕ → Ccr → Wide
-long_product wide leaves value old = record {
-  low = value % 2 ^ 32;
-  high = value / 2 ^ 32;
-  ccr = if wide then flags_of_bits 64 value false old else flags_of_bits 32 (value % 2 ^ 32) leaves old;
-}
+long_product wide leaves value old =
+    record {
+      low = value % 2 ^ 32;
+      high = value / 2 ^ 32;
+      ccr = if wide then flags_of_bits 64 value false old else flags_of_bits 32 (value % 2 ^ 32) leaves old;
+    }
 
 abbrev pub long_multiplied : Bool → Bool → ℕ → ℕ → Ccr → Wide
 long_multiplied signed wide a b old =

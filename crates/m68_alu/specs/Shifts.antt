@@ -10,7 +10,7 @@ use Rattle.m68_isa.specs.declared.instructions.ShiftOp.{ShiftOp}
 use Rattle.m68_isa.specs.declared.instructions.ShiftOp.TheVariants.{As, Ls, Rox, Ro}
 use Rattle.m68_alu.specs.declared.sums.Out.{Out}
 use Rattle.m68_alu.specs.declared.shifts.Shifting.{Shifting}
-use Rattle.m68_alu.specs.Sizes.{half, is_negative}
+use Rattle.mix_bits.specs.Signs.{half, is_negative}
 
 -- the bit that goes out, and the one that comes in at the other end
 abbrev pub bit_out : Bool → Size → ℕ → Bool
@@ -63,10 +63,11 @@ abbrev pub begun : ShiftOp → Size → ℕ → Ccr → Shifting
 begun op size v old = record { value = truncated v size; out = out_before op old; x = old.x; changed = false }
 
 abbrev pub ended : Size → Shifting → Out
-ended size s = record {
-  value = s.value;
-  ccr = record { x = s.x; n = is_negative size s.value; z = s.value == 0; v = s.changed; c = s.out };
-}
+ended size s =
+    record {
+      value = s.value;
+      ccr = record { x = s.x; n = is_negative size s.value; z = s.value == 0; v = s.changed; c = s.out };
+    }
 
 abbrev pub shifted : ShiftOp → Bool → Size → ℕ → ℕ → Ccr → Out
 shifted op left size v count old = ended size (iterate (once op left size) count (begun op size v old))

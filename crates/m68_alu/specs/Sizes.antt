@@ -1,7 +1,7 @@
 -- The numbers of a size, without a bound.
 use Rattle.std.specs.Prelude.{ℕ, ◌==◌, false}
 use Rattle.mix_bits.specs.declared.size.Size.{Size}
-pub use Rattle.mix_bits.specs.Signs.{half, is_negative, leaves}
+use Rattle.mix_bits.specs.Signs.{half, is_negative, leaves}
 use Rattle.m68_isa.specs.declared.registers.Ccr.{Ccr}
 
 -- N and Z by a result, V and C cleared, X as it was

@@ -6,7 +6,7 @@ use Rattle.mix_bits.specs.Sizes.{modulus, signed_of, truncated}
 use Rattle.mix_bits.specs.declared.size.Size.{Size}
 use Rattle.m68_isa.specs.declared.registers.Ccr.{Ccr}
 use Rattle.m68_alu.specs.declared.sums.Out.{Out}
-use Rattle.m68_alu.specs.Sizes.{is_negative, leaves}
+use Rattle.mix_bits.specs.Signs.{is_negative, leaves}
 
 -- d + s, with the carry that comes in added to s
 abbrev pub total : ℕ → ℕ → Bool → ℕ
@@ -23,32 +23,34 @@ abbrev pub sum_value : Size → ℕ → ℕ → Bool → ℕ
 sum_value size d s carry = total d s carry % modulus size
 
 abbrev pub sum_of : Size → ℕ → ℕ → Bool → Out
-sum_of size d s carry = record {
-  value = sum_value size d s carry;
-  ccr = record {
-    x = nat_le (modulus size) (total d s carry);
-    n = is_negative size (sum_value size d s carry);
-    z = sum_value size d s carry == 0;
-    v = leaves size (signed_total (signed_of d size) (signed_of s size) carry);
-    c = nat_le (modulus size) (total d s carry);
-  };
-}
+sum_of size d s carry =
+    record {
+      value = sum_value size d s carry;
+      ccr = record {
+        x = nat_le (modulus size) (total d s carry);
+        n = is_negative size (sum_value size d s carry);
+        z = sum_value size d s carry == 0;
+        v = leaves size (signed_total (signed_of d size) (signed_of s size) carry);
+        c = nat_le (modulus size) (total d s carry);
+      };
+    }
 
 -- the difference of values of a size
 abbrev pub difference_value : Size → ℕ → ℕ → Bool → ℕ
 difference_value size d s borrow = (d + modulus size - (s + from_bool borrow)) % modulus size
 
 abbrev pub difference_of : Size → ℕ → ℕ → Bool → Out
-difference_of size d s borrow = record {
-  value = difference_value size d s borrow;
-  ccr = record {
-    x = nat_lt d (s + from_bool borrow);
-    n = is_negative size (difference_value size d s borrow);
-    z = difference_value size d s borrow == 0;
-    v = leaves size (signed_difference (signed_of d size) (signed_of s size) borrow);
-    c = nat_lt d (s + from_bool borrow);
-  };
-}
+difference_of size d s borrow =
+    record {
+      value = difference_value size d s borrow;
+      ccr = record {
+        x = nat_lt d (s + from_bool borrow);
+        n = is_negative size (difference_value size d s borrow);
+        z = difference_value size d s borrow == 0;
+        v = leaves size (signed_difference (signed_of d size) (signed_of s size) borrow);
+        c = nat_lt d (s + from_bool borrow);
+      };
+    }
 
 -- Z is only cleared, so that it tells of all parts of a long number
 abbrev pub with_old_zero : Out → Ccr → Out

@@ -20,10 +20,10 @@ pub struct Wide {
 }
 
 /// MULS.W and MULU.W: the long product of two words, with its flags.
-pub fn mul(is_signed: bool, a: u32, b: u32, old: Ccr) -> Out
-    ensures { result ≡ multiplied is_signed a b old }
+pub fn mul(signed: bool, a: u32, b: u32, old: Ccr) -> Out
+    ensures { result ≡ multiplied signed a b old }
 {
-    let value = word_product(is_signed, a, b);
+    let value = word_product(signed, a, b);
     Out {
         value,
         ccr: result_flags(Size::Four, value, old),
@@ -31,10 +31,10 @@ pub fn mul(is_signed: bool, a: u32, b: u32, old: Ccr) -> Out
 }
 
 /// The product of two words.
-fn word_product(is_signed: bool, a: u32, b: u32) -> u32
-    ensures { result ≡ low_bits 32 (product_lem is_signed 16 a b) }
+fn word_product(signed: bool, a: u32, b: u32) -> u32
+    ensures { result ≡ low_bits 32 (product_lem signed 16 a b) }
 {
-    if is_signed {
+    if signed {
         signed_product(Size::Two, a, b)
             .rem_euclid(0x1_0000_0000)
             .unsigned_abs() as u32
@@ -45,10 +45,10 @@ fn word_product(is_signed: bool, a: u32, b: u32) -> u32
 
 /// MULS.L and MULU.L: the product of two longs in two halves. Where it is to be wide, the flags tell of all its
 /// 64 bits, and V is clear; else they tell of the low half, and V of a product that leaves it.
-pub fn mul_long(is_signed: bool, wide: bool, a: u32, b: u32, old: Ccr) -> Wide
-    ensures { result ≡ long_multiplied is_signed wide a b old }
+pub fn mul_long(signed: bool, wide: bool, a: u32, b: u32, old: Ccr) -> Wide
+    ensures { result ≡ long_multiplied signed wide a b old }
 {
-    if is_signed {
+    if signed {
         let product = signed_product(Size::Four, a, b);
         halves(
             product.cast_unsigned(),

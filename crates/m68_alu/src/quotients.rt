@@ -34,12 +34,12 @@ pub enum LongQuotient {
 }
 
 /// DIVS.W and DIVU.W: the long `a` by the word `b`.
-pub fn div(is_signed: bool, a: u32, b: u32, old: Ccr) -> Quotient
-    ensures { result ≡ divided is_signed a b old }
+pub fn div(signed: bool, a: u32, b: u32, old: Ccr) -> Quotient
+    ensures { result ≡ divided signed a b old }
 {
     if trunc(b, Size::Two) == 0 {
         Quotient::ByZero
-    } else if is_signed {
+    } else if signed {
         signed_quotient(a, b, old)
     } else {
         unsigned_quotient(a, trunc(b, Size::Two), old)
@@ -76,14 +76,14 @@ fn signed_quotient(a: u32, b: u32, old: Ccr) -> Quotient
 }
 
 /// DIVS.L and DIVU.L: 64 bits, given as two longs, by a long.
-pub fn div_long(is_signed: bool, high: u32, low: u32, by: u32, old: Ccr) -> LongQuotient
-    ensures { result ≡ long_divided is_signed high low by old }
+pub fn div_long(signed: bool, high: u32, low: u32, by: u32, old: Ccr) -> LongQuotient
+    ensures { result ≡ long_divided signed high low by old }
 {
     if by == 0 {
         return LongQuotient::ByZero;
     }
     let dividend = u64::from(high) * 0x1_0000_0000 + u64::from(low);
-    let quotient = if is_signed {
+    let quotient = if signed {
         signed_long_quotient(dividend, by)
     } else {
         unsigned_long_quotient(dividend, by)

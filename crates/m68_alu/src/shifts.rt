@@ -3,7 +3,7 @@ ghost use Rattle.std.specs.Prelude.{◌≡◌, ◌≢◌, ◌<◌, ◌+◌, ◌*
 ghost use Rattle.std.specs.Int.{from_bool};
 ghost use Rattle.mix_bits.specs.Sizes.{modulus as modulus_lem, truncated};
 ghost use Rattle.mix_bits.specs.declared.size.Size.TheVariants.{Zero};
-ghost use Rattle.m68_alu.specs.Sizes.{half as half_lem};
+ghost use Rattle.mix_bits.specs.Signs.{half as half_lem};
 ghost use Rattle.m68_alu.specs.Shifts.{ended, shifted};
 
 use super::sizes::{bits, half, is_negative, modulus};

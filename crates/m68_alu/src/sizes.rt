@@ -3,7 +3,8 @@ ghost use Rattle.std.specs.Prelude.{◌≡◌, ◌≢◌, ◌<◌, ◌≤◌, �
 ghost use Rattle.std.specs.Int.{w64};
 ghost use Rattle.mix_bits.specs.Sizes.{bytes_of, modulus as modulus_lem, signed_of};
 ghost use Rattle.mix_bits.specs.declared.size.Size.TheVariants.{Zero};
-ghost use Rattle.m68_alu.specs.Sizes.{half as half_lem, is_negative as is_negative_lem, leaves as leaves_lem, result_flags as result_flags_lem};
+ghost use Rattle.mix_bits.specs.Signs.{half as half_lem, is_negative as is_negative_lem, leaves as leaves_lem};
+ghost use Rattle.m68_alu.specs.Sizes.{result_flags as result_flags_lem};
 
 use m68_isa::Ccr;
 use mix_bits::Size;

@@ -3,7 +3,7 @@ ghost use Rattle.std.specs.Prelude.{◌≡◌, ◌≢◌, ◌<◌, ◌%◌, ◌^
 ghost use Rattle.std.specs.Int.{w64, cast_unsigned};
 ghost use Rattle.mix_bits.specs.Sizes.{modulus as modulus_lem, signed_of};
 ghost use Rattle.mix_bits.specs.declared.size.Size.TheVariants.{Zero};
-ghost use Rattle.m68_alu.specs.Sizes.{leaves as leaves_lem};
+ghost use Rattle.mix_bits.specs.Signs.{leaves as leaves_lem};
 ghost use Rattle.m68_alu.specs.Sums.{compared, difference as difference_lem, difference_of, difference_value as difference_value_lem, difference_with_x, signed_difference, signed_total, sum as sum_lem, sum_of, sum_value as sum_value_lem, sum_with_x, total as total_lem, with_old_zero};
 
 use super::sizes::{is_negative, leaves, modulus, signed};

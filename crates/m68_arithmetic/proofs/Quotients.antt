@@ -16,9 +16,10 @@ use Rattle.m68_alu.specs.Products.{long_answer, long_divided, long_quotient}
 use Rattle.big_memory.specs.declared.steps.Did.{Did}
 use Rattle.big_memory.specs.declared.steps.Did.TheVariants.{Next, Leave, Stop}
 use Rattle.big_memory.specs.Memory.{Memory}
-use Rattle.big_memory.specs.Steps.{After, Does}
+use Rattle.big_memory.specs.Steps.{After}
+use Rattle.big_memory.specs.StepsClauses.{Does}
 use Rattle.m68_effects.specs.Arithmetic.{dividend_high, div_long, long_quotient_into}
-use Rattle.m68_effects.specs.Operations.{runs_with}
+use Rattle.m68_effects.specs.laws.Operations.{runs_with}
 use Rattle.m68_effects.specs.Parts.{after}
 use Rattle.m68_effects.specs.Step.{stops}
 

@@ -2,16 +2,17 @@
 ghost use Rattle.std.specs.Prelude.{◌≡◌, ◌<◌};
 ghost use Rattle.m68_isa.specs.First.{first_of, long_or_word};
 ghost use Rattle.m68_isa.specs.Operands.{operand_at};
-ghost use Rattle.big_memory.specs.Steps.{Does};
-ghost use Rattle.m68_effects.specs.Usual.{Tries};
-ghost use Rattle.m68_effects.specs.Words.{words_at};
-ghost use Rattle.m68_effects.specs.Operations.{runs_with};
-ghost use Rattle.m68_effects.specs.Ops.{by_op};
-ghost use Rattle.m68_arithmetic.specs.Parts.{into_address as into_address_of};
+ghost use Rattle.big_memory.specs.StepsClauses.{Does};
+ghost use Rattle.m68_effects.specs.laws.Tried.{Tries};
+ghost use Rattle.m68_ea.specs.Words.{words_at};
+ghost use Rattle.m68_effects.specs.laws.Operations.{runs_with};
+ghost use Rattle.m68_effects.specs.laws.Ops.{by_op};
+ghost use Rattle.m68_arithmetic.specs.inner.Parts.{into_address as into_address_of};
 
 use super::ways::{Way, away};
 use big_memory::{Did, Ram};
-use m68_effects::{go_on, immediate_at, source, usual_source};
+use m68_ea::{immediate_at, source, usual_source};
+use m68_effects::go_on;
 use m68_isa::{Op68, Regs68, bit8_of, immediate_words, lower_of, mode_of, upper_of};
 use mix_bits::{Fault, Size, sext, trunc};
 

@@ -4,17 +4,18 @@ ghost use Rattle.mix_bits.specs.Addresses.{onward};
 ghost use Rattle.mix_bits.specs.declared.size.Size.TheVariants.{Zero};
 ghost use Rattle.m68_isa.specs.First.{first_of};
 ghost use Rattle.m68_isa.specs.Operands.{immediate_at as immediate_at_of, immediate_words as immediate_words_of, operand_at};
-ghost use Rattle.big_memory.specs.Steps.{Does};
-ghost use Rattle.m68_effects.specs.Usual.{Tries};
-ghost use Rattle.m68_effects.specs.Words.{words_at};
+ghost use Rattle.big_memory.specs.StepsClauses.{Does};
+ghost use Rattle.m68_effects.specs.laws.Tried.{Tries};
+ghost use Rattle.m68_ea.specs.Words.{words_at};
 ghost use Rattle.m68_effects.specs.Arithmetic.{cmp, cmpa, cmpi, cmpm, comparison};
-ghost use Rattle.m68_effects.specs.Operations.{runs_with};
-ghost use Rattle.m68_effects.specs.Ops.{by_op};
+ghost use Rattle.m68_effects.specs.laws.Operations.{runs_with};
+ghost use Rattle.m68_effects.specs.laws.Ops.{by_op};
 ghost use Rattle.m68_effects.specs.Parts.{after};
 
 use big_memory::{Did, Ram};
 use m68_alu::cmp;
-use m68_effects::{go_on, immediate_at, source, usual_source};
+use m68_ea::{immediate_at, source, usual_source};
+use m68_effects::go_on;
 use m68_isa::{
     Ccr, Op68, Regs68, bit8_of, immediate_words, is_long, lower_of, mode_of, size_bits_of, upper_of,
 };

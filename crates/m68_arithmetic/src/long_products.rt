@@ -5,17 +5,18 @@ ghost use Rattle.mix_bits.specs.declared.size.Size.TheVariants.{Four};
 ghost use Rattle.m68_isa.specs.First.{first_of};
 ghost use Rattle.m68_isa.specs.Operands.{operand_at};
 ghost use Rattle.m68_isa.specs.Products.{high_of as high_of_word, is_signed as is_signed_word, is_wide as is_wide_word, low_of as low_of_word};
-ghost use Rattle.big_memory.specs.Steps.{Does};
-ghost use Rattle.m68_effects.specs.Words.{words_at};
+ghost use Rattle.big_memory.specs.StepsClauses.{Does};
+ghost use Rattle.m68_ea.specs.Words.{words_at};
 ghost use Rattle.m68_effects.specs.Arithmetic.{dividend_high as dividend_high_of, div_long as div_long_of, long_quotient_into, mul_long as mul_long_of, product_into};
-ghost use Rattle.m68_effects.specs.Operations.{runs_with};
-ghost use Rattle.m68_effects.specs.Ops.{by_op};
+ghost use Rattle.m68_effects.specs.laws.Operations.{runs_with};
+ghost use Rattle.m68_effects.specs.laws.Ops.{by_op};
 ghost use Rattle.m68_effects.specs.Parts.{after};
 ghost use Rattle.m68_alu.specs.Products.{long_answer, long_divided, long_multiplied};
 
 use big_memory::{Did, Ram, stop};
 use m68_alu::{mul_long, signed_long_quotient, unsigned_long_quotient};
-use m68_effects::{go_on, source, word_at};
+use m68_ea::{source, word_at};
+use m68_effects::go_on;
 use m68_isa::{
     Op68, Regs68, high_of, is_register_word, is_signed, is_wide, low_of, lower_of, mode_of,
 };

@@ -3,14 +3,15 @@ ghost use Rattle.std.specs.Prelude.{◌≢◌, ◌==◌, ◌<◌, true, false};
 ghost use Rattle.mix_bits.specs.Addresses.{onward as onward_of};
 ghost use Rattle.mix_bits.specs.declared.size.Size.TheVariants.{Zero};
 ghost use Rattle.m68_isa.specs.First.{first_of, size_of as size_of_bits};
-ghost use Rattle.big_memory.specs.Steps.{Does};
+ghost use Rattle.big_memory.specs.StepsClauses.{Does};
 ghost use Rattle.m68_isa.specs.declared.ea.Ea.TheVariants.{Pre};
-ghost use Rattle.m68_effects.specs.Operations.{result_of};
-ghost use Rattle.m68_effects.specs.Ops.{by_op};
+ghost use Rattle.m68_effects.specs.inner.Operations.{result_of};
+ghost use Rattle.m68_effects.specs.laws.Ops.{by_op};
 ghost use Rattle.m68_effects.specs.Parts.{after, changed, pairwise};
 
 use big_memory::{Did, Ram};
-use m68_effects::{Operation, apply, find, go_on, put, source, value};
+use m68_ea::{find, put, source, value};
+use m68_effects::{Operation, apply, go_on};
 use m68_isa::{Op68, Regs68, is_in_memory, lower_of, size_bits_of, upper_of};
 use mix_bits::{Fault, Size, trunc, with_low};
 
@@ -137,7 +138,7 @@ fn pair_in_memory(
 
 /// An operation with a number on the place below the second address register.
 #[inline(always)]
-#[tactic(auto, unfolding(m68_isa::specs::Classes::IsAlterable))]
+#[tactic(auto, unfolding(m68_isa::specs::ClassesClauses::IsAlterable))]
 fn change_below(
     regs: &mut Regs68,
     ram: &mut Ram,

@@ -5,15 +5,16 @@ ghost use Rattle.mix_bits.specs.Sizes.{signed_of};
 ghost use Rattle.mix_bits.specs.declared.size.Size.TheVariants.{Two};
 ghost use Rattle.m68_isa.specs.First.{first_of};
 ghost use Rattle.m68_isa.specs.Operands.{operand_at};
-ghost use Rattle.big_memory.specs.Steps.{Does};
-ghost use Rattle.m68_effects.specs.Words.{words_at};
+ghost use Rattle.big_memory.specs.StepsClauses.{Does};
+ghost use Rattle.m68_ea.specs.Words.{words_at};
 ghost use Rattle.m68_effects.specs.Arithmetic.{div, is_out as is_out_of, mul};
-ghost use Rattle.m68_effects.specs.Operations.{runs_with};
-ghost use Rattle.m68_effects.specs.Ops.{by_op};
+ghost use Rattle.m68_effects.specs.laws.Operations.{runs_with};
+ghost use Rattle.m68_effects.specs.laws.Ops.{by_op};
 
 use big_memory::{Did, Ram, stop};
 use m68_alu::{Quotient, div, mul};
-use m68_effects::{go_on, source};
+use m68_ea::source;
+use m68_effects::go_on;
 use m68_isa::{Ccr, Op68, Regs68, lower_of, mode_of, upper_of};
 use mix_bits::{Fault, FaultKind, Size, sext, trunc};
 

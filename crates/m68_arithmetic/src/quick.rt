@@ -2,12 +2,12 @@
 ghost use Rattle.std.specs.Prelude.{◌≡◌};
 ghost use Rattle.mix_bits.specs.Addresses.{onward as onward_of};
 ghost use Rattle.m68_isa.specs.First.{first_of, one_to_eight};
-ghost use Rattle.m68_isa.specs.Fits.{Fits, IsChangeable};
-ghost use Rattle.big_memory.specs.Steps.{Does};
-ghost use Rattle.m68_effects.specs.Operations.{changed_by};
-ghost use Rattle.m68_effects.specs.Ops.{by_op};
+ghost use Rattle.m68_isa.specs.laws.Fits.{Fits, IsChangeable};
+ghost use Rattle.big_memory.specs.StepsClauses.{Does};
+ghost use Rattle.m68_effects.specs.inner.Operations.{changed_by};
+ghost use Rattle.m68_effects.specs.laws.Ops.{by_op};
 ghost use Rattle.m68_effects.specs.Parts.{after, goes_on};
-ghost use Rattle.m68_arithmetic.specs.Parts.{with_away};
+ghost use Rattle.m68_arithmetic.specs.inner.Parts.{with_away};
 
 use super::ways::{Way, away};
 use big_memory::{Did, Ram};

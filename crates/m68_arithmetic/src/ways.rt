@@ -1,8 +1,7 @@
 ghost use Rattle.std.specs.Prelude.{◌≡◌};
-ghost use Rattle.m68_arithmetic.specs.Parts.{away as away_of};
+ghost use Rattle.m68_arithmetic.specs.inner.Parts.{away as away_of};
 
-use m68_effects::backward;
-use mix_bits::onward;
+use mix_bits::{backward, onward};
 
 /// Which way an address goes.
 #[derive(Clone, Copy)]

@@ -13,12 +13,13 @@ use Rattle.m68_isa.specs.Decode.{ended, operation, read, decoded}
 use Rattle.m68_isa.specs.declared.op.Op68.{Op68}
 use Rattle.m68_isa.specs.declared.op.Op68.TheVariants.{Ori, Andi, Subi, Addi, Eori, Cmpi, LogicToCcr, BitByNumber, BitByRegister, Movep, MoveByte, MoveWord, MoveLong, MoveaWord, MoveaLong, Negx, Clr, Neg, Not, MoveFromSr, MoveToCcr, Nbcd, Swap, Pea, Ext, ExtByte, MovemToMemory, MovemFromMemory, MulLong, DivLong, Tst, Tas, Trap, Link, LinkLong, Unlk, Nop, Rtd, Rts, Trapv, Rtr, Jsr, Jmp, Chk, Lea, Addq, Subq, Scc, Dbcc, BraByte, BraWord, BraLong, BsrByte, BsrWord, BsrLong, BccByte, BccWord, BccLong, Moveq, OrToRegister, OrToMemory, Divu, Divs, Sbcd, SubToRegister, SubToMemory, Suba, Subx, Cmp, Cmpa, Eor, Cmpm, AndToRegister, AndToMemory, Mulu, Muls, Abcd, Exg, AddToRegister, AddToMemory, Adda, Addx, Shift, ShiftMemory, Illegal, Privileged, LineA, LineF}
 use Rattle.m68_isa.specs.Made.{made}
-use Rattle.m68_isa.specs.Needs.{OpLaws, whole}
+use Rattle.m68_isa.specs.laws.Needs.{OpLaws, whole}
 use Rattle.big_memory.specs.Memory.{Memory}
-use Rattle.m68_effects.specs.Words.{words_at}
-use Rattle.m68_effects.specs.Ops.{by_op, runs_made}
+use Rattle.m68_ea.specs.Words.{words_at}
+use Rattle.m68_effects.specs.laws.Ops.{by_op, runs_made}
 use Rattle.m68_effects.specs.Step.{stops, runs_decoded, stepped}
-use Rattle.m68_core.specs.Edge.{IsFirst, IsThere, TellsShort}
+use Rattle.m68_core.specs.laws.Edge.{IsFirst, IsThere}
+use Rattle.m68_core.specs.inner.Edge.{TellsShort}
 
 -- an instruction that is whole
 whole-runs : (r : Regs68) (m : Memory) (ws : List ℕ) (found : Found) → runs_decoded r m ws (whole found) ≡ runs_made r m (slice_index ws 0) found

@@ -14,9 +14,10 @@ use Rattle.m68_isa.specs.Decode.{ended, operation, read, decoded}
 use Rattle.big_memory.specs.declared.steps.Did.{Did}
 use Rattle.big_memory.specs.declared.steps.Did.TheVariants.{Leave}
 use Rattle.big_memory.specs.Memory.{Memory}
-use Rattle.big_memory.specs.Steps.{After, Does}
+use Rattle.big_memory.specs.Steps.{After}
+use Rattle.big_memory.specs.StepsClauses.{Does}
 use Rattle.big_memory.specs.Steps.After.{Leaves, Stops}
-use Rattle.m68_effects.specs.Words.{words_at}
+use Rattle.m68_ea.specs.Words.{words_at}
 use Rattle.m68_effects.specs.Parts.{Effect, after}
 use Rattle.m68_effects.specs.Step.{runs_decoded, stepped}
 

@@ -1,3 +1,4 @@
-pub mod Edge
 pub mod Fetch
 pub mod Steps
+pub mod laws
+pub mod inner

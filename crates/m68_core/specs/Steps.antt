@@ -4,7 +4,7 @@ use Rattle.m68_isa.specs.declared.registers.Regs68.{Regs68}
 use Rattle.big_memory.specs.Memory.{Memory}
 use Rattle.big_memory.specs.Steps.{After}
 use Rattle.big_memory.specs.Steps.After.{Goes, Leaves, Stops}
-use Rattle.big_memory.specs.Stores.{OnlyFree}
+use Rattle.big_memory.specs.StoresClauses.{OnlyFree}
 use Rattle.m68_core.specs.declared.step.Out68.{Out68}
 use Rattle.m68_core.specs.declared.step.Out68.TheVariants.{Next, Line, Stop}
 

@@ -2,19 +2,20 @@
 ghost use Rattle.std.specs.Prelude.{◌≡◌, ◌<◌};
 ghost use Rattle.mix_bits.specs.declared.size.Size.TheVariants.{One, Four};
 ghost use Rattle.m68_isa.specs.First.{first_of};
-ghost use Rattle.m68_isa.specs.Fits.{Fits, IsBitChangeable, IsChangeable};
+ghost use Rattle.m68_isa.specs.laws.Fits.{Fits, IsBitChangeable, IsChangeable};
 ghost use Rattle.m68_isa.specs.Immediates.{bit_op};
 ghost use Rattle.m68_isa.specs.Operands.{operand_at};
-ghost use Rattle.big_memory.specs.Steps.{Does};
-ghost use Rattle.m68_effects.specs.Usual.{Tries};
-ghost use Rattle.m68_effects.specs.Words.{words_at};
+ghost use Rattle.big_memory.specs.StepsClauses.{Does};
+ghost use Rattle.m68_effects.specs.laws.Tried.{Tries};
+ghost use Rattle.m68_ea.specs.Words.{words_at};
 ghost use Rattle.m68_effects.specs.Bits.{bit_by_number as by_number, bit_changed, bit_done, bit_flags, bit_result as result_of, bit_tested};
-ghost use Rattle.m68_effects.specs.Operations.{runs_with};
-ghost use Rattle.m68_effects.specs.Ops.{by_op};
+ghost use Rattle.m68_effects.specs.laws.Operations.{runs_with};
+ghost use Rattle.m68_effects.specs.laws.Ops.{by_op};
 ghost use Rattle.m68_effects.specs.Parts.{changed};
 
 use big_memory::{Did, Ram};
-use m68_effects::{find, find_usual, go_on, put, put_usual, source, usual_source, value, word_at};
+use m68_ea::{find, find_usual, put, put_usual, source, usual_source, value, word_at};
+use m68_effects::go_on;
 use m68_isa::{BitOp, Ccr, Op68, Regs68, bit_op_of, lower_of, mode_of, upper_of};
 use mix_bits::{Fault, Size, digit, with_digit};
 

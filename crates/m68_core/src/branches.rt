@@ -1,15 +1,16 @@
 // Branches, whose displacements count from the address behind the first word.
 ghost use Rattle.std.specs.Prelude.{◌≡◌, ◌*◌, ◌<◌, ◌≤◌};
 ghost use Rattle.mix_bits.specs.Addresses.{onward as onward_of};
-ghost use Rattle.big_memory.specs.Steps.{Does};
+ghost use Rattle.big_memory.specs.StepsClauses.{Does};
 ghost use Rattle.m68_effects.specs.Control.{called, counted as counted_of};
 ghost use Rattle.m68_effects.specs.Parts.{after};
-ghost use Rattle.m68_effects.specs.Ops.{by_op};
+ghost use Rattle.m68_effects.specs.laws.Ops.{by_op};
 ghost use Rattle.m68_isa.specs.Targets.{branch_target as target_of};
-ghost use Rattle.m68_isa.specs.Fits.{Fits};
+ghost use Rattle.m68_isa.specs.laws.Fits.{Fits};
 
 use big_memory::{Did, Ram};
-use m68_effects::{extended_word, go_on, long_at, push, push_if_open};
+use m68_ea::{extended_word, long_at};
+use m68_effects::{go_on, push, push_if_open};
 use m68_isa::{Op68, Regs68, branch_target, byte_of, condition_of, holds, lower_of};
 use mix_bits::{Fault, Size, onward, with_low};
 

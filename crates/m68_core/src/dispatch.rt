@@ -1,7 +1,7 @@
 // The operations of first words, one by one.
-ghost use Rattle.big_memory.specs.Steps.{Does};
-ghost use Rattle.m68_effects.specs.Ops.{by_op};
-ghost use Rattle.m68_isa.specs.Fits.{Fits};
+ghost use Rattle.big_memory.specs.StepsClauses.{Does};
+ghost use Rattle.m68_effects.specs.laws.Ops.{by_op};
+ghost use Rattle.m68_isa.specs.laws.Fits.{Fits};
 
 use super::bits::{do_bit_by_number, do_bit_by_register};
 use super::branches::{

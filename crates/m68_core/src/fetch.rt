@@ -1,14 +1,15 @@
 // The words of the instruction at pc.
-ghost use Rattle.std.specs.Prelude.{◌≡◌, ◌+◌, ◌%◌, ◌^◌, ◌<◌, ◌≤◌, length};
+ghost use Rattle.std.specs.Prelude.{◌≡◌, ◌+◌, ◌%◌, ◌^◌, ◌<◌, ◌≤◌, length, true};
 ghost use Rattle.std.specs.Bool.{OnTrue};
 ghost use Rattle.big_memory.specs.Map.{gate_page_end};
-ghost use Rattle.m68_effects.specs.Words.{words_at};
-ghost use Rattle.m68_core.specs.Edge.{IsFirst, IsThere};
+ghost use Rattle.m68_ea.specs.Words.{words_at};
+ghost use Rattle.m68_core.specs.laws.Edge.{IsFirst, IsThere};
+ghost use Rattle.m68_core.specs.inner.Fetch.{IsPlain};
 ghost use Rattle.m68_core.specs.Fetch.{places_of};
 
 use big_memory::{GATE_PAGE_END, Ram};
 use byteorder::{BigEndian, ByteOrder};
-use m68_effects::word_laws;
+use m68_ea::word_laws;
 
 /// At how many even addresses, from the end of the gate page on, five words lie in memory, which is as many as an
 /// instruction can have.
@@ -28,6 +29,7 @@ pub fn is_plain(pc: u32, ram: &Ram, places: u32) -> bool
     ensures even { OnTrue result (pc % 2 ≡ 0) }
     ensures outside { OnTrue result (gate_page_end ≤ pc) }
     ensures within { OnTrue result (pc + 10 ≤ length ram.now.bytes) }
+    ensures only { IsPlain pc ram.now → result ≡ true }
 {
     ram.meets_invariant();
     (pc / 2 + pc % 2 * 0x8000_0000).wrapping_sub(GATE_PAGE_END / 2) < places

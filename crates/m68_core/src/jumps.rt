@@ -1,11 +1,12 @@
 // Jumps, calls and returns.
-ghost use Rattle.big_memory.specs.Steps.{Does};
-ghost use Rattle.m68_effects.specs.Ops.{by_op};
-ghost use Rattle.m68_isa.specs.Fits.{Fits};
+ghost use Rattle.big_memory.specs.StepsClauses.{Does};
+ghost use Rattle.m68_effects.specs.laws.Ops.{by_op};
+ghost use Rattle.m68_isa.specs.laws.Fits.{Fits};
 
 use super::branches::call;
 use big_memory::{Did, Ram};
-use m68_effects::{control, extended_word, pop};
+use m68_ea::{control, extended_word};
+use m68_effects::pop;
 use m68_isa::{Ccr, Op68, Regs68, lower_of, mode_of};
 use mix_bits::{Fault, Size, onward};
 

@@ -1,10 +1,10 @@
 ghost use Rattle.std.specs.Prelude.{◌≡◌, ◌%◌};
 ghost use Rattle.m68_isa.specs.First.{first_of};
 ghost use Rattle.m68_isa.specs.Decode.{operation};
-ghost use Rattle.m68_effects.specs.Words.{words_at};
-ghost use Rattle.m68_effects.specs.Ops.{by_op};
+ghost use Rattle.m68_ea.specs.Words.{words_at};
+ghost use Rattle.m68_effects.specs.laws.Ops.{by_op};
 ghost use Rattle.m68_effects.specs.Step.{stepped};
-ghost use Rattle.m68_core.specs.Edge.{IsFirst, IsThere};
+ghost use Rattle.m68_core.specs.laws.Edge.{IsFirst, IsThere};
 
 use big_memory::Ram;
 use m68_isa::{Op68, Regs68, op_laws};

@@ -1,7 +1,7 @@
 // AND, OR, EOR and NOT.
-ghost use Rattle.m68_isa.specs.Fits.{Fits};
-ghost use Rattle.big_memory.specs.Steps.{Does};
-ghost use Rattle.m68_effects.specs.Ops.{by_op};
+ghost use Rattle.m68_isa.specs.laws.Fits.{Fits};
+ghost use Rattle.big_memory.specs.StepsClauses.{Does};
+ghost use Rattle.m68_effects.specs.laws.Ops.{by_op};
 
 use big_memory::{Did, Ram};
 use m68_effects::{

@@ -3,16 +3,17 @@ ghost use Rattle.std.specs.Prelude.{◌≡◌, ◌≢◌, ◌<◌, ◌==◌, ◌
 ghost use Rattle.mix_bits.specs.Addresses.{onward as onward_of};
 ghost use Rattle.mix_bits.specs.declared.size.Size.TheVariants.{Zero};
 ghost use Rattle.m68_isa.specs.First.{first_of, size_of};
-ghost use Rattle.m68_isa.specs.Fits.{Fits};
+ghost use Rattle.m68_isa.specs.laws.Fits.{Fits};
 ghost use Rattle.m68_isa.specs.Shifts.{shift_count};
-ghost use Rattle.big_memory.specs.Steps.{Does};
-ghost use Rattle.m68_effects.specs.Ops.{by_op};
+ghost use Rattle.big_memory.specs.StepsClauses.{Does};
+ghost use Rattle.m68_effects.specs.laws.Ops.{by_op};
 ghost use Rattle.m68_effects.specs.Parts.{after};
 ghost use Rattle.m68_effects.specs.Shifts.{count_of as count_in, shift as shift_effect};
 
 use big_memory::{Did, Ram};
 use m68_alu::shift;
-use m68_effects::{find, go_on, put, value};
+use m68_ea::{find, put, value};
+use m68_effects::go_on;
 use m68_isa::{
     Op68, Regs68, ShiftCount, ShiftOp, is_left, is_long, lower_of, memory_shift_of, mode_of,
     register_shift_of, shift_count_of, size_bits_of,

@@ -1,11 +1,11 @@
 ghost use Rattle.std.specs.Prelude.{◌≡◌, ◌%◌, ◌<◌, ◌^◌};
-ghost use Rattle.big_memory.specs.Steps.{Does};
-ghost use Rattle.m68_effects.specs.Words.{words_at};
+ghost use Rattle.big_memory.specs.StepsClauses.{Does};
+ghost use Rattle.m68_ea.specs.Words.{words_at};
 ghost use Rattle.m68_effects.specs.Step.{stepped};
 ghost use Rattle.m68_isa.specs.Decode.{operation};
 ghost use Rattle.m68_isa.specs.First.{first_of};
-ghost use Rattle.m68_isa.specs.Fits.{Fits};
-ghost use Rattle.m68_core.specs.Edge.{IsFirst, IsThere};
+ghost use Rattle.m68_isa.specs.laws.Fits.{Fits};
+ghost use Rattle.m68_core.specs.laws.Edge.{IsFirst, IsThere};
 ghost use Rattle.m68_core.specs.Fetch.{places_of};
 ghost use Rattle.m68_core.specs.Steps.{Steps};
 
@@ -14,8 +14,8 @@ use super::fetch::{is_plain, plain_word};
 use super::laws::step_law;
 use super::words::is_short;
 use big_memory::{Did, Ram, stop};
-use m68_effects::read_words;
-use m68_isa::{Op68, Operations, Regs68, op_of};
+use m68_ea::read_words;
+use m68_isa::{Op68, Regs68, op_of_word};
 use mix_bits::{Fault, FaultKind, onward};
 
 /// What a step of 68K code did.
@@ -42,17 +42,10 @@ pub fn step68(regs: &mut Regs68, ram: &mut Ram) -> Out68
     }
 }
 
-/// The same by the table of operations, with the fault, or the word of line A as its detail, in a cell beside the
-/// answer. The cell tells nothing where the step is done. For loops over many steps, which take the places of
-/// memory once.
+/// The same with the fault, or the word of line A as its detail, in a cell beside the answer. The cell tells nothing
+/// where the step is done. For loops over many steps, which take the places of memory once.
 #[inline(always)]
-pub fn run(
-    regs: &mut Regs68,
-    ram: &mut Ram,
-    operations: &Operations,
-    fault: &mut Fault,
-    places: u32,
-) -> Did
+pub fn run(regs: &mut Regs68, ram: &mut Ram, fault: &mut Fault, places: u32) -> Did
     requires { places ≡ places_of ram.old }
     ensures does { Does (stepped regs.old ram.old) result fault.new regs.old regs.new ram.old ram.new }
     ensures line { result ≡ Did.Leave → fault.new.detail < 2 ^ 16 }
@@ -60,7 +53,7 @@ pub fn run(
 {
     if is_plain(regs.pc, ram, places) {
         let word = plain_word(regs.pc, ram);
-        run_word(regs, ram, fault, word, operations.of(word))
+        run_word(regs, ram, fault, word, op_of_word(word))
     } else {
         run_slowly(regs, ram, fault)
     }
@@ -82,8 +75,7 @@ fn run_word(regs: &mut Regs68, ram: &mut Ram, fault: &mut Fault, word: u32, op: 
     run_op(regs, ram, fault, word, op)
 }
 
-/// Any instruction, which may stand at an odd address or end behind memory: its words are read one by one, and its
-/// operation is found anew.
+/// Any instruction, which may stand at an odd address or end behind memory: its words are read one by one.
 #[cold]
 #[inline(never)]
 fn run_slowly(regs: &mut Regs68, ram: &mut Ram, fault: &mut Fault) -> Did
@@ -100,5 +92,5 @@ fn run_slowly(regs: &mut Regs68, ram: &mut Ram, fault: &mut Fault) -> Did
         return stop::<Regs68>(fault, FaultKind::Outside, pc, onward(pc, 2 * count as u32));
     }
     let word = u32::from(words[0]);
-    run_word(regs, ram, fault, word, op_of(word))
+    run_word(regs, ram, fault, word, op_of_word(word))
 }

@@ -1,7 +1,7 @@
 // Exceptions, words that are no instruction of a program, and the instruction that does nothing.
-ghost use Rattle.big_memory.specs.Steps.{Does};
-ghost use Rattle.m68_effects.specs.Ops.{by_op};
-ghost use Rattle.m68_isa.specs.Fits.{Fits};
+ghost use Rattle.big_memory.specs.StepsClauses.{Does};
+ghost use Rattle.m68_effects.specs.laws.Ops.{by_op};
+ghost use Rattle.m68_isa.specs.laws.Fits.{Fits};
 
 use big_memory::{Did, Ram, leave, stop};
 use m68_effects::go_on;

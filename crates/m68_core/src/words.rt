@@ -1,5 +1,5 @@
 ghost use Rattle.m68_isa.specs.Decode.{decoded};
-ghost use Rattle.m68_core.specs.Edge.{TellsShort};
+ghost use Rattle.m68_core.specs.inner.Edge.{TellsShort};
 
 use m68_isa::{Decoded68, decode68};
 

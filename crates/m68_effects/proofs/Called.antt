@@ -15,11 +15,12 @@ use Rattle.m68_isa.specs.Targets.{branch_target}
 use Rattle.big_memory.specs.declared.refusals.Access.{Access}
 use Rattle.big_memory.specs.Memory.{Memory, loaded}
 use Rattle.big_memory.specs.Stores.{stored_value}
-use Rattle.m68_effects.specs.Accesses.{or_fault}
-use Rattle.m68_effects.specs.Operands.{stored_at}
-use Rattle.m68_effects.specs.Places.{address_of, backward, with_address}
+use Rattle.m68_ea.specs.Accesses.{or_fault}
+use Rattle.m68_ea.specs.Operands.{stored_at}
+use Rattle.m68_ea.specs.Places.{address_of, with_address}
+use Rattle.mix_bits.specs.Addresses.{backward}
 use Rattle.m68_effects.specs.Control.{called}
-use Rattle.m68_effects.specs.Laws.{IsCall, IsFile, LeavesLong, Returns, ReturnsAtOnce, Unlinks, UnlinksAtOnce}
+use Rattle.m68_effects.specs.laws.Laws.{IsCall, IsFile, LeavesLong, Returns, ReturnsAtOnce, Unlinks, UnlinksAtOnce}
 use Rattle.m68_effects.specs.Parts.{Effect, goes_on}
 use Rattle.m68_effects.specs.Rows.{effect}
 use Rattle.big_memory.proofs.Longs.{stored_loads}

@@ -12,14 +12,15 @@ use Rattle.m68_alu.specs.declared.sums.Out.{Out}
 use Rattle.big_memory.specs.declared.steps.Did.{Did}
 use Rattle.big_memory.specs.declared.steps.Did.TheVariants.{Next}
 use Rattle.big_memory.specs.Memory.{Memory}
-use Rattle.big_memory.specs.Steps.{After, Does}
+use Rattle.big_memory.specs.Steps.{After}
+use Rattle.big_memory.specs.StepsClauses.{Does}
 use Rattle.big_memory.specs.Steps.After.{Goes, Stops}
-use Rattle.big_memory.specs.Stores.{OnlyFree}
-use Rattle.m68_effects.specs.declared.places.Place68.{Place68}
-use Rattle.m68_effects.specs.Operands.{value_at, written_at}
-use Rattle.m68_effects.specs.Operations.{runs_with}
+use Rattle.big_memory.specs.StoresClauses.{OnlyFree}
+use Rattle.m68_ea.specs.declared.places.Place68.{Place68}
+use Rattle.m68_ea.specs.Operands.{value_at, written_at}
+use Rattle.m68_effects.specs.laws.Operations.{runs_with}
 use Rattle.m68_effects.specs.Parts.{Effect, after, changed, goes_on, with_ccr}
-use Rattle.m68_effects.specs.Places.{placed}
+use Rattle.m68_ea.specs.Places.{placed}
 use Rattle.m68_effects.specs.Step.{stops}
 
 -- registers and memory once a value is written, with its flags

@@ -19,10 +19,11 @@ use Rattle.big_memory.specs.declared.refusals.Access.{Access}
 use Rattle.big_memory.specs.Memory.{Memory, loaded}
 use Rattle.big_memory.specs.Stores.{stored_value}
 use Rattle.big_memory.proofs.Longs.{stored_loads}
-use Rattle.m68_effects.specs.Accesses.{or_fault}
-use Rattle.m68_effects.specs.Operands.{put_into, sourced}
-use Rattle.m68_effects.specs.Places.{address_of, backward, step_of, with_address}
-use Rattle.m68_effects.specs.Laws.{IsFile, PopsAddress, PopsData, PopsEffective}
+use Rattle.m68_ea.specs.Accesses.{or_fault}
+use Rattle.m68_ea.specs.Operands.{put_into, sourced}
+use Rattle.m68_ea.specs.Places.{address_of, step_of, with_address}
+use Rattle.mix_bits.specs.Addresses.{backward}
+use Rattle.m68_effects.specs.laws.Laws.{IsFile, PopsAddress, PopsData, PopsEffective}
 use Rattle.m68_effects.specs.Parts.{Effect, goes_on, with_ccr}
 use Rattle.m68_effects.specs.Rows.{effect}
 

@@ -15,9 +15,10 @@ use Rattle.m68_isa.specs.declared.registers.Regs68.{Regs68}
 use Rattle.m68_isa.specs.declared.ea.Ea.TheVariants.{Post, Pre}
 use Rattle.m68_isa.specs.declared.instructions.Instr68.TheVariants.{MovemFromMemory, MovemToMemory}
 use Rattle.big_memory.specs.Memory.{IsRam, Memory}
-use Rattle.m68_effects.specs.Places.{backward, with_address}
-use Rattle.m68_effects.specs.Laws.{IsFile}
-use Rattle.m68_effects.specs.MovemLaws.{IsRestored, LeavesNumbers, NameTheSame, RestoresLongs, RestoresWords}
+use Rattle.mix_bits.specs.Addresses.{backward}
+use Rattle.m68_ea.specs.Places.{with_address}
+use Rattle.m68_effects.specs.laws.Laws.{IsFile}
+use Rattle.m68_effects.specs.laws.MovemLaws.{IsRestored, LeavesNumbers, NameTheSame, RestoresLongs, RestoresWords}
 use Rattle.m68_effects.specs.Multiple.{listed, loaded_along, register_of, sixteen, span_of, stored_down}
 use Rattle.m68_effects.specs.Parts.{Effect, goes_on}
 use Rattle.m68_effects.specs.Rows.{effect}

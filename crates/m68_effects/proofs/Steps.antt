@@ -11,19 +11,21 @@ use Rattle.m68_isa.specs.Operands.{operand_at}
 use Rattle.big_memory.specs.declared.steps.Did.{Did}
 use Rattle.big_memory.specs.declared.steps.Did.TheVariants.{Next}
 use Rattle.big_memory.specs.Memory.{Memory}
-use Rattle.big_memory.specs.Steps.{After, Does}
+use Rattle.big_memory.specs.Steps.{After}
+use Rattle.big_memory.specs.StepsClauses.{Does}
 use Rattle.big_memory.specs.Steps.After.{Goes, Stops}
-use Rattle.m68_effects.specs.declared.places.Place68.{Place68}
-use Rattle.m68_effects.specs.Finds.{IsAt}
-use Rattle.m68_effects.specs.Operands.{loaded_at, sourced, unless_illegal, value_at}
-use Rattle.m68_effects.specs.Operations.{runs_with}
+use Rattle.m68_ea.specs.declared.places.Place68.{Place68}
+use Rattle.m68_ea.specs.inner.Finds.{IsAt}
+use Rattle.m68_ea.specs.Operands.{loaded_at, put_into, sourced, value_at}
+use Rattle.m68_ea.specs.Finds.{unless_illegal}
+use Rattle.m68_effects.specs.laws.Operations.{runs_with}
 use Rattle.m68_effects.specs.Parts.{Effect, after}
 use Rattle.m68_effects.specs.Step.{stops}
 
 pub operand_is : (ws : List ℕ) (size : Size) (at at_too mode mode_too lower lower_too : ℕ) → at ≡ at_too → mode ≡ mode_too → lower ≡ lower_too → operand_at ws at size mode lower ≡ operand_at ws at_too size mode_too lower_too
 operand_is ws size at at_too mode mode_too lower lower_too first second third = λ i. operand_at ws (first i) size (second i) (third i)
 
-stops_so : (good : Bool) (r : Regs68) (word : ℕ) (x : Result (Regs68 × ℕ) Fault) (f : Regs68 × ℕ → Effect) (cell : Fault)
+stops_so : {T : Type 0} (good : Bool) (r : Regs68) (word : ℕ) (x : Result T Fault) (f : T → Effect) (cell : Fault)
     → unless_illegal r.pc word good x ≡ Err cell → (if good then after (x >>= f) else stops r Illegal word) ≡ Stops cell
 stops_so true r word x f cell is = ap (λ y. after (y >>= f)) is
 stops_so false r word x f cell is = ap (λ y. after (y >>= f)) is
@@ -35,6 +37,14 @@ pub refused : (r : Regs68) (m : Memory) (word : ℕ) (size : Size) (e made : Ope
 refused r m word size e made row cell same is =
     subst (λ x. runs_with r word x (λ n. sourced r m size x.ea >>= row n) ≡ Stops cell) same
     (stops_so e.good r word (sourced r m size e.ea) (row (onward r.pc (2 * e.next))) cell is)
+
+-- what is made of an operand that is written
+pub unwritten : (r : Regs68) (m : Memory) (word : ℕ) (size : Size) (e made : Operand) (v : ℕ) (row : ℕ → Regs68 × Memory → Effect) (cell : Fault)
+    → e ≡ made → unless_illegal r.pc word e.good (put_into r m size e.ea v) ≡ Err cell
+    → runs_with r word made (λ n. put_into r m size made.ea v >>= row n) ≡ Stops cell
+unwritten r m word size e made v row cell same is =
+    subst (λ x. runs_with r word x (λ n. put_into r m size x.ea v >>= row n) ≡ Stops cell) same
+    (stops_so e.good r word (put_into r m size e.ea v) (row (onward r.pc (2 * e.next))) cell is)
 
 pub taken : (r q : Regs68) (m : Memory) (word : ℕ) (size : Size) (e made : Operand) (v next : ℕ) (row : ℕ → Regs68 × ℕ → Effect)
     → e ≡ made → e.good ≡ true → sourced r m size e.ea ≡ Ok (q, v) → next ≡ e.next
@@ -51,10 +61,10 @@ goes step r next last did cell m is steps same =
     subst (λ d. Does step d cell r next m m) (sym is) (steps ∙ ap (λ x. Goes x m) (sym same), record { marks = refl; long = refl; kept = λ a below free. refl })
 
 -- an operand that stands in memory at `a`
-abbrev pub with_value : Regs68 → ℕ → Result (Regs68 × ℕ) Fault
+abbrev with_value : Regs68 → ℕ → Result (Regs68 × ℕ) Fault
 with_value r v = Ok (r, v)
 
-abbrev pub from_place : Memory → Size → Regs68 × Place68 → Result (Regs68 × ℕ) Fault
+abbrev from_place : Memory → Size → Regs68 × Place68 → Result (Regs68 × ℕ) Fault
 from_place m size at = value_at at.0 m at.1 size >>= with_value at.0
 
 pub source_at : (r : Regs68) (m : Memory) (size : Size) (e : Operand) (a next v : ℕ) → IsAt r size e a next → loaded_at r.pc m a size ≡ Ok v → sourced r m size e.ea ≡ Ok (r, v)

@@ -16,8 +16,8 @@ use Rattle.big_memory.proofs.Guarded.{loads_back, passes}
 use Rattle.big_memory.proofs.Lists.{length-put, part-put_apart}
 use Rattle.big_memory.proofs.Numbers.{number_in_part}
 use Rattle.big_memory.proofs.Longs.{size-bytes, size-there}
-use Rattle.m68_effects.specs.Accesses.{or_fault}
-use Rattle.m68_effects.specs.Places.{backward}
+use Rattle.m68_ea.specs.Accesses.{or_fault}
+use Rattle.mix_bits.specs.Addresses.{backward}
 use Rattle.m68_effects.specs.Multiple.{stored_down}
 
 -- a store leaves what stands above it

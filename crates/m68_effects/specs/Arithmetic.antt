@@ -15,12 +15,14 @@ use Rattle.m68_alu.specs.declared.quotients.Quotient.TheVariants.{ByZero, Overfl
 use Rattle.m68_alu.specs.declared.quotients.LongQuotient.{LongQuotient}
 use Rattle.m68_alu.specs.declared.quotients.LongQuotient.TheVariants.{ByZero as LongByZero, Overflow as LongOverflow, Done as LongDone}
 use Rattle.m68_alu.specs.declared.products.Wide.{Wide}
-use Rattle.m68_alu.specs.Sizes.{is_negative, result_flags}
+use Rattle.mix_bits.specs.Signs.{is_negative}
+use Rattle.m68_alu.specs.Sizes.{result_flags}
 use Rattle.m68_alu.specs.Sums.{sum, sum_with_x, difference, difference_with_x, compared}
 use Rattle.m68_alu.specs.Products.{multiplied, divided, long_multiplied, long_divided}
 use Rattle.big_memory.specs.Memory.{Memory}
-use Rattle.m68_effects.specs.Places.{backward, with_data, with_address}
-use Rattle.m68_effects.specs.Operands.{sourced}
+use Rattle.mix_bits.specs.Addresses.{backward}
+use Rattle.m68_ea.specs.Places.{with_data, with_address}
+use Rattle.m68_ea.specs.Operands.{sourced}
 use Rattle.mix_bits.specs.Addresses.{onward}
 use Rattle.m68_effects.specs.Parts.{Effect, goes_on, vector, with_ccr, with_result, changed, either_way, pairwise}
 

@@ -13,7 +13,7 @@ use Rattle.m68_isa.specs.declared.instructions.BitOp.{BitOp}
 use Rattle.m68_isa.specs.declared.instructions.BitOp.TheVariants.{Btst, Bchg, Bclr, Bset}
 use Rattle.m68_alu.specs.declared.sums.Out.{Out}
 use Rattle.big_memory.specs.Memory.{Memory}
-use Rattle.m68_effects.specs.Operands.{sourced}
+use Rattle.m68_ea.specs.Operands.{sourced}
 use Rattle.m68_effects.specs.Parts.{Effect, goes_on, with_ccr, changed}
 
 -- a bit of a long in a data register, else of a byte

@@ -10,8 +10,8 @@ use Rattle.m68_isa.specs.declared.registers.Regs68.{Regs68}
 use Rattle.m68_isa.specs.declared.ea.Ea.{Ea}
 use Rattle.big_memory.specs.Memory.{Memory}
 use Rattle.mix_bits.specs.Addresses.{onward}
-use Rattle.m68_effects.specs.Places.{address_of, with_address}
-use Rattle.m68_effects.specs.Operands.{put_into}
+use Rattle.m68_ea.specs.Places.{address_of, with_address}
+use Rattle.m68_ea.specs.Operands.{put_into}
 use Rattle.m68_effects.specs.Parts.{Effect, goes_on, vector, with_ccr, with_low_data, pushed, popped}
 
 -- the address of the next instruction is pushed, and the program goes on elsewhere

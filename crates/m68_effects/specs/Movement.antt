@@ -13,8 +13,8 @@ use Rattle.m68_isa.specs.declared.instructions.Exchange.{Exchange}
 use Rattle.m68_isa.specs.declared.instructions.Exchange.TheVariants.{Data, Address, DataAddress}
 use Rattle.m68_alu.specs.Sizes.{result_flags}
 use Rattle.big_memory.specs.Memory.{Memory}
-use Rattle.m68_effects.specs.Places.{placed, address_of, with_data, with_address}
-use Rattle.m68_effects.specs.Operands.{sourced, put_into, stored_at}
+use Rattle.m68_ea.specs.Places.{placed, address_of, with_data, with_address}
+use Rattle.m68_ea.specs.Operands.{sourced, put_into, stored_at}
 use Rattle.mix_bits.specs.Addresses.{onward}
 use Rattle.m68_effects.specs.Parts.{Effect, goes_on, with_ccr, pushed, popped}
 

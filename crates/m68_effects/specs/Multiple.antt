@@ -12,8 +12,9 @@ use Rattle.m68_isa.specs.declared.registers.Regs68.{Regs68}
 use Rattle.m68_isa.specs.declared.ea.Ea.{Ea}
 use Rattle.m68_isa.specs.declared.ea.Ea.TheVariants.{Post, Pre}
 use Rattle.big_memory.specs.Memory.{Memory}
-use Rattle.m68_effects.specs.Places.{address_of, backward, with_data, with_address}
-use Rattle.m68_effects.specs.Operands.{loaded_at, stored_at}
+use Rattle.m68_ea.specs.Places.{address_of, with_data, with_address}
+use Rattle.mix_bits.specs.Addresses.{backward}
+use Rattle.m68_ea.specs.Operands.{loaded_at, stored_at}
 use Rattle.mix_bits.specs.Addresses.{onward}
 use Rattle.m68_effects.specs.Parts.{Effect, goes_on, with_low_data}
 

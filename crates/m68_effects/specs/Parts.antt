@@ -17,8 +17,8 @@ use Rattle.big_memory.specs.Memory.{Memory}
 use Rattle.mix_bits.specs.Faults.{fault_at}
 use Rattle.big_memory.specs.Steps.{After}
 use Rattle.big_memory.specs.Steps.After.{Goes, Stops}
-use Rattle.m68_effects.specs.Places.{placed, with_data}
-use Rattle.m68_effects.specs.Operands.{value_at, written_at, sourced, put_into}
+use Rattle.m68_ea.specs.Places.{placed, with_data}
+use Rattle.m68_ea.specs.Operands.{value_at, written_at, sourced, put_into}
 
 abbrev pub Effect : Type 0
 Effect = Result (Regs68 × Memory) Fault

@@ -9,7 +9,7 @@ use Rattle.m68_isa.specs.declared.instructions.Decoded68.TheVariants.{Op, LineA,
 use Rattle.m68_isa.specs.Decode.{decoded}
 use Rattle.big_memory.specs.Memory.{Memory}
 use Rattle.mix_bits.specs.Faults.{fault_at}
-use Rattle.m68_effects.specs.Words.{words_at}
+use Rattle.m68_ea.specs.Words.{words_at}
 use Rattle.mix_bits.specs.Addresses.{onward}
 use Rattle.big_memory.specs.Steps.{After}
 use Rattle.big_memory.specs.Steps.After.{Leaves, Stops}

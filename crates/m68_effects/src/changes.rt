@@ -1,18 +1,19 @@
 // Operands that an operation changes.
 ghost use Rattle.std.specs.Prelude.{◌≡◌, ◌≢◌, ◌+◌, ◌<◌, ◌≤◌, slice_index};
 ghost use Rattle.mix_bits.specs.declared.size.Size.TheVariants.{Zero, One, Two, Four};
-ghost use Rattle.m68_isa.specs.First.{first_of, size_of};
-ghost use Rattle.m68_isa.specs.Fits.{IsChangeable};
-ghost use Rattle.m68_isa.specs.Operands.{immediate_at as immediate_at_of, immediate_words as immediate_words_of, operand_at};
-ghost use Rattle.big_memory.specs.Steps.{Does};
-ghost use Rattle.m68_effects.specs.Finds.{IsAt};
-ghost use Rattle.m68_effects.specs.Usual.{Tries};
-ghost use Rattle.m68_effects.specs.Words.{words_at};
-ghost use Rattle.m68_effects.specs.Operations.{changed_at, changed_by};
+ghost use Rattle.m68_isa.specs.First.{first_of};
+ghost use Rattle.m68_isa.specs.laws.Fits.{IsChangeable};
+ghost use Rattle.m68_isa.specs.Operands.{operand_at};
+ghost use Rattle.big_memory.specs.StepsClauses.{Does};
+ghost use Rattle.m68_ea.specs.inner.Finds.{IsAt};
+ghost use Rattle.m68_effects.specs.laws.Tried.{Tries};
+ghost use Rattle.m68_ea.specs.Words.{words_at};
+ghost use Rattle.m68_effects.specs.inner.Operations.{changed_at, changed_by, changed_by_data, changed_by_data_at};
 
 use super::operation::{Operation, apply, set_flags};
-use crate::{data_address, find, find_usual, go_on, immediate_at, put, put_usual, value};
+use crate::go_on;
 use big_memory::{Did, Ram};
+use m68_ea::{data_address, find, find_usual, immediate_at, put, put_usual, value};
 use m68_isa::{Regs68, immediate_words, is_long, lower_of, mode_of, size_bits_of, upper_of};
 use mix_bits::{Fault, Size, trunc, with_low};
 
@@ -344,8 +345,7 @@ pub fn change_by_immediate(
     op: Operation,
 ) -> Did
     requires { IsChangeable word }
-    ensures { let size = size_of (first_of word).size in
-        Does (changed_at size op (1 + immediate_words_of size) (immediate_at_of (words_at ram.old regs.old.pc) 1 size) word regs.old ram.old) result fault.new regs.old regs.new ram.old ram.new }
+    ensures { Does (changed_by_data op word regs.old ram.old) result fault.new regs.old regs.new ram.old ram.new }
 {
     if mode_of(word) == 0 {
         return change_register_by_data(regs, ram, fault, word, op);
@@ -369,8 +369,7 @@ fn change_register_by_data(
     op: Operation,
 ) -> Did
     requires { (first_of word).mode ≡ 0 }
-    ensures { let size = size_of (first_of word).size in
-        Does (changed_at size op (1 + immediate_words_of size) (immediate_at_of (words_at ram.now regs.old.pc) 1 size) word regs.old ram.now) result fault.new regs.old regs.new ram.now ram.now }
+    ensures { Does (changed_by_data op word regs.old ram.now) result fault.new regs.old regs.new ram.now ram.now }
 {
     match size_bits_of(word) {
         0 => change_low_by_data(regs, ram, fault, word, Size::One, op),
@@ -391,7 +390,7 @@ fn change_low_by_data(
 ) -> Did
     requires some { size ≢ Zero }
     requires register { (first_of word).mode ≡ 0 }
-    ensures { Does (changed_at size op (1 + immediate_words_of size) (immediate_at_of (words_at ram.now regs.old.pc) 1 size) word regs.old ram.now) result fault.new regs.old regs.new ram.now ram.now }
+    ensures { Does (changed_by_data_at size op word regs.old ram.now) result fault.new regs.old regs.new ram.now ram.now }
 {
     let lower = lower_of(word);
     let by = immediate_at(ram, regs.pc, 1, size);
@@ -406,8 +405,7 @@ fn change_low_by_data(
 #[inline(never)]
 fn add_data(regs: &mut Regs68, ram: &mut Ram, fault: &mut Fault, word: u32) -> Did
     requires { IsChangeable word }
-    ensures { let size = size_of (first_of word).size in
-        Does (changed_at size Operation.Add (1 + immediate_words_of size) (immediate_at_of (words_at ram.old regs.old.pc) 1 size) word regs.old ram.old) result fault.new regs.old regs.new ram.old ram.new }
+    ensures { Does (changed_by_data Operation.Add word regs.old ram.old) result fault.new regs.old regs.new ram.old ram.new }
 {
     change_memory_by_data(regs, ram, fault, word, Operation::Add)
 }
@@ -416,8 +414,7 @@ fn add_data(regs: &mut Regs68, ram: &mut Ram, fault: &mut Fault, word: u32) -> D
 #[inline(never)]
 fn sub_data(regs: &mut Regs68, ram: &mut Ram, fault: &mut Fault, word: u32) -> Did
     requires { IsChangeable word }
-    ensures { let size = size_of (first_of word).size in
-        Does (changed_at size Operation.Sub (1 + immediate_words_of size) (immediate_at_of (words_at ram.old regs.old.pc) 1 size) word regs.old ram.old) result fault.new regs.old regs.new ram.old ram.new }
+    ensures { Does (changed_by_data Operation.Sub word regs.old ram.old) result fault.new regs.old regs.new ram.old ram.new }
 {
     change_memory_by_data(regs, ram, fault, word, Operation::Sub)
 }
@@ -426,8 +423,7 @@ fn sub_data(regs: &mut Regs68, ram: &mut Ram, fault: &mut Fault, word: u32) -> D
 #[inline(never)]
 fn and_data(regs: &mut Regs68, ram: &mut Ram, fault: &mut Fault, word: u32) -> Did
     requires { IsChangeable word }
-    ensures { let size = size_of (first_of word).size in
-        Does (changed_at size Operation.And (1 + immediate_words_of size) (immediate_at_of (words_at ram.old regs.old.pc) 1 size) word regs.old ram.old) result fault.new regs.old regs.new ram.old ram.new }
+    ensures { Does (changed_by_data Operation.And word regs.old ram.old) result fault.new regs.old regs.new ram.old ram.new }
 {
     change_memory_by_data(regs, ram, fault, word, Operation::And)
 }
@@ -436,8 +432,7 @@ fn and_data(regs: &mut Regs68, ram: &mut Ram, fault: &mut Fault, word: u32) -> D
 #[inline(never)]
 fn or_data(regs: &mut Regs68, ram: &mut Ram, fault: &mut Fault, word: u32) -> Did
     requires { IsChangeable word }
-    ensures { let size = size_of (first_of word).size in
-        Does (changed_at size Operation.Or (1 + immediate_words_of size) (immediate_at_of (words_at ram.old regs.old.pc) 1 size) word regs.old ram.old) result fault.new regs.old regs.new ram.old ram.new }
+    ensures { Does (changed_by_data Operation.Or word regs.old ram.old) result fault.new regs.old regs.new ram.old ram.new }
 {
     change_memory_by_data(regs, ram, fault, word, Operation::Or)
 }
@@ -452,8 +447,7 @@ fn change_memory_by_data(
     op: Operation,
 ) -> Did
     requires { IsChangeable word }
-    ensures { let size = size_of (first_of word).size in
-        Does (changed_at size op (1 + immediate_words_of size) (immediate_at_of (words_at ram.old regs.old.pc) 1 size) word regs.old ram.old) result fault.new regs.old regs.new ram.old ram.new }
+    ensures { Does (changed_by_data op word regs.old ram.old) result fault.new regs.old regs.new ram.old ram.new }
 {
     if change_usual_by_data(regs, ram, word, op) {
         Did::Next
@@ -465,8 +459,7 @@ fn change_memory_by_data(
 /// Tries to change an operand in memory of a usual mode by immediate data, and tells whether it is done.
 #[inline(always)]
 fn change_usual_by_data(regs: &mut Regs68, ram: &mut Ram, word: u32, op: Operation) -> bool
-    ensures { let size = size_of (first_of word).size in
-        Tries (changed_at size op (1 + immediate_words_of size) (immediate_at_of (words_at ram.old regs.old.pc) 1 size) word regs.old ram.old) result regs.old regs.new ram.old ram.new }
+    ensures { Tries (changed_by_data op word regs.old ram.old) result regs.old regs.new ram.old ram.new }
 {
     match size_bits_of(word) {
         0 => change_in_memory_by_data(regs, ram, word, Size::One, op),
@@ -485,7 +478,7 @@ fn change_in_memory_by_data(
     op: Operation,
 ) -> bool
     requires { size ≢ Zero }
-    ensures { Tries (changed_at size op (1 + immediate_words_of size) (immediate_at_of (words_at ram.old regs.old.pc) 1 size) word regs.old ram.old) result regs.old regs.new ram.old ram.new }
+    ensures { Tries (changed_by_data_at size op word regs.old ram.old) result regs.old regs.new ram.old ram.new }
 {
     let by = immediate_at(ram, regs.pc, 1, size);
     change_in_memory(regs, ram, word, 1 + immediate_words(size), size, op, by)
@@ -501,8 +494,7 @@ fn change_other_by_data(
     op: Operation,
 ) -> Did
     requires { IsChangeable word }
-    ensures { let size = size_of (first_of word).size in
-        Does (changed_at size op (1 + immediate_words_of size) (immediate_at_of (words_at ram.old regs.old.pc) 1 size) word regs.old ram.old) result fault.new regs.old regs.new ram.old ram.new }
+    ensures { Does (changed_by_data op word regs.old ram.old) result fault.new regs.old regs.new ram.old ram.new }
 {
     match size_bits_of(word) {
         0 => change_by_data(regs, ram, fault, word, Size::One, op),
@@ -523,7 +515,7 @@ fn change_by_data(
 ) -> Did
     requires some { size ≢ Zero }
     requires changeable { IsChangeable word }
-    ensures { Does (changed_at size op (1 + immediate_words_of size) (immediate_at_of (words_at ram.old regs.old.pc) 1 size) word regs.old ram.old) result fault.new regs.old regs.new ram.old ram.new }
+    ensures { Does (changed_by_data_at size op word regs.old ram.old) result fault.new regs.old regs.new ram.old ram.new }
 {
     let by = immediate_at(ram, regs.pc, 1, size);
     let first = 1 + immediate_words(size);

@@ -1,6 +1,6 @@
 // What the definitions of instructions say of one another: each law is a contract, and its body does nothing.
-ghost use Rattle.m68_effects.specs.Laws.{ExchangesBack, PopsAddress, PopsData, PopsEffective, Returns, ReturnsAtOnce, SwapsBack, Unlinks, UnlinksAtOnce};
-ghost use Rattle.m68_effects.specs.MovemLaws.{RestoresLongs, RestoresWords};
+ghost use Rattle.m68_effects.specs.laws.Laws.{ExchangesBack, PopsAddress, PopsData, PopsEffective, Returns, ReturnsAtOnce, SwapsBack, Unlinks, UnlinksAtOnce};
+ghost use Rattle.m68_effects.specs.laws.MovemLaws.{RestoresLongs, RestoresWords};
 
 /// What instructions that undo one another leave. It does nothing: the clauses are its point.
 ///

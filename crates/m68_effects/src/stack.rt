@@ -1,16 +1,16 @@
 ghost use Rattle.std.specs.Prelude.{slice_index};
 ghost use Rattle.mix_bits.specs.declared.size.Size.TheVariants.{Four};
 ghost use Rattle.m68_isa.specs.declared.ea.Ea.TheVariants.{Post, Pre};
-ghost use Rattle.m68_effects.specs.Finds.{Pops, Pushes, PushesIf};
-ghost use Rattle.big_memory.specs.Memory.{is_open};
-ghost use Rattle.m68_effects.specs.Operands.{put_into, sourced};
-ghost use Rattle.m68_effects.specs.Places.{backward as backward_of};
+ghost use Rattle.m68_effects.specs.Stack.{Pops, Pushes};
+ghost use Rattle.m68_effects.specs.inner.Stack.{PushesIf};
+ghost use Rattle.big_memory.specs.inner.Memory.{is_open};
+ghost use Rattle.m68_ea.specs.Operands.{put_into, sourced};
+ghost use Rattle.mix_bits.specs.Addresses.{backward as backward_of};
 
-use super::accesses::{load, store};
-use super::places::{backward, step};
 use big_memory::Ram;
+use m68_ea::{load, step, store};
 use m68_isa::Regs68;
-use mix_bits::{Fault, Size, onward};
+use mix_bits::{Fault, Size, backward, onward};
 
 /// Pushes a long, and tells whether it did: A7 is four lower, and points to it.
 #[inline(always)]

@@ -1,6 +1,6 @@
 -- A class of modes is the number with a bit for each of its places: computed over all 64 places.
 use Rattle.std.proofs.Common.{ℕ, ◌≡◌, ◌/◌, ◌%◌, ◌^◌, ◌==◌, Bool, true, false, if◌then◌else◌, not, arith, refl, subst}
-use Rattle.mix_bits.specs.Ranges.{every}
+use Rattle.mix_bits.specs.laws.Ranges.{every}
 use Rattle.mix_bits.proofs.Every.{every_at}
 use Rattle.m68_isa.specs.Classes.{Class, in_class}
 use Rattle.m68_isa.specs.Classes.Class.{Any, Data, Alterable, DataAlterable, MemoryAlterable, Control, ControlAlterable}

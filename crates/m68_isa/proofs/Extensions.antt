@@ -4,7 +4,7 @@ use Rattle.std.specs.Int.{cast_unsigned, w32}
 use Rattle.std.proofs.Math.Nat.{mod-mod}
 use Rattle.std.proofs.lemmas.Bool.{eqb-true}
 use Rattle.std.proofs.lemmas.Nat.{mod_below}
-use Rattle.mix_bits.specs.Ranges.{every}
+use Rattle.mix_bits.specs.laws.Ranges.{every}
 use Rattle.mix_bits.proofs.Every.{every_at}
 use Rattle.mix_bits.specs.Sizes.{sign_extended, signed_below}
 use Rattle.mix_bits.specs.declared.size.Size.TheVariants.{One, Two}

@@ -7,3 +7,4 @@ pub mod ClassBits
 mod Words
 mod Used
 pub mod Whole
+pub mod ByLetter

@@ -1,6 +1,7 @@
 -- A condition with its last bit turned is its opposite, by the eight pairs.
 use Rattle.std.proofs.Common.{◌≡◌, ◌&&◌, ◌||◌, not, Bool, true, false, zero, suc, refl, arith}
-use Rattle.m68_isa.specs.Conditions.{is_not_less, AreOpposite}
+use Rattle.m68_isa.specs.Conditions.{is_not_less}
+use Rattle.m68_isa.specs.laws.Conditions.{AreOpposite}
 
 -- what a pair of conditions says of the five codes
 both : (a b : Bool) → (a || b) ≡ not (not a && not b)

@@ -10,7 +10,7 @@ use Rattle.m68_isa.specs.First.{First, first_of}
 use Rattle.m68_isa.specs.declared.op.Op68.{Op68}
 use Rattle.m68_isa.specs.declared.op.Op68.TheVariants.{LineA, LineF}
 use Rattle.m68_isa.specs.Made.{made}
-use Rattle.m68_isa.specs.Needs.{used_by, HasUsed, AreSame, whole, IsKept}
+use Rattle.m68_isa.specs.laws.Needs.{used_by, HasUsed, AreSame, whole, IsKept}
 use Rattle.m68_isa.proofs.Used.{keeps}
 
 enough : (used count : ℕ) → used ≤ count → nat_lt count used ≡ false

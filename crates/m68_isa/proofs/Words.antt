@@ -6,7 +6,7 @@ use Rattle.mix_bits.specs.declared.size.Size.TheVariants.{Zero, One, Two, Four}
 use Rattle.m68_isa.specs.declared.ea.Ea.TheVariants.{Dn, An, Ind, Post, Pre, Disp, Indexed, AbsWord, AbsLong, PcDisp, PcIndexed, Imm}
 use Rattle.m68_isa.specs.declared.operand.Operand.{Operand}
 use Rattle.m68_isa.specs.Operands.{long_at, index_of, is_index, immediate_words, immediate_at, plain, special_at, operand_at}
-use Rattle.m68_isa.specs.Needs.{AreSame}
+use Rattle.m68_isa.specs.laws.Needs.{AreSame}
 
 -- an operand of at most two words from `at` on is the same with any words behind
 abbrev pub IsNear : ℕ → List ℕ → List ℕ → Operand → Operand → Type 0

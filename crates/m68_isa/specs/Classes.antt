@@ -1,6 +1,6 @@
 -- The classes of addressing modes
 -- (M68000 Family Programmer's Reference Manual, section 2.3).
-use Rattle.std.specs.Prelude.{ℕ, ◌≡◌, ◌==◌, ◌&&◌, ◌||◌, not, nat_lt, Bool, true, false}
+use Rattle.std.specs.Prelude.{ℕ, ◌==◌, ◌&&◌, ◌||◌, not, nat_lt, Bool, true, false}
 use Rattle.mix_bits.specs.declared.size.Size.{Size}
 use Rattle.mix_bits.specs.declared.size.Size.TheVariants.{Zero, One, Two, Four}
 
@@ -30,10 +30,6 @@ in_class DataAlterable mode register = not (mode == 1) && up_to 2 mode register
 in_class MemoryAlterable mode register = nat_lt 1 mode && up_to 2 mode register
 in_class Control mode register = ((mode == 2) || nat_lt 4 mode) && up_to 4 mode register
 in_class ControlAlterable mode register = ((mode == 2) || nat_lt 4 mode) && up_to 2 mode register
-
--- a place that may be written: no immediate value, and none that the program counter gives
-unfoldable pub IsAlterable : ℕ → ℕ → Type 0
-IsAlterable mode register = in_class Alterable mode register ≡ true
 
 abbrev pub is_byte : Size → Bool
 is_byte Zero = false

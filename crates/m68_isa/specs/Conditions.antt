@@ -1,6 +1,6 @@
 -- The conditions of branches, scc and dbcc
 -- (M68000 Family Programmer's Reference Manual, table 3-19).
-use Rattle.std.specs.Prelude.{ℕ, ◌≡◌, ◌+◌, ◌*◌, ◌<◌, ◌==◌, ◌&&◌, ◌||◌, not, Bool, true, false, if◌then◌else◌}
+use Rattle.std.specs.Prelude.{ℕ, ◌==◌, ◌&&◌, ◌||◌, not, Bool, true, false, if◌then◌else◌}
 use Rattle.m68_isa.specs.declared.registers.Ccr.{Ccr}
 
 -- N and V are the same: the signed number that was compared is not below the other
@@ -26,7 +26,3 @@ holds condition c =
     else if condition == 13 then not (is_not_less c)
     else if condition == 14 then is_not_less c && not c.z
     else not (is_not_less c) || c.z
-
--- a condition with its last bit turned is its opposite
-abbrev pub AreOpposite : Type 0
-AreOpposite = (k : ℕ) (c : Ccr) → k < 8 → holds (2 * k + 1) c ≡ not (holds (2 * k) c)

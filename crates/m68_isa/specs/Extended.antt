@@ -9,8 +9,6 @@ use Rattle.m68_isa.specs.declared.instructions.Instr68.{Instr68}
 use Rattle.m68_isa.specs.declared.instructions.Instr68.TheVariants.{Immediate, ImmediateToCcr, BitByRegister, BitByNumber, Movep, Move, Movea, Negx, Clr, Neg, Not, MoveFromSr, MoveToCcr, Nbcd, Swap, Pea, Ext, MovemToMemory, MovemFromMemory, MulLong, DivLong, Tst, Tas, Trap, Link, Unlk, Nop, Rtd, Rts, Trapv, Rtr, Jsr, Jmp, Chk, Lea, Addq, Subq, Scc, Dbcc, Bcc, Moveq, Or, Div, Sbcd, Sub, Suba, Subx, Cmp, Cmpa, Eor, Cmpm, And, Mul, Abcd, Exg, Add, Adda, Addx, Shift, ShiftMemory}
 use Rattle.m68_isa.specs.declared.instructions.Decoded68.{Decoded68}
 use Rattle.m68_isa.specs.declared.instructions.Decoded68.TheVariants.{Op, LineA, LineF, Privileged, Illegal, Short}
-use Rattle.m68_isa.specs.declared.found.Found.{Found}
-use Rattle.m68_isa.specs.declared.found.Found.TheVariants.{Made, Privileged as RowPrivileged, Illegal as RowIllegal}
 
 -- a word with its sign repeated above it
 abbrev pub IsWord : ℕ → Type 0
@@ -104,11 +102,6 @@ IsExtended (Abcd memory from to) used = Unit {0}
 IsExtended (Exg kind upper lower) used = Unit {0}
 IsExtended (Addx size memory from to) used = Unit {0}
 IsExtended (Shift op left size count register) used = Unit {0}
-
-abbrev pub IsExtendedFound : Found → Type 0
-IsExtendedFound (Made i used good) = IsExtended i used
-IsExtendedFound RowPrivileged = Unit {0}
-IsExtendedFound RowIllegal = Unit {0}
 
 abbrev pub IsExtendedDecoded : Decoded68 → Type 0
 IsExtendedDecoded (Op i used) = IsExtended i used

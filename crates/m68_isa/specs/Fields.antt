@@ -10,8 +10,6 @@ use Rattle.m68_isa.specs.declared.instructions.Instr68.{Instr68}
 use Rattle.m68_isa.specs.declared.instructions.Instr68.TheVariants.{Immediate, ImmediateToCcr, BitByRegister, BitByNumber, Movep, Move, Movea, Negx, Clr, Neg, Not, MoveFromSr, MoveToCcr, Nbcd, Swap, Pea, Ext, MovemToMemory, MovemFromMemory, MulLong, DivLong, Tst, Tas, Trap, Link, Unlk, Nop, Rtd, Rts, Trapv, Rtr, Jsr, Jmp, Chk, Lea, Addq, Subq, Scc, Dbcc, Bcc, Moveq, Or, Div, Sbcd, Sub, Suba, Subx, Cmp, Cmpa, Eor, Cmpm, And, Mul, Abcd, Exg, Add, Adda, Addx, Shift, ShiftMemory}
 use Rattle.m68_isa.specs.declared.instructions.Decoded68.{Decoded68}
 use Rattle.m68_isa.specs.declared.instructions.Decoded68.TheVariants.{Op, LineA, LineF, Privileged, Illegal, Short}
-use Rattle.m68_isa.specs.declared.found.Found.{Found}
-use Rattle.m68_isa.specs.declared.found.Found.TheVariants.{Made, Privileged as RowPrivileged, Illegal as RowIllegal}
 
 -- a scale is one of the four
 abbrev pub IsScale : ℕ → Type 0
@@ -100,11 +98,6 @@ HasFields (Adda size from to) = (size ≢ Zero) × (HasRegisters from) × (to < 
 HasFields (Addx size memory from to) = (size ≢ Zero) × (from < 8) × (to < 8)
 HasFields (Shift op left size count register) = (size ≢ Zero) × (HasCount count) × (register < 8)
 HasFields (ShiftMemory op left to) = HasRegisters to
-
-abbrev pub HasFound : Found → Type 0
-HasFound (Made i used good) = HasFields i × (0 < used) × (used ≤ 5)
-HasFound RowPrivileged = Unit {0}
-HasFound RowIllegal = Unit {0}
 
 abbrev pub HasDecoded : Decoded68 → Type 0
 HasDecoded (Op i used) = HasFields i

@@ -1,6 +1,6 @@
 -- The parts of an instruction's first word
 -- (M68000 Family Programmer's Reference Manual, section 8).
-use Rattle.std.specs.Prelude.{ℕ, ◌+◌, ◌*◌, ◌<◌, ◌==◌, if◌then◌else◌}
+use Rattle.std.specs.Prelude.{ℕ, ◌+◌, ◌*◌, ◌==◌, if◌then◌else◌}
 use Rattle.mix_bits.specs.Digits.{digit_of}
 use Rattle.mix_bits.specs.declared.size.Size.{Size}
 use Rattle.mix_bits.specs.declared.size.Size.TheVariants.{One, Two, Four}
@@ -20,10 +20,6 @@ pub record First : Type 0 where
 
 abbrev pub first_of : ℕ → First
 first_of w = record { line = digit_of w 12 4; upper = digit_of w 9 3; bit8 = digit_of w 8 1; size = digit_of w 6 2; mode = digit_of w 3 3; lower = digit_of w 0 3 }
-
--- each part has no more than its bits
-abbrev pub IsFirst : First → Type 0
-IsFirst f = (f.line < 16) × (f.upper < 8) × (f.bit8 < 2) × (f.size < 4) × (f.mode < 8) × (f.lower < 8)
 
 -- 00 byte, 01 word, 10 long
 abbrev pub size_of : ℕ → Size

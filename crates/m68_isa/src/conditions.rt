@@ -1,5 +1,6 @@
 ghost use Rattle.std.specs.Prelude.{◌≡◌, ◌<◌};
-ghost use Rattle.m68_isa.specs.Conditions.{is_not_less, holds, AreOpposite};
+ghost use Rattle.m68_isa.specs.Conditions.{is_not_less, holds};
+ghost use Rattle.m68_isa.specs.laws.Conditions.{AreOpposite};
 
 use super::registers::Ccr;
 

@@ -1,9 +1,11 @@
 ghost use Rattle.std.specs.Prelude.{◌≡◌, ◌<◌, length, slice_index};
-ghost use Rattle.m68_isa.specs.Fields.{HasFound, HasDecoded, HasWords};
-ghost use Rattle.m68_isa.specs.Extended.{IsExtendedFound, IsExtendedDecoded};
+ghost use Rattle.m68_isa.specs.inner.Fields.{HasFound};
+ghost use Rattle.m68_isa.specs.Fields.{HasDecoded, HasWords};
+ghost use Rattle.m68_isa.specs.inner.Extended.{IsExtendedFound};
+ghost use Rattle.m68_isa.specs.Extended.{IsExtendedDecoded};
 ghost use Rattle.m68_isa.specs.Decode.{ended, read as read_lem, decoded};
 ghost use Rattle.m68_isa.specs.First.{first_of};
-ghost use Rattle.m68_isa.specs.Fits.{Fits};
+ghost use Rattle.m68_isa.specs.laws.Fits.{Fits};
 
 use super::found::Found;
 use super::instructions::Decoded68;

@@ -4,7 +4,7 @@ ghost use Rattle.m68_isa.specs.Immediates.{has_logic};
 ghost use Rattle.m68_isa.specs.Classes.{in_class};
 ghost use Rattle.m68_isa.specs.Classes.Class.{DataAlterable};
 ghost use Rattle.m68_isa.specs.Decode.{operation};
-ghost use Rattle.m68_isa.specs.Fits.{Fits};
+ghost use Rattle.m68_isa.specs.laws.Fits.{Fits};
 
 use super::fields::{bit8_of, mode_of, size_bits_of, upper_of};
 use super::op::Op68;

@@ -1,5 +1,5 @@
-ghost use Rattle.m68_isa.specs.Longs.{LongLaws};
-ghost use Rattle.m68_isa.specs.Needs.{IsKept, OpLaws};
+ghost use Rattle.m68_isa.specs.laws.Longs.{LongLaws};
+ghost use Rattle.m68_isa.specs.laws.Needs.{IsKept, OpLaws};
 
 /// What holds of every operation. It does nothing: the clause is its point.
 pub fn op_laws()

@@ -1,8 +1,9 @@
 //! The 68000 as a program sees it: its registers, and its instructions as words, with the user instructions of the
 //! 68020 that are taken: long branches, extb.l, link.l, rtd, long multiplication and division, scaled index.
 //!
-//! The table of `specs/Decode` gives each first word its operation, and `op_of` answers it; the fields of the word
-//! stand beside it one by one. `decode68` gives the instruction that the operation makes of the words.
+//! The table of `specs/Decode` gives each first word its operation, and `op_of_word` answers it from a constant, a letter
+//! for each word; the fields of the word stand beside it one by one. `decode68` gives the instruction that the operation
+//! makes of the words.
 #![tactic(auto)]
 
 mod arithmetic;
@@ -14,6 +15,8 @@ mod found;
 mod immediates;
 mod instructions;
 mod laws;
+mod lettered;
+mod letters;
 mod made;
 mod miscellaneous;
 mod moves;
@@ -41,8 +44,7 @@ pub use instructions::{
 pub use laws::{long_laws, op_laws, reading_law};
 pub use op::Op68;
 pub use operand::{immediate_words, word_at};
-pub use operations::Operations;
-pub use read::op_of;
+pub use operations::op_of_word;
 pub use register_word::{high_of, is_register_word, is_signed, is_wide, low_of};
 pub use registers::{Ccr, Regs68};
 pub use target::branch_target;

@@ -7,10 +7,12 @@ ghost use Rattle.m68_isa.specs.Immediates.{immediate_with};
 ghost use Rattle.m68_isa.specs.Moves.{moved_of};
 ghost use Rattle.m68_isa.specs.Miscellaneous.{extension as extension_lem};
 ghost use Rattle.m68_isa.specs.Made.{made as made_lem};
-ghost use Rattle.m68_isa.specs.Fits.{Fits};
-ghost use Rattle.m68_isa.specs.Lines.{IsFromLine4, IsFromLine5, IsFromLine9, IsFromTest};
-ghost use Rattle.m68_isa.specs.Fields.{HasFound, HasRegisters};
-ghost use Rattle.m68_isa.specs.Extended.{IsExtendedEa, IsExtendedFound};
+ghost use Rattle.m68_isa.specs.laws.Fits.{Fits};
+ghost use Rattle.m68_isa.specs.inner.Lines.{IsFromLine4, IsFromLine5, IsFromLine9, IsFromTest};
+ghost use Rattle.m68_isa.specs.inner.Fields.{HasFound};
+ghost use Rattle.m68_isa.specs.Fields.{HasRegisters};
+ghost use Rattle.m68_isa.specs.Extended.{IsExtendedEa};
+ghost use Rattle.m68_isa.specs.inner.Extended.{IsExtendedFound};
 
 use super::fields::{
     bit_op_of, byte_of, condition_of, exchange_of, is_in_memory, is_left, is_to_memory,

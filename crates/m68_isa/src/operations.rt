@@ -1,52 +1,50 @@
-// The operations of all first words, found once.
-ghost use Rattle.std.specs.Prelude.{◌≡◌, ◌<◌, ◌^◌};
+// The operation of a first word, read from a constant.
+ghost use Rattle.std.specs.Prelude.{◌≡◌, ◌<◌, ◌^◌, length};
 ghost use Rattle.m68_isa.specs.Decode.{operation};
 ghost use Rattle.m68_isa.specs.First.{first_of};
-ghost use Rattle.m68_isa.specs.Fits.{Fits};
+ghost use Rattle.m68_isa.specs.laws.Fits.{Fits};
+ghost use Rattle.m68_isa.specs.inner.Letters.{letters, lettered};
 
+use super::lettered::LETTERED;
+use super::letters::LETTERS;
 use super::op::Op68;
 use super::read::op_of;
-use mix_bits::NoMemory;
-use std::alloc::Global;
-use std::marker::Model;
 
-/// How many first words there are.
-const FIRST_WORDS: usize = 0x1_0000;
-
-/// The operation of each first word, found once for a whole run: a byte each. It stands for nothing, since one is like
-/// another.
-#[derive(Drop)]
-pub struct Operations {
-    items: Vec<Op68>,
+/// The operation of a first word, as `op_of` finds it, by two looks into constants.
+#[inline(always)]
+#[tactic(auto, using(crate::proofs::ByLetter::found))]
+pub fn op_of_word(word: u32) -> Op68
+    requires { word < 2 ^ 16 }
+    ensures value { result ≡ operation (first_of word) }
+    ensures fits { Fits result word }
+{
+    fits_law(word);
+    let letter = all_letters()[word as usize];
+    all_lettered()[letter as usize]
 }
 
-impl Model for Operations {
-    ghost use Rattle.m68_isa.specs.Operations.{AreOperations};
-
-    ghost Value = { Unit {0} };
-
-    ghost view = { λ operations. record {} };
-
-    ghost invariant = { λ operations. AreOperations operations.items.items };
+/// The letters of all first words.
+#[inline(always)]
+fn all_letters() -> &'static [u8]
+    ensures is { result.now ≡ letters }
+    ensures all { length result.now ≡ 65536 }
+{
+    LETTERS
 }
 
-impl Operations {
-    /// Finds them all.
-    pub fn new(alloc: Global) -> Result<Operations, NoMemory> {
-        let mut items = vec![in alloc; Op68::Illegal; FIRST_WORDS]?;
-        'words: for word in 0..FIRST_WORDS {
-            items[word] = op_of(word as u32);
-        }
-        Ok(Operations { items })
-    }
+/// The operations of all letters.
+#[inline(always)]
+fn all_lettered() -> &'static [Op68]
+    ensures is { result.now ≡ lettered }
+    ensures all { length result.now ≡ 256 }
+{
+    &LETTERED
+}
 
-    /// The operation of a first word, as `op_of` finds it.
-    #[inline(always)]
-    pub fn of(&self, word: u32) -> Op68
-        requires { word < 2 ^ 16 }
-        ensures value { result ≡ operation (first_of word) }
-        ensures fits { Fits result word }
-    {
-        self.items[word as usize]
-    }
+/// That the row of an operation has what the operation asks of the word. The clause is its point.
+#[inline(always)]
+fn fits_law(word: u32)
+    ensures { Fits (operation (first_of word)) word }
+{
+    let _op = op_of(word);
 }

@@ -1,7 +1,7 @@
 ghost use Rattle.std.specs.Prelude.{◌≡◌, ◌/◌, ◌%◌, ◌^◌, ◌==◌, ◌&&◌, ◌||◌, IsTrue, not, nat_lt};
 ghost use Rattle.m68_isa.specs.First.{first_of, size_of};
 ghost use Rattle.m68_isa.specs.Classes.{in_class, is_source};
-ghost use Rattle.m68_isa.specs.Fits.{IsBitChangeable, IsChangeable, IsDestination};
+ghost use Rattle.m68_isa.specs.laws.Fits.{IsBitChangeable, IsChangeable, IsDestination};
 ghost use Rattle.m68_isa.specs.Immediates.{bit_class, is_immediate};
 ghost use Rattle.m68_isa.specs.Moves.{move_mode};
 ghost use Rattle.m68_isa.specs.Classes.Class.{Any, Data, Alterable, DataAlterable, MemoryAlterable, Control, ControlAlterable};
@@ -56,7 +56,7 @@ pub fn is_data(word: u32) -> bool
 }
 
 #[inline(always)]
-#[tactic(auto, using(crate::proofs::ClassBits::alterable_places), unfolding(crate::specs::Classes::IsAlterable))]
+#[tactic(auto, using(crate::proofs::ClassBits::alterable_places), unfolding(crate::specs::ClassesClauses::IsAlterable))]
 pub fn is_alterable(word: u32) -> bool
     ensures value { result ≡ in_class Alterable (first_of word).mode (first_of word).lower }
     ensures alterable { IsTrue result → IsChangeable word }
@@ -65,7 +65,7 @@ pub fn is_alterable(word: u32) -> bool
 }
 
 #[inline(always)]
-#[tactic(auto, using(crate::proofs::ClassBits::data_alterable_places), unfolding(crate::specs::Classes::IsAlterable))]
+#[tactic(auto, using(crate::proofs::ClassBits::data_alterable_places), unfolding(crate::specs::ClassesClauses::IsAlterable))]
 pub fn is_data_alterable(word: u32) -> bool
     ensures value { result ≡ in_class DataAlterable (first_of word).mode (first_of word).lower }
     ensures alterable { IsTrue result → IsChangeable word }
@@ -74,7 +74,7 @@ pub fn is_data_alterable(word: u32) -> bool
 }
 
 #[inline(always)]
-#[tactic(auto, using(crate::proofs::ClassBits::memory_alterable_places), unfolding(crate::specs::Classes::IsAlterable))]
+#[tactic(auto, using(crate::proofs::ClassBits::memory_alterable_places), unfolding(crate::specs::ClassesClauses::IsAlterable))]
 pub fn is_memory_alterable(word: u32) -> bool
     ensures value { result ≡ in_class MemoryAlterable (first_of word).mode (first_of word).lower }
     ensures alterable { IsTrue result → IsChangeable word }
@@ -150,7 +150,7 @@ pub fn is_data_alterable_sized(word: u32) -> bool
 
 /// Whether the destination of a move is data alterable.
 #[inline(always)]
-#[tactic(auto, unfolding(crate::specs::Classes::IsAlterable))]
+#[tactic(auto, unfolding(crate::specs::ClassesClauses::IsAlterable))]
 pub fn is_destination(word: u32) -> bool
     ensures value { result ≡ in_class DataAlterable (move_mode (first_of word)) (first_of word).upper }
     ensures alterable { IsTrue result → IsDestination word }

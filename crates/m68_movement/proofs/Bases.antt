@@ -10,16 +10,16 @@ use Rattle.m68_isa.specs.declared.instructions.Instr68.TheVariants.{MovemFromMem
 use Rattle.m68_isa.specs.First.{long_or_word}
 use Rattle.m68_isa.specs.Rows.{taken}
 use Rattle.big_memory.specs.declared.steps.Did.{Did}
-use Rattle.big_memory.specs.Steps.{Does}
+use Rattle.big_memory.specs.StepsClauses.{Does}
 use Rattle.m68_isa.specs.declared.ea.Ea.{Ea}
 use Rattle.m68_isa.specs.declared.operand.Operand.{Operand}
 use Rattle.m68_isa.specs.declared.registers.Regs68.{Regs68}
 use Rattle.m68_isa.specs.Operands.{operand_at}
 use Rattle.big_memory.specs.Memory.{Memory}
-use Rattle.m68_effects.specs.Places.{address_of}
-use Rattle.m68_effects.specs.Finds.{FindsControl}
+use Rattle.m68_ea.specs.Places.{address_of}
+use Rattle.m68_ea.specs.inner.Finds.{FindsControl}
 use Rattle.m68_effects.specs.Multiple.{movem_from_memory, movem_onto, movem_out_of, movem_to_memory}
-use Rattle.m68_effects.specs.Ops.{runs_made}
+use Rattle.m68_effects.specs.laws.Ops.{runs_made}
 use Rattle.m68_effects.specs.Parts.{after}
 
 apart : (n k : ℕ) → n ≢ k → (n == k) ≡ false

@@ -3,12 +3,12 @@ use Rattle.std.proofs.Common.{◌≡◌, ℕ, suc, ◌+◌, ◌-◌, ◌*◌, �
 use Rattle.mix_bits.specs.declared.size.Size.{Size}
 use Rattle.mix_bits.specs.declared.fault.Fault.{Fault}
 use Rattle.mix_bits.specs.Sizes.{bytes_of}
-use Rattle.big_memory.specs.Laws.{PassesWithin}
+use Rattle.big_memory.specs.laws.Laws.{PassesWithin}
 use Rattle.big_memory.specs.Memory.{Memory, IsRam, refusal, stored}
-use Rattle.big_memory.specs.Stores.{OnlyFree}
-use Rattle.m68_effects.specs.Places.{backward}
+use Rattle.big_memory.specs.StoresClauses.{OnlyFree}
+use Rattle.mix_bits.specs.Addresses.{backward}
 use Rattle.m68_effects.specs.Multiple.{stored_down}
-use Rattle.m68_movement.specs.Along.{CanStore}
+use Rattle.m68_movement.specs.inner.Along.{CanStore}
 
 -- the place of the next one
 pub place_below : (at n : ℕ) → n ≤ at → at < 2 ^ 32 → at - n ≡ backward at n

@@ -12,8 +12,8 @@ use Rattle.mix_bits.specs.Sizes.{bytes_of, sign_extended}
 use Rattle.mix_bits.specs.Addresses.{onward}
 use Rattle.m68_isa.specs.declared.registers.Regs68.{Regs68}
 use Rattle.big_memory.specs.Memory.{Memory}
-use Rattle.m68_effects.specs.Operands.{loaded_at}
-use Rattle.m68_effects.specs.Places.{with_address, with_data}
+use Rattle.m68_ea.specs.Operands.{loaded_at}
+use Rattle.m68_ea.specs.Places.{with_address, with_data}
 use Rattle.m68_effects.specs.Multiple.{listed, loaded_along, with_register}
 
 apart : (d : ℕ) → d ≢ 1 → (d == 1) ≡ false

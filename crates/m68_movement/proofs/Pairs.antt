@@ -6,7 +6,8 @@ use Rattle.mix_bits.specs.declared.fault.Fault.{Fault}
 use Rattle.m68_isa.specs.declared.registers.Regs68.{Regs68}
 use Rattle.big_memory.specs.Memory.{Memory}
 use Rattle.big_memory.specs.declared.steps.Did.{Did}
-use Rattle.big_memory.specs.Steps.{After, Does}
+use Rattle.big_memory.specs.Steps.{After}
+use Rattle.big_memory.specs.StepsClauses.{Does}
 use Rattle.big_memory.specs.Steps.After.{Stops}
 use Rattle.m68_effects.specs.Parts.{Effect, after}
 

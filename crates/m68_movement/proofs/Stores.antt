@@ -10,14 +10,14 @@ use Rattle.mix_bits.specs.Results.{◌>>=◌}
 use Rattle.byteorder.specs.Endian.{big_bytes}
 use Rattle.big_memory.specs.declared.refusals.Access.{Access}
 use Rattle.big_memory.specs.Faults.{fault_of}
-use Rattle.big_memory.specs.Laws.{FreeJoins, FreeKeepsRam, FreeKeepsRefusals, StoresAreFree}
+use Rattle.big_memory.specs.laws.Laws.{FreeJoins, FreeKeepsRam, FreeKeepsRefusals, StoresAreFree}
 use Rattle.big_memory.specs.Memory.{Memory, IsRam, refusal, stored}
 use Rattle.big_memory.specs.Stores.{stored_value}
 use Rattle.big_memory.proofs.Longs.{size-bytes}
-use Rattle.m68_effects.specs.Places.{backward}
-use Rattle.m68_effects.specs.Operands.{stored_at}
+use Rattle.mix_bits.specs.Addresses.{backward}
+use Rattle.m68_ea.specs.Operands.{stored_at}
 use Rattle.m68_effects.specs.Multiple.{stored_along, stored_down}
-use Rattle.m68_movement.specs.Along.{CanStore, CanStoreAll}
+use Rattle.m68_movement.specs.inner.Along.{CanStore, CanStoreAll}
 
 bind-same : (x : Result Memory Fault) (f g : Memory → Result Memory Fault) → ((n : Memory) → f n ≡ g n) → (x >>= f) ≡ (x >>= g)
 bind-same (Ok n) f g same = same n

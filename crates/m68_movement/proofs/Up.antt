@@ -5,9 +5,9 @@ use Rattle.mix_bits.specs.declared.size.Size.{Size}
 use Rattle.mix_bits.specs.Addresses.{onward}
 use Rattle.mix_bits.specs.Sizes.{bytes_of}
 use Rattle.big_memory.specs.declared.refusals.Access.{Access}
-use Rattle.big_memory.specs.Laws.{InMemoryWithin}
+use Rattle.big_memory.specs.laws.Laws.{InMemoryWithin}
 use Rattle.big_memory.specs.Memory.{Memory, in_memory, loaded}
-use Rattle.m68_effects.specs.Operands.{loaded_at}
+use Rattle.m68_ea.specs.Operands.{loaded_at}
 
 pub there_above : (m : Memory) (a at k n : ℕ) → InMemoryWithin → in_memory m a 64 ≡ true → a ≤ at → at ≤ a + 4 * k → k < 16 → n ≤ 4 → in_memory m at n ≡ true
 there_above m a at k n within all low high below few = within m a 64 at n all low (omega arith)

@@ -7,8 +7,8 @@ use Rattle.m68_isa.specs.First.{first_of}
 use Rattle.m68_isa.specs.Moves.{move_mode}
 use Rattle.big_memory.specs.Memory.{Memory}
 use Rattle.big_memory.specs.declared.steps.Did.{Did}
-use Rattle.big_memory.specs.Steps.{Does}
-use Rattle.m68_movement.specs.Moves.{moved, moves}
+use Rattle.big_memory.specs.StepsClauses.{Does}
+use Rattle.m68_movement.specs.inner.Moves.{moved, moves}
 
 same_move : (r q : Regs68) (m n : Memory) (word : ℕ) (did : Did) (cell : Fault) (s size : Size) (a b c d mode lower to upper : ℕ)
     → s ≡ size → a ≡ mode → b ≡ lower → c ≡ to → d ≡ upper

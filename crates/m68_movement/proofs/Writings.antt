@@ -10,11 +10,13 @@ use Rattle.m68_isa.specs.declared.operand.Operand.{Operand}
 use Rattle.big_memory.specs.declared.steps.Did.{Did}
 use Rattle.big_memory.specs.declared.steps.Did.TheVariants.{Next}
 use Rattle.big_memory.specs.Memory.{Memory}
-use Rattle.big_memory.specs.Steps.{After, Does}
+use Rattle.big_memory.specs.Steps.{After}
+use Rattle.big_memory.specs.StepsClauses.{Does}
 use Rattle.big_memory.specs.Steps.After.{Goes, Stops}
-use Rattle.big_memory.specs.Stores.{OnlyFree}
-use Rattle.m68_effects.specs.Operands.{put_into, unless_illegal}
-use Rattle.m68_effects.specs.Operations.{runs_with}
+use Rattle.big_memory.specs.StoresClauses.{OnlyFree}
+use Rattle.m68_ea.specs.Operands.{put_into}
+use Rattle.m68_ea.specs.Finds.{unless_illegal}
+use Rattle.m68_effects.specs.laws.Operations.{runs_with}
 use Rattle.m68_effects.specs.Parts.{Effect, after, goes_on}
 use Rattle.m68_effects.specs.Step.{stops}
 

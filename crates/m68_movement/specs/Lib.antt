@@ -1,3 +1,2 @@
 pub mod Parts
-pub mod Along
-pub mod Moves
+pub mod inner

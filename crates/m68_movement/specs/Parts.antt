@@ -5,19 +5,12 @@ use Rattle.mix_bits.specs.declared.fault.Fault.{Fault}
 use Rattle.m68_isa.specs.declared.registers.Regs68.{Regs68}
 use Rattle.m68_isa.specs.declared.operand.Operand.{Operand}
 use Rattle.big_memory.specs.Memory.{Memory}
-use Rattle.big_memory.specs.Stores.{OnlyFree}
-use Rattle.mix_bits.specs.Results.{◌>>=◌}
-use Rattle.m68_effects.specs.Operands.{put_into, unless_illegal}
-use Rattle.m68_effects.specs.Parts.{Effect, goes_on, pushed}
+use Rattle.big_memory.specs.StoresClauses.{OnlyFree}
+use Rattle.m68_ea.specs.Operands.{put_into}
+use Rattle.m68_ea.specs.Finds.{unless_illegal}
 
 -- an operand e that is found, and a value that is written there; what can't be done has changed nothing
 abbrev pub Writes : Regs68 → Memory → ℕ → Size → Operand → ℕ → Bool → ℕ → Fault → Regs68 → Memory → Type 0
 Writes r m first s e v true next cell q n =
     (e.good ≡ true) × (put_into r m s e.ea v ≡ Ok (q, n)) × (next ≡ e.next) × (q.pc ≡ r.pc) × (q.ccr ≡ r.ccr) × OnlyFree m n
 Writes r m first s e v false next cell q n = (unless_illegal r.pc first e.good (put_into r m s e.ea v) ≡ Err cell) × (q ≡ r) × (n ≡ m)
-
--- a long that is pushed by an instruction with `next` behind it
-abbrev pub pushes : Regs68 → Memory → ℕ → ℕ → Effect
-pushes r m next value =
-    pushed r m value >>= λ (q, n).
-    goes_on next q n

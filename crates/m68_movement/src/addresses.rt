@@ -2,20 +2,19 @@
 ghost use Rattle.std.specs.Prelude.{◌*◌, ◌≤◌};
 ghost use Rattle.mix_bits.specs.Addresses.{onward as onward_of};
 ghost use Rattle.m68_isa.specs.First.{first_of};
-ghost use Rattle.big_memory.specs.Steps.{Does};
-ghost use Rattle.m68_effects.specs.Usual.{Tries};
+ghost use Rattle.big_memory.specs.StepsClauses.{Does};
+ghost use Rattle.m68_effects.specs.laws.Tried.{Tries};
 ghost use Rattle.m68_effects.specs.Movement.{link as link_of};
-ghost use Rattle.m68_effects.specs.Ops.{by_op};
+ghost use Rattle.m68_effects.specs.laws.Ops.{by_op};
 ghost use Rattle.m68_effects.specs.Parts.{after};
-ghost use Rattle.m68_isa.specs.Fits.{Fits};
-ghost use Rattle.m68_movement.specs.Parts.{pushes};
+ghost use Rattle.m68_isa.specs.laws.Fits.{Fits};
+ghost use Rattle.m68_movement.specs.inner.Parts.{pushes};
 
 use big_memory::{Did, Ram};
-use m68_effects::{
-    backward, control, extended_word, go_on, long_at, pop, push, push_if_open, store,
-};
+use m68_ea::{control, extended_word, long_at, store};
+use m68_effects::{go_on, pop, push, push_if_open};
 use m68_isa::{Op68, Regs68, lower_of, mode_of, upper_of};
-use mix_bits::{Fault, Size, onward};
+use mix_bits::{Fault, Size, backward, onward};
 
 /// lea: the address of an operand into an address register.
 #[inline(never)]

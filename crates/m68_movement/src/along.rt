@@ -2,14 +2,14 @@
 ghost use Rattle.std.specs.Prelude.{◌≡◌, ◌≢◌, Ok};
 ghost use Rattle.std.specs.Result.{IsOk};
 ghost use Rattle.mix_bits.specs.declared.size.Size.TheVariants.{Zero};
-ghost use Rattle.big_memory.specs.Stores.{OnlyFree};
-ghost use Rattle.m68_effects.specs.Finds.{Stored};
+ghost use Rattle.big_memory.specs.StoresClauses.{OnlyFree};
+ghost use Rattle.m68_ea.specs.Finds.{Stored};
 ghost use Rattle.m68_effects.specs.Multiple.{stored_along, stored_down};
-ghost use Rattle.m68_movement.specs.Along.{CanStore, CanStoreAll};
+ghost use Rattle.m68_movement.specs.inner.Along.{CanStore, CanStoreAll};
 
 use big_memory::{Ram, memory_laws};
-use m68_effects::{backward, store};
-use mix_bits::{Fault, Size, onward};
+use m68_ea::store;
+use mix_bits::{Fault, Size, backward, onward};
 
 /// Stores values one after another, each `step` bytes behind the one before, for the instruction at `pc`,
 /// and tells whether it did: all of them, or none where one can't be stored.

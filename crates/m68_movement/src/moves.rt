@@ -2,26 +2,25 @@ ghost use Rattle.std.specs.Prelude.{◌≡◌, ◌<◌, ◌≤◌, true, Ok};
 ghost use Rattle.mix_bits.specs.declared.size.Size.{Size as ASize};
 ghost use Rattle.mix_bits.specs.declared.size.Size.TheVariants.{One, Two, Four};
 ghost use Rattle.m68_isa.specs.declared.instructions.Instr68.TheVariants.{Movea};
-ghost use Rattle.m68_isa.specs.Classes.{IsAlterable};
+ghost use Rattle.m68_isa.specs.ClassesClauses.{IsAlterable};
 ghost use Rattle.m68_isa.specs.First.{first_of};
-ghost use Rattle.m68_isa.specs.Fits.{Fits, IsDestination};
+ghost use Rattle.m68_isa.specs.laws.Fits.{Fits, IsDestination};
 ghost use Rattle.m68_isa.specs.Moves.{move_mode};
 ghost use Rattle.m68_isa.specs.Operands.{operand_at};
 ghost use Rattle.m68_isa.specs.Rows.{taken};
-ghost use Rattle.big_memory.specs.Steps.{Does};
-ghost use Rattle.m68_effects.specs.Finds.{IsAt};
-ghost use Rattle.m68_effects.specs.Operands.{sourced};
-ghost use Rattle.m68_effects.specs.Usual.{Tries};
-ghost use Rattle.m68_effects.specs.Words.{words_at};
-ghost use Rattle.m68_effects.specs.Ops.{by_op, runs_made};
-ghost use Rattle.m68_movement.specs.Moves.{moved, moves};
+ghost use Rattle.big_memory.specs.StepsClauses.{Does};
+ghost use Rattle.m68_ea.specs.inner.Finds.{IsAt};
+ghost use Rattle.m68_ea.specs.Operands.{sourced};
+ghost use Rattle.m68_effects.specs.laws.Tried.{Tries};
+ghost use Rattle.m68_ea.specs.Words.{words_at};
+ghost use Rattle.m68_effects.specs.laws.Ops.{by_op, runs_made};
+ghost use Rattle.m68_movement.specs.inner.Moves.{moved, moves};
 
 use super::parts::write;
 use big_memory::{Did, Ram, stop};
 use m68_alu::set_result_flags;
-use m68_effects::{
-    data_address, go_on, is_second_good, source, usual_or_immediate, usual_source, usual_write,
-};
+use m68_ea::{data_address, is_second_good, source, usual_or_immediate, usual_source, usual_write};
+use m68_effects::go_on;
 use m68_isa::{Op68, Regs68, lower_of, mode_of, move_mode_of, upper_of};
 use mix_bits::{Fault, FaultKind, Size, sext, trunc, with_low};
 

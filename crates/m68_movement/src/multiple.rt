@@ -3,21 +3,22 @@ ghost use Rattle.std.specs.Prelude.{◌≡◌, ◌≢◌, ◌-◌, ◌*◌, ◌<
 ghost use Rattle.mix_bits.specs.Addresses.{onward as onward_of};
 ghost use Rattle.mix_bits.specs.declared.size.Size.TheVariants.{Zero};
 ghost use Rattle.big_memory.specs.Memory.{in_memory, refusal};
-ghost use Rattle.big_memory.specs.Steps.{Does};
-ghost use Rattle.big_memory.specs.Stores.{OnlyFree};
-ghost use Rattle.m68_effects.specs.Places.{backward as backward_of};
+ghost use Rattle.big_memory.specs.StepsClauses.{Does};
+ghost use Rattle.big_memory.specs.StoresClauses.{OnlyFree};
+ghost use Rattle.mix_bits.specs.Addresses.{backward as backward_of};
 ghost use Rattle.m68_effects.specs.Multiple.{listed, movem_before, movem_onto, register_of, loaded_along, span_of, stored_down, with_register};
-ghost use Rattle.m68_effects.specs.Ops.{by_op};
+ghost use Rattle.m68_effects.specs.laws.Ops.{by_op};
 ghost use Rattle.m68_effects.specs.Parts.{after};
-ghost use Rattle.m68_isa.specs.Fits.{Fits};
-ghost use Rattle.m68_movement.specs.Along.{Loads, StoresOpen};
+ghost use Rattle.m68_isa.specs.laws.Fits.{Fits};
+ghost use Rattle.m68_movement.specs.inner.Along.{Loads, StoresOpen};
 
 use super::along::{store_along, store_down};
 use arrayvec::ArrayVec;
 use big_memory::{Did, Ram, memory_laws};
-use m68_effects::{backward, control, go_on, load, word_at};
+use m68_ea::{control, load, word_at};
+use m68_effects::go_on;
 use m68_isa::{Op68, Regs68, lower_of, mode_of, transfer_size_of};
-use mix_bits::{Fault, Size, digit, onward, sext};
+use mix_bits::{Fault, Size, backward, digit, onward, sext};
 
 /// How many bytes sixteen longs take.
 const SIXTEEN_LONGS: u32 = 64;

@@ -1,11 +1,11 @@
 ghost use Rattle.std.specs.Prelude.{◌+◌, ◌<◌, ◌≤◌};
-ghost use Rattle.m68_isa.specs.Classes.{IsAlterable};
+ghost use Rattle.m68_isa.specs.ClassesClauses.{IsAlterable};
 ghost use Rattle.m68_isa.specs.Operands.{operand_at};
-ghost use Rattle.m68_effects.specs.Words.{words_at};
+ghost use Rattle.m68_ea.specs.Words.{words_at};
 ghost use Rattle.m68_movement.specs.Parts.{Writes};
 
 use big_memory::Ram;
-use m68_effects::{find, put};
+use m68_ea::{find, put};
 use m68_isa::Regs68;
 use mix_bits::{Fault, Size};
 

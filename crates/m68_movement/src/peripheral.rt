@@ -3,14 +3,15 @@ ghost use Rattle.std.specs.Prelude.{◌≢◌};
 ghost use Rattle.byteorder.specs.Endian.{big_bytes};
 ghost use Rattle.mix_bits.specs.Sizes.{bytes_of};
 ghost use Rattle.mix_bits.specs.declared.size.Size.TheVariants.{One, Zero};
-ghost use Rattle.big_memory.specs.Steps.{Does};
-ghost use Rattle.m68_effects.specs.Finds.{Gives, Stored};
+ghost use Rattle.big_memory.specs.StepsClauses.{Does};
+ghost use Rattle.m68_ea.specs.Finds.{Gives, Stored};
 ghost use Rattle.m68_effects.specs.Multiple.{peripheral_number, stored_along};
-ghost use Rattle.m68_effects.specs.Ops.{by_op};
+ghost use Rattle.m68_effects.specs.laws.Ops.{by_op};
 
 use super::along::store_along;
 use big_memory::{Did, Ram};
-use m68_effects::{extended_word, go_on, load};
+use m68_ea::{extended_word, load};
+use m68_effects::go_on;
 use m68_isa::{Op68, Regs68, is_to_memory, lower_of, transfer_size_of, upper_of};
 use mix_bits::{Fault, Size, onward, with_low};
 

@@ -3,9 +3,9 @@ ghost use Rattle.std.specs.Prelude.{◌≡◌};
 ghost use Rattle.m68_isa.specs.First.{first_of};
 ghost use Rattle.m68_isa.specs.declared.instructions.Instr68.TheVariants.{Ext};
 ghost use Rattle.m68_isa.specs.Rows.{words};
-ghost use Rattle.big_memory.specs.Steps.{Does};
+ghost use Rattle.big_memory.specs.StepsClauses.{Does};
 ghost use Rattle.m68_effects.specs.Movement.{halves_swapped};
-ghost use Rattle.m68_effects.specs.Ops.{by_op, runs_made};
+ghost use Rattle.m68_effects.specs.laws.Ops.{by_op, runs_made};
 
 use big_memory::{Did, Ram};
 use m68_alu::set_result_flags;

@@ -2,22 +2,23 @@
 ghost use Rattle.std.specs.Prelude.{◌≡◌, ◌<◌, ◌≤◌, if◌then◌else◌};
 ghost use Rattle.mix_bits.specs.declared.size.Size.TheVariants.{One, Two, Four};
 ghost use Rattle.m68_isa.specs.declared.instructions.Instr68.TheVariants.{Clr, Tst};
-ghost use Rattle.m68_isa.specs.Classes.{IsAlterable};
+ghost use Rattle.m68_isa.specs.ClassesClauses.{IsAlterable};
 ghost use Rattle.m68_isa.specs.Conditions.{holds as holds_of};
 ghost use Rattle.m68_isa.specs.First.{condition_of as condition_in, first_of};
-ghost use Rattle.m68_isa.specs.Fits.{Fits};
+ghost use Rattle.m68_isa.specs.laws.Fits.{Fits};
 ghost use Rattle.m68_isa.specs.Operands.{operand_at};
 ghost use Rattle.m68_isa.specs.Rows.{taken};
-ghost use Rattle.big_memory.specs.Steps.{Does};
-ghost use Rattle.m68_effects.specs.Finds.{IsAt};
-ghost use Rattle.m68_effects.specs.Usual.{Tries};
-ghost use Rattle.m68_effects.specs.Words.{words_at};
-ghost use Rattle.m68_effects.specs.Ops.{by_op, runs_made};
+ghost use Rattle.big_memory.specs.StepsClauses.{Does};
+ghost use Rattle.m68_ea.specs.inner.Finds.{IsAt};
+ghost use Rattle.m68_effects.specs.laws.Tried.{Tries};
+ghost use Rattle.m68_ea.specs.Words.{words_at};
+ghost use Rattle.m68_effects.specs.laws.Ops.{by_op, runs_made};
 
 use super::parts::write;
 use big_memory::{Did, Ram};
 use m68_alu::set_result_flags;
-use m68_effects::{data_address, find, go_on, load, put, source, usual_source, value};
+use m68_ea::{data_address, find, load, put, source, usual_source, value};
+use m68_effects::go_on;
 use m68_isa::{Op68, Regs68, condition_of, holds, is_long, lower_of, mode_of, size_bits_of};
 use mix_bits::{Fault, Size, with_low};
 

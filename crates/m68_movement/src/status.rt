@@ -1,13 +1,14 @@
 // Instructions on the condition codes as a number.
 ghost use Rattle.std.specs.Prelude.{◌≡◌};
-ghost use Rattle.m68_isa.specs.Fits.{Fits};
-ghost use Rattle.big_memory.specs.Steps.{Does};
+ghost use Rattle.m68_isa.specs.laws.Fits.{Fits};
+ghost use Rattle.big_memory.specs.StepsClauses.{Does};
 ghost use Rattle.m68_alu.specs.Logical.{bits_of};
-ghost use Rattle.m68_effects.specs.Ops.{by_op};
+ghost use Rattle.m68_effects.specs.laws.Ops.{by_op};
 
 use super::parts::write;
 use big_memory::{Did, Ram};
-use m68_effects::{go_on, immediate_at, source};
+use m68_ea::{immediate_at, source};
+use m68_effects::go_on;
 use m68_isa::{Ccr, LogicOp, Op68, Regs68, logic_op_of, lower_of, mode_of};
 use mix_bits::{Fault, Size};
 

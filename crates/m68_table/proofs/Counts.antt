@@ -8,7 +8,7 @@ use Rattle.m68_isa.specs.declared.op.Op68.{Op68}
 use Rattle.m68_isa.specs.declared.op.Op68.TheVariants.{LineA, LineF, Privileged}
 use Rattle.m68_isa.specs.First.{First, first_of}
 use Rattle.m68_isa.specs.Made.{made}
-use Rattle.m68_table.specs.Laws.{rows_with, how_many, is_privileged}
+use Rattle.m68_table.specs.laws.Laws.{rows_with, how_many, is_privileged}
 use Rattle.m68_isa.specs.Decode.{table, decoded, ended, operation, read}
 use Rattle.m68_table.proofs.Fields.{of_parts}
 use Rattle.m68_table.proofs.Totals.{is_same, counted, count_is}

@@ -1,7 +1,7 @@
 -- A test of all first words, computed over their parts: over a register only where the table looks at its number.
 use Rattle.std.proofs.Common.{ℕ, ◌≡◌, ◌<◌, ◌==◌, ◌&&◌, ◌||◌, nat_lt, Bool, true, false, arith}
 use Rattle.mix_bits.specs.Digits.{digit_of}
-use Rattle.mix_bits.specs.Ranges.{every}
+use Rattle.mix_bits.specs.laws.Ranges.{every}
 use Rattle.mix_bits.proofs.Every.{every_at}
 use Rattle.m68_isa.specs.First.{First, first_of}
 

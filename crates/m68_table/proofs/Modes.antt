@@ -12,8 +12,8 @@ use Rattle.m68_isa.specs.declared.op.Op68.TheVariants.{LineA as OpLineA, LineF a
 use Rattle.m68_isa.specs.First.{First, first_of}
 use Rattle.m68_isa.specs.Made.{made}
 use Rattle.m68_isa.specs.Decode.{operation, read, decoded, ended}
-use Rattle.m68_isa.specs.Modes.{has_modes}
-use Rattle.m68_isa.specs.Widths.{has_size}
+use Rattle.m68_isa.specs.laws.Modes.{has_modes}
+use Rattle.m68_isa.specs.laws.Widths.{has_size}
 use Rattle.m68_table.proofs.Fields.{of_parts, at_word}
 
 abbrev is_good : Instr68 → Bool

@@ -3,7 +3,7 @@ use Rattle.std.proofs.Common.{ℕ, ◌≡◌, ◌^◌, ◌<◌, ◌&&◌, Bool, 
 use Rattle.std.proofs.lemmas.Bool.{ltb-true, and_parts}
 use Rattle.m68_isa.specs.First.{First, first_of}
 use Rattle.m68_isa.specs.Decode.{table}
-use Rattle.m68_table.specs.Laws.{sections_with, rows_with}
+use Rattle.m68_table.specs.laws.Laws.{sections_with, rows_with}
 use Rattle.m68_table.proofs.Fields.{of_parts, at_word}
 
 abbrev is_once : First → Bool

@@ -2,7 +2,7 @@
 use Rattle.std.proofs.Common.{ℕ, zero, suc, ◌≡◌, ◌+◌, ◌*◌, ◌/◌, ◌%◌, ◌^◌, ◌<◌, ◌≤◌, Bool, true, false, if◌then◌else◌, arith, refl, ap, sym, ◌∙◌}
 use Rattle.std.proofs.Math.Nat.{pow-suc}
 use Rattle.m68_isa.specs.First.{First, first_of}
-use Rattle.m68_table.specs.Laws.{how_many}
+use Rattle.m68_table.specs.laws.Laws.{how_many}
 use Rattle.m68_table.proofs.Fields.{first, by_upper, by_lower, of_parts, at_word}
 
 -- the sum of what the 2 ^ k numbers from 2 ^ k * base on count

@@ -8,7 +8,7 @@ use Rattle.m68_isa.specs.declared.instructions.LogicOp.TheVariants.{And as Logic
 use Rattle.m68_isa.specs.declared.instructions.ShiftOp.TheVariants.{As, Ls, Rox, Ro}
 use Rattle.m68_isa.specs.declared.instructions.Instr68.{Instr68}
 use Rattle.m68_isa.specs.declared.instructions.Instr68.TheVariants.{Immediate, ImmediateToCcr, BitByRegister, BitByNumber, Movep, Move, Movea, Negx, Clr, Neg, Not, MoveFromSr, MoveToCcr, Nbcd, Swap, Pea, Ext, MovemToMemory, MovemFromMemory, MulLong, DivLong, Tst, Tas, Trap, Link, Unlk, Nop, Rtd, Rts, Trapv, Rtr, Jsr, Jmp, Chk, Lea, Addq, Subq, Scc, Dbcc, Bcc, Moveq, Or, Div, Sbcd, Sub, Suba, Subx, Cmp, Cmpa, Eor, Cmpm, And, Mul, Abcd, Exg, Add, Adda, Addx, Shift, ShiftMemory}
-use Rattle.m68_isa.specs.Widths.{has_size, is_any, is_wide, is_extension}
+use Rattle.m68_isa.specs.laws.Widths.{has_size, is_any, is_wide, is_extension}
 use Rattle.m68_text.specs.Names.{suffix, condition_name, branch_name, branch_suffix, extension_name, link_name, name}
 use Rattle.m68_text.specs.Listed.{stems, wide_stems, plain_names, tested, conditions, names, is_name}
 

@@ -1,8 +1,6 @@
-pub mod Names
 pub mod Listed
+pub mod Names
 pub mod Operands
 pub mod Text
-pub mod Laws
-pub mod Table
-pub mod FormLaws
-pub mod Lines
+pub mod laws
+pub mod inner

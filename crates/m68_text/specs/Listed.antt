@@ -1,4 +1,4 @@
--- The names of instructions as a finite list.
+-- The names of instructions as a finite list (M68000 Family Programmer's Reference Manual, section 4).
 use Rattle.std.specs.Prelude.{ℕ, List, [], ◌∷◌, ◌++◌, Bool, codes, map}
 use Rattle.std.specs.List.{flat_map, list_any}
 use Rattle.std.specs.Str.{bytes_eq}

@@ -17,8 +17,6 @@ use Rattle.m68_isa.specs.declared.instructions.Instr68.TheVariants.{Immediate, I
 use Rattle.m68_isa.specs.Operands.{long_at}
 use Rattle.m68_isa.specs.Targets.{branch_target}
 use Rattle.m68_text.specs.declared.operand.Operand.{Operand}
-use Rattle.m68_text.specs.declared.operand.Operands.{Operands}
-use Rattle.m68_text.specs.declared.operand.Operands.TheVariants.{None as NoOperand, One as OneOperand, Two as TwoOperands, Three as ThreeOperands}
 use Rattle.m68_text.specs.declared.operand.Operand.TheVariants.{Data, Pair, Address, Indirect, PostIncrement, PreDecrement, Displaced, Indexed, ShortAddress, LongAddress, PcDisplaced, PcIndexed, Byte, Word, Long, Number, ConditionCodes, StatusRegister, Target}
 
 abbrev pub data_register : ℕ → List ℕ
@@ -62,13 +60,6 @@ operand_text (Number n) = codes "#" ++ decimal n
 operand_text ConditionCodes = codes "ccr"
 operand_text StatusRegister = codes "sr"
 operand_text (Target a) = hex 8 a
-
--- the operands that an instruction has, at most three
-abbrev pub listed : Operands → List Operand
-listed NoOperand = []
-listed (OneOperand o) = o ∷ []
-listed (TwoOperands o p) = o ∷ p ∷ []
-listed (ThreeOperands o p q) = o ∷ p ∷ q ∷ []
 
 -- with commas between them
 abbrev pub joined : List Operand → List ℕ

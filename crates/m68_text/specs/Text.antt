@@ -1,4 +1,4 @@
--- The text of an instruction's words at an address.
+-- The text of an instruction's words at an address (this project's own).
 use Rattle.std.specs.Prelude.{ℕ, List, ◌++◌, codes, slice_index}
 use Rattle.m68_isa.specs.declared.instructions.Decoded68.{Decoded68}
 use Rattle.m68_isa.specs.declared.instructions.Decoded68.TheVariants.{Op}

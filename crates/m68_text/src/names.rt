@@ -1,6 +1,5 @@
 ghost use Rattle.std.specs.Prelude.{◌≡◌, ◌+◌, ◌≤◌, ◌++◌, codes, length};
 ghost use Rattle.m68_text.specs.Names.{bit_name as bit_name_of, branch_name as branch_name_of, branch_suffix as branch_suffix_of, extension_name as extension_name_of, link_name as link_name_of, condition_name as condition_name_of, immediate_name as immediate_name_of, logic_name as logic_name_of, name, shift_name as shift_name_of, suffix as suffix_of};
-ghost use Rattle.m68_text.specs.Lines.{IsFromLine5};
 
 use m68_isa::{BitOp, ImmediateOp, Instr68, LogicOp, ShiftOp};
 use mix_bits::Size;
@@ -243,17 +242,6 @@ pub fn name_of(i: Instr68, used: u32) -> Name
         Instr68::Jmp { .. } => plain("jmp"),
         Instr68::Chk { .. } => plain("chk"),
         Instr68::Lea { .. } => plain("lea"),
-        _ => name_from_line_5(i, used),
-    }
-}
-
-/// The same of an instruction of the lines 5 to E of the manual's table.
-fn name_from_line_5(i: Instr68, used: u32) -> Name
-    requires { IsFromLine5 i }
-    ensures text { result.stem.now ++ (result.condition.now ++ result.suffix.now) ≡ name i used }
-    ensures short { length result.stem.now + length result.condition.now + length result.suffix.now ≤ 8 }
-{
-    match i {
         Instr68::Addq { size, .. } => sized("addq", size),
         Instr68::Subq { size, .. } => sized("subq", size),
         Instr68::Scc { condition, .. } => conditional("s", condition),
@@ -279,6 +267,5 @@ fn name_from_line_5(i: Instr68, used: u32) -> Name
         Instr68::Addx { size, .. } => sized("addx", size),
         Instr68::Shift { op, left, size, .. } => sized(shift_name(op, left), size),
         Instr68::ShiftMemory { op, left, .. } => plain(shift_name(op, left)),
-        _ => unreachable!(),
     }
 }

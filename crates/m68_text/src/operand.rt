@@ -1,5 +1,6 @@
 ghost use Rattle.std.specs.Prelude.{◌≡◌, ◌+◌, ◌≤◌, ◌⊎◌, ◌++◌, codes, length};
-ghost use Rattle.m68_text.specs.Operands.{address_register, data_register, hex, index_text, indirect, listed, operand_text, operands_text, scale_text as scale_text_of};
+ghost use Rattle.m68_text.specs.Operands.{address_register, data_register, hex, index_text, indirect, operand_text, operands_text, scale_text as scale_text_of};
+ghost use Rattle.m68_text.specs.inner.Operands.{listed};
 
 use super::append::{add_hex, add_number};
 use m68_isa::Index;

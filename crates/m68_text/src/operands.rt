@@ -1,6 +1,6 @@
 ghost use Rattle.std.specs.Prelude.{◌≡◌, ◌<◌};
-ghost use Rattle.m68_text.specs.Operands.{counted as counted_of, directed as directed_of, exchanged as exchanged_of, immediate as immediate_of, listed, operands, paired as paired_of, displacement as displacement_of, place as place_of, with_registers as with_registers_of};
-ghost use Rattle.m68_text.specs.Lines.{IsFromLine5};
+ghost use Rattle.m68_text.specs.Operands.{counted as counted_of, directed as directed_of, exchanged as exchanged_of, immediate as immediate_of, operands, paired as paired_of, displacement as displacement_of, place as place_of, with_registers as with_registers_of};
+ghost use Rattle.m68_text.specs.inner.Operands.{listed};
 
 use super::operand::Operand::{
     self, Address, Byte, ConditionCodes, Data, Displaced, Indexed, Indirect, Long, LongAddress,
@@ -187,16 +187,6 @@ pub fn operands68(i: Instr68, words: &[u16], at: u32) -> Operands
         Instr68::Jmp { to } => One(place(Size::Four, words, 1, to)),
         Instr68::Chk { bound, register } => Two(place(Size::Two, words, 1, bound), Data(register)),
         Instr68::Lea { from, to } => Two(place(Size::Four, words, 1, from), Address(to)),
-        _ => operands_from_line_5(i, words, at),
-    }
-}
-
-/// The same of an instruction of the lines 5 to E of the manual's table.
-fn operands_from_line_5(i: Instr68, words: &[u16], at: u32) -> Operands
-    requires { IsFromLine5 i }
-    ensures { listed result ≡ operands i words.now at }
-{
-    match i {
         Instr68::Addq { size, number, to } => Two(Number(number), place(size, words, 1, to)),
         Instr68::Subq { size, number, to } => Two(Number(number), place(size, words, 1, to)),
         Instr68::Scc { to, .. } => One(place(Size::One, words, 1, to)),
@@ -267,6 +257,5 @@ fn operands_from_line_5(i: Instr68, words: &[u16], at: u32) -> Operands
             ..
         } => Two(counted(count), Data(register)),
         Instr68::ShiftMemory { to, .. } => One(place(Size::Two, words, 1, to)),
-        _ => unreachable!(),
     }
 }

@@ -1,6 +1,7 @@
 // What stands around a machine: an empty input, outputs without room, and no device.
+use dev_rack::Rack;
 use mix_debug::{Debug, Step};
-use mix_io::{MemSink, MemSource, Rack};
+use mix_io::{MemSink, MemSource};
 use std::alloc::Global;
 use std::process::Abort;
 

@@ -5,9 +5,10 @@ ghost use Rattle.mixed_machine.specs.Machine.{IsWhole};
 
 use crate::equal::equal;
 use crate::text::image;
+use dev_rack::{Asked, Devices, Rack};
 use mix_bits::Isa;
 use mix_engine::{Machine, Stop, Turn, run, run_m68, run_ppc, step};
-use mix_io::{Asked, Counter, Device, Devices, MemSink, MemSource, Rack, Source, Tape};
+use mix_io::{Counter, Device, MemSink, MemSource, Source, Tape};
 use mix_load::{FileBytes, Files, load};
 use std::alloc::Global;
 use std::process::Abort;

@@ -1,6 +1,6 @@
 // How many steps can be taken back.
 ghost use Rattle.std.specs.Prelude.{◌≤◌, vec_len};
-ghost use Rattle.switch_frame.specs.Program.{IsProgram};
+ghost use Rattle.switch_frame.specs.ProgramClauses.{IsProgram};
 
 use crate::around::Around;
 use crate::equal::equal;

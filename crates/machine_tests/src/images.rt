@@ -1,7 +1,7 @@
 // Images are built here by the format's table, byte by byte.
 use crate::equal::{equal, must};
 use big_memory::Access;
-use mix_image::{ImageError, MOST_BYTES, restore, save};
+use mix_image::{ImageError, restore, save};
 use mix_io::{Failed, MemKeep};
 use std::alloc::Global;
 use std::process::Abort;
@@ -126,9 +126,6 @@ fn ram_long(address: u32, frames: Frames) -> u32 {
 
 /// Why bytes are refused, if they are.
 fn refusal(alloc: Global, bytes: &[u8]) -> Option<ImageError> {
-    if bytes.len() > MOST_BYTES as usize {
-        return None;
-    }
     restore(alloc, bytes).err()
 }
 
@@ -322,6 +319,21 @@ fn keeper(rt: &impl Abort, alloc: Global, room: u32, fails: &[u32]) -> MemKeep {
     MemKeep::new(alloc, name, room, fails).expect(rt, "no keeper")
 }
 
+#[test]
+fn an_image_before_more_bytes_than_any_has_is_refused(rt: HostRuntime) {
+    let alloc = rt.alloc();
+    let mut bytes = image(&rt, alloc, Frames::None);
+    for _ in 0..17_406 {
+        push(&rt, &mut bytes, &[0; 1024]);
+    }
+    equal(
+        &rt,
+        "a long image",
+        refusal(alloc, &bytes),
+        Some(ImageError::Extra(LENGTH as u32)),
+    );
+}
+
 /// The machine of an image is saved to a keeper so, and the keeper then has these bytes.
 fn is_saved(
     rt: &impl Abort,
@@ -331,7 +343,6 @@ fn is_saved(
     answer: Result<(), Failed>,
     kept: &[u8],
 ) {
-    must(rt, bytes.len() <= MOST_BYTES as usize);
     let machine = restore(alloc, bytes).ok().expect(rt, "no machine");
     equal(rt, "saving", save(&machine, keeper, "s"), answer);
     equal(rt, "what is kept", keeper.kept(), kept);
@@ -367,7 +378,6 @@ fn are_guarded(
     bytes: &[u8],
     rows: &[(u32, u32, Result<(), Access>)],
 ) {
-    must(rt, bytes.len() <= MOST_BYTES as usize);
     let machine = restore(alloc, bytes).ok().expect(rt, "no machine");
     for (a, n, answer) in rows {
         equal(rt, *a, machine.body.ram.probe(*a, *n), *answer);

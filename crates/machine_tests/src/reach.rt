@@ -1,7 +1,7 @@
 // The words are those that GNU as gives.
 use crate::equal::equal;
 use big_memory::Ram;
-use m68_isa::{Ccr, Operations, Regs68};
+use m68_isa::{Ccr, Regs68};
 use mix_reach::{Reach, Stores, Told, next_stores, step_reach, told_68k, told_ppc};
 use ppc_isa::RegsPpc;
 use std::alloc::Global;
@@ -77,11 +77,6 @@ fn memory(rt: &impl Abort, alloc: Global) -> Ram {
     Ram::new(alloc, 131_072).expect(rt, "no memory")
 }
 
-/// The operations of 68K code.
-fn operations(rt: &impl Abort, alloc: Global) -> Operations {
-    Operations::new(alloc).expect(rt, "no operations")
-}
-
 /// Stores two words where the code stands.
 fn put(rt: &impl Abort, ram: &mut Ram, first: u32, second: u32) {
     equal(rt, "the first word", ram.store_word(CODE, first), Ok(()));
@@ -99,16 +94,10 @@ fn bounds(reach: Reach) -> (usize, usize) {
 }
 
 /// Each instruction stores where it is to.
-fn store_there(
-    rt: &impl Abort,
-    ram: &mut Ram,
-    operations: &Operations,
-    active: &Active,
-    cases: &[Case],
-) {
+fn store_there(rt: &impl Abort, ram: &mut Ram, active: &Active, cases: &[Case]) {
     for (first, second, wanted) in cases {
         put(rt, ram, *first, *second);
-        let reach = next_stores(ram, operations, active).reach;
+        let reach = next_stores(ram, active).reach;
         equal(rt, *first, bounds(reach), *wanted);
     }
 }
@@ -116,15 +105,13 @@ fn store_there(
 #[test]
 fn instructions_of_68k_code(rt: HostRuntime) {
     let mut ram = memory(&rt, rt.alloc());
-    let operations = operations(&rt, rt.alloc());
-    store_there(&rt, &mut ram, &operations, &m68(), &M68_CASES);
+    store_there(&rt, &mut ram, &m68(), &M68_CASES);
 }
 
 #[test]
 fn instructions_of_powerpc_code(rt: HostRuntime) {
     let mut ram = memory(&rt, rt.alloc());
-    let operations = operations(&rt, rt.alloc());
-    store_there(&rt, &mut ram, &operations, &ppc(), &PPC_CASES);
+    store_there(&rt, &mut ram, &ppc(), &PPC_CASES);
 }
 
 /// Two words of code, and whether the instruction that they begin is told to store nowhere.
@@ -151,34 +138,27 @@ const PPC_STILL: [Still; 2] = [
 ];
 
 /// Whether it is told at once that the next step stores nowhere.
-fn is_still(ram: &Ram, operations: &Operations, active: &Active) -> bool {
+fn is_still(ram: &Ram, active: &Active) -> bool {
     let told = match active {
-        Active::M68(regs) => told_68k(ram, operations, regs),
+        Active::M68(regs) => told_68k(ram, regs),
         Active::Ppc(regs) => told_ppc(ram, regs),
     };
     matches!(told, Told::Nowhere)
 }
 
 /// Each instruction is told to store nowhere, or is not.
-fn are_still(
-    rt: &impl Abort,
-    ram: &mut Ram,
-    operations: &Operations,
-    active: &Active,
-    cases: &[Still],
-) {
+fn are_still(rt: &impl Abort, ram: &mut Ram, active: &Active, cases: &[Still]) {
     for (first, second, wanted) in cases {
         put(rt, ram, *first, *second);
-        equal(rt, *first, is_still(ram, operations, active), *wanted);
+        equal(rt, *first, is_still(ram, active), *wanted);
     }
 }
 
 #[test]
 fn instructions_that_store_nowhere(rt: HostRuntime) {
     let mut ram = memory(&rt, rt.alloc());
-    let operations = operations(&rt, rt.alloc());
-    are_still(&rt, &mut ram, &operations, &m68(), &M68_STILL);
-    are_still(&rt, &mut ram, &operations, &ppc(), &PPC_STILL);
+    are_still(&rt, &mut ram, &m68(), &M68_STILL);
+    are_still(&rt, &mut ram, &ppc(), &PPC_STILL);
 }
 
 /// A step whose innermost frame was at `old` and is at `new` stores there.
@@ -190,8 +170,7 @@ fn reaches(rt: &impl Abort, next: Stores, old: u32, new: u32, wanted: (usize, us
 #[test]
 fn frames(rt: HostRuntime) {
     let ram = memory(&rt, rt.alloc());
-    let operations = operations(&rt, rt.alloc());
-    let next = next_stores(&ram, &operations, &m68());
+    let next = next_stores(&ram, &m68());
     // None is made or given up, one is made, and one is given up.
     reaches(&rt, next, 0x1_D000, 0x1_D000, bounds(next.reach));
     reaches(&rt, next, 0x1_D000, 0x1_C100, (0x1_C000, 0x1_C1C0));

@@ -2,8 +2,8 @@
 use Rattle.std.proofs.Common.{◌≡◌, inl, inr, ℕ, zero, suc, ◌+◌, ◌*◌, ◌^◌, ◌<◌, ◌≤◌, Bool, true, arith, subst, refl}
 use Rattle.std.proofs.Math.Nat.{pow-suc}
 use Rattle.std.proofs.lemmas.Bool.{cases_lt}
-use Rattle.mix_bits.specs.Ranges.{every}
-use Rattle.mix_bits.specs.Laws.{HoldsOfEach}
+use Rattle.mix_bits.specs.laws.Ranges.{every}
+use Rattle.mix_bits.specs.laws.Laws.{HoldsOfEach}
 use Rattle.mix_bits.proofs.Conditions.{both}
 
 -- twice as many numbers: those of the lower half and those of the upper half

@@ -1,8 +1,9 @@
 -- A name, and what follows on it, are read back from their line.
 use Rattle.std.proofs.Common.{◌≡◌, ℕ, suc, ◌==◌, List, [], ◌∷◌, ◌++◌, length, take, drop, Bool, true, false, if◌then◌else◌, refl, ap, ◌∙◌}
 use Rattle.std.proofs.Math.Seq.{take-append_seam}
-use Rattle.mix_bits.specs.Names.{ends_name, name_length, no_space}
-use Rattle.mix_bits.specs.Laws.{NamesReadBack}
+use Rattle.mix_bits.specs.laws.Names.{ends_name, no_space}
+use Rattle.mix_bits.specs.Names.{name_length}
+use Rattle.mix_bits.specs.laws.Laws.{NamesReadBack}
 
 no_space_first : (b more : Bool) → (if b then false else more) ≡ true → (b ≡ false) × (more ≡ true)
 no_space_first true more h = cc

@@ -6,7 +6,8 @@ use Rattle.std.proofs.lemmas.Fmt.{decimal_is_IsNumeral, IsAscii-decimal}
 use Rattle.std.proofs.lemmas.Str.{IsUtf8-from_ascii}
 use Rattle.std.proofs.lemmas.Slice.Eq.{bytes_eq-Decides}
 use Rattle.std.proofs.lemmas.Bool.{ltb-true, lt-ltb}
-use Rattle.mix_bits.specs.Numbers.{ReadsDecimals, decimal_number, spelled_by}
+use Rattle.mix_bits.specs.laws.Numbers.{ReadsDecimals}
+use Rattle.mix_bits.specs.Numbers.{decimal_number, spelled_by}
 
 tests : (a b : Bool) (n : ℕ) → ((if a && b then Some n else None) ≡ None) ⊎ ((a ≡ true) × (b ≡ true))
 tests true true n = inr (refl, refl)

@@ -10,7 +10,8 @@ use Rattle.std.proofs.lemmas.Int.Digits.{digits_value-lt, digits_value_more}
 use Rattle.std.proofs.lemmas.Str.Parse.{digits_value-take-le}
 use Rattle.std.proofs.lemmas.Bool.{and_from, and_parts, eqb-true, eq-eqb}
 use Rattle.std.proofs.lemmas.Grind.{common_steps}
-use Rattle.mix_bits.specs.Numbers.{ReadsHexadecimals, are_hex_digits, hexadecimal_number, is_hex_digit}
+use Rattle.mix_bits.specs.laws.Numbers.{ReadsHexadecimals}
+use Rattle.mix_bits.specs.Numbers.{are_hex_digits, hexadecimal_number, is_hex_digit}
 use Rattle.mix_bits.specs.Text.{hexadecimal}
 
 digit-small : (c : ℕ) → is_hex_digit c ≡ true → digit_value c < 16

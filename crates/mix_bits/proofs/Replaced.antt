@@ -3,7 +3,7 @@ use Rattle.std.proofs.Common.{◌≡◌, inl, inr, ℕ, ◌+◌, ◌-◌, ◌*�
 use Rattle.std.proofs.lemmas.Nat.{pow_pos, mod_below, field_of, mod_low, shr-shr, shr_high}
 use Rattle.std.proofs.Math.Pow.{mod-mod-pow}
 use Rattle.mix_bits.specs.Digits.{digit_of, digit_replaced}
-use Rattle.mix_bits.specs.Laws.{ReadsReplaced, OthersStay}
+use Rattle.mix_bits.specs.laws.Laws.{ReadsReplaced, OthersStay}
 
 -- what stands from the replaced digit on
 from_digit : (v at width d : ℕ) → digit_replaced v at width d / 2 ^ at ≡ v / 2 ^ (at + width) * 2 ^ width + d

@@ -1,8 +1,9 @@
 -- Searches below a bound: where they end, and what they say of each number.
 use Rattle.std.proofs.Common.{◌≡◌, subst, sym, refl, ℕ, zero, suc, ◌<◌, Bool, true, false, nat_lt, Option, Some, None, arith}
 use Rattle.std.proofs.lemmas.Bool.Decides.{nat_tests}
-use Rattle.mix_bits.specs.Search.{◌or◌, refused, count_below, least}
-use Rattle.mix_bits.specs.SearchLaws.{FailsBelow, FirstIsLeast, LeastOfFailing, NoneIsCounted, NoneIsLeast}
+use Rattle.mix_bits.specs.SearchOperator.{◌or◌}
+use Rattle.mix_bits.specs.Search.{refused, count_below, least}
+use Rattle.mix_bits.specs.laws.SearchLaws.{FailsBelow, FirstIsLeast, LeastOfFailing, NoneIsCounted, NoneIsLeast}
 
 -- where the first number that passes is the least
 pub least_at : FirstIsLeast

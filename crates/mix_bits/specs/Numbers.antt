@@ -1,9 +1,8 @@
 -- Numbers read from texts.
-use Rattle.std.specs.Prelude.{ℕ, ◌≡◌, ◌↔◌, ◌&&◌, ◌||◌, ◌==◌, ◌^◌, ◌<◌, nat_lt, nat_le, Bool, List, length, decimal, Option, Some, None, if◌then◌else◌}
+use Rattle.std.specs.Prelude.{ℕ, ◌&&◌, ◌||◌, ◌==◌, ◌^◌, nat_lt, nat_le, Bool, List, length, decimal, Option, Some, None, if◌then◌else◌}
 use Rattle.std.specs.List.{list_all}
 use Rattle.std.specs.Str.{bytes_eq}
 use Rattle.std.specs.Str.Parse.{digits_value}
-use Rattle.mix_bits.specs.Text.{hexadecimal}
 
 -- a number below 2 ^ 32, where a text is its decimal digits
 abbrev pub spelled_by : List ℕ → ℕ → Option ℕ
@@ -23,10 +22,3 @@ are_hex_digits count text = (length text == count) && list_all is_hex_digit text
 -- the number whose so many upper-case hexadecimal digits a text is
 unfoldable pub hexadecimal_number : ℕ → List ℕ → Option ℕ
 hexadecimal_number count text = if are_hex_digits count text then Some (digits_value 16 text) else None
-
--- a text is read as a number exactly where it is what is written of the number
-abbrev pub ReadsDecimals : Type 0
-ReadsDecimals = (text : List ℕ) (n : ℕ) → (decimal_number text ≡ Some n) ↔ ((n < 2 ^ 32) × (decimal n ≡ text))
-
-abbrev pub ReadsHexadecimals : Type 0
-ReadsHexadecimals = (count : ℕ) (text : List ℕ) (n : ℕ) → (hexadecimal_number count text ≡ Some n) ↔ ((n < 16 ^ count) × (hexadecimal count n ≡ text))

@@ -1,12 +1,7 @@
 -- Searches among the numbers below a bound, and the first of several refusals.
 use Rattle.std.specs.Prelude.{ℕ, zero, suc, ◌+◌, Bool, false, ◌||◌, if◌then◌else◌, Option, Some, None}
 use Rattle.std.specs.Int.{from_bool}
-
-infixl 30 ◌or◌
--- the first of two, where it is there
-abbrev pub ◌or◌ : {A : Type 0} → Option A → Option A → Option A
-None or other = other
-Some x or other = Some x
+use Rattle.mix_bits.specs.SearchOperator.{◌or◌}
 
 -- the value, under a condition
 abbrev pub refused : {A : Type 0} → Bool → A → Option A

@@ -1,6 +1,7 @@
 //! Appends to a line that has room for them.
 ghost use Rattle.std.specs.Prelude.{◌≡◌, ◌⊎◌, ◌+◌, ◌≤◌, ◌++◌, length, decimal};
-ghost use Rattle.mix_bits.specs.Text.{hexadecimal, most_bytes};
+ghost use Rattle.mix_bits.specs.Text.{hexadecimal};
+ghost use Rattle.mix_bits.specs.TextClauses.{most_bytes};
 
 use super::line::Line;
 

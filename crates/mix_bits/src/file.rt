@@ -8,3 +8,9 @@ pub enum File {
     /// A container of PowerPC code.
     Pef,
 }
+
+/// How many bytes a file has at most.
+pub const MOST_BYTES: u32 = 16_777_216;
+
+/// How many bytes the image of a kept machine has at most.
+pub const IMAGE_BYTES: u32 = 17_825_792;

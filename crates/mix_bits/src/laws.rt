@@ -1,6 +1,6 @@
-ghost use Rattle.mix_bits.specs.Laws.{BothHold, FewBytes, HoldsOfEach, NamesReadBack, ReadsReplaced, OthersStay};
-ghost use Rattle.mix_bits.specs.Numbers.{ReadsDecimals, ReadsHexadecimals};
-ghost use Rattle.mix_bits.specs.SearchLaws.{FailsBelow, FirstIsLeast, LeastOfFailing, NoneIsCounted, NoneIsLeast};
+ghost use Rattle.mix_bits.specs.laws.Laws.{BothHold, FewBytes, HoldsOfEach, NamesReadBack, ReadsReplaced, OthersStay};
+ghost use Rattle.mix_bits.specs.laws.Numbers.{ReadsDecimals, ReadsHexadecimals};
+ghost use Rattle.mix_bits.specs.laws.SearchLaws.{FailsBelow, FirstIsLeast, LeastOfFailing, NoneIsCounted, NoneIsLeast};
 
 /// What follows from the definition of a replaced digit. It does nothing: the clauses are its point.
 pub fn digit_laws()

@@ -1,5 +1,5 @@
 //! Words that every crate of the host shares: instruction sets, sizes of values, faults, addresses,
-//! digits of numbers, lines of text, the files of a program and the numbers in their fields.
+//! digits of numbers, lines of text, the files of a program, how long they are at most, and the numbers in their fields.
 #![tactic(auto)]
 
 mod addresses;
@@ -22,7 +22,7 @@ pub use addresses::{aligned, backward, onward};
 pub use digits::{digit, power, with_digit};
 pub use fault::{Fault, FaultKind};
 pub use fields::{long_at, three_at, word_at};
-pub use file::File;
+pub use file::{File, IMAGE_BYTES, MOST_BYTES};
 pub use isa::{Isa, is_isa};
 pub use laws::{digit_laws, name_laws, number_laws, search_laws, size_laws, test_laws};
 pub use line::Line;

@@ -1,13 +1,15 @@
 ghost use Rattle.std.specs.Prelude.{◌≡◌, ◌⊎◌, ◌+◌, ◌*◌, ◌/◌, ◌%◌, ◌<◌, ℕ, List, [], decimal, true};
 ghost use Rattle.std.specs.Fmt.{digit_glyph};
-ghost use Rattle.mix_bits.specs.Text.{AppendsWithin, hexadecimal, most_bytes};
+ghost use Rattle.mix_bits.specs.inner.Text.{AppendsWithin};
+ghost use Rattle.mix_bits.specs.Text.{hexadecimal};
+ghost use Rattle.mix_bits.specs.TextClauses.{most_bytes};
 
 use arrayvec::ArrayVec;
 use itoa::Buffer;
 use std::marker::Model;
 
 /// How many bytes a line holds at most.
-pub const LINE_BYTES: usize = 160;
+const LINE_BYTES: usize = 160;
 
 /// The two hexadecimal digits of each byte, in upper case.
 const PAIRS: [u8; 512] = *b"\

@@ -1,5 +1,6 @@
 ghost use Rattle.std.specs.Prelude.{◌≡◌, ◌≤◌, length};
-ghost use Rattle.mix_bits.specs.Names.{name_length as name_length_of, name_of, rest_of};
+ghost use Rattle.mix_bits.specs.Names.{name_length as name_length_of, name_of};
+ghost use Rattle.mix_bits.specs.laws.Names.{rest_of};
 
 /// A line's name, and what follows on the space behind it.
 pub fn split_name(line: &[u8]) -> (&[u8], &[u8])

@@ -4,14 +4,18 @@ use Rattle.std.specs.Prelude.{All, AllPairs, filter}
 use Rattle.std.specs.List.{Contains}
 use Rattle.std.proofs.lemmas.List.Elements.{All-head, All-tail}
 use Rattle.big_memory.specs.Memory.{IsRam, Memory}
-use Rattle.toolbox.specs.declared.block.Block.{Block}
-use Rattle.toolbox.specs.Space.{IsLowest, Space, block_limit, rounded}
-use Rattle.toolbox.specs.Place.{CanPlace, IsPlace, can_place, freed, place_for, placed, placed_where, taken}
-use Rattle.toolbox.specs.Sound.{IsSound}
-use Rattle.toolbox.proofs.Fits.{places_are_tested}
-use Rattle.toolbox.proofs.Placing.{freeing_undoes_placing, place_is_unique, placing_undoes_freeing, taking_places}
+use Rattle.host_heap.specs.declared.block.Block.{Block}
+use Rattle.host_heap.specs.SpaceClauses.{IsLowest}
+use Rattle.host_heap.specs.Space.{Space, block_limit, rounded}
+use Rattle.host_heap.specs.laws.Place.{CanPlace}
+use Rattle.host_heap.specs.PlaceClauses.{IsPlace}
+use Rattle.host_heap.specs.Place.{can_place, freed, place_for, placed, placed_where, taken}
+use Rattle.host_heap.specs.Sound.{IsSound}
+use Rattle.host_heap.proofs.Fits.{places_are_tested}
+use Rattle.host_heap.proofs.Placing.{freeing_undoes_placing, place_is_unique, placing_undoes_freeing, taking_places}
 use Rattle.switch_frame.specs.Records.{Record}
-use Rattle.switch_frame.specs.Chain.{Above, Frames, IsInside}
+use Rattle.switch_frame.specs.laws.Chain.{Above}
+use Rattle.switch_frame.specs.Chain.{Frames, IsInside}
 use Rattle.switch_frame.proofs.Linked.{frames_above}
 
 -- lists in order

@@ -4,17 +4,19 @@ use Rattle.std.specs.Prelude.{All, AllPairs, filter}
 use Rattle.std.specs.List.{Contains}
 use Rattle.std.proofs.lemmas.Bool.{cases_Bool, cases_lt, eq-eqb, eqb-true, ne_eqb, le-ltb, lt-ltb}
 use Rattle.std.proofs.lemmas.List.{drop_all, drop_more}
-use Rattle.toolbox.specs.Place.{place_for, taken}
-use Rattle.mix_debug.specs.Reaches.{SameBlocks}
+use Rattle.host_heap.specs.Place.{place_for, taken}
+use Rattle.mix_debug.specs.inner.Reaches.{SameBlocks}
 use Rattle.std.proofs.lemmas.List.Elements.{All-head, All-tail}
-use Rattle.toolbox.specs.declared.block.Block.{Block}
-use Rattle.toolbox.specs.Space.{Space, rounded}
-use Rattle.toolbox.specs.Place.{CanPlace, begins_at, can_place, freed, placed, with_block, without}
-use Rattle.toolbox.specs.Sound.{EndsBefore, IsAligned, IsSound}
-use Rattle.toolbox.proofs.Keeps.{none_begins}
-use Rattle.mixed_machine.specs.StepLaws.{HeapMoves}
+use Rattle.host_heap.specs.declared.block.Block.{Block}
+use Rattle.host_heap.specs.Space.{Space, rounded}
+use Rattle.host_heap.specs.laws.Place.{CanPlace}
+use Rattle.host_heap.specs.Place.{begins_at, can_place, freed, placed, with_block, without}
+use Rattle.host_heap.specs.Sound.{EndsBefore, IsAligned, IsSound}
+use Rattle.host_heap.proofs.Keeps.{none_begins}
+use Rattle.mixed_machine.specs.laws.StepLaws.{HeapMoves}
 use Rattle.mix_debug.specs.declared.head.BlockChange.TheVariants.{Stays, Made, Freed}
-use Rattle.mix_debug.specs.Entries.{block_between, first_other, heap_before}
+use Rattle.mix_debug.specs.inner.Entries.{block_between, first_other}
+use Rattle.mix_debug.specs.Entries.{heap_before}
 use Rattle.mix_debug.proofs.Below.{AllPairs-head, AllPairs-tail, CanPlace-freed, CanPlace-got, IsPlace-from, can_place_from, filter_all, filter_none, freed-placed, placed-freed, taken-some}
 
 -- blocks in order of address

@@ -5,7 +5,9 @@ use Rattle.std.proofs.lemmas.Bool.Decides.{nat_tests}
 use Rattle.std.proofs.lemmas.List.{append_assoc, length-append, places, same_lists}
 use Rattle.big_memory.specs.Lists.{put}
 use Rattle.std.specs.List.{list_any}
-use Rattle.mix_debug.specs.Runs.{AreApart, Run, RunsAreMaximal, Undoes, holds, joined, runs_from, undone}
+use Rattle.mix_debug.specs.laws.ChangeLaws.{AreApart, RunsAreMaximal, Undoes, holds}
+use Rattle.mix_debug.specs.Changes.{Run, joined, runs_from}
+use Rattle.mix_debug.specs.WrittenBack.{undone}
 
 -- a byte and those behind it go in one after another
 put-step : (at x : ℕ) (ys b : List ℕ) → at < length b → put at (x ∷ ys) b ≡ put (suc at) ys (put at (x ∷ []) b)

@@ -4,7 +4,9 @@ use Rattle.std.proofs.lemmas.List.{drop_all, length-take, take_all}
 use Rattle.big_memory.specs.Lists.{part, put}
 use Rattle.big_memory.proofs.Lists.{put-nil}
 use Rattle.mix_debug.specs.declared.head.Span.{Span}
-use Rattle.mix_debug.specs.Runs.{Run, olds_of, runs_from, runs_in}
+use Rattle.mix_debug.specs.Changes.{Run, runs_from}
+use Rattle.mix_debug.specs.WrittenBack.{olds_of}
+use Rattle.mix_debug.specs.inner.WrittenBack.{runs_in}
 use Rattle.mix_debug.specs.Entries.{spans_of}
 
 runs-of_none : (at : ℕ) (ys : List ℕ) → runs_from at [] ys ≡ []

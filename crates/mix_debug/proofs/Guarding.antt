@@ -8,13 +8,16 @@ use Rattle.big_memory.specs.Memory.{IsRam, Memory}
 use Rattle.switch_frame.specs.Sets.{caller_isa, frame_size}
 use Rattle.switch_frame.specs.Records.{Record, isa_of}
 use Rattle.switch_frame.specs.Calls.{IsOutermost, active_set}
-use Rattle.switch_frame.specs.Chain.{Above, Chain, Fits, IsFrameRange, IsInside, Links, covered, in_range, outer_of}
+use Rattle.switch_frame.specs.laws.Chain.{Above, IsFrameRange}
+use Rattle.switch_frame.specs.Chain.{Chain, Fits, IsInside, Links, covered, in_range, outer_of}
 use Rattle.switch_frame.proofs.Marked.{fits_is_range, mark_at, marks_kept, marks_same, range_moves as range-moves, top_tells}
 use Rattle.mixed_machine.specs.declared.body.Body.{Body}
 use Rattle.mixed_machine.specs.Machine.{IsWhole, callers_of}
 use Rattle.mix_debug.specs.declared.head.FrameChange.{FrameChange}
 use Rattle.mix_debug.specs.declared.head.FrameChange.TheVariants.{Stays, Made, GivenUp}
-use Rattle.mix_debug.specs.Entries.{IsFrame, IsRange, frame_between, is_made, marks_before}
+use Rattle.mix_debug.specs.Entries.{IsFrame, IsRange, marks_before}
+use Rattle.mix_debug.specs.inner.Entries.{frame_between}
+use Rattle.mix_reach.specs.laws.Steps.{is_made}
 use Rattle.mix_debug.proofs.Below.{frames-above, len-ram}
 use Rattle.mix_debug.proofs.Stepping.{Followed, long-by-start}
 

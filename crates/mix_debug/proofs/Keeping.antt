@@ -4,24 +4,30 @@ use Rattle.std.specs.Prelude.{All, vec_capacity}
 use Rattle.std.proofs.lemmas.Bool.{cases_Bool, cases_lt}
 use Rattle.std.proofs.lemmas.List.{take_at}
 use Rattle.std.proofs.lemmas.List.Elements.{All-head, All-tail}
-use Rattle.toolbox.specs.declared.block.Block.{Block}
+use Rattle.host_heap.specs.declared.block.Block.{Block}
 use Rattle.switch_frame.specs.declared.active.Active.{Active}
 use Rattle.switch_frame.specs.Records.{isa_of}
 use Rattle.mix_engine.specs.declared.machine.Machine.{Machine}
 use Rattle.mix_bits.specs.declared.isa.Isa.{Isa}
 use Rattle.big_memory.specs.Lists.{part, put}
 use Rattle.big_memory.specs.Memory.{Memory}
-use Rattle.toolbox.specs.Space.{Space, block_limit}
+use Rattle.host_heap.specs.Space.{Space, block_limit}
 use Rattle.mix_debug.specs.declared.head.FrameChange.{FrameChange}
 use Rattle.mix_debug.specs.declared.head.BlockChange.{BlockChange}
 use Rattle.mix_debug.specs.declared.head.Head.{Head}
 use Rattle.mix_debug.specs.declared.history.History.{History}
-use Rattle.mix_debug.specs.Runs.{Covers, Run, joined, olds_of, runs_cost, runs_from, undone}
-use Rattle.mix_debug.specs.Entries.{Entry, IsEntry, IsFrame, IsInside, block_between, frame_between, head_cost, heap_before, marks_before, newest, within}
+use Rattle.mix_debug.specs.inner.WrittenBack.{Covers}
+use Rattle.mix_debug.specs.WrittenBack.{olds_of, undone}
+use Rattle.mix_debug.specs.Changes.{Run, joined, runs_cost, runs_from}
+use Rattle.mix_debug.specs.Entries.{Entry, IsEntry, IsFrame, IsInside, head_cost, heap_before, marks_before, within}
+use Rattle.mix_debug.specs.inner.Entries.{block_between, frame_between, newest}
 use Rattle.mix_debug.specs.Pasts.{IsPast, entries_in}
-use Rattle.mix_debug.specs.Machines.{IsSound, Kept, before, cost_between, earlier, fitting}
-use Rattle.mix_debug.specs.Histories.{IsHistory, KeepsBeside, entry_of}
-use Rattle.mix_debug.specs.Trails.{Keeps, TakesBack, Trail, history_room}
+use Rattle.mix_debug.specs.Machines.{IsSound, before, earlier}
+use Rattle.mix_debug.specs.CostsClauses.{Kept, cost_between, fitting}
+use Rattle.mix_debug.specs.Histories.{IsHistory}
+use Rattle.mix_debug.specs.inner.Histories.{KeepsBeside, entry_of}
+use Rattle.mix_debug.specs.TrailsClauses.{Keeps, TakesBack, Trail}
+use Rattle.mix_debug.specs.Trails.{history_room}
 use Rattle.mix_debug.specs.declared.past.Past.{Past}
 use Rattle.mix_debug.proofs.Blocks.{heap-back}
 use Rattle.mix_debug.proofs.Differ.{undoes}
@@ -69,7 +75,7 @@ pub record StepBack (m n : Machine) : Type 0 where
   pub cost : head_cost (entry_of m.active m.body.top m.body.ram.bytes m.body.heap.blocks n).head ≡ cost_between m n
   pub long : length n.body.ram.bytes ≡ length m.body.ram.bytes
 
-pub step-back : (m n : Machine) → IsSound m → IsSound n → Rattle.toolbox.specs.Sound.IsSound m.body.heap → Followed m.body n.body → StepBack m n
+pub step-back : (m n : Machine) → IsSound m → IsSound n → Rattle.host_heap.specs.Sound.IsSound m.body.heap → Followed m.body n.body → StepBack m n
 unfolding entry_of before cost_between
 step-back m n here there sound moved =
     let long : length n.body.ram.bytes ≡ length m.body.ram.bytes = same-long m.body n.body (isa_of m.active) (isa_of n.active) here there moved in
@@ -124,7 +130,7 @@ pub record KeptStep (m n : Machine) (h k : History) : Type 0 where
   pub kept : earlier n (entries_in k.past) ≡ fitting history_room (record { machine = m; cost = cost_between m n } ∷ earlier m (entries_in h.past))
 
 pub kept-step : (m n : Machine) (h k : History) → IsHistory m h → IsSound n → Followed m.body n.body → k.copy.items ≡ n.body.ram.bytes → k.blocks.items ≡ n.body.heap.blocks
-    → Rattle.toolbox.specs.Sound.IsSound n.body.heap → block_limit ≤ vec_capacity k.blocks → IsPast k.past
+    → Rattle.host_heap.specs.Sound.IsSound n.body.heap → block_limit ≤ vec_capacity k.blocks → IsPast k.past
     → entries_in k.past ≡ within history_room (entry_of m.active m.body.top h.copy.items h.blocks.items n ∷ entries_in h.past) → KeptStep m n h k
 kept-step m n h k here there moved copied blocks heap room past entries =
     let e : Entry = entry_of m.active m.body.top m.body.ram.bytes m.body.heap.blocks n in
@@ -173,7 +179,7 @@ earlier-first e es m all =
     (All-head sound first (earlier (before e m) es) all, All-tail sound first (earlier (before e m) es) all)
 
 pub undone-step : (m n : Machine) (h k : History) (e : Entry) → IsHistory m h → entries_in h.past ≡ e ∷ entries_in k.past → n ≡ before e m → k.copy.items ≡ n.body.ram.bytes
-    → k.blocks.items ≡ n.body.heap.blocks → Rattle.toolbox.specs.Sound.IsSound n.body.heap → block_limit ≤ vec_capacity k.blocks → IsPast k.past → IsHistory n k
+    → k.blocks.items ≡ n.body.heap.blocks → Rattle.host_heap.specs.Sound.IsSound n.body.heap → block_limit ≤ vec_capacity k.blocks → IsPast k.past → IsHistory n k
 unfolding before
 undone-step m n h k e here entries is copied blocks heap room past =
     let es : List Entry = entries_in k.past in
@@ -194,7 +200,7 @@ undone-step m n h k e here entries is copied blocks heap room past =
     }
 
 -- before the first step
-pub no-step : (m : Machine) (h : History) → IsSound m → h.copy.items ≡ m.body.ram.bytes → h.blocks.items ≡ m.body.heap.blocks → Rattle.toolbox.specs.Sound.IsSound m.body.heap
+pub no-step : (m : Machine) (h : History) → IsSound m → h.copy.items ≡ m.body.ram.bytes → h.blocks.items ≡ m.body.heap.blocks → Rattle.host_heap.specs.Sound.IsSound m.body.heap
     → block_limit ≤ vec_capacity h.blocks → IsPast h.past → entries_in h.past ≡ [] → IsHistory m h
 unfolding earlier
 no-step m h whole copied blocks heap room past empty =
@@ -250,7 +256,7 @@ newest-frame old new h es rest all is are =
 
 -- the machine before it
 abbrev returned : Machine → Head → Memory → Space → Machine
-returned m h ram heap = record { active = h.file; body = record { ram = ram; heap = heap; top = h.top; a5 = m.body.a5; main = m.body.main; start_sp = m.body.start_sp; operations = record {} } }
+returned m h ram heap = record { active = h.file; body = record { ram = ram; heap = heap; top = h.top; a5 = m.body.a5; main = m.body.main; start_sp = m.body.start_sp } }
 
 pub undone-machine : (m : Machine) (h : Head) (rs : List Run) (first last : Memory) (heap : Space) → first ≡ record { bytes = undone rs m.body.ram.bytes; marks = m.body.ram.marks }
     → last ≡ record { bytes = first.bytes; marks = marks_before h.frame first.marks } → heap ≡ heap_before h.block m.body.heap

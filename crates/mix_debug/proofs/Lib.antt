@@ -12,9 +12,6 @@ pub mod Keeping
 pub mod Undoing
 pub mod Telling
 pub mod Below
-pub mod Windows
-pub mod Turning
-pub mod Wholes
 pub mod Still
 pub mod Rooms
 pub mod Holding

@@ -3,7 +3,8 @@ use Rattle.std.proofs.Common.{◌≡◌, ℕ, zero, suc, ◌+◌, ◌-◌, ◌<�
 use Rattle.std.proofs.lemmas.Bool.{eq-eqb}
 use Rattle.std.proofs.lemmas.List.{length-take-le, length-drop, take-append-drop, take-take, drop-drop, drop-take, append_assoc}
 use Rattle.big_memory.specs.Lists.{part, put}
-use Rattle.mix_debug.specs.Runs.{Covers, runs_from, runs_in}
+use Rattle.mix_debug.specs.inner.WrittenBack.{Covers, runs_in}
+use Rattle.mix_debug.specs.Changes.{runs_from}
 
 runs-none : (at : ℕ) (xs : List ℕ) → runs_from at xs xs ≡ []
 unfolding runs_from

@@ -2,29 +2,32 @@
 use Rattle.std.proofs.Common.{◌≡◌, ◌⊎◌, ℕ, ◌≤◌, ◌==◌, nat_lt, Bool, true, false, not, if◌then◌else◌, List, [], ◌++◌, length, Option, Some, None, arith, ap, sym, subst, ◌∙◌, refl, inl, inr}
 use Rattle.std.proofs.lemmas.Bool.{le-ltb}
 use Rattle.std.proofs.lemmas.List.Filters.{length-filter_both}
-use Rattle.toolbox.specs.declared.block.Block.{Block}
-use Rattle.toolbox.specs.Space.{Space, rounded}
-use Rattle.toolbox.specs.Place.{without}
-use Rattle.toolbox.specs.Sound.{IsSound as IsSoundHeap}
+use Rattle.host_heap.specs.declared.block.Block.{Block}
+use Rattle.host_heap.specs.Space.{Space, rounded}
+use Rattle.host_heap.specs.Place.{without}
+use Rattle.host_heap.specs.Sound.{IsSound as IsSoundHeap}
 use Rattle.switch_frame.specs.declared.active.Active.{Active}
 use Rattle.switch_frame.specs.Records.{isa_of}
 use Rattle.mixed_machine.specs.declared.body.Body.{Body}
 use Rattle.mixed_machine.specs.declared.stop.Stop.{Stop}
 use Rattle.mixed_machine.specs.Machine.{IsWhole}
-use Rattle.mixed_machine.specs.StepLaws.{HeapMoves}
-use Rattle.mixed_machine.specs.Outside.{At, answers_between, around_at, state_of}
-use Rattle.mixed_machine.specs.Runs.{Runs, Stops, sinks_of}
+use Rattle.mixed_machine.specs.laws.StepLaws.{HeapMoves}
+use Rattle.mixed_machine.specs.OutsideClauses.{At}
+use Rattle.mixed_machine.specs.inner.Outside.{answers_between, state_of}
+use Rattle.toolbox.specs.Calls.{around_at}
+use Rattle.mixed_machine.specs.RunsClauses.{Runs, sinks_of}
+use Rattle.mixed_machine.specs.Runs.{Stops}
 use Rattle.mix_reach.specs.declared.reach.Reach.{Reach}
 use Rattle.mix_reach.specs.declared.reach.Stores.{Stores}
-use Rattle.mix_reach.specs.Ranges.{Beside, range}
-use Rattle.mix_reach.specs.Steps.{next_stores, reach}
-use Rattle.mix_reach.specs.Laws.{MakesNone, StoredIn, StoredInBlock}
+use Rattle.mix_reach.specs.laws.Ranges.{Beside, range}
+use Rattle.mix_reach.specs.laws.Steps.{next_stores, reach}
+use Rattle.mix_reach.specs.laws.Laws.{MakesNone, StoredIn, StoredInBlock}
 use Rattle.mix_reach.proofs.Lifted.{stores_where_told}
 use Rattle.mix_debug.specs.declared.head.BlockChange.{BlockChange}
 use Rattle.mix_debug.specs.declared.head.BlockChange.TheVariants.{Stays, Made}
-use Rattle.mix_debug.specs.Entries.{block_between, first_other, freed_of, made_of}
-use Rattle.mix_debug.specs.Reaches.{SameBlocks, stored_in}
-use Rattle.mix_debug.specs.Trails.{is_done}
+use Rattle.mix_debug.specs.inner.Entries.{block_between, first_other, freed_of, made_of}
+use Rattle.mix_debug.specs.inner.Reaches.{SameBlocks, stored_in}
+use Rattle.mix_debug.specs.TrailsClauses.{is_done}
 use Rattle.mix_debug.proofs.Blocks.{block-made, blocks-same}
 use Rattle.mix_debug.proofs.Stepping.{somewhere, step-goes}
 

@@ -6,7 +6,8 @@ use Rattle.std.proofs.lemmas.List.{append_assoc, append-nil, length-append, take
 use Rattle.std.proofs.lemmas.List.Elements.{All-head, All-tail}
 use Rattle.std.specs.List.{slice_get}
 use Rattle.mix_debug.specs.declared.head.Head.{Head}
-use Rattle.mix_debug.specs.Runs.{Run, olds_of}
+use Rattle.mix_debug.specs.Changes.{Run}
+use Rattle.mix_debug.specs.WrittenBack.{olds_of}
 use Rattle.mix_debug.specs.Entries.{Entry, IsCounted, all_olds, all_spans, entries, head_cost, heads_of, runs_of, spans_of, total, within}
 use Rattle.mix_debug.proofs.Spelling.{length-spans, least-file, spans-append, olds-append, total-append, room-taken}
 

@@ -4,8 +4,11 @@ use Rattle.std.proofs.Math.Seq.{drop-cons}
 use Rattle.std.proofs.lemmas.Bool.{cases_Bool, eq-eqb, ne_eqb}
 use Rattle.std.proofs.lemmas.List.{get_or-take, length-append, length-take-le, take-take}
 use Rattle.mix_debug.specs.declared.head.Span.{Span}
-use Rattle.mix_debug.specs.Runs.{Run, begins, joined, olds_of, runs_from}
-use Rattle.mix_debug.specs.Entries.{closed, spans_of, started}
+use Rattle.mix_debug.specs.Changes.{Run, joined, runs_from}
+use Rattle.mix_debug.specs.inner.WrittenBack.{begins}
+use Rattle.mix_debug.specs.WrittenBack.{olds_of}
+use Rattle.mix_debug.specs.inner.Entries.{closed, started}
+use Rattle.mix_debug.specs.Entries.{spans_of}
 
 -- the runs from an address on
 abbrev pub runs_at : ℕ → List ℕ → List ℕ → List Run

@@ -7,8 +7,11 @@ use Rattle.std.proofs.lemmas.List.Elements.{All-head, All-tail}
 use Rattle.switch_frame.specs.declared.active.Active.{Active}
 use Rattle.switch_frame.specs.declared.active.Active.TheVariants.{M68, Ppc}
 use Rattle.mix_debug.specs.declared.head.Span.{Span}
-use Rattle.mix_debug.specs.Runs.{Run, olds_of, runs_cost}
-use Rattle.mix_debug.specs.Entries.{Entry, IsCounted, all_olds, all_spans, count_of, file_cost, head_cost, heads_of, runs_of, spans_of, total, within}
+use Rattle.mix_debug.specs.Changes.{Run, runs_cost}
+use Rattle.mix_debug.specs.WrittenBack.{olds_of}
+use Rattle.mix_debug.specs.Entries.{Entry, IsCounted, all_olds, all_spans, head_cost, heads_of, runs_of, spans_of, total, within}
+use Rattle.mix_debug.specs.inner.Entries.{count_of}
+use Rattle.mix_debug.specs.Costs.{file_cost}
 
 pub length-spans : (rs : List Run) → length (spans_of rs) ≡ length rs
 unfolding spans_of

@@ -11,7 +11,7 @@ use Rattle.switch_frame.proofs.Beside.{view_is_memory}
 use Rattle.switch_frame.proofs.Marked.{marks_same}
 use Rattle.toolbox.specs.Calls.{IsLeft}
 use Rattle.toolbox.specs.Effects.{Around}
-use Rattle.toolbox.specs.Space.{Space}
+use Rattle.host_heap.specs.Space.{Space}
 use Rattle.mixed_machine.specs.declared.body.Body.{Body}
 use Rattle.mixed_machine.specs.declared.stop.Stop.{Stop}
 use Rattle.mixed_machine.specs.declared.stop.Stop.TheVariants.{Exit, Fault, Limit, ReadFault, OutFault, TraceFault}
@@ -19,23 +19,26 @@ use Rattle.mixed_machine.specs.State.{State}
 use Rattle.mixed_machine.specs.Next.{Next}
 use Rattle.mixed_machine.specs.Next.Next.{Exits, Faults, Goes}
 use Rattle.mixed_machine.specs.Step.{step}
-use Rattle.mixed_machine.specs.StepLaws.{CallersMove, HeapMoves, IsKind, Kind}
+use Rattle.mixed_machine.specs.laws.StepLaws.{CallersMove, HeapMoves, IsKind, Kind}
 use Rattle.mixed_machine.specs.Exec.{GoesTo, How, Leads, exec_to, goes_on, is_back, rests}
 use Rattle.mixed_machine.specs.Exec.End.{Ended}
 use Rattle.mixed_machine.specs.Exec.How.{Exited, Faulted, Limited}
 use Rattle.mixed_machine.specs.Machine.{IsWhole, callers_of, flat, memory_of}
-use Rattle.mixed_machine.specs.Outside.{At, Over, answers_between, around_at, state_of}
-use Rattle.mixed_machine.specs.Runs.{Runs, Sinks, Stops, sinks_of}
+use Rattle.mixed_machine.specs.OutsideClauses.{At, Over}
+use Rattle.mixed_machine.specs.inner.Outside.{answers_between, state_of}
+use Rattle.toolbox.specs.Calls.{around_at}
+use Rattle.mixed_machine.specs.RunsClauses.{Runs, sinks_of}
+use Rattle.mixed_machine.specs.Runs.{Sinks, Stops}
 use Rattle.mixed_machine.proofs.StepKinds.{steps-are_kinds}
 use Rattle.mixed_machine.proofs.Runs.{no-steps}
 use Rattle.mix_engine.specs.declared.machine.Machine.{Machine}
 use Rattle.mix_debug.specs.Machines.{IsSound}
-use Rattle.mix_debug.specs.Trails.{is_done}
+use Rattle.mix_debug.specs.TrailsClauses.{is_done}
 
 -- a machine out of its parts
 abbrev made : Active → List ℕ → List Bool → Space → ℕ → ℕ → Isa → ℕ → Machine
 made file bytes marks heap top a5 main start =
-    record { active = file; body = record { ram = record { bytes = bytes; marks = marks }; heap = heap; top = top; a5 = a5; main = main; start_sp = start; operations = record {} } }
+    record { active = file; body = record { ram = record { bytes = bytes; marks = marks }; heap = heap; top = top; a5 = a5; main = main; start_sp = start } }
 
 -- machines with the same parts are the same
 pub same-machine : (m n : Machine) → n.active ≡ m.active → n.body.ram.bytes ≡ m.body.ram.bytes → n.body.ram.marks ≡ m.body.ram.marks → n.body.heap ≡ m.body.heap → n.body.top ≡ m.body.top

@@ -3,21 +3,21 @@ use Rattle.std.proofs.Common.{◌≡◌, ℕ, suc, ◌+◌, nat_lt, Bool, if◌t
 use Rattle.std.proofs.lemmas.Bool.{cases_lt}
 use Rattle.std.proofs.lemmas.Grind.{same_number_lists}
 use Rattle.mix_bits.specs.declared.isa.Isa.{Isa}
-use Rattle.toolbox.specs.declared.block.Block.{Block}
+use Rattle.host_heap.specs.declared.block.Block.{Block}
 use Rattle.switch_frame.specs.declared.active.Active.{Active}
 use Rattle.switch_frame.specs.Records.{isa_of}
 use Rattle.switch_frame.specs.Sets.{frame_size}
 use Rattle.mix_engine.specs.declared.machine.Machine.{Machine}
 use Rattle.mix_reach.specs.declared.reach.Reach.{Reach}
 use Rattle.mix_reach.specs.declared.reach.Stores.{Stores}
-use Rattle.mix_reach.specs.Ranges.{Beside}
-use Rattle.mix_reach.specs.Steps.{frame_given_up, frame_made, is_made as is_made_there, reach}
+use Rattle.mix_reach.specs.laws.Ranges.{Beside}
+use Rattle.mix_reach.specs.laws.Steps.{frame_given_up, frame_made, is_made, reach}
 use Rattle.mix_debug.specs.declared.head.FrameChange.TheVariants.{Stays as FrameStays, Made as FrameMade, GivenUp}
 use Rattle.mix_debug.specs.declared.head.BlockChange.TheVariants.{Stays as BlockStays}
-use Rattle.mix_debug.specs.Runs.{runs_from}
-use Rattle.mix_debug.specs.Entries.{block_between, first_other, frame_between, freed_of, head_with, is_made, made_of, still}
-use Rattle.mix_debug.specs.Histories.{entry_of}
-use Rattle.mix_debug.specs.Reaches.{stored_in}
+use Rattle.mix_debug.specs.Changes.{runs_from}
+use Rattle.mix_debug.specs.inner.Entries.{block_between, first_other, frame_between, freed_of, head_with, made_of, still}
+use Rattle.mix_debug.specs.inner.Histories.{entry_of}
+use Rattle.mix_debug.specs.inner.Reaches.{stored_in}
 use Rattle.mix_debug.proofs.Empty.{no_olds}
 use Rattle.mix_debug.proofs.Keeping.{entry-is}
 use Rattle.mix_debug.proofs.Reached.{fewer-told}
@@ -45,7 +45,7 @@ block-stays old new same =
 
 reach-stays : (next : Stores) (old new : ℕ) (active : Active) → new ≡ old → reach next old new active ≡ next.reach
 reach-stays next old new active same =
-    ap (λ (t : Bool). if t then next.reach else (if is_made_there old new then frame_made new active else frame_given_up old active)) (eq-eqb new old same)
+    ap (λ (t : Bool). if t then next.reach else (if is_made old new then frame_made new active else frame_given_up old active)) (eq-eqb new old same)
 
 -- it stored where was told before it
 pub stored_still : (blocks news : List Block) (next : Stores) (top last : ℕ) (active : Active) → length news ≡ length blocks → last ≡ top

@@ -5,8 +5,9 @@ use Rattle.std.proofs.KnownBytes.{Appends-nil, Appends-trans}
 use Rattle.std.proofs.lemmas.List.{length-append, take-append-le}
 use Rattle.mix_io.specs.Told.{Puts}
 use Rattle.switch_frame.specs.declared.held.Held.{Held}
-use Rattle.switch_frame.specs.Calls.{innermost}
-use Rattle.switch_frame.specs.Records.{Record, held_of, record_of}
+use Rattle.switch_frame.specs.CallsClauses.{innermost}
+use Rattle.switch_frame.specs.Records.{Record}
+use Rattle.switch_frame.specs.RecordsClauses.{held_of, record_of}
 use Rattle.mix_debug.specs.Crawl.{caller_line, caller_lines}
 
 -- the callers of a chain, as its innermost one is told

@@ -1,65 +1,80 @@
 -- Lists of steps forward and back.
-use Rattle.std.proofs.Common.{◌≡◌, ℕ, zero, suc, ◌-◌, ◌<◌, ◌≤◌, nat_le, true, false, List, [], ◌∷◌, length, take, arith, inl, inr, ap, sym, ◌∙◌, refl, subst}
+use Rattle.std.proofs.Common.{◌≡◌, ℕ, zero, suc, ◌-◌, ◌<◌, ◌≤◌, nat_le, true, false, List, [], ◌∷◌, ◌++◌, length, map, take, Some, None, arith, inl, inr, ap, sym, ◌∙◌, refl, subst}
 use Rattle.std.proofs.lemmas.Bool.{cases_Bool, leb-false, leb-true}
 use Rattle.mix_engine.specs.declared.machine.Machine.{Machine}
-use Rattle.mix_debug.specs.Machines.{Kept, cost_between, fitting}
-use Rattle.mix_debug.specs.Trails.{TakesBack, Trail, history_room}
-use Rattle.mix_debug.specs.Trips.{FittingIsLongest, IsLongest, costs, Made, Trip, TripsReturn}
-use Rattle.mix_debug.specs.Trips.Trip.{Out, Rest, Stay}
+use Rattle.mix_debug.specs.CostsClauses.{Kept, cost_between, fitting}
+use Rattle.mix_debug.specs.TrailsClauses.{TakesBack, Trail}
+use Rattle.mix_debug.specs.Trails.{history_room}
+use Rattle.mix_debug.specs.laws.Trips.{Event, FittingIsLongest, IsLongest, ListsLead, TripsReturn, Walked, behind, costs, standing}
+use Rattle.mix_debug.specs.laws.Trips.Event.{Did, Stayed, Stood, Undid}
 
--- what is kept is a beginning of what was
-abbrev Begins : List Kept → List Kept → Type 0
-Begins [] all = Unit {0}
-Begins (k ∷ ks) [] = ⊥
-Begins (k ∷ ks) (l ∷ ls) = (k ≡ l) × Begins ks ls
+-- the steps that are kept are the newest of those that are done and not taken back
+abbrev AreNewest : List Kept → List Machine → Type 0
+AreNewest [] ms = Unit {0}
+AreNewest (k ∷ ks) [] = ⊥
+AreNewest (k ∷ ks) (m ∷ ms) = (k.machine ≡ m) × AreNewest ks ms
 
-begins-all : (ks : List Kept) → Begins ks ks
-begins-all [] = tt
-begins-all (k ∷ ks) = (refl, begins-all ks)
+newest-all : (ks : List Kept) → AreNewest ks (map (λ (k : Kept). k.machine) ks)
+newest-all [] = tt
+newest-all (k ∷ ks) = (refl, newest-all ks)
 
-begins-more : (ks ls ms : List Kept) → Begins ks ls → Begins ls ms → Begins ks ms
-begins-more [] ls ms first then = tt
-begins-more (k ∷ ks) [] ms first then = absurd first
-begins-more (k ∷ ks) (l ∷ ls) [] first then = absurd then
-begins-more (k ∷ ks) (l ∷ ls) (m ∷ ms) first then = (first.0 ∙ then.0, begins-more ks ls ms first.1 then.1)
-
-begins-fitting : (room : ℕ) (ks : List Kept) → Begins (fitting room ks) ks
+newest-fitting : (room : ℕ) (ks : List Kept) (ms : List Machine) → AreNewest ks ms → AreNewest (fitting room ks) ms
 unfolding fitting
-begins-fitting room [] = tt
-begins-fitting room (k ∷ ks) =
+newest-fitting room [] ms newest = tt
+newest-fitting room (k ∷ ks) [] newest = absurd newest
+newest-fitting room (k ∷ ks) (m ∷ ms) newest =
     elim (cases_Bool (nat_le k.cost room)) [
-      | inl fits ↦ rw fits (refl, begins-fitting (room - k.cost) ks)
+      | inl fits ↦ rw fits (newest.0, newest-fitting (room - k.cost) ks ms newest.1)
       | inr full ↦ rw full tt
     ]
 
--- a trip leaves the machine, and of the steps that were kept a beginning
-record Returns (a b : Trail) : Type 0 where
-  machine : b.machine ≡ a.machine
-  kept : Begins b.kept a.kept
+-- a step back gives the machine before the newest of them
+undid : (es : List Event) (a m b : Trail) (ks : List Kept) (ms : List Machine) → AreNewest ks ms → TakesBack true ks a m
+    → ((ns : List Machine) → AreNewest m.kept ns → b.machine ≡ behind es m.machine ns) → b.machine ≡ behind (Undid ∷ es) a.machine ms
+unfolding behind
+undid es a m b [] ms newest back onward = absurd (let e : true ≡ false = back.0 in cc)
+undid es a m b (k ∷ ks) [] newest back onward = absurd newest
+undid es a m b (k ∷ ks) (x ∷ ms) newest back onward =
+    onward ms (subst (λ (t : Trail). AreNewest t.kept ms) (sym back.1) newest.1) ∙ ap (λ y. behind es y ms) (ap (λ (t : Trail). t.machine) back.1 ∙ newest.0)
 
--- the step that is taken back is the newest of those that were kept
-taken : (m : Machine) (cost : ℕ) (ks ls : List Kept) (last after : Trail) → Begins ls (record { machine = m; cost = cost } ∷ ks) → TakesBack true ls last after
-    → (after.machine ≡ m) × Begins after.kept ks
-taken m cost ks [] last after begin back = absurd (let e : true ≡ false = back.0 in cc)
-taken m cost ks (l ∷ ls) last after begin back =
-    (ap (λ (t : Trail). t.machine) back.1 ∙ ap (λ (k : Kept). k.machine) begin.0, subst (λ (t : Trail). Begins t.kept ks) (sym back.1) begin.1)
+stayed : (a m : Trail) (ks : List Kept) → TakesBack false ks a m → m ≡ a
+stayed a m [] back = back.1
+stayed a m (k ∷ ks) back = absurd (let e : false ≡ true = back.0 in cc)
 
-returns : (t : Trip) (a b : Trail) → Made t a b → Returns a b
-returns Stay a b made = record { machine = made.0; kept = subst (λ ks. Begins ks a.kept) (sym made.1) (begins-all a.kept) }
-returns (Rest onward) a b (m, rests, more) =
-    let it = returns onward m b more in
-    record { machine = it.machine ∙ rests.0; kept = subst (Begins b.kept) rests.1 it.kept }
-returns (Out inside onward) a b (first, last, after, did, through, undid, more) =
-    let inner = returns inside first last through in
-    let outer = returns onward after b more in
-    let newest : Kept = record { machine = a.machine; cost = cost_between a.machine first.machine } in
-    let front : Begins last.kept (newest ∷ a.kept) =
-    begins-more last.kept first.kept (newest ∷ a.kept) inner.kept (subst (λ ks. Begins ks (newest ∷ a.kept)) (sym did) (begins-fitting history_room (newest ∷ a.kept))) in
-    let back = taken a.machine (cost_between a.machine first.machine) a.kept last.kept last after front undid in
-    record { machine = outer.machine ∙ back.0; kept = begins-more b.kept after.kept a.kept outer.kept back.1 }
+leads : (es : List Event) (a b : Trail) (ms : List Machine) → AreNewest a.kept ms → Walked es a b → b.machine ≡ behind es a.machine ms
+unfolding behind
+leads [] a b ms newest walked = walked.0
+leads (Did to ∷ es) a b ms newest (m, led, more) =
+    let first : Kept = record { machine = a.machine; cost = cost_between a.machine m.machine } in
+    let kept : AreNewest m.kept (a.machine ∷ ms) = subst (λ ks. AreNewest ks (a.machine ∷ ms)) (sym led.0) (newest-fitting history_room (first ∷ a.kept) (a.machine ∷ ms) (refl, newest)) in
+    leads es m b (a.machine ∷ ms) kept more ∙ ap (λ y. behind es y (a.machine ∷ ms)) led.1
+leads (Stood ∷ es) a b ms newest (m, led, more) =
+    leads es m b ms (subst (λ ks. AreNewest ks ms) (sym led.1) newest) more ∙ ap (λ y. behind es y ms) led.0
+leads (Undid ∷ es) a b ms newest (m, led, more) = undid es a m b a.kept ms newest led (λ ns kept. leads es m b ns kept more)
+leads (Stayed ∷ es) a b ms newest (m, led, more) =
+    let same : m ≡ a = stayed a m a.kept led in
+    leads es m b ms (subst (λ (t : Trail). AreNewest t.kept ms) (sym same) newest) more ∙ ap (λ (t : Trail). behind es t.machine ms) same
+
+pub lists_lead : ListsLead
+lists_lead es a b walked = leads es a b (map (λ (k : Kept). k.machine) a.kept) (newest-all a.kept) walked
+
+-- the machine before the oldest of the steps that are still done
+abbrev oldest : Machine → List Machine → Machine
+oldest m [] = m
+oldest m (k ∷ front) = oldest k front
+
+back-again : (es : List Event) (m : Machine) (front rest : List Machine) → standing es (length front) ≡ Some 0 → behind es m (front ++ rest) ≡ oldest m front
+unfolding behind standing
+back-again [] m [] rest none = refl
+back-again [] m (k ∷ front) rest none = absurd (let e : Some (suc (length front)) ≡ Some 0 = none in let n : suc (length front) ≡ 0 = cc in omega (arith, n))
+back-again (Did to ∷ es) m front rest none = back-again es to (m ∷ front) rest none
+back-again (Stood ∷ es) m front rest none = back-again es m front rest none
+back-again (Undid ∷ es) m [] rest none = absurd (let e : Some 0 ≡ None = sym none in cc)
+back-again (Undid ∷ es) m (k ∷ front) rest none = back-again es k front rest none
+back-again (Stayed ∷ es) m front rest none = back-again es m front rest none
 
 pub trips_return : TripsReturn
-trips_return t a b made = (returns t a b made).machine
+trips_return es a b walked none = lists_lead es a b walked ∙ back-again es a.machine [] (map (λ (k : Kept). k.machine) a.kept) none
 
 -- what is kept is the longest beginning that fits
 longest-none : (room : ℕ) → IsLongest room [] []

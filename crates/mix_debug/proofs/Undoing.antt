@@ -1,18 +1,18 @@
 -- Runs written back one after another.
-use Rattle.std.proofs.Common.{◌≡◌, ℕ, zero, suc, ◌+◌, ◌-◌, ◌<◌, ◌≤◌, List, [], ◌∷◌, length, take, drop, get_or, Some, None, arith, ap, sym, subst, ◌∙◌}
+use Rattle.std.proofs.Common.{◌≡◌, ℕ, zero, suc, ◌+◌, ◌-◌, ◌<◌, ◌≤◌, min, List, [], ◌∷◌, ◌++◌, length, take, drop, Some, None, arith, ap, sym, subst, ◌∙◌}
 use Rattle.std.specs.Prelude.{All}
-use Rattle.std.proofs.lemmas.List.{places, same_lists, length-drop, drop-drop}
+use Rattle.std.proofs.Math.Nat.{min-le_right}
+use Rattle.std.proofs.lemmas.List.{places, same_lists, length-append, length-drop, length-take-le, drop-drop}
 use Rattle.std.proofs.lemmas.List.Elements.{All-head, All-tail}
 use Rattle.std.specs.List.{slice_get}
-use Rattle.std.proofs.lemmas.Option.{slice_get-get_or}
-use Rattle.std.proofs.lemmas.List.{get_or-drop}
-use Rattle.circular_buffer.specs.Buffer.{Buffer, buffer}
+use Rattle.circular_buffer.specs.Buffer.{Buffer, buffer, keep_last}
 use Rattle.big_memory.specs.Lists.{part, put}
-use Rattle.big_memory.specs.Memory.{Memory}
-use Rattle.big_memory.proofs.Lists.{length-put, part-put_same}
+use Rattle.big_memory.specs.Memory.{Memory, with_bytes}
+use Rattle.big_memory.proofs.Lists.{length-put, part-put_same, put-append}
 use Rattle.mix_debug.specs.declared.head.Span.{Span}
-use Rattle.mix_debug.specs.Runs.{undone}
-use Rattle.mix_debug.specs.Entries.{IsInside, count_of, runs_of}
+use Rattle.mix_debug.specs.WrittenBack.{undone}
+use Rattle.mix_debug.specs.Entries.{IsInside, runs_of}
+use Rattle.mix_debug.specs.inner.Entries.{count_of}
 
 -- `left` runs are to come from the front of the rings
 pub record Undoing (left : ℕ) (spans end : List Span) (olds last : List ℕ) (bytes goal : List ℕ) (len : ℕ) : Type 0 where
@@ -35,7 +35,7 @@ undoing-first left s spans end olds last bytes goal len undoing =
     let whole : s.count + count_of (take left spans) ≤ length olds = undoing.whole in
     let first : s.at + length (take s.count olds) ≤ len = All-head (IsInside len) (record { at = s.at; old = take s.count olds }) (runs_of (take left spans) (drop s.count olds)) undoing.inside in
     let fits : s.count ≤ length olds = omega (arith, whole) in
-    record { whole = fits; inside = omega (arith, first, Rattle.std.proofs.lemmas.List.length-take-le s.count olds fits) }
+    record { whole = fits; inside = omega (arith, first, length-take-le s.count olds fits) }
 
 pub undoing-more : (left : ℕ) (s : Span) (spans end : List Span) (olds last bytes goal : List ℕ) (len : ℕ) → Undoing (suc left) (s ∷ spans) end olds last bytes goal len
     → Undoing left spans end (drop s.count olds) last (put s.at (take s.count olds) bytes) goal len
@@ -43,7 +43,7 @@ unfolding count_of runs_of undone
 undoing-more left s spans end olds last bytes goal len undoing =
     let first = undoing-first left s spans end olds last bytes goal len undoing in
     let whole : s.count + count_of (take left spans) ≤ length olds = undoing.whole in
-    let size : length (take s.count olds) ≡ s.count = Rattle.std.proofs.lemmas.List.length-take-le s.count olds first.whole in
+    let size : length (take s.count olds) ≡ s.count = length-take-le s.count olds first.whole in
     let few : suc left ≤ suc (length spans) = undoing.few in
     let long : length bytes ≡ len = undoing.long in
     record {
@@ -56,20 +56,28 @@ undoing-more left s spans end olds last bytes goal len undoing =
       long = length-put s.at (take s.count olds) bytes (omega (arith, size, long, first.inside)) ∙ long;
     }
 
--- one byte of a run
-pub byte-more : (at k : ℕ) (x : ℕ) (olds bytes : List ℕ) → k < length olds → get_or olds k 0 ≡ x → at + k < length bytes → put (at + k) (x ∷ []) (put at (take k olds) bytes) ≡ put at (take (k + 1) olds) bytes
-byte-more at k x olds bytes here is inside =
-    ap (λ ys. put (at + k) ys (put at (take k olds) bytes)) (ap (λ y. y ∷ []) (sym is)) ∙ (let size : length (take k olds) ≡ k = Rattle.std.proofs.lemmas.List.length-take-le k olds (omega (arith, here)) in
-    ap (λ n. put (at + n) (get_or olds k 0 ∷ []) (put at (take k olds) bytes)) (sym size)
-    ∙ sym (Rattle.big_memory.proofs.Lists.put-append at (take k olds) (get_or olds k 0 ∷ []) bytes (omega (arith, size, inside)))
-    ∙ ap (λ ys. put at ys bytes) (sym (Rattle.std.proofs.lemmas.List.take_more olds k 0 here)))
+-- the first items of a ring that is read in two parts
+parts-taken : (count first : ℕ) (front behind items : List ℕ) → front ++ behind ≡ items → first ≡ min count (length front) → take first front ++ take (count - first) behind ≡ take count items
+parts-taken count first front behind items are least =
+    let both : length (front ++ behind) ≡ length front + length behind = length-append front behind in
+    same_lists _ _ (grind (arith, places)) (λ k d w. grind (arith, places)) ∙ ap (take count) are
 
-pub byte-first : (k : ℕ) (olds : List ℕ) (b : Buffer ℕ) (room : ℕ) → b ≡ buffer (drop k olds) room → k < length olds → slice_get b.items 0 ≡ Some (get_or olds k 0)
-byte-first k olds b room is here =
-    ap (λ (r : Buffer ℕ). slice_get r.items 0) is ∙ slice_get-get_or (drop k olds) 0 0 (omega (arith, length-drop k olds)) ∙ ap Some (get_or-drop k olds 0 0 ∙ ap (λ n. get_or olds n 0) (let e : k + 0 ≡ k = omega arith in e))
+pub parts-put : (at count first : ℕ) (front behind items xs ys : List ℕ) (old mid new : Memory) → front ++ behind ≡ items → first ≡ min count (length front) → count ≤ length items
+    → at + count ≤ length old.bytes → xs ≡ take first front → ys ≡ take (count - first) behind → mid ≡ with_bytes at xs old → new ≡ with_bytes (at + first) ys mid
+    → new ≡ with_bytes at (take count items) old
+parts-put at count first front behind items xs ys old mid new are least whole inside xs_are ys_are mid_is new_is =
+    let low : min count (length front) ≤ length front = min-le_right count (length front) in
+    let size : length xs ≡ first = ap length xs_are ∙ length-take-le first front (omega (arith, least, low)) in
+    let all : xs ++ ys ≡ take count items = ap (λ zs. zs ++ ys) xs_are ∙ ap (λ zs. take first front ++ zs) ys_are ∙ parts-taken count first front behind items are least in
+    let long : length (xs ++ ys) ≡ count = ap length all ∙ length-take-le count items whole in
+    let sum : length (xs ++ ys) ≡ length xs + length ys = length-append xs ys in
+    new_is ∙ ap (λ (m : Memory). with_bytes (at + first) ys m) mid_is
+    ∙ ap (λ n. record old { bytes = put (at + n) ys (put at xs old.bytes) }) (sym size)
+    ∙ ap (λ bytes. record old { bytes = bytes }) (sym (put-append at xs ys old.bytes (omega (arith, long, sum, inside))))
+    ∙ ap (λ zs. with_bytes at zs old) all
 
-pub ring-more : (k : ℕ) (olds : List ℕ) (b : Buffer ℕ) (room : ℕ) → b ≡ buffer (drop k olds) room → buffer (drop 1 b.items) b.capacity ≡ buffer (drop (k + 1) olds) room
-ring-more k olds b room is = ap (λ (r : Buffer ℕ). buffer (drop 1 r.items) r.capacity) is ∙ ap (λ xs. buffer xs room) (drop-drop 1 k olds)
+pub front-dropped : (count left : ℕ) (items : List ℕ) → count ≤ length items → left ≡ length items - count → keep_last left items ≡ drop count items
+front-dropped count left items whole is = let n : length items - left ≡ count = omega (arith, whole, is) in ap (λ k. drop k items) n
 
 -- the first run is taken, whatever it is
 pub record Taken (left : ℕ) (s : Span) (spans end : List Span) (olds last bytes goal : List ℕ) (len : ℕ) : Type 0 where

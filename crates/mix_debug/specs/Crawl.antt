@@ -5,8 +5,6 @@ use Rattle.switch_frame.specs.Files.{pc_of}
 use Rattle.switch_frame.specs.Records.{Record, isa_of}
 use Rattle.switch_frame.specs.declared.active.Active.{Active}
 use Rattle.call_trace.specs.Names.{set_name}
-use Rattle.mixed_machine.specs.Machine.{callers_of}
-use Rattle.mix_engine.specs.declared.machine.Machine.{Machine}
 
 -- `K SET PC`: a number in decimal, the set of instructions, and the address at which its code goes on
 abbrev pub place_of : ℕ → Active → List ℕ
@@ -24,6 +22,3 @@ caller_line k r = place_of k r.caller ++ codes " " ++ hexadecimal 8 r.target ++ 
 unfoldable pub caller_lines : ℕ → List Record → List ℕ
 caller_lines k [] = []
 caller_lines k (r ∷ rs) = caller_line k r ++ caller_lines (suc k) rs
-
-unfoldable pub crawl_of : Machine → List ℕ
-crawl_of m = here_line m.active ++ caller_lines 1 (callers_of m.body)

@@ -2,16 +2,16 @@
 ghost use Rattle.std.specs.Prelude.{◌≡◌, ◌+◌, ◌<◌, ◌≤◌, length};
 ghost use Rattle.std.specs.Bool.{OnTrue};
 ghost use Rattle.big_memory.specs.Lists.{part};
-ghost use Rattle.mix_debug.specs.Runs.{Covers};
-ghost use Rattle.mix_reach.specs.Ranges.{Beside};
-ghost use Rattle.mix_debug.specs.Entries.{block_between, first_other, frame_between};
-ghost use Rattle.mix_debug.specs.Reaches.{stored_in as stored_in_of};
+ghost use Rattle.mix_debug.specs.inner.WrittenBack.{Covers};
+ghost use Rattle.mix_reach.specs.laws.Ranges.{Beside};
+ghost use Rattle.mix_debug.specs.inner.Entries.{block_between, first_other, frame_between};
+ghost use Rattle.mix_debug.specs.inner.Reaches.{stored_in as stored_in_of};
 
 use crate::head::{BlockChange, FrameChange};
+use host_heap::Block;
 use mix_bits::Isa;
-use mix_reach::{Reach, Stores, step_reach};
+use mix_reach::{Reach, Stores, makes_frame, step_reach};
 use switch_frame::{Active, frame_size};
-use toolbox::Block;
 
 /// How many bytes are compared at once in a large range.
 const PIECE: usize = 1024;
@@ -137,7 +137,7 @@ pub fn frame_between(old: u32, new: u32, old_set: Isa, new_set: Isa) -> FrameCha
 {
     if new == old {
         FrameChange::Stays
-    } else if new != 0 && (old == 0 || new < old) {
+    } else if makes_frame(old, new) {
         FrameChange::Made {
             lo: new,
             hi: new + frame_size(old_set),

@@ -1,10 +1,11 @@
 // The text of where a machine is.
 ghost use Rattle.std.specs.Prelude.{◌≡◌, ◌+◌, ◌≤◌, ◌++◌, [], length};
-ghost use Rattle.mix_io.specs.Counts.{HasCause};
+ghost use Rattle.mix_io.specs.CountsClauses.{HasCause};
 ghost use Rattle.mix_io.specs.Told.{Puts};
 ghost use Rattle.switch_frame.specs.Chain.{Links, records};
-ghost use Rattle.switch_frame.specs.Records.{record_of};
-ghost use Rattle.mix_debug.specs.Crawl.{caller_line, caller_lines, crawl_of, here_line, place_of};
+ghost use Rattle.switch_frame.specs.RecordsClauses.{record_of};
+ghost use Rattle.mix_debug.specs.Crawl.{caller_line, caller_lines, here_line, place_of};
+ghost use Rattle.mix_debug.specs.CrawlClauses.{crawl_of};
 ghost use Rattle.mix_debug.specs.Machines.{IsSound};
 
 use big_memory::Ram;

@@ -1,38 +1,40 @@
-ghost use Rattle.std.specs.Prelude.{◌≡◌, ◌==◌, ◌&&◌, not, nat_lt, [], ◌∷◌, ◌++◌, filter, if◌then◌else◌, IfOk, IfSome, length};
+ghost use Rattle.std.specs.Prelude.{◌≡◌, ◌==◌, ◌&&◌, not, nat_lt, [], ◌∷◌, ◌++◌, filter, if◌then◌else◌, IfOk, length};
 ghost use Rattle.std.specs.List.{list_any};
 ghost use Rattle.switch_frame.specs.Records.{isa_of};
-ghost use Rattle.mix_io.specs.Accounts.{Accounts};
-ghost use Rattle.toolbox.specs.Calls.{counts_beside, outside as outside_of};
-ghost use Rattle.mixed_machine.specs.Counts.{Blames};
+ghost use Rattle.dev_rack.specs.Accounts.{Accounts};
+ghost use Rattle.toolbox.specs.CallsClauses.{counts_beside, outside as outside_of};
+ghost use Rattle.mixed_machine.specs.CountsClauses.{Blames};
 ghost use Rattle.mixed_machine.specs.Machine.{IsWhole};
-ghost use Rattle.mixed_machine.specs.Outside.{at};
-ghost use Rattle.mixed_machine.specs.Runs.{Runs};
-ghost use Rattle.mix_io.specs.Counts.{HasCause};
-ghost use Rattle.mix_io.specs.Streams.{output};
+ghost use Rattle.mixed_machine.specs.OutsideClauses.{at};
+ghost use Rattle.mixed_machine.specs.RunsClauses.{Runs};
+ghost use Rattle.mix_io.specs.CountsClauses.{HasCause};
+ghost use Rattle.mix_io.specs.StreamsClauses.{output};
 ghost use Rattle.mix_io.specs.Told.{Puts};
 ghost use Rattle.toolbox.specs.Blames.{counts};
-ghost use Rattle.mix_engine.specs.Beside.{AreSame, machine_beside, outside_lent, trace_lent};
-ghost use Rattle.mix_engine.specs.Ends.{goes_on};
-ghost use Rattle.mix_reach.specs.Ranges.{IsTold};
-ghost use Rattle.mix_reach.specs.Steps.{next_stores as next_stores_of};
-ghost use Rattle.mix_debug.specs.Crawl.{crawl_of};
-ghost use Rattle.mix_debug.specs.Histories.{Advances, IsHistory};
-ghost use Rattle.mix_debug.specs.Trails.{Keeps, TakesBack, Trail, is_done as is_done_by, step_of as step_by, stop_of};
+ghost use Rattle.mix_engine.specs.inner.Beside.{AreSame, machine_beside, outside_lent, trace_lent};
+ghost use Rattle.mix_engine.specs.inner.Ends.{goes_on};
+ghost use Rattle.mix_reach.specs.inner.Ranges.{IsTold};
+ghost use Rattle.mix_reach.specs.laws.Steps.{next_stores as next_stores_of};
+ghost use Rattle.mix_debug.specs.CrawlClauses.{crawl_of};
+ghost use Rattle.mix_debug.specs.inner.Histories.{Advances};
+ghost use Rattle.mix_debug.specs.Histories.{IsHistory};
+ghost use Rattle.mix_debug.specs.TrailsClauses.{Keeps, TakesBack, Trail, is_done as is_done_by, step_of as step_by, stop_of};
 
 use crate::crawl::put_crawl;
 use crate::history::History;
 use crate::step::{Step, is_done, step_of};
 use arrayvec::ArrayVec;
+use dev_rack::Devices;
 use mix_bits::NoMemory;
 use mix_engine::{Machine, Outside, Stop, step_beside};
-use mix_io::{Devices, Failed, Sink, Source};
+use mix_io::{Failed, Sink, Source};
 use mix_reach::{Stores, Told, next_stores, no_stores, plain, told_68k, told_ppc};
 use std::alloc::Global;
 use std::marker::Model;
 use switch_frame::Active;
 
 /// At most so many addresses are set to stop at.
-pub const MOST_BREAKS: usize = 64;
+const MOST_BREAKS: usize = 64;
 
 /// A machine that is stepped forward and back.
 ///
@@ -46,7 +48,7 @@ pub struct Debug {
 }
 
 impl Model for Debug {
-    ghost use Rattle.mix_debug.specs.Trails.{Trail};
+    ghost use Rattle.mix_debug.specs.TrailsClauses.{Trail};
     ghost use Rattle.mix_debug.specs.Pasts.{entries_in};
     ghost use Rattle.mix_debug.specs.Machines.{earlier};
     ghost use Rattle.mix_debug.specs.Histories.{IsHistory};
@@ -107,12 +109,7 @@ impl Debug {
             rack,
         };
         let mut stop = Stop::Limit;
-        let _on = advance(
-            &mut self.machine,
-            &mut self.history,
-            &mut outside,
-            &mut stop,
-        );
+        let _on = self.forward_beside(&mut outside, &mut stop);
         step_of(stop)
     }
 
@@ -148,7 +145,7 @@ impl Debug {
         ensures back { TakesBack result self.old.kept self.old self.new }
         ensures whole { IsWhole self.new.machine.body (isa_of self.new.machine.active) }
     {
-        if self.history.len() == 0 {
+        if self.history.is_empty() {
             return false;
         }
         self.history.undo(&mut self.machine);
@@ -215,22 +212,35 @@ fn advance<'i, 'o, 't, 'd, I: Source, O: Sink, T: Sink, D: Devices>(
         (machine_beside I.left I.faults O.held O.faults T.held T.faults D.state machine.new.body machine.new.active outside.new) stop.new }
     ensures same { AreSame outside.old outside.new }
 {
-    match told_of(machine) {
-        Some(next) => advance_by(machine, history, outside, stop, &next),
-        None => advance_storing(machine, history, outside, stop),
+    let next = stores_of(machine);
+    let top = machine.body.top;
+    history.prepare(&machine.active, top);
+    let on = step_beside(machine, outside, stop);
+    if is_done(*stop) {
+        history.keep(machine, top, &next);
+    }
+    on
+}
+
+/// Where the next step stores, which most instructions tell at once.
+#[inline(always)]
+fn stores_of(machine: &Machine) -> Stores
+    ensures { result ≡ next_stores_of machine.now.body.ram machine.now.active }
+{
+    match told(machine) {
+        Told::Nowhere => no_stores(),
+        Told::There(reach) => plain(reach),
+        Told::Unknown => looked_up(machine),
     }
 }
 
-/// Where the next step stores, if that is told at once.
-#[inline(always)]
-fn told_of(machine: &Machine) -> Option<Stores>
-    ensures { IfSome result (λ next. next ≡ next_stores_of machine.now.body.ram machine.now.active) }
+/// The same where it has to be looked at further.
+#[inline(never)]
+fn looked_up(machine: &Machine) -> Stores
+    ensures { result ≡ next_stores_of machine.now.body.ram machine.now.active }
 {
-    match told(machine) {
-        Told::Nowhere => Some(no_stores()),
-        Told::There(reach) => Some(plain(reach)),
-        Told::Unknown => None,
-    }
+    let body = &machine.body;
+    next_stores(&body.ram, &machine.active)
 }
 
 /// What is told at once of where the next step stores.
@@ -240,59 +250,7 @@ fn told(machine: &Machine) -> Told
 {
     let body = &machine.body;
     match &machine.active {
-        Active::M68(regs) => told_68k(&body.ram, &body.operations, regs),
+        Active::M68(regs) => told_68k(&body.ram, regs),
         Active::Ppc(regs) => told_ppc(&body.ram, regs),
     }
-}
-
-/// The same of a step that may store, as has to be looked at further.
-#[inline(never)]
-fn advance_storing<'i, 'o, 't, 'd, I: Source, O: Sink, T: Sink, D: Devices>(
-    machine: &mut Machine,
-    history: &mut History,
-    outside: &mut Outside<'i, 'o, 't, 'd, I, O, T, D>,
-    stop: &mut Stop,
-) -> bool
-    requires history { IsHistory machine.old history.old }
-    requires cell { stop.old ≡ Stop.Limit }
-    ensures answer { result ≡ goes_on stop.new }
-    ensures step { Advances machine.old machine.new history.old history.new
-        (machine_beside I.left I.faults O.held O.faults T.held T.faults D.state machine.old.body machine.old.active outside.old)
-        (machine_beside I.left I.faults O.held O.faults T.held T.faults D.state machine.new.body machine.new.active outside.new) stop.new }
-    ensures same { AreSame outside.old outside.new }
-{
-    let body = &machine.body;
-    let next = next_stores(&body.ram, &body.operations, &machine.active);
-    advance_by(machine, history, outside, stop, &next)
-}
-
-/// The same of a step that stores where it was told.
-#[inline(always)]
-fn advance_by<'i, 'o, 't, 'd, I: Source, O: Sink, T: Sink, D: Devices>(
-    machine: &mut Machine,
-    history: &mut History,
-    outside: &mut Outside<'i, 'o, 't, 'd, I, O, T, D>,
-    stop: &mut Stop,
-    next: &Stores,
-) -> bool
-    requires history { IsHistory machine.old history.old }
-    requires cell { stop.old ≡ Stop.Limit }
-    requires told { next.now ≡ next_stores_of machine.old.body.ram machine.old.active }
-    ensures answer { result ≡ goes_on stop.new }
-    ensures step { Advances machine.old machine.new history.old history.new
-        (machine_beside I.left I.faults O.held O.faults T.held T.faults D.state machine.old.body machine.old.active outside.old)
-        (machine_beside I.left I.faults O.held O.faults T.held T.faults D.state machine.new.body machine.new.active outside.new) stop.new }
-    ensures same { AreSame outside.old outside.new }
-{
-    let top = machine.body.top;
-    history.prepare(&machine.active, top);
-    let on = step_beside(machine, outside, stop);
-    if on {
-        history.keep(machine, top, next);
-        return true;
-    }
-    if is_done(*stop) {
-        history.keep(machine, top, next);
-    }
-    false
 }

@@ -1,5 +1,5 @@
+use host_heap::Block;
 use switch_frame::Active;
-use toolbox::Block;
 
 /// What a step did to the switch frames, with the range of the frame.
 #[derive(Clone, Copy)]

@@ -1,26 +1,27 @@
 // What is kept beside a machine: a copy of its memory and of its list of blocks, and the steps that can be taken back.
-ghost use Rattle.std.specs.Prelude.{◌≡◌, ◌<◌, ◌≤◌, ◌∷◌, [], IfOk, Some, length, vec_capacity};
-ghost use Rattle.toolbox.specs.Sound.{IsSound as IsSoundHeap};
-ghost use Rattle.toolbox.specs.Space.{block_limit};
-ghost use Rattle.mix_debug.specs.Entries.{Entry, head_with, heap_before, still, within};
-ghost use Rattle.mix_debug.specs.Rows.{ready_in, waiting_in};
+ghost use Rattle.std.specs.Prelude.{◌≡◌, ◌==◌, ◌<◌, ◌≤◌, ◌∷◌, [], IfOk, length, vec_capacity};
+ghost use Rattle.host_heap.specs.Sound.{IsSound as IsSoundHeap};
+ghost use Rattle.host_heap.specs.Space.{block_limit};
+ghost use Rattle.mix_debug.specs.Entries.{Entry, heap_before, within};
 ghost use Rattle.mix_debug.specs.Pasts.{IsPast, entries_in};
+ghost use Rattle.mix_debug.specs.inner.Pasts.{Waits, ready_in};
 ghost use Rattle.mix_debug.specs.Machines.{IsSound, before};
-ghost use Rattle.mix_debug.specs.Histories.{IsHistory, entry_of};
-ghost use Rattle.mix_debug.specs.Reaches.{SameBlocks, stored_in as stored_in_of};
-ghost use Rattle.mix_reach.specs.Ranges.{Beside};
-ghost use Rattle.mix_debug.specs.Entries.{block_between as block_between_of};
+ghost use Rattle.mix_debug.specs.Histories.{IsHistory};
+ghost use Rattle.mix_debug.specs.inner.Histories.{entry_of};
+ghost use Rattle.mix_debug.specs.inner.Reaches.{SameBlocks, stored_in as stored_in_of};
+ghost use Rattle.mix_reach.specs.laws.Ranges.{Beside};
+ghost use Rattle.mix_debug.specs.inner.Entries.{block_between as block_between_of};
 
 use crate::compare::{Range, block_between, frame_between, in_memory, narrowed, stored_in};
 use crate::head::{BlockChange, FrameChange};
 use crate::past::{Past, ROOM};
 use crate::undo::{copy_range, undo_block, undo_frame};
+use host_heap::{BLOCK_LIMIT, Block, Heap};
 use mix_bits::NoMemory;
 use mix_engine::Machine;
 use mix_reach::{Reach, Stores};
 use std::alloc::Global;
 use switch_frame::Active;
-use toolbox::{BLOCK_LIMIT, Block, Heap};
 
 /// What is kept beside a machine.
 #[derive(Drop)]
@@ -56,6 +57,13 @@ impl History {
         self.past.len()
     }
 
+    /// Whether none is kept.
+    pub fn is_empty(&self) -> bool
+        ensures { result ≡ (length (entries_in self.now.past) == 0) }
+    {
+        self.past.is_empty()
+    }
+
     /// Writes the registers before a step, and where the innermost frame begins, where they are kept if it is done.
     #[inline(always)]
     pub fn prepare(&mut self, file: &Active, top: u32)
@@ -63,8 +71,8 @@ impl History {
         ensures past { IsPast self.new.past }
         ensures entries { entries_in self.new.past ≡ entries_in self.old.past }
         ensures beside { self.new ≡ record self.old { past = self.new.past } }
-        ensures ready { ready_in self.new.past.heads ≡ file.now }
-        ensures waits { waiting_in self.new.past.heads ≡ Some (head_with (ready_in self.new.past.heads) (still top)) }
+        ensures ready { ready_in self.new.past ≡ file.now }
+        ensures waits { Waits self.new.past top }
     {
         self.past.prepare(file, top);
     }
@@ -79,7 +87,7 @@ impl History {
         requires same_blocks { SameBlocks self.old.blocks.items machine.now.body.heap.blocks }
         requires room { block_limit ≤ vec_capacity self.old.blocks }
         requires past { IsPast self.old.past }
-        requires waits { waiting_in self.old.past.heads ≡ Some (head_with (ready_in self.old.past.heads) (still top)) }
+        requires waits { Waits self.old.past top }
         requires old_small { top ≤ 16777216 }
         requires new_small { machine.now.body.top ≤ 16777216 }
         ensures copied { self.new.copy.items ≡ machine.now.body.ram.bytes }
@@ -88,7 +96,7 @@ impl History {
         ensures room { block_limit ≤ vec_capacity self.new.blocks }
         ensures past { IsPast self.new.past }
         ensures entries { entries_in self.new.past
-            ≡ within ROOM (entry_of (ready_in self.old.past.heads) top self.old.copy.items self.old.blocks.items machine.now ∷ entries_in self.old.past) }
+            ≡ within ROOM (entry_of (ready_in self.old.past) top self.old.copy.items self.old.blocks.items machine.now ∷ entries_in self.old.past) }
     {
         let body = &machine.body;
         body.heap.every_heap_is_sound();
@@ -109,12 +117,12 @@ impl History {
         requires blocks { self.old.blocks.items ≡ machine.now.body.heap.blocks }
         requires frames { machine.now.body.top ≡ top }
         requires past { IsPast self.old.past }
-        requires waits { waiting_in self.old.past.heads ≡ Some (head_with (ready_in self.old.past.heads) (still top)) }
+        requires waits { Waits self.old.past top }
         ensures copied { self.new.copy.items ≡ machine.now.body.ram.bytes }
         ensures blocks { self.new.blocks ≡ self.old.blocks }
         ensures past { IsPast self.new.past }
         ensures entries { entries_in self.new.past
-            ≡ within ROOM (entry_of (ready_in self.old.past.heads) top self.old.copy.items self.old.blocks.items machine.now ∷ entries_in self.old.past) }
+            ≡ within ROOM (entry_of (ready_in self.old.past) top self.old.copy.items self.old.blocks.items machine.now ∷ entries_in self.old.past) }
     {
         if reach.low == reach.high {
             self.past.keep_still();
@@ -151,7 +159,7 @@ impl History {
         ensures room { block_limit ≤ vec_capacity self.new.blocks }
         ensures past { IsPast self.new.past }
         ensures entries { entries_in self.new.past
-            ≡ within ROOM (entry_of (ready_in self.old.past.heads) top self.old.copy.items self.old.blocks.items machine.now ∷ entries_in self.old.past) }
+            ≡ within ROOM (entry_of (ready_in self.old.past) top self.old.copy.items self.old.blocks.items machine.now ∷ entries_in self.old.past) }
     {
         let bytes = machine.body.ram.bytes();
         let block = block_between(&self.blocks, machine.body.heap.blocks());

@@ -5,16 +5,15 @@
 //! a copy of the memory is kept in rings of a fixed size, the newest steps that fit.
 #![tactic(auto)]
 
+mod changes;
 mod compare;
 mod crawl;
 mod debug;
 mod head;
-mod heads;
 mod history;
 mod laws;
-mod olds;
 mod past;
-mod runs;
+mod registers;
 mod step;
 mod undo;
 

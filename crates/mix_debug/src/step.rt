@@ -1,5 +1,5 @@
 ghost use Rattle.std.specs.Prelude.{◌≡◌};
-ghost use Rattle.mix_debug.specs.Trails.{is_done as is_done_by, step_of as step_by, stop_of};
+ghost use Rattle.mix_debug.specs.TrailsClauses.{is_done as is_done_by, step_of as step_by, stop_of};
 
 use mixed_machine::Stop;
 

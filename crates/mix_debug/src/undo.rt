@@ -3,14 +3,14 @@ ghost use Rattle.std.specs.Prelude.{◌≡◌, ◌+◌, ◌-◌, ◌≤◌, All,
 ghost use Rattle.circular_buffer.specs.Buffer.{buffer};
 ghost use Rattle.big_memory.specs.Lists.{part, put};
 ghost use Rattle.big_memory.specs.Memory.{with_bytes};
-ghost use Rattle.mix_debug.specs.Runs.{undone};
-ghost use Rattle.mix_debug.specs.Entries.{IsFrame, IsInside, count_of, heap_before, marks_before, runs_of};
+ghost use Rattle.mix_debug.specs.WrittenBack.{undone};
+ghost use Rattle.mix_debug.specs.Entries.{IsFrame, IsInside, heap_before, marks_before, runs_of};
+ghost use Rattle.mix_debug.specs.inner.Entries.{count_of};
 
 use crate::head::{BlockChange, FrameChange, Span};
-use crate::olds::Olds;
 use big_memory::Ram;
 use circular_buffer::HeapCircularBuffer;
-use toolbox::Heap;
+use host_heap::Heap;
 
 /// How many bytes most steps store: so many are copied at once.
 const WORD: usize = 4;
@@ -18,7 +18,7 @@ const WORD: usize = 4;
 /// Takes the first runs out of the rings, and writes them to both memories.
 pub fn undo_runs(
     spans: &mut HeapCircularBuffer<Span>,
-    olds: &mut Olds,
+    olds: &mut HeapCircularBuffer<u8>,
     runs: u32,
     ram: &mut Ram,
     copy: &mut [u8],
@@ -47,19 +47,28 @@ pub fn undo_runs(
 }
 
 /// Takes the bytes of one run out of the ring, and writes them to memory.
-fn undo_run(olds: &mut Olds, span: Span, ram: &mut Ram)
+fn undo_run(olds: &mut HeapCircularBuffer<u8>, span: Span, ram: &mut Ram)
     requires whole { span.count ≤ length olds.old.items }
     requires inside { span.at + span.count ≤ length ram.old.bytes }
     ensures olds { olds.new ≡ buffer (drop span.count olds.old.items) olds.old.capacity }
     ensures ram { ram.new ≡ with_bytes span.at (take span.count olds.old.items) ram.old }
 {
+    write_front(olds, span, ram);
+    olds.truncate_front(olds.len() - span.count as usize);
+}
+
+/// Writes the first bytes of the ring to memory, those of one run.
+fn write_front(olds: &HeapCircularBuffer<u8>, span: Span, ram: &mut Ram)
+    requires whole { span.count ≤ length olds.now.items }
+    requires inside { span.at + span.count ≤ length ram.old.bytes }
+    ensures { ram.new ≡ with_bytes span.at (take span.count olds.now.items) ram.old }
+{
     ram.meets_invariant();
-    for k in 0..span.count {
-        match olds.pop_front() {
-            Some(old) => ram.fix(span.at + k, &[old]),
-            None => unreachable!(),
-        }
-    }
+    let (front, behind) = olds.as_slices();
+    let count = span.count as usize;
+    let first = count.min(front.len());
+    ram.fix(span.at, &front[..first]);
+    ram.fix(span.at + first as u32, &behind[..count - first]);
 }
 
 /// Makes the bytes of [`low`, `high`) those of another memory.

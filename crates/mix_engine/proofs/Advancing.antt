@@ -11,14 +11,14 @@ use Rattle.mixed_machine.specs.declared.did.Did.TheVariants.{Next, Fault}
 use Rattle.mixed_machine.specs.Leave.{at_gate}
 use Rattle.mixed_machine.specs.Step.{step}
 use Rattle.mixed_machine.specs.Machine.{IsWhole, flat}
-use Rattle.mixed_machine.specs.Outside.{At, at}
-use Rattle.mixed_machine.specs.Acts.{Acts}
+use Rattle.mixed_machine.specs.OutsideClauses.{At, at}
+use Rattle.mixed_machine.specs.laws.Acts.{Acts}
 use Rattle.mix_engine.specs.declared.code.Code.{Code}
 use Rattle.mix_engine.specs.declared.code.Code.TheVariants.{Next as Goes_on, Leave, Stop, Gate}
-use Rattle.mix_engine.specs.Laws.{AreLaws}
-use Rattle.mix_engine.specs.Cores.{AreOwn, Codes, CodesAfter, IsOwn, leaves_code}
-use Rattle.mix_engine.specs.Does.{Does}
-use Rattle.mix_engine.specs.Advances.{Advances, GoesOn}
+use Rattle.mix_engine.specs.laws.Laws.{AreLaws}
+use Rattle.mix_engine.specs.inner.Cores.{AreOwn, Codes, CodesAfter, IsOwn, leaves_code}
+use Rattle.mix_engine.specs.inner.Does.{Does}
+use Rattle.mix_engine.specs.inner.Advances.{Advances, GoesOn}
 use Rattle.mix_engine.proofs.Amid.{acts-from, amid, does-change}
 use Rattle.mix_engine.proofs.Leavings.{same-at, stopped}
 

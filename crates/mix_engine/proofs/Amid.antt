@@ -15,12 +15,15 @@ use Rattle.mixed_machine.specs.State.{State}
 use Rattle.mixed_machine.specs.Next.{Next, quiet}
 use Rattle.mixed_machine.specs.Next.Next.{Goes}
 use Rattle.mixed_machine.specs.Machine.{IsWhole, callers_of, flat}
-use Rattle.mixed_machine.specs.Outside.{At, at, around_at, answers_between, state_of}
-use Rattle.mixed_machine.specs.Counts.{counts_of}
-use Rattle.mixed_machine.specs.Runs.{Sinks, sinks_of}
-use Rattle.mixed_machine.specs.Acts.{Acts, Done, broken_by}
-use Rattle.mix_engine.specs.Laws.{AreLaws}
-use Rattle.mix_engine.specs.Does.{Does, IsInside, beside}
+use Rattle.mixed_machine.specs.OutsideClauses.{At, at}
+use Rattle.toolbox.specs.Calls.{around_at}
+use Rattle.mixed_machine.specs.inner.Outside.{answers_between, state_of}
+use Rattle.mixed_machine.specs.CountsClauses.{counts_of}
+use Rattle.mixed_machine.specs.Runs.{Sinks}
+use Rattle.mixed_machine.specs.RunsClauses.{sinks_of}
+use Rattle.mixed_machine.specs.laws.Acts.{Acts, Done, broken_by}
+use Rattle.mix_engine.specs.laws.Laws.{AreLaws}
+use Rattle.mix_engine.specs.inner.Does.{Does, IsInside, beside}
 use Rattle.mixed_machine.proofs.Over.{told-none}
 use Rattle.mix_engine.proofs.Over.{over-quiet}
 

@@ -3,18 +3,19 @@ use Rattle.std.proofs.Common.{◌≡◌, ◌+◌, ◌-◌, ◌/◌, ◌≤◌, l
 use Rattle.mix_bits.specs.declared.isa.Isa.{Isa}
 use Rattle.big_memory.specs.Lists.{part}
 use Rattle.big_memory.specs.Memory.{Memory, floor_of}
-use Rattle.big_memory.specs.Stores.{OnlyFree}
-use Rattle.toolbox.specs.Space.{Space}
+use Rattle.big_memory.specs.StoresClauses.{OnlyFree}
+use Rattle.host_heap.specs.Space.{Space}
 use Rattle.switch_frame.specs.Chain.{Chain, cleared}
 use Rattle.switch_frame.specs.Seen.{seen_by}
 use Rattle.switch_frame.specs.Program.{HasGatePage, HasHeap, start_sp_of}
 use Rattle.switch_frame.proofs.Gates.{page_by_bytes}
-use Rattle.toolbox.specs.Calls.{KeepsBounds}
+use Rattle.toolbox.specs.CallsClauses.{KeepsBounds}
 use Rattle.mixed_machine.specs.declared.body.Body.{Body}
-use Rattle.mixed_machine.specs.Machine.{IsWhole, callers_of, flat, memory_of, seen_of}
+use Rattle.mixed_machine.specs.Machine.{IsWhole, callers_of, flat, memory_of}
+use Rattle.mixed_machine.specs.inner.Machine.{seen_of}
 use Rattle.switch_frame.specs.Calls.{IsOutermost, active_set}
-use Rattle.mix_engine.specs.Laws.{AreLaws}
-use Rattle.mix_engine.specs.Changes.{IsChanged}
+use Rattle.mix_engine.specs.laws.Laws.{AreLaws}
+use Rattle.mix_engine.specs.inner.Changes.{IsChanged}
 
 -- the machine with other memory and another heap
 abbrev pub altered : Body → Memory → Space → Body

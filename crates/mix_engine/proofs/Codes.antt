@@ -25,11 +25,12 @@ use Rattle.mixed_machine.specs.Next.{quiet}
 use Rattle.mixed_machine.specs.Next.Next.{Goes}
 use Rattle.mixed_machine.specs.Leave.{at_gate}
 use Rattle.mixed_machine.specs.Step.{step, step_68k, step_ppc, after_68k, after_ppc}
-use Rattle.mixed_machine.specs.Machine.{flat, seen_of}
+use Rattle.mixed_machine.specs.Machine.{flat}
+use Rattle.mixed_machine.specs.inner.Machine.{seen_of}
 use Rattle.mix_engine.specs.declared.code.Code.{Code}
 use Rattle.mix_engine.specs.declared.code.Code.TheVariants.{Next as Goes_on, Leave, Stop}
-use Rattle.mix_engine.specs.Changes.{IsChanged}
-use Rattle.mix_engine.specs.Cores.{CoreSteps, Codes, stopped_at}
+use Rattle.mix_engine.specs.inner.Changes.{IsChanged}
+use Rattle.mix_engine.specs.inner.Cores.{CoreSteps, Codes, stopped_at}
 
 -- outside the gate page there is no gate
 pub no-gate : (a : ℕ) → in_gate_page a ≡ false → is_gate a ≡ false

@@ -7,7 +7,8 @@ use Rattle.mix_io.specs.Counts.{Rose}
 use Rattle.proc_info.specs.Signature.{Signature}
 use Rattle.call_trace.specs.Lines.{call_line, ret_line}
 use Rattle.mix_bits.specs.declared.fault.Fault.{Fault as AFault}
-use Rattle.mix_io.specs.Streams.{Output, Grows, Breaks, NothingGrows}
+use Rattle.mix_io.specs.Streams.{Output, Grows, Breaks}
+use Rattle.mix_io.specs.laws.Streams.{NothingGrows}
 use Rattle.switch_frame.specs.declared.active.Active.{Active}
 use Rattle.switch_frame.specs.Records.{Record, isa_of}
 use Rattle.toolbox.specs.Effects.{Around}
@@ -18,8 +19,8 @@ use Rattle.mixed_machine.specs.State.{State}
 use Rattle.mixed_machine.specs.Next.{Next, traced}
 use Rattle.mixed_machine.specs.Next.Next.{Goes, Exits, Faults}
 use Rattle.mixed_machine.specs.Machine.{IsWhole, callers_of, flat}
-use Rattle.mixed_machine.specs.Acts.{Done}
-use Rattle.mix_engine.specs.Does.{Does, beside}
+use Rattle.mixed_machine.specs.laws.Acts.{Done}
+use Rattle.mix_engine.specs.inner.Does.{Does, beside}
 
 -- the same step in other words
 pub does-same : (x y : State → Next) (did : Did) (cell : AFault) (old new : Body) (before after : Active) (a b : Output)

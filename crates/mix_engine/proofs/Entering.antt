@@ -15,7 +15,7 @@ use Rattle.mixed_machine.specs.declared.body.Body.{Body}
 use Rattle.mixed_machine.specs.Enter.{enters, enters_in, enters_with}
 use Rattle.mixed_machine.specs.Machine.{IsWhole, callers_of, flat}
 use Rattle.switch_frame.specs.Files.{sp_of}
-use Rattle.mix_engine.specs.Laws.{AreLaws}
+use Rattle.mix_engine.specs.laws.Laws.{AreLaws}
 use Rattle.mix_engine.proofs.Changed.{seen-is}
 use Rattle.mix_engine.proofs.Framing.{callers-are}
 

@@ -3,20 +3,24 @@ use Rattle.std.proofs.Common.{◌≡◌, ℕ, ◌+◌, ◌-◌, ◌/◌, ◌≤�
 use Rattle.mix_bits.specs.declared.isa.Isa.{Isa}
 use Rattle.big_memory.specs.Lists.{put}
 use Rattle.big_memory.specs.Memory.{Memory, floor_of, refusal, with_bytes}
-use Rattle.big_memory.specs.Stores.{OnlyFree}
-use Rattle.toolbox.specs.Space.{Space}
+use Rattle.big_memory.specs.StoresClauses.{OnlyFree}
+use Rattle.host_heap.specs.Space.{Space}
 use Rattle.switch_frame.specs.declared.active.Active.{Active}
 use Rattle.switch_frame.specs.declared.held.Held.{Held}
 use Rattle.switch_frame.specs.declared.kind.Kind.{Kind}
-use Rattle.switch_frame.specs.Records.{Record, isa_of, record_of}
+use Rattle.switch_frame.specs.Records.{Record, isa_of}
+use Rattle.switch_frame.specs.RecordsClauses.{record_of}
 use Rattle.switch_frame.specs.Sets.{caller_isa, callee_isa, frame_size}
-use Rattle.switch_frame.specs.Chain.{Chain, Links, cleared, records, zeros}
-use Rattle.switch_frame.specs.Calls.{IsCalled, IsInnermost, IsOutermost, IsPlace, active_set}
-use Rattle.switch_frame.specs.FrameLaws.{IsFirst}
-use Rattle.switch_frame.specs.Laws.{IsStored}
+use Rattle.switch_frame.specs.Chain.{Chain, Links, cleared, records}
+use Rattle.big_memory.specs.Lists.{zeros}
+use Rattle.switch_frame.specs.CallsClauses.{IsCalled, IsPlace}
+use Rattle.switch_frame.specs.inner.Calls.{IsInnermost}
+use Rattle.switch_frame.specs.Calls.{IsOutermost, active_set}
+use Rattle.switch_frame.specs.laws.FrameLaws.{IsFirst}
+use Rattle.switch_frame.specs.laws.Laws.{IsStored}
 use Rattle.switch_frame.specs.Program.{HasGatePage, HasHeap, start_sp_of}
 use Rattle.switch_frame.proofs.Gates.{page_by_bytes}
-use Rattle.toolbox.specs.Calls.{KeepsBounds}
+use Rattle.toolbox.specs.CallsClauses.{KeepsBounds}
 use Rattle.toolbox.specs.Effects.{Around}
 use Rattle.mode_switch.specs.Callee.{below, fresh, return_sp, stack_of}
 use Rattle.mode_switch.specs.Passed.{Passage}
@@ -25,11 +29,12 @@ use Rattle.std.specs.Prelude.{is_some}
 use Rattle.mixed_machine.specs.declared.body.Body.{Body}
 use Rattle.mixed_machine.specs.State.{State}
 use Rattle.mixed_machine.specs.Enter.{entered, sp_in, started, suspended}
-use Rattle.mixed_machine.specs.Machine.{HasChain, IsWhole, callers_of, flat, memory_of, seen_of}
-use Rattle.mix_engine.specs.Laws.{AreLaws}
-use Rattle.mix_engine.specs.CallLaws.{AreCallLaws}
-use Rattle.mix_engine.specs.Changes.{IsChanged}
-use Rattle.mix_engine.specs.Frames.{IsEntered, IsReady, IsResumed, IsSuspended}
+use Rattle.mixed_machine.specs.Machine.{HasChain, IsWhole, callers_of, flat, memory_of}
+use Rattle.mixed_machine.specs.inner.Machine.{seen_of}
+use Rattle.mix_engine.specs.laws.Laws.{AreLaws}
+use Rattle.mix_engine.specs.laws.CallLaws.{AreCallLaws}
+use Rattle.mix_engine.specs.inner.Changes.{IsChanged}
+use Rattle.mix_engine.specs.inner.Frames.{IsEntered, IsReady, IsResumed, IsSuspended}
 use Rattle.mix_engine.proofs.Changed.{changed, seen-is}
 
 -- the callers as they are read

@@ -6,8 +6,8 @@ use Rattle.mix_bits.specs.declared.fault.Fault.{Fault as AFault}
 use Rattle.mix_io.specs.Counts.{Rose}
 use Rattle.mix_io.specs.Streams.{Output, Grows, Breaks}
 use Rattle.big_memory.specs.Memory.{Memory}
-use Rattle.toolbox.specs.Space.{Space}
-use Rattle.mix_io.specs.declared.answers.Answer.{Answer}
+use Rattle.host_heap.specs.Space.{Space}
+use Rattle.dev_rack.specs.declared.answers.Answer.{Answer}
 use Rattle.switch_frame.specs.declared.active.Active.{Active}
 use Rattle.switch_frame.specs.declared.active.Active.TheVariants.{M68, Ppc}
 use Rattle.switch_frame.specs.Records.{isa_of}
@@ -20,7 +20,8 @@ use Rattle.toolbox.specs.Effects.Effect.{Gives, Crosses as CrossesInto, Leaves a
 use Rattle.toolbox.specs.Registers.{answered, operands_of}
 use Rattle.toolbox.specs.Host.{Host, Hosted, host, settled}
 use Rattle.toolbox.specs.Host.Hosted.{Goes as HostGoes, Crosses, Leaves, Stops}
-use Rattle.toolbox.specs.Calls.{Outside, Place, Took, GoesOn, Stays, ReadBreaks, PutBreaks, Reads as HostReads, Says as HostSays, ask_of, answers_since, goes_at, host_at, place, resources_at, with_around}
+use Rattle.toolbox.specs.Calls.{Outside, Took, answers_since}
+use Rattle.toolbox.specs.CallsClauses.{Place, GoesOn, Stays, ReadBreaks, PutBreaks, Reads as HostReads, Says as HostSays, ask_of, goes_at, host_at, place, resources_at, with_around}
 use Rattle.mixed_machine.specs.declared.body.Body.{Body}
 use Rattle.mixed_machine.specs.declared.did.Did.TheVariants.{Next as IsNext, Exit, Fault, ReadFault, OutFault, TraceFault}
 use Rattle.mixed_machine.specs.State.{State}
@@ -29,10 +30,11 @@ use Rattle.mixed_machine.specs.Next.Next.{Goes}
 use Rattle.mixed_machine.specs.Exec.{Reads, said_of}
 use Rattle.mixed_machine.specs.Host.{effects_of, host_of, hosted_by, line_of_ask}
 use Rattle.mixed_machine.specs.Machine.{IsWhole, flat}
-use Rattle.mixed_machine.specs.Outside.{At, around_at, at}
-use Rattle.mixed_machine.specs.Runs.{sinks_of}
-use Rattle.mixed_machine.specs.Acts.{Acts, Done}
-use Rattle.mix_engine.specs.Laws.{AreLaws}
+use Rattle.mixed_machine.specs.OutsideClauses.{At, at}
+use Rattle.toolbox.specs.Calls.{around_at}
+use Rattle.mixed_machine.specs.RunsClauses.{sinks_of}
+use Rattle.mixed_machine.specs.laws.Acts.{Acts, Done}
+use Rattle.mix_engine.specs.laws.Laws.{AreLaws}
 use Rattle.mix_engine.proofs.Changed.{altered, changed, seen-is}
 use Rattle.mixed_machine.proofs.Over.{told-none}
 use Rattle.mix_engine.proofs.Over.{over-quiet, over-taken, some-took, told-kept}

@@ -5,11 +5,13 @@ use Rattle.mix_bits.specs.declared.fault.Fault.{Fault}
 use Rattle.big_memory.specs.declared.steps.Did.{Did}
 use Rattle.big_memory.specs.declared.steps.Did.TheVariants.{Next, Leave, Stop}
 use Rattle.big_memory.specs.Memory.{Memory}
-use Rattle.big_memory.specs.Steps.{After, Does}
+use Rattle.big_memory.specs.Steps.{After}
+use Rattle.big_memory.specs.StepsClauses.{Does}
 use Rattle.mixed_machine.specs.declared.body.Body.{Body}
-use Rattle.mixed_machine.specs.Machine.{IsWhole, seen_of}
-use Rattle.mix_engine.specs.Laws.{AreLaws}
-use Rattle.mix_engine.specs.Cores.{CoreSteps}
+use Rattle.mixed_machine.specs.Machine.{IsWhole}
+use Rattle.mixed_machine.specs.inner.Machine.{seen_of}
+use Rattle.mix_engine.specs.laws.Laws.{AreLaws}
+use Rattle.mix_engine.specs.inner.Cores.{CoreSteps}
 use Rattle.mix_engine.proofs.Changed.{changed, seen-is}
 
 pub core-steps : {R : Type 0} → AreLaws → (step : R → Memory → After R) (did : Did) (cell : Fault) (r next : R) (b : Body) (n : Memory) (set : Isa)

@@ -10,7 +10,7 @@ use Rattle.ppc_isa.specs.declared.registers.RegsPpc.{RegsPpc}
 use Rattle.switch_frame.specs.declared.active.Active.{Active}
 use Rattle.switch_frame.specs.declared.active.Active.TheVariants.{M68, Ppc}
 use Rattle.switch_frame.specs.Records.{isa_of}
-use Rattle.proc_info.specs.Layout.{mixed_mode_magic}
+use Rattle.routine_desc.specs.Layout.{mixed_mode_magic}
 use Rattle.mode_switch.specs.Wanted.{Want, wants_68k, wants_ppc}
 use Rattle.mode_switch.specs.Wanted.Want.{Jumps}
 use Rattle.toolbox.specs.Functions.{trap_number}
@@ -28,11 +28,11 @@ use Rattle.mixed_machine.specs.Next.Next.{Faults}
 use Rattle.mixed_machine.specs.Enter.{crosses}
 use Rattle.mixed_machine.specs.Host.{host_of, hosted_by, hosts, traps, traps_to, universal}
 use Rattle.mixed_machine.specs.Machine.{IsWhole, flat}
-use Rattle.mixed_machine.specs.Outside.{at}
-use Rattle.mixed_machine.specs.Acts.{Acts, Done}
-use Rattle.mix_engine.specs.Laws.{AreLaws}
-use Rattle.mix_engine.specs.Cores.{leaves_code}
-use Rattle.mix_engine.specs.Does.{Does, beside}
+use Rattle.mixed_machine.specs.OutsideClauses.{at}
+use Rattle.mixed_machine.specs.laws.Acts.{Acts, Done}
+use Rattle.mix_engine.specs.laws.Laws.{AreLaws}
+use Rattle.mix_engine.specs.inner.Cores.{leaves_code}
+use Rattle.mix_engine.specs.inner.Does.{Does, beside}
 use Rattle.mix_engine.proofs.Changed.{seen-is}
 use Rattle.mix_io.proofs.Streams.{grows-none}
 use Rattle.mix_engine.proofs.Amid.{amid}

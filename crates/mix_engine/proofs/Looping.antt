@@ -3,17 +3,17 @@ use Rattle.std.proofs.Common.{◌≡◌, ℕ, zero, suc, ◌-◌, ◌<◌, ◌�
 use Rattle.mix_bits.specs.declared.fault.Fault.{Fault}
 use Rattle.switch_frame.specs.declared.active.Active.{Active}
 use Rattle.switch_frame.specs.Records.{Record, isa_of}
-use Rattle.mix_io.proofs.Steps.{accounts-join}
+use Rattle.dev_rack.proofs.Steps.{accounts-join}
 use Rattle.mixed_machine.specs.declared.did.Did.{Did}
 use Rattle.mixed_machine.specs.declared.did.Did.TheVariants.{Next, Call, Return, Exit, Fault as FaultDid, ReadFault, OutFault, TraceFault}
 use Rattle.mixed_machine.specs.declared.stop.Stop.{Stop}
 use Rattle.mixed_machine.specs.declared.stop.Stop.TheVariants.{Exit as ExitStop, Fault as FaultStop, Limit, ReadFault as ReadStop, OutFault as OutStop, TraceFault as TraceStop}
-use Rattle.mixed_machine.specs.Acts.{Acts}
-use Rattle.mixed_machine.specs.Counts.{counts_of}
+use Rattle.mixed_machine.specs.laws.Acts.{Acts}
+use Rattle.mixed_machine.specs.CountsClauses.{counts_of}
 use Rattle.mixed_machine.specs.Machine.{IsWhole, callers_of}
-use Rattle.mixed_machine.specs.Outside.{At}
+use Rattle.mixed_machine.specs.OutsideClauses.{At}
 use Rattle.mixed_machine.specs.Step.{step}
-use Rattle.mix_engine.specs.Advances.{Advances, GoesOn}
+use Rattle.mix_engine.specs.inner.Advances.{Advances, GoesOn}
 use Rattle.mixed_machine.proofs.Machines.{comes-back-at, exits-at, faults-at, limit-at, out-breaks-at, read-breaks-at, trace-breaks-at}
 use Rattle.toolbox.proofs.Blaming.{blamed-after}
 use Rattle.mix_engine.specs.Turns.{Turned}

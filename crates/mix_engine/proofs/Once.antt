@@ -6,14 +6,14 @@ use Rattle.mixed_machine.specs.declared.did.Did.{Did}
 use Rattle.mixed_machine.specs.declared.did.Did.TheVariants.{Exit, Fault as FaultDid, ReadFault, OutFault, TraceFault}
 use Rattle.mixed_machine.specs.declared.stop.Stop.{Stop}
 use Rattle.mixed_machine.specs.declared.stop.Stop.TheVariants.{Exit as ExitStop, Fault as FaultStop, Limit, ReadFault as ReadStop, OutFault as OutStop, TraceFault as TraceStop}
-use Rattle.mixed_machine.specs.Acts.{Acts}
+use Rattle.mixed_machine.specs.laws.Acts.{Acts}
 use Rattle.toolbox.specs.Blames.{Calm}
-use Rattle.mixed_machine.specs.Counts.{counts_of}
-use Rattle.mixed_machine.specs.Events.{IsDone}
+use Rattle.mixed_machine.specs.CountsClauses.{counts_of}
+use Rattle.mixed_machine.specs.laws.Events.{IsDone}
 use Rattle.mixed_machine.specs.Machine.{IsWhole}
-use Rattle.mixed_machine.specs.Outside.{At}
+use Rattle.mixed_machine.specs.OutsideClauses.{At}
 use Rattle.mixed_machine.specs.Step.{step}
-use Rattle.mix_engine.specs.Advances.{Advances}
+use Rattle.mix_engine.specs.inner.Advances.{Advances}
 use Rattle.mixed_machine.proofs.Machines.{exits-at, faults-at, limit-at, out-breaks-at, read-breaks-at, trace-breaks-at}
 use Rattle.mix_engine.proofs.Ways.{Ended, Way, way-ends, way-on, whole-begins}
 

@@ -1,11 +1,14 @@
 -- Claims on the states that a machine stands for, by a step that takes nothing from the input or one thing.
 use Rattle.std.proofs.Common.{◌≡◌, ℕ, List, [], ◌∷◌, ◌++◌, Option, Some, None, refl, sym, ap, ◌∙◌, subst}
 use Rattle.std.specs.Io.KnownBytes.{Keeps}
-use Rattle.toolbox.specs.Calls.{Taken, Took, Told, answers_since}
+use Rattle.toolbox.specs.Calls.{Taken, Took, answers_since}
+use Rattle.toolbox.specs.CallsClauses.{Told}
 use Rattle.toolbox.specs.Calls.Taken.{Nothing, Byte, TheEnd}
 use Rattle.mixed_machine.specs.State.{State}
 use Rattle.mixed_machine.proofs.Over.{since-none}
-use Rattle.mixed_machine.specs.Outside.{At, Over, ToldAll, answers_between, state_of}
+use Rattle.mixed_machine.specs.OutsideClauses.{At, Over}
+use Rattle.mixed_machine.specs.Outside.{ToldAll}
+use Rattle.mixed_machine.specs.inner.Outside.{answers_between, state_of}
 
 pub told-kept : (x y : Option (List ℕ)) → Keeps x y → ToldAll [] x y
 told-kept None y kept after is = (after, tt, refl)

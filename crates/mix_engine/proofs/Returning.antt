@@ -3,16 +3,20 @@ use Rattle.std.proofs.Common.{◌≡◌, true, false, List, [], ◌∷◌, drop,
 use Rattle.std.specs.Prelude.{if◌then◌else◌}
 use Rattle.mix_bits.specs.declared.isa.Isa.{Isa}
 use Rattle.mix_bits.specs.declared.fault.Fault.{Fault as AFault}
-use Rattle.mix_io.specs.Streams.{Output, NothingGrows}
+use Rattle.mix_io.specs.Streams.{Output}
+use Rattle.mix_io.specs.laws.Streams.{NothingGrows}
 use Rattle.big_memory.specs.declared.refusals.Access.{Access}
 use Rattle.big_memory.specs.Memory.{Memory}
-use Rattle.big_memory.specs.Stores.{OnlyFree}
+use Rattle.big_memory.specs.StoresClauses.{OnlyFree}
 use Rattle.proc_info.specs.Signature.{Signature}
 use Rattle.switch_frame.specs.declared.active.Active.{Active}
 use Rattle.switch_frame.specs.declared.held.Held.{Held}
-use Rattle.switch_frame.specs.Records.{Record, held_of, isa_of, record_of}
+use Rattle.switch_frame.specs.Records.{Record, isa_of}
+use Rattle.switch_frame.specs.RecordsClauses.{held_of, record_of}
 use Rattle.switch_frame.specs.Chain.{cleared}
-use Rattle.switch_frame.specs.Calls.{IsInnermost, active_set, innermost}
+use Rattle.switch_frame.specs.inner.Calls.{IsInnermost}
+use Rattle.switch_frame.specs.Calls.{active_set}
+use Rattle.switch_frame.specs.CallsClauses.{innermost}
 use Rattle.toolbox.specs.Effects.{Around}
 use Rattle.mode_switch.specs.Returned.{Returned, given_back}
 use Rattle.mixed_machine.specs.declared.body.Body.{Body}
@@ -23,10 +27,10 @@ use Rattle.mixed_machine.specs.Next.{Next}
 use Rattle.mixed_machine.specs.Next.Next.{Exits, Faults}
 use Rattle.mixed_machine.specs.Leave.{at_gate, at_gate_of, is_exit, is_return, leaves, leaves_with, unmatched}
 use Rattle.mixed_machine.specs.Machine.{IsWhole, callers_of, flat, memory_of}
-use Rattle.mix_engine.specs.Does.{Does}
-use Rattle.mix_engine.specs.Laws.{AreLaws}
-use Rattle.mix_engine.specs.Changes.{IsChanged}
-use Rattle.mix_engine.specs.Frames.{IsResumed}
+use Rattle.mix_engine.specs.inner.Does.{Does}
+use Rattle.mix_engine.specs.laws.Laws.{AreLaws}
+use Rattle.mix_engine.specs.inner.Changes.{IsChanged}
+use Rattle.mix_engine.specs.inner.Frames.{IsResumed}
 use Rattle.mix_engine.proofs.Changed.{changed, seen-is}
 use Rattle.mix_engine.proofs.Doing.{does-refused}
 use Rattle.mix_engine.proofs.Framing.{same-bounds, state-is}

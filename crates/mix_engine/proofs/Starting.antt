@@ -2,10 +2,11 @@
 use Rattle.std.proofs.Common.{◌≡◌, ℕ, List, [], sym, ap, subst, ◌∙◌}
 use Rattle.switch_frame.specs.declared.program.Program.{Program}
 use Rattle.switch_frame.specs.Chain.{Chain, cleared}
-use Rattle.switch_frame.specs.Program.{HasGatePage, HasHeap, IsProgram}
+use Rattle.switch_frame.specs.Program.{HasGatePage, HasHeap}
+use Rattle.switch_frame.specs.ProgramClauses.{IsProgram}
 use Rattle.switch_frame.specs.Records.{Record, isa_of}
 use Rattle.switch_frame.proofs.Linked.{begins_empty, reads_back}
-use Rattle.toolbox.specs.Space.{Space}
+use Rattle.host_heap.specs.Space.{Space}
 use Rattle.toolbox.specs.Effects.{Around}
 use Rattle.mixed_machine.specs.declared.body.Body.{Body}
 use Rattle.mixed_machine.specs.Machine.{IsWhole, callers_of, flat, memory_of}
@@ -14,7 +15,7 @@ use Rattle.mixed_machine.specs.State.{State}
 use Rattle.mix_engine.specs.Start.{start_of}
 
 abbrev pub body_of : Program → Space → Body
-body_of p heap = record { ram = p.ram; heap = heap; top = 0; a5 = p.a5; main = p.main; start_sp = p.start_sp; operations = record {} }
+body_of p heap = record { ram = p.ram; heap = heap; top = 0; a5 = p.a5; main = p.main; start_sp = p.start_sp }
 
 abbrev pub empty_heap : Program → Space
 empty_heap p = record { low = p.heap_lo; high = p.heap_hi; blocks = [] }

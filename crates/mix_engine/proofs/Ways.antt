@@ -3,16 +3,18 @@ use Rattle.std.proofs.Common.{◌≡◌, ℕ, ◌-◌, ◌<◌, ◌≤◌, lengt
 use Rattle.mix_bits.specs.declared.fault.Fault.{Fault}
 use Rattle.switch_frame.specs.declared.active.Active.{Active}
 use Rattle.switch_frame.specs.Records.{isa_of}
-use Rattle.mix_io.specs.Accounts.{Accounts}
-use Rattle.mix_io.proofs.Steps.{accounts-join, accounts-none}
+use Rattle.dev_rack.specs.Accounts.{Accounts}
+use Rattle.dev_rack.proofs.Steps.{accounts-join, accounts-none}
 use Rattle.mixed_machine.specs.declared.did.Did.{Did}
 use Rattle.mixed_machine.specs.declared.stop.Stop.{Stop}
-use Rattle.mixed_machine.specs.Acts.{Acts}
+use Rattle.mixed_machine.specs.laws.Acts.{Acts}
 use Rattle.toolbox.specs.Blames.{Calm}
-use Rattle.mixed_machine.specs.Counts.{Blames, broken_at, counts_of}
-use Rattle.mixed_machine.specs.Events.{GoingAt, IsDeep, IsDone, StopsAt}
+use Rattle.mixed_machine.specs.CountsClauses.{Blames, counts_of}
+use Rattle.mixed_machine.specs.Counts.{broken_at}
+use Rattle.mixed_machine.specs.laws.Events.{GoingAt, IsDeep, IsDone}
+use Rattle.mixed_machine.specs.Events.{StopsAt}
 use Rattle.mixed_machine.specs.Machine.{IsWhole, callers_of}
-use Rattle.mixed_machine.specs.Outside.{At}
+use Rattle.mixed_machine.specs.OutsideClauses.{At}
 use Rattle.mixed_machine.specs.Step.{step}
 use Rattle.mixed_machine.proofs.Machines.{begins-at, callee-back, callee-stopped, goes-on-at}
 use Rattle.toolbox.proofs.Blaming.{blamed-after, calm-first}

@@ -1,12 +1,4 @@
-pub mod Laws
-pub mod CallLaws
-pub mod Changes
-pub mod Cores
-pub mod Does
-pub mod Frames
-pub mod Called
-pub mod Beside
-pub mod Advances
-pub mod Turns
 pub mod Start
-pub mod Ends
+pub mod Turns
+pub mod laws
+pub mod inner

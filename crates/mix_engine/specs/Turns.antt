@@ -2,14 +2,12 @@
 use Rattle.std.specs.Prelude.{◌≡◌, ℕ, ◌≤◌, List, ◌∷◌, length}
 use Rattle.switch_frame.specs.declared.active.Active.{Active}
 use Rattle.switch_frame.specs.Records.{Record, isa_of}
-use Rattle.mix_io.specs.Accounts.{Accounts}
+use Rattle.dev_rack.specs.Accounts.{Accounts}
 use Rattle.toolbox.specs.Blames.{Calm, Counts}
-use Rattle.mixed_machine.specs.Counts.{Blames, counts_of}
+use Rattle.mixed_machine.specs.CountsClauses.{Blames, counts_of}
 use Rattle.mixed_machine.specs.Events.{CameBackAt, StopsAt}
 use Rattle.mixed_machine.specs.Machine.{IsWhole, callers_of}
-use Rattle.mixed_machine.specs.Outside.{At}
-use Rattle.mix_engine.specs.declared.turn.TurnEnd.{TurnEnd}
-use Rattle.mix_engine.specs.declared.turn.TurnEnd.TheVariants.{Back as IsBack, Stop as IsStop}
+use Rattle.mixed_machine.specs.OutsideClauses.{At}
 use Rattle.mix_engine.specs.declared.turn.Turn.{Turn}
 use Rattle.mix_engine.specs.declared.turn.Turn.TheVariants.{Back, Stop as Stopped}
 
@@ -17,11 +15,6 @@ use Rattle.mix_engine.specs.declared.turn.Turn.TheVariants.{Back, Stop as Stoppe
 abbrev pub file_of : Turn → Active
 file_of (Back file) = file
 file_of (Stopped file stop) = file
-
--- an end with the registers
-abbrev pub turn_of : Active → TurnEnd → Turn
-turn_of file IsBack = Back file
-turn_of file (IsStop stop) = Stopped file stop
 
 -- a run down to d callers of at most n steps, with `left` steps left at its end
 abbrev pub TurnsAt : ℕ → ℕ → ℕ → At → At → Turn → Type 0

@@ -1,5 +1,5 @@
 // The laws of the crates below that calls and returns stand on.
-ghost use Rattle.mix_engine.specs.CallLaws.{AreCallLaws};
+ghost use Rattle.mix_engine.specs.laws.CallLaws.{AreCallLaws};
 
 use big_memory::put_laws;
 use mix_io::stream_laws;

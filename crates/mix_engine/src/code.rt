@@ -8,7 +8,7 @@ ghost use Rattle.switch_frame.specs.Records.{isa_of};
 ghost use Rattle.mixed_machine.specs.Machine.{IsWhole};
 ghost use Rattle.m68_core.specs.Fetch.{places_of as places_68k};
 ghost use Rattle.ppc_core.specs.Fetch.{places_of};
-ghost use Rattle.mix_engine.specs.Cores.{Codes, CodesAfter, stopped_at};
+ghost use Rattle.mix_engine.specs.inner.Cores.{Codes, CodesAfter, stopped_at};
 
 use crate::cores::{core_68k, core_ppc};
 use big_memory::{Did, Ram, in_gate_page, is_gate};

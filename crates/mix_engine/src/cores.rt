@@ -6,8 +6,9 @@ ghost use Rattle.m68_effects.specs.Step.{stepped as stepped_68k};
 ghost use Rattle.ppc_integer.specs.Effects.{stepped as stepped_ppc};
 ghost use Rattle.m68_core.specs.Fetch.{places_of as places_68k};
 ghost use Rattle.ppc_core.specs.Fetch.{places_of};
-ghost use Rattle.mixed_machine.specs.Machine.{IsWhole, seen_of};
-ghost use Rattle.mix_engine.specs.Cores.{CoreSteps};
+ghost use Rattle.mixed_machine.specs.Machine.{IsWhole};
+ghost use Rattle.mixed_machine.specs.inner.Machine.{seen_of};
+ghost use Rattle.mix_engine.specs.inner.Cores.{CoreSteps};
 
 use crate::laws::body_laws;
 use big_memory::Did;
@@ -27,7 +28,7 @@ pub fn core_68k(body: &mut Body, regs: &mut Regs68, fault: &mut Fault, places: u
     ensures places { places_68k body.new.ram ≡ places_68k body.old.ram }
 {
     body_laws();
-    m68_core::run(regs, &mut body.ram, &body.operations, fault, places)
+    m68_core::run(regs, &mut body.ram, fault, places)
 }
 
 /// An instruction of PowerPC code; at a gate it stops.

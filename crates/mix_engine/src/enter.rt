@@ -3,18 +3,20 @@ ghost use Rattle.std.specs.Prelude.{◌≡◌, ◌+◌, ◌≤◌, length, is_so
 ghost use Rattle.mix_bits.specs.declared.fault.Fault.{Fault as AFault};
 ghost use Rattle.big_memory.specs.Memory.{floor_of};
 ghost use Rattle.switch_frame.specs.declared.active.Active.{Active as AnActive};
-ghost use Rattle.switch_frame.specs.Calls.{IsPlace};
-ghost use Rattle.switch_frame.specs.Records.{isa_of, record_of};
+ghost use Rattle.switch_frame.specs.CallsClauses.{IsPlace};
+ghost use Rattle.switch_frame.specs.Records.{isa_of};
+ghost use Rattle.switch_frame.specs.RecordsClauses.{record_of};
 ghost use Rattle.switch_frame.specs.Sets.{callee_isa};
 ghost use Rattle.mode_switch.specs.Callee.{below as below_of};
-ghost use Rattle.mode_switch.specs.Views.{args_of, crossing, passage, wanted_of};
+ghost use Rattle.mode_switch.specs.inner.Views.{args_of, crossing, passage, wanted_of};
 ghost use Rattle.mode_switch.specs.declared.passed.Passed.{Passed as APassed};
-ghost use Rattle.mode_switch.specs.Wanted.{IsMeant, Means, or_zero, passed_selector as passed_selector_of};
+ghost use Rattle.mode_switch.specs.laws.Wanted.{IsMeant, Means};
+ghost use Rattle.mode_switch.specs.Wanted.{or_zero, passed_selector as passed_selector_of};
 ghost use Rattle.mixed_machine.specs.Enter.{crosses as crosses_of, enters, enters_with, suspended};
 ghost use Rattle.mixed_machine.specs.Machine.{IsWhole, callers_of};
-ghost use Rattle.mix_io.specs.Streams.{output};
-ghost use Rattle.mix_engine.specs.Does.{Does};
-ghost use Rattle.mix_engine.specs.Frames.{IsEntered};
+ghost use Rattle.mix_io.specs.StreamsClauses.{output};
+ghost use Rattle.mix_engine.specs.inner.Does.{Does};
+ghost use Rattle.mix_engine.specs.inner.Frames.{IsEntered};
 
 use crate::call_laws::call_laws;
 use crate::frames::{prepare, suspend};

@@ -2,13 +2,14 @@
 ghost use Rattle.std.specs.Prelude.{◌≡◌, ◌∷◌, [], drop};
 ghost use Rattle.mix_io.specs.Streams.{Output};
 ghost use Rattle.proc_info.specs.Views.{signature};
-ghost use Rattle.switch_frame.specs.Records.{isa_of, record_of};
+ghost use Rattle.switch_frame.specs.Records.{isa_of};
+ghost use Rattle.switch_frame.specs.RecordsClauses.{record_of};
 ghost use Rattle.mode_switch.specs.Returned.{given_back};
 ghost use Rattle.mixed_machine.specs.Leave.{at_gate, is_exit as is_exit_of, is_return as is_return_of, leaves, leaves_with};
 ghost use Rattle.mixed_machine.specs.Machine.{IsWhole, callers_of};
 ghost use Rattle.mixed_machine.specs.State.{seen};
-ghost use Rattle.mix_io.specs.Streams.{output};
-ghost use Rattle.mix_engine.specs.Does.{Does};
+ghost use Rattle.mix_io.specs.StreamsClauses.{output};
+ghost use Rattle.mix_engine.specs.inner.Does.{Does};
 
 use crate::call_laws::call_laws;
 use crate::frames::resume;

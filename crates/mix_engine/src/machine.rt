@@ -1,29 +1,29 @@
 // A machine, from its start on.
 ghost use Rattle.std.specs.Prelude.{◌≡◌, IfOk};
-ghost use Rattle.switch_frame.specs.Program.{IsProgram};
+ghost use Rattle.switch_frame.specs.ProgramClauses.{IsProgram};
 ghost use Rattle.switch_frame.specs.Records.{isa_of};
-ghost use Rattle.mix_io.specs.Accounts.{Accounts};
+ghost use Rattle.dev_rack.specs.Accounts.{Accounts};
 ghost use Rattle.toolbox.specs.Blames.{counts};
-ghost use Rattle.toolbox.specs.Calls.{counts_beside, outside as outside_of};
+ghost use Rattle.toolbox.specs.CallsClauses.{counts_beside, outside as outside_of};
 ghost use Rattle.toolbox.specs.Effects.{Around};
-ghost use Rattle.mixed_machine.specs.Counts.{Blames};
+ghost use Rattle.mixed_machine.specs.CountsClauses.{Blames};
 ghost use Rattle.mixed_machine.specs.Machine.{IsWhole, flat};
-ghost use Rattle.mixed_machine.specs.Outside.{at};
-ghost use Rattle.mixed_machine.specs.Runs.{Runs};
-ghost use Rattle.mix_engine.specs.Beside.{AreSame, machine_beside, outside_lent, trace_lent};
-ghost use Rattle.mix_io.specs.Streams.{output};
+ghost use Rattle.mixed_machine.specs.OutsideClauses.{at};
+ghost use Rattle.mixed_machine.specs.RunsClauses.{Runs};
+ghost use Rattle.mix_engine.specs.inner.Beside.{AreSame, machine_beside, outside_lent, trace_lent};
+ghost use Rattle.mix_io.specs.StreamsClauses.{output};
 ghost use Rattle.mix_engine.specs.Start.{start_of};
 
 use super::Outside;
 use crate::runs::run_turns;
 use crate::turn::TurnEnd;
-use m68_isa::Operations;
+use dev_rack::Devices;
+use host_heap::Heap;
 use mix_bits::NoMemory;
-use mix_io::{Devices, Sink, Source};
+use mix_io::{Sink, Source};
 use mixed_machine::{Body, Stop};
 use std::alloc::Global;
 use switch_frame::{Active, Program};
-use toolbox::Heap;
 
 /// The machine between two steps.
 ///
@@ -42,15 +42,13 @@ pub struct Machine {
 impl Machine {
     /// The machine at the start of a program, without a suspended caller and with an empty heap.
     ///
-    /// The heap takes the room for its list of blocks here, and the operations of 68K code are found; what runs the
-    /// machine is passed no allocator.
+    /// The heap takes the room for its list of blocks here; what runs the machine is passed no allocator.
     pub fn start(alloc: Global, program: Program) -> Result<Machine, NoMemory>
         requires { IsProgram program }
         ensures whole { IfOk result (λ m. IsWhole m.body (isa_of m.active)) }
         ensures state { IfOk result (λ m. (around : Around) → flat m.body m.active around ≡ start_of program around) }
     {
         let heap = Heap::new(alloc, program.heap_lo, program.heap_hi)?;
-        let operations = Operations::new(alloc)?;
         Ok(Machine {
             active: program.active,
             body: Body {
@@ -60,7 +58,6 @@ impl Machine {
                 a5: program.a5,
                 main: program.main,
                 start_sp: program.start_sp,
-                operations,
             },
         })
     }

@@ -1,21 +1,22 @@
 // One step of a machine, without a loop.
 ghost use Rattle.std.specs.Prelude.{◌≡◌};
 ghost use Rattle.switch_frame.specs.Records.{isa_of};
-ghost use Rattle.mix_io.specs.Accounts.{Accounts};
+ghost use Rattle.dev_rack.specs.Accounts.{Accounts};
 ghost use Rattle.toolbox.specs.Blames.{counts};
-ghost use Rattle.toolbox.specs.Calls.{counts_beside, outside as outside_of};
-ghost use Rattle.mixed_machine.specs.Counts.{Blames};
+ghost use Rattle.toolbox.specs.CallsClauses.{counts_beside, outside as outside_of};
+ghost use Rattle.mixed_machine.specs.CountsClauses.{Blames};
 ghost use Rattle.mixed_machine.specs.Machine.{IsWhole};
-ghost use Rattle.mixed_machine.specs.Outside.{at};
-ghost use Rattle.mixed_machine.specs.Runs.{Runs};
-ghost use Rattle.mix_engine.specs.Beside.{AreSame, machine_beside, outside_lent, trace_lent};
-ghost use Rattle.mix_io.specs.Streams.{output};
-ghost use Rattle.mix_engine.specs.Ends.{goes_on};
+ghost use Rattle.mixed_machine.specs.OutsideClauses.{at};
+ghost use Rattle.mixed_machine.specs.RunsClauses.{Runs};
+ghost use Rattle.mix_engine.specs.inner.Beside.{AreSame, machine_beside, outside_lent, trace_lent};
+ghost use Rattle.mix_io.specs.StreamsClauses.{output};
+ghost use Rattle.mix_engine.specs.inner.Ends.{goes_on};
 
 use super::{Outside, advance_once};
 use crate::machine::Machine;
+use dev_rack::Devices;
 use mix_bits::{Fault, FaultKind};
-use mix_io::{Devices, Sink, Source};
+use mix_io::{Sink, Source};
 use mixed_machine::{Did, Stop};
 
 /// Does one step, as `run` does that is allowed one.

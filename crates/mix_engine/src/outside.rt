@@ -1,4 +1,5 @@
-use mix_io::{Devices, Sink, Source};
+use dev_rack::Devices;
+use mix_io::{Sink, Source};
 
 /// What lies outside a machine, lent for a run.
 #[derive(Drop)]

@@ -2,18 +2,20 @@
 ghost use Rattle.mix_bits.specs.declared.isa.Isa.TheVariants.{M68 as set_m68, Ppc as set_ppc};
 ghost use Rattle.switch_frame.specs.declared.active.Active.TheVariants.{M68, Ppc};
 ghost use Rattle.switch_frame.specs.Records.{isa_of};
-ghost use Rattle.toolbox.specs.Calls.{outside as outside_of};
+ghost use Rattle.toolbox.specs.CallsClauses.{outside as outside_of};
 ghost use Rattle.mixed_machine.specs.Machine.{IsWhole};
-ghost use Rattle.mixed_machine.specs.Outside.{at};
-ghost use Rattle.mix_io.specs.Streams.{output};
-ghost use Rattle.mix_engine.specs.Beside.{AreSame, machine_beside};
-ghost use Rattle.mix_engine.specs.Turns.{Turned, file_of, turn_of};
+ghost use Rattle.mixed_machine.specs.OutsideClauses.{at};
+ghost use Rattle.mix_io.specs.StreamsClauses.{output};
+ghost use Rattle.mix_engine.specs.inner.Beside.{AreSame, machine_beside};
+ghost use Rattle.mix_engine.specs.Turns.{Turned, file_of};
+ghost use Rattle.mix_engine.specs.inner.Turns.{turn_of};
 
 use super::{Outside, advance};
 use crate::turn::{Turn, TurnEnd};
+use dev_rack::Devices;
 use m68_isa::Regs68;
 use mix_bits::{Fault, FaultKind};
-use mix_io::{Devices, Sink, Source};
+use mix_io::{Sink, Source};
 use mixed_machine::{Body, Did, Stop};
 use ppc_isa::RegsPpc;
 use switch_frame::Active;

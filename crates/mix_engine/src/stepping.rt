@@ -2,16 +2,17 @@
 ghost use Rattle.std.specs.Prelude.{◌<◌, ◌≤◌, ◌-◌};
 ghost use Rattle.switch_frame.specs.Records.{isa_of};
 ghost use Rattle.mixed_machine.specs.Machine.{IsWhole};
-ghost use Rattle.mix_engine.specs.Advances.{Advances};
-ghost use Rattle.mix_engine.specs.Beside.{AreSame, machine_beside};
+ghost use Rattle.mix_engine.specs.inner.Advances.{Advances};
+ghost use Rattle.mix_engine.specs.inner.Beside.{AreSame, machine_beside};
 
 use crate::code::{Code, run_code, run_once};
 use crate::host::leave_code;
 use crate::laws::body_laws;
 use crate::leave::leave;
 use crate::outside::Outside;
+use dev_rack::Devices;
 use mix_bits::Fault;
-use mix_io::{Devices, Sink, Source};
+use mix_io::{Sink, Source};
 use mixed_machine::{Body, Did};
 use switch_frame::Active;
 

@@ -1,5 +1,5 @@
 ghost use Rattle.std.specs.Prelude.{◌≡◌};
-ghost use Rattle.mix_engine.specs.Turns.{turn_of};
+ghost use Rattle.mix_engine.specs.inner.Turns.{turn_of};
 
 use mixed_machine::Stop;
 use switch_frame::Active;

@@ -5,7 +5,8 @@ use Rattle.big_memory.specs.Memory.{Memory, IsRam}
 use Rattle.big_memory.specs.Numbers.{AreBytes, long_at}
 use Rattle.switch_frame.specs.Calls.{IsOutermost, active_set}
 use Rattle.switch_frame.specs.Chain.{Chain, Frames, Links, cleared, records}
-use Rattle.switch_frame.specs.Checks.{IsFirstWrong, IsWholeChain}
+use Rattle.switch_frame.specs.Checks.{IsFirstWrong}
+use Rattle.switch_frame.specs.ChecksClauses.{IsWholeChain}
 use Rattle.switch_frame.specs.Program.{HasGatePage, Stands, gate_long}
 use Rattle.switch_frame.specs.Records.{Record, isa_of}
 use Rattle.switch_frame.proofs.Found.{whole_chains_pass}
@@ -18,7 +19,7 @@ use Rattle.mix_engine.specs.declared.machine.Machine.{Machine}
 use Rattle.mix_image.specs.declared.error.ImageError.{ImageError}
 use Rattle.mix_image.specs.declared.error.ImageError.TheVariants.{NoMemory, Short, Magic, Ram, Main, StartSp, Heap, Block, Active, Ccr, Page, Extra, Gate, Frame}
 use Rattle.mix_image.specs.Fields.{bare, fields_of}
-use Rattle.mix_image.specs.Laws.{SpellingIsRestored, SpellingsDiffer}
+use Rattle.mix_image.specs.laws.Laws.{SpellingIsRestored, SpellingsDiffer}
 use Rattle.mix_image.specs.Restoring.{IsGuarded, IsRestored, IsTested, with_guard}
 use Rattle.mix_image.specs.Spelling.{HasSpelling, spell}
 use Rattle.mix_image.proofs.Spelled.{AreFields, bared, bare-ram, fields-back, fields-there, none-marked}

@@ -5,13 +5,13 @@ use Rattle.std.proofs.lemmas.Bool.Decides.{nat_tests}
 use Rattle.mix_bits.specs.declared.isa.Isa.{Isa}
 use Rattle.mix_bits.specs.declared.isa.Isa.TheVariants.{M68, Ppc}
 use Rattle.big_memory.specs.Numbers.{long_at, longs_at}
-use Rattle.toolbox.specs.Space.{block_limit}
+use Rattle.host_heap.specs.Space.{block_limit}
 use Rattle.switch_frame.specs.Program.{program_start, start_sp_of}
 use Rattle.mix_image.specs.declared.error.ImageError.{ImageError}
 use Rattle.mix_image.specs.declared.error.ImageError.TheVariants.{Short, Magic, Ram, Main, StartSp, Heap, Block as Blocks}
 use Rattle.mix_image.specs.declared.head.Head.{Head}
 use Rattle.mix_image.specs.Fields.{are_bounds, bounds_of, count_of, head_of, kib_of, long_from, magic_of, main_of, only_if, set_of, start_of}
-use Rattle.mix_image.specs.Heads.{IsHead}
+use Rattle.mix_image.specs.inner.Heads.{IsHead}
 use Rattle.mix_image.specs.Spelling.{mark_first, mark_second, set_number}
 use Rattle.mix_image.proofs.Binds.{enough, long-read, long-there, not-short, passed, passes, past, then}
 use Rattle.mix_image.proofs.Rows.{cons-long, four-longs, longs-split, no-longs}

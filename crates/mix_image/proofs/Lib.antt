@@ -1,4 +1,5 @@
 pub mod Rows
+pub mod LongBytes
 pub mod Binds
 pub mod Placing
 pub mod Pagings

@@ -318,3 +318,7 @@ full-blank bytes at k there zeros = not-short (length bytes) (at + 1025) (Short 
 
 pub full-some : (bytes : List ℕ) (at k : ℕ) → at + 1025 ≤ length bytes → is_blank (part (at + 1) 1024 bytes) ≡ false → full_page bytes at k ≡ Ok (Some (part (at + 1) 1024 bytes))
 full-some bytes at k there full = not-short (length bytes) (at + 1025) (Short (length bytes)) _ there ∙ ap (λ b. cond b (Err (Page k)) (Ok (Some (part (at + 1) 1024 bytes)))) full
+
+pub size-most : (page : Option (List ℕ)) → page_size page ≤ 1025
+size-most None = omega arith
+size-most (Some bytes) = omega arith

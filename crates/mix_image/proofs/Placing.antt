@@ -6,12 +6,13 @@ use Rattle.std.proofs.lemmas.List.{append-nil}
 use Rattle.std.proofs.lemmas.List.Sums.{list_all-from_AllPass}
 use Rattle.mix_bits.specs.Results.{◌>>=◌}
 use Rattle.big_memory.specs.Numbers.{long_at, longs_at}
-use Rattle.toolbox.specs.declared.block.Block.{Block}
-use Rattle.toolbox.specs.Space.{Space}
-use Rattle.toolbox.specs.Place.{CanPlace, can_place, is_behind, placed, with_block}
-use Rattle.toolbox.specs.Sound.{IsAligned, IsInside, IsSound}
-use Rattle.toolbox.proofs.Fits.{places_are_tested}
-use Rattle.toolbox.proofs.Placing.{placing_appends, placing_keeps_sound}
+use Rattle.host_heap.specs.declared.block.Block.{Block}
+use Rattle.host_heap.specs.Space.{Space}
+use Rattle.host_heap.specs.laws.Place.{CanPlace}
+use Rattle.host_heap.specs.Place.{can_place, is_behind, placed, with_block}
+use Rattle.host_heap.specs.Sound.{IsAligned, IsInside, IsSound}
+use Rattle.host_heap.proofs.Fits.{places_are_tested}
+use Rattle.host_heap.proofs.Placing.{placing_appends, placing_keeps_sound}
 use Rattle.mix_image.specs.declared.error.ImageError.{ImageError}
 use Rattle.mix_image.specs.declared.error.ImageError.TheVariants.{Block as Blocks}
 use Rattle.mix_image.specs.Fields.{block_from, blocks_from, empty_heap, long_from}

@@ -1,10 +1,7 @@
 -- Longs of an image, one behind the other.
-use Rattle.std.proofs.Common.{◌≡◌, ℕ, zero, suc, ◌+◌, ◌*◌, ◌^◌, ◌<◌, ◌≤◌, List, [], ◌∷◌, ◌++◌, length, drop, get_or, arith, ap, sym, subst, ◌∙◌, refl}
-use Rattle.std.proofs.lemmas.List.{ext_get_or}
-use Rattle.byteorder.specs.Endian.{IsRead, big_number}
-use Rattle.big_memory.specs.Lists.{part}
+use Rattle.std.proofs.Common.{◌≡◌, ℕ, zero, suc, ◌+◌, ◌*◌, ◌^◌, ◌<◌, List, [], ◌∷◌, ◌++◌, get_or, arith, ap, sym, subst, ◌∙◌, refl}
 use Rattle.big_memory.specs.Numbers.{AreBytes, long_at, longs_at}
-use Rattle.big_memory.proofs.Numbers.{length_of_longs, long_of_longs, longs_fit, number_in_part}
+use Rattle.big_memory.proofs.Numbers.{longs_fit}
 
 pub no-longs : (a : ℕ) (bytes : List ℕ) → longs_at 0 a bytes ≡ []
 unfolding longs_at
@@ -39,12 +36,3 @@ pub one-long : (a : ℕ) (bytes : List ℕ) → AreBytes bytes → long_at a byt
 one-long a bytes fit =
     let same : get_or (longs_at 1 a bytes) 0 0 ≡ long_at a bytes = ap (λ xs. get_or xs 0 0) (cons-long 0 a (a + 4) bytes refl) in
     subst (λ n. n < 2 ^ 32) same ((longs_fit 1 a bytes fit).each 0)
-
--- longs that were read out of a part
-pub longs-read : (a n : ℕ) (bytes span xs : List ℕ) → n ≡ 4 * length xs → span ≡ part a n bytes → IsRead big_number 4 span xs → xs ≡ longs_at (length xs) a bytes
-unfolding long_at
-longs-read a n bytes span xs size piece read =
-    ext_get_or 0 _ _ (sym (length_of_longs (length xs) a bytes)) (λ k within.
-    let inside : 4 * k + 4 ≤ n = omega arith in
-    read k within ∙ ap (λ ys. big_number 4 (drop (4 * k) ys)) piece ∙ number_in_part a n (4 * k) 4 bytes inside
-    ∙ sym (long_of_longs (length xs) a bytes k within))

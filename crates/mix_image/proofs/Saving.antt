@@ -1,14 +1,15 @@
 -- A spelling is kept piece by piece.
 use Rattle.std.proofs.Common.{◌≡◌, ℕ, zero, suc, ◌+◌, ◌-◌, ◌*◌, ◌/◌, ◌<◌, false, cond, List, [], ◌∷◌, ◌++◌, length, take, drop, get_or, Option, Ok, Err, arith, ap, sym, subst, ◌∙◌, refl, append_assoc, add-one}
 use Rattle.std.proofs.lemmas.List.{append-nil, take-append-drop, take_more}
-use Rattle.byteorder.specs.Endian.{big_bytes}
+use Rattle.std.specs.Int.{w32, to_be_bytes}
 use Rattle.big_memory.specs.Lists.{part}
 use Rattle.big_memory.specs.Numbers.{bytes_of_longs}
 use Rattle.big_memory.proofs.Numbers.{bytes_join}
-use Rattle.toolbox.specs.declared.block.Block.{Block}
+use Rattle.host_heap.specs.declared.block.Block.{Block}
 use Rattle.mix_io.specs.declared.errors.Failed.{Failed}
 use Rattle.mix_io.specs.Counts.{CountsStay}
-use Rattle.mix_io.specs.Kept.{KeepsMore, Saves}
+use Rattle.mix_io.specs.Kept.{KeepsMore}
+use Rattle.mix_io.specs.KeptClauses.{Saves}
 use Rattle.mix_io.proofs.Keeps.{nothing-kept, saves-join, saves-front}
 use Rattle.switch_frame.specs.Records.{isa_of, longs_of_file}
 use Rattle.mix_engine.specs.declared.machine.Machine.{Machine}
@@ -35,17 +36,17 @@ pub no-longs-bytes : bytes_of_longs [] ≡ []
 unfolding bytes_of_longs
 no-longs-bytes = refl
 
-pub one-long-bytes : (x : ℕ) → bytes_of_longs (x ∷ []) ≡ big_bytes 4 x
+pub one-long-bytes : (x : ℕ) → bytes_of_longs (x ∷ []) ≡ to_be_bytes w32 x
 unfolding bytes_of_longs
-one-long-bytes x = append-nil (big_bytes 4 x)
+one-long-bytes x = append-nil (to_be_bytes w32 x)
 
-pub longs-more : (xs : List ℕ) (i : ℕ) → i < length xs → bytes_of_longs (take i xs) ++ big_bytes 4 (get_or xs i 0) ≡ bytes_of_longs (take (i + 1) xs)
+pub longs-more : (xs : List ℕ) (i : ℕ) → i < length xs → bytes_of_longs (take i xs) ++ to_be_bytes w32 (get_or xs i 0) ≡ bytes_of_longs (take (i + 1) xs)
 longs-more xs i less =
     ap (λ l. bytes_of_longs (take i xs) ++ l) (sym (one-long-bytes (get_or xs i 0)))
     ∙ sym (bytes_join (take i xs) (get_or xs i 0 ∷ []))
     ∙ ap bytes_of_longs (sym (take_more xs i 0 less))
 
-pub longs-rest : (xs : List ℕ) (i : ℕ) → i < length xs → bytes_of_longs xs ≡ (bytes_of_longs (take i xs) ++ big_bytes 4 (get_or xs i 0)) ++ bytes_of_longs (drop (i + 1) xs)
+pub longs-rest : (xs : List ℕ) (i : ℕ) → i < length xs → bytes_of_longs xs ≡ (bytes_of_longs (take i xs) ++ to_be_bytes w32 (get_or xs i 0)) ++ bytes_of_longs (drop (i + 1) xs)
 longs-rest xs i less =
     ap bytes_of_longs (sym (take-append-drop (i + 1) xs)) ∙ bytes_join (take (i + 1) xs) (drop (i + 1) xs) ∙ ap (λ l. l ++ bytes_of_longs (drop (i + 1) xs)) (sym (longs-more xs i less))
 

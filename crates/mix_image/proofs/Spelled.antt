@@ -14,9 +14,9 @@ use Rattle.big_memory.specs.Lists.{part}
 use Rattle.big_memory.specs.Memory.{Memory, IsRam}
 use Rattle.big_memory.specs.Numbers.{AreBytes, AreLongs, bytes_of_longs, long_at, longs_at}
 use Rattle.big_memory.proofs.Numbers.{length_of_bytes, longs_again, longs_of_part}
-use Rattle.toolbox.specs.declared.block.Block.{Block}
-use Rattle.toolbox.specs.Space.{Space}
-use Rattle.toolbox.specs.Sound.{IsSound}
+use Rattle.host_heap.specs.declared.block.Block.{Block}
+use Rattle.host_heap.specs.Space.{Space}
+use Rattle.host_heap.specs.Sound.{IsSound}
 use Rattle.switch_frame.specs.declared.active.Active.{Active}
 use Rattle.switch_frame.specs.declared.active.Active.TheVariants.{M68, Ppc}
 use Rattle.switch_frame.specs.Chain.{IsFile}
@@ -27,7 +27,7 @@ use Rattle.mixed_machine.specs.Machine.{callers_of}
 use Rattle.mix_engine.specs.declared.machine.Machine.{Machine}
 use Rattle.mix_image.specs.declared.head.Head.{Head}
 use Rattle.mix_image.specs.Fields.{active_from, bare, blocks_from, empty_heap, fields_of, file_size, head_of, long_from, memory_from}
-use Rattle.mix_image.specs.Heads.{IsHead}
+use Rattle.mix_image.specs.inner.Heads.{IsHead}
 use Rattle.mix_image.specs.Spelling.{HasSpelling, block_longs, head_longs, longs_of, mark_first, mark_second, pages, set_number, spell, tail_longs}
 use Rattle.mix_image.proofs.Binds.{long-among, long-read, long-there, past, then}
 use Rattle.mix_image.proofs.Rows.{longs-split, one-long, two-longs}
@@ -81,7 +81,7 @@ whole-part n bytes there = same_number_lists _ _ (grind (arith, places)) (λ k w
 
 -- the machine of a head, a heap, a top, registers and memory
 abbrev machine_of : Head → Space → ℕ → Active → Memory → Machine
-machine_of head heap top active ram = record { active = active; body = record { ram = ram; heap = heap; top = top; a5 = head.a5; main = head.main; start_sp = head.start_sp; operations = record {} } }
+machine_of head heap top active ram = record { active = active; body = record { ram = ram; heap = heap; top = top; a5 = head.a5; main = head.main; start_sp = head.start_sp } }
 
 spelled-of : (bytes : List ℕ) (head : Head) (heap : Space) (top : ℕ) (active : Active) (ram : Memory) → AreBytes bytes → IsHeadAt bytes head → IsPlaced bytes head.low head.high head.count heap
     → long_at (36 + 8 * head.count) bytes ≡ top → long_at (40 + 8 * head.count) bytes ≡ set_number (isa_of active) → IsFileAt bytes (44 + 8 * head.count) active

@@ -2,16 +2,17 @@
 use Rattle.std.proofs.Common.{◌≡◌, ℕ, suc, ◌+◌, ◌-◌, ◌*◌, ◌%◌, ◌<◌, ◌≤◌, nat_le, Bool, true, false, List, [], ◌∷◌, ◌++◌, length, Option, Result, Ok, Err, arith, ap, sym, ◌∙◌, refl, length-append}
 use Rattle.std.proofs.lemmas.Bool.{and_parts}
 use Rattle.mix_bits.specs.Results.{◌>>=◌}
-use Rattle.toolbox.specs.declared.block.Block.{Block}
-use Rattle.toolbox.specs.Space.{Space}
-use Rattle.toolbox.specs.Place.{can_append, can_place, is_behind, last_end, may_follow, placed}
-use Rattle.toolbox.specs.Sound.{IsSound}
-use Rattle.toolbox.proofs.Appending.{last_tells}
-use Rattle.toolbox.proofs.Placing.{placing_appends, placing_keeps_sound}
+use Rattle.host_heap.specs.declared.block.Block.{Block}
+use Rattle.host_heap.specs.Space.{Space}
+use Rattle.host_heap.specs.Place.{can_append, can_place, is_behind, placed}
+use Rattle.host_heap.specs.laws.Place.{last_end, may_follow}
+use Rattle.host_heap.specs.Sound.{IsSound}
+use Rattle.host_heap.proofs.Appending.{last_tells}
+use Rattle.host_heap.proofs.Placing.{placing_appends, placing_keeps_sound}
 use Rattle.mix_image.specs.declared.error.ImageError.{ImageError}
 use Rattle.mix_image.specs.declared.error.ImageError.TheVariants.{Block as Blocks, Extra}
 use Rattle.mix_image.specs.Fields.{Pages, bare, block_from, blocks_from, empty_heap, long_from, memory_from, more_pages, only_if, page_from, page_size, pages_from}
-use Rattle.mix_image.specs.Testing.{end_from, outcome}
+use Rattle.mix_image.specs.inner.Testing.{end_from, outcome}
 use Rattle.mix_image.proofs.Binds.{passed, passes, past, then}
 use Rattle.mix_image.proofs.Pagings.{pages-start, pages-step}
 use Rattle.mix_image.proofs.Filling.{stopped-on}

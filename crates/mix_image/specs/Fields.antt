@@ -8,8 +8,8 @@ use Rattle.ppc_isa.specs.Longs.{file_of as ppc_file}
 use Rattle.big_memory.specs.Lists.{part}
 use Rattle.big_memory.specs.Memory.{Memory}
 use Rattle.big_memory.specs.Numbers.{long_at, longs_at}
-use Rattle.toolbox.specs.Space.{Space, block_limit}
-use Rattle.toolbox.specs.Place.{can_append, placed}
+use Rattle.host_heap.specs.Space.{Space, block_limit}
+use Rattle.host_heap.specs.Place.{can_append, placed}
 use Rattle.switch_frame.specs.declared.active.Active.{Active}
 use Rattle.switch_frame.specs.declared.active.Active.TheVariants.{M68, Ppc}
 use Rattle.switch_frame.specs.Program.{blank, program_start, start_sp_of}
@@ -141,8 +141,7 @@ bare bytes = record { bytes = bytes; marks = replicate (length bytes / 16) false
 unfoldable pub memory_from : List ℕ → ℕ → ℕ → Result Memory ImageError
 memory_from bytes at kib = pages_from bytes at kib >>= λ pages. only_if (nat_le (length bytes) pages.end) (Extra pages.end) (bare pages.bytes)
 
--- the machine whose fields the image holds, with nothing guarded; a table of operations stands for nothing, as one is like
--- another
+-- the machine whose fields the image holds, with nothing guarded
 unfoldable pub fields_of : List ℕ → Result Machine ImageError
 fields_of bytes =
     head_of bytes >>= λ head.
@@ -150,4 +149,4 @@ fields_of bytes =
     long_from bytes (36 + 8 * head.count) >>= λ top.
     active_from bytes (40 + 8 * head.count) >>= λ active.
     memory_from bytes (44 + 8 * head.count + file_size (isa_of active)) head.kib >>= λ ram.
-    Ok (record { active = active; body = record { ram = ram; heap = heap; top = top; a5 = head.a5; main = head.main; start_sp = head.start_sp; operations = record {} } })
+    Ok (record { active = active; body = record { ram = ram; heap = heap; top = top; a5 = head.a5; main = head.main; start_sp = head.start_sp } })

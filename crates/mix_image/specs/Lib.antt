@@ -1,6 +1,5 @@
-pub mod Spelling
-pub mod Heads
 pub mod Fields
-pub mod Testing
 pub mod Restoring
-pub mod Laws
+pub mod Spelling
+pub mod laws
+pub mod inner

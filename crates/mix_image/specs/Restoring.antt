@@ -2,23 +2,13 @@
 use Rattle.std.specs.Prelude.{◌≡◌, ◌⊎◌, ℕ, Bool, List, Result, Ok, Err, MatchResult}
 use Rattle.switch_frame.specs.Calls.{IsOutermost, active_set}
 use Rattle.switch_frame.specs.Chain.{Chain, records}
-use Rattle.switch_frame.specs.Checks.{IsFirstWrong, IsWholeChain, checked}
+use Rattle.switch_frame.specs.Checks.{IsFirstWrong, checked}
 use Rattle.switch_frame.specs.Program.{HasGatePage}
 use Rattle.switch_frame.specs.Records.{isa_of}
 use Rattle.mix_engine.specs.declared.machine.Machine.{Machine}
 use Rattle.mix_image.specs.declared.error.ImageError.{ImageError}
 use Rattle.mix_image.specs.declared.error.ImageError.TheVariants.{NoMemory, Short, Magic, Ram, Main, StartSp, Heap, Block, Active, Ccr, Page, Extra, Gate, Frame}
 use Rattle.mix_image.specs.Fields.{fields_of}
-
--- an answer that is the one that is defined
-abbrev pub Reads : {A B : Type 0} → (A → B) → Result A ImageError → Result B ImageError → Type 0
-Reads view (Ok x) read = read ≡ Ok (view x)
-Reads view (Err e) read = read ≡ Err e
-
--- or want of memory
-abbrev pub Gives : {A : Type 0} → Result A ImageError → Result A ImageError → Type 0
-Gives (Ok x) read = read ≡ Ok x
-Gives (Err e) read = (e ≡ NoMemory) ⊎ (read ≡ Err e)
 
 -- the machine with other marks
 abbrev pub with_guard : List Bool → Machine → Machine
@@ -49,11 +39,6 @@ IsTested m (Err (Active n)) = ⊥
 IsTested m (Err (Ccr n)) = ⊥
 IsTested m (Err (Page n)) = ⊥
 IsTested m (Err (Extra n)) = ⊥
-
--- the same as the tests find it, before the frames are guarded
-abbrev pub Passes : Machine → Result (Unit {0}) ImageError → Type 0
-Passes m (Ok done) = HasGatePage m.body.a5 m.body.ram.bytes × IsWholeChain m.body.ram m.body.top (isa_of m.active) m.body.main (records m.body.ram.bytes m.body.top)
-Passes m (Err e) = IsTested m (Err e)
 
 -- what an image is restored to; once each field is right, want of memory may come instead
 abbrev pub IsRestored : List ℕ → Result Machine ImageError → Type 0

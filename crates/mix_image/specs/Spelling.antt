@@ -5,8 +5,8 @@ use Rattle.mix_bits.specs.declared.isa.Isa.{Isa}
 use Rattle.mix_bits.specs.declared.isa.Isa.TheVariants.{M68, Ppc}
 use Rattle.big_memory.specs.Lists.{part}
 use Rattle.big_memory.specs.Numbers.{AreBytes, bytes_of_longs}
-use Rattle.toolbox.specs.declared.block.Block.{Block}
-use Rattle.toolbox.specs.Sound.{IsSound}
+use Rattle.host_heap.specs.declared.block.Block.{Block}
+use Rattle.host_heap.specs.Sound.{IsSound}
 use Rattle.switch_frame.specs.Chain.{IsFile}
 use Rattle.switch_frame.specs.Records.{isa_of, longs_of_file}
 use Rattle.mixed_machine.specs.Machine.{IsWhole}

@@ -1,18 +1,17 @@
 // The blocks of the heap in an image.
 ghost use Rattle.std.specs.Prelude.{◌≡◌, ◌%◌, ◌<◌, ◌≤◌, length, MatchResult, Ok, Err};
-ghost use Rattle.toolbox.specs.Space.{block_limit};
+ghost use Rattle.host_heap.specs.Space.{block_limit};
 ghost use Rattle.mix_image.specs.Fields.{block_from, blocks_from, empty_heap};
-ghost use Rattle.mix_image.specs.Restoring.{Gives};
-ghost use Rattle.mix_image.specs.Testing.{end_from, outcome};
+ghost use Rattle.mix_image.specs.inner.Restoring.{Gives};
+ghost use Rattle.mix_image.specs.inner.Testing.{end_from, outcome};
 
 use crate::ImageError;
 use crate::longs::long;
+use host_heap::{Heap, may_follow};
 use std::alloc::Global;
-use toolbox::{Heap, may_follow};
 
 /// Tests the blocks in order, each by where the one before it ends. It takes no memory.
 pub fn test_blocks(bytes: &[u8], low: u32, high: u32, count: u32) -> Result<(), ImageError>
-    requires small { length bytes.now ≤ 17825792 }
     requires first { low % 16 ≡ 0 }
     requires last { high % 16 ≡ 0 }
     requires ordered { low ≤ high }
@@ -28,7 +27,6 @@ pub fn test_blocks(bytes: &[u8], low: u32, high: u32, count: u32) -> Result<(), 
 
 /// Where the block with this number ends, which is to stand behind `end` and to end by `high`.
 fn test_block(bytes: &[u8], end: u64, high: u32, k: u32) -> Result<u64, ImageError>
-    requires small { length bytes.now ≤ 17825792 }
     requires few { k < block_limit }
     ensures { result ≡ end_from bytes.now end high k }
 {
@@ -50,7 +48,6 @@ pub fn read_blocks(
     high: u32,
     count: u32,
 ) -> Result<Heap, ImageError>
-    requires small { length bytes.now ≤ 17825792 }
     requires first { low % 16 ≡ 0 }
     requires last { high % 16 ≡ 0 }
     requires ordered { low ≤ high }
@@ -66,7 +63,6 @@ pub fn read_blocks(
 
 /// Puts the block with this number behind all others.
 fn read_block(bytes: &[u8], heap: &mut Heap, k: u32) -> Result<(), ImageError>
-    requires small { length bytes.now ≤ 17825792 }
     requires few { k < block_limit }
     ensures { MatchResult result (λ _. block_from bytes.now heap.old k ≡ Ok heap.new) (λ e. block_from bytes.now heap.old k ≡ Err e) }
 {

@@ -1,8 +1,8 @@
 // The fields of an image, in order.
 ghost use Rattle.std.specs.Prelude.{◌≡◌, ◌≤◌, length};
 ghost use Rattle.mix_image.specs.Fields.{fields_of};
-ghost use Rattle.mix_image.specs.Restoring.{Gives};
-ghost use Rattle.mix_image.specs.Testing.{outcome};
+ghost use Rattle.mix_image.specs.inner.Restoring.{Gives};
+ghost use Rattle.mix_image.specs.inner.Testing.{outcome};
 
 use crate::ImageError;
 use crate::blocks::{read_blocks, test_blocks};
@@ -10,14 +10,12 @@ use crate::head::read_head;
 use crate::longs::long;
 use crate::memory::{read_memory, test_memory};
 use crate::registers::{file_size, read_active};
-use m68_isa::Operations;
 use mix_engine::{Body, Machine};
 use std::alloc::Global;
 
 /// Whether each field of the image is right, or the first refusal. It takes no memory.
 #[tactic(auto, unfolding(crate::specs::Fields::fields_of))]
 pub fn test_fields(bytes: &[u8]) -> Result<(), ImageError>
-    requires { length bytes.now ≤ 17825792 }
     ensures { result ≡ outcome (fields_of bytes.now) }
 {
     let head = read_head(bytes)?;
@@ -31,7 +29,6 @@ pub fn test_fields(bytes: &[u8]) -> Result<(), ImageError>
 /// The machine whose fields the image holds, with nothing guarded.
 #[tactic(auto, unfolding(crate::specs::Fields::fields_of))]
 pub fn read_fields(alloc: Global, bytes: &[u8]) -> Result<Machine, ImageError>
-    requires { length bytes.now ≤ 17825792 }
     ensures { Gives result (fields_of bytes.now) }
 {
     let head = read_head(bytes)?;
@@ -49,7 +46,6 @@ pub fn read_fields(alloc: Global, bytes: &[u8]) -> Result<Machine, ImageError>
             a5: head.a5,
             main: head.main,
             start_sp: head.start_sp,
-            operations: Operations::new(alloc)?,
         },
     })
 }

@@ -3,14 +3,14 @@ ghost use Rattle.std.specs.Prelude.{◌≡◌, ◌*◌, ◌%◌, ◌≤◌, ℕ,
 ghost use Rattle.switch_frame.specs.Program.{start_sp_of};
 ghost use Rattle.mix_image.specs.declared.error.ImageError.{ImageError};
 ghost use Rattle.mix_image.specs.Fields.{are_bounds, bounds_of, count_of, head_of, kib_of, magic_of, main_of, set_of, start_of};
-ghost use Rattle.toolbox.specs.Space.{block_limit};
-ghost use Rattle.mix_image.specs.Heads.{IsHead};
+ghost use Rattle.host_heap.specs.Space.{block_limit};
+ghost use Rattle.mix_image.specs.inner.Heads.{IsHead};
 
 use crate::ImageError;
 use crate::longs::{MARK_FIRST, MARK_SECOND, long, short};
+use host_heap::BLOCK_LIMIT;
 use mix_bits::Isa;
 use switch_frame::{PROGRAM_START, start_sp_of};
-use toolbox::BLOCK_LIMIT;
 
 /// The fields before the heap's blocks.
 #[derive(Clone, Copy)]
@@ -27,7 +27,6 @@ pub struct Head {
 /// Reads them in order.
 #[tactic(auto, unfolding(crate::specs::Fields::head_of))]
 pub fn read_head(bytes: &[u8]) -> Result<Head, ImageError>
-    requires { length bytes.now ≤ 17825792 }
     ensures exact { result ≡ head_of bytes.now }
     ensures fits { IfOk result IsHead }
 {
@@ -50,7 +49,6 @@ pub fn read_head(bytes: &[u8]) -> Result<Head, ImageError>
 }
 
 fn test_magic(bytes: &[u8]) -> Result<(), ImageError>
-    requires { length bytes.now ≤ 17825792 }
     ensures { result ≡ magic_of bytes.now }
 {
     if bytes.len() < 8 {
@@ -63,7 +61,6 @@ fn test_magic(bytes: &[u8]) -> Result<(), ImageError>
 }
 
 fn read_kib(bytes: &[u8]) -> Result<u32, ImageError>
-    requires { length bytes.now ≤ 17825792 }
     ensures exact { result ≡ kib_of bytes.now }
     ensures fits { IfOk result (λ kib. (128 ≤ kib) × (kib ≤ 16384)) }
 {
@@ -87,7 +84,6 @@ pub fn set_of(value: u32, refusal: ImageError) -> Result<Isa, ImageError>
 }
 
 fn read_main(bytes: &[u8]) -> Result<Isa, ImageError>
-    requires { length bytes.now ≤ 17825792 }
     ensures { result ≡ main_of bytes.now }
 {
     let value = long(bytes, 16)?;
@@ -95,7 +91,6 @@ fn read_main(bytes: &[u8]) -> Result<Isa, ImageError>
 }
 
 fn read_start(bytes: &[u8], main: Isa, kib: u32) -> Result<u32, ImageError>
-    requires small { length bytes.now ≤ 17825792 }
     requires least { 128 ≤ kib }
     requires most { kib ≤ 16384 }
     ensures exact { result ≡ start_of bytes.now main kib }
@@ -110,7 +105,6 @@ fn read_start(bytes: &[u8], main: Isa, kib: u32) -> Result<u32, ImageError>
 }
 
 fn read_bounds(bytes: &[u8], kib: u32) -> Result<(u32, u32), ImageError>
-    requires small { length bytes.now ≤ 17825792 }
     requires most { kib ≤ 16384 }
     ensures exact { result ≡ bounds_of bytes.now kib }
     ensures fits { IfOk result (λ bounds. (bounds.0 % 16 ≡ 0) × (65536 ≤ bounds.0) × (bounds.0 ≤ bounds.1) × (bounds.1 ≡ 768 * kib)) }
@@ -132,7 +126,6 @@ fn are_bounds(low: u32, high: u32, kib: u32) -> bool
 }
 
 fn read_count(bytes: &[u8]) -> Result<u32, ImageError>
-    requires { length bytes.now ≤ 17825792 }
     ensures exact { result ≡ count_of bytes.now }
     ensures fits { IfOk result (λ count. count ≤ block_limit) }
 {

@@ -1,4 +1,4 @@
-ghost use Rattle.mix_image.specs.Laws.{MarkIsText, RestoredIsSpelled, SpellingIsRestored, SpellingsDiffer};
+ghost use Rattle.mix_image.specs.laws.Laws.{MarkIsText, RestoredIsSpelled, SpellingIsRestored, SpellingsDiffer};
 
 /// That spelling and restoring are inverse to each other. It does nothing: the clauses are its point.
 ///

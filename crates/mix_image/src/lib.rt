@@ -18,6 +18,5 @@ mod saved;
 
 pub use error::ImageError;
 pub use laws::spelling_laws;
-pub use longs::MOST_BYTES;
 pub use restored::restore;
 pub use saved::save;

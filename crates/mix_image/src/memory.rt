@@ -2,9 +2,9 @@
 ghost use Rattle.std.specs.Prelude.{◌≡◌, ◌+◌, ◌*◌, ◌<◌, ◌≤◌, ℕ, length, nat_le, slice_index, IfOk, Ok, option_copied};
 ghost use Rattle.big_memory.specs.Memory.{with_bytes};
 ghost use Rattle.mix_image.specs.Fields.{full_page, memory_from, only_if, page_bytes, page_from, page_size};
-ghost use Rattle.mix_image.specs.Restoring.{Gives, Reads};
+ghost use Rattle.mix_image.specs.inner.Restoring.{Gives, Reads};
 ghost use Rattle.mix_image.specs.Spelling.{is_blank};
-ghost use Rattle.mix_image.specs.Testing.{outcome};
+ghost use Rattle.mix_image.specs.inner.Testing.{outcome};
 
 use crate::ImageError;
 use crate::longs::short;
@@ -16,8 +16,9 @@ pub const PAGE: usize = 1024;
 
 /// Tests the pages of so many KiB, with which the image ends. It takes no memory.
 pub fn test_memory(bytes: &[u8], at: usize, kib: u32) -> Result<(), ImageError>
-    requires small { length bytes.now ≤ 17825792 }
     requires place { at ≤ length bytes.now }
+    requires near { at ≤ 40000 }
+    requires most { kib ≤ 16384 }
     ensures { result ≡ outcome (memory_from bytes.now at kib) }
 {
     let mut end = at;
@@ -29,8 +30,7 @@ pub fn test_memory(bytes: &[u8], at: usize, kib: u32) -> Result<(), ImageError>
 
 /// Tests that no byte stands behind the last field.
 fn test_end(bytes: &[u8], end: usize) -> Result<(), ImageError>
-    requires small { length bytes.now ≤ 17825792 }
-    requires place { end ≤ length bytes.now }
+    requires near { end ≤ 17825792 }
     ensures { result ≡ only_if (nat_le (length bytes.now) end) (ImageError.Extra end) (record {}) }
 {
     if bytes.len() <= end {
@@ -42,8 +42,8 @@ fn test_end(bytes: &[u8], end: usize) -> Result<(), ImageError>
 
 /// Memory of so many KiB with the bytes that the image holds, which end there.
 pub fn read_memory(alloc: Global, bytes: &[u8], at: usize, kib: u32) -> Result<Ram, ImageError>
-    requires small { length bytes.now ≤ 17825792 }
     requires place { at ≤ length bytes.now }
+    requires near { at ≤ 40000 }
     requires least { 128 ≤ kib }
     requires most { kib ≤ 16384 }
     ensures { Gives result (memory_from bytes.now at kib) }
@@ -61,8 +61,7 @@ pub fn read_memory(alloc: Global, bytes: &[u8], at: usize, kib: u32) -> Result<R
 
 /// The page with this number, none where all its bytes are 0.
 fn read_page(bytes: &[u8], at: usize, k: u32) -> Result<Option<&[u8]>, ImageError>
-    requires small { length bytes.now ≤ 17825792 }
-    requires place { at ≤ length bytes.now }
+    requires near { at ≤ 17825792 }
     ensures exact { Reads option_copied result (page_from bytes.now at k) }
     ensures len { IfOk result (λ page. length (page_bytes (option_copied page)) ≡ 1024) }
     ensures within { IfOk result (λ page. at + page_size (option_copied page) ≤ length bytes.now) }
@@ -77,8 +76,7 @@ fn read_page(bytes: &[u8], at: usize, k: u32) -> Result<Option<&[u8]>, ImageErro
 
 /// The page behind a byte 1.
 fn read_full_page(bytes: &[u8], at: usize, k: u32) -> Result<Option<&[u8]>, ImageError>
-    requires small { length bytes.now ≤ 17825792 }
-    requires place { at ≤ length bytes.now }
+    requires near { at ≤ 17825792 }
     ensures exact { Reads option_copied result (full_page bytes.now at k) }
     ensures len { IfOk result (λ page. length (page_bytes (option_copied page)) ≡ 1024) }
     ensures within { IfOk result (λ page. at + page_size (option_copied page) ≤ length bytes.now) }

@@ -5,8 +5,7 @@ ghost use Rattle.mix_image.specs.Fields.{active_from, file_from, file_size, m68_
 
 use crate::ImageError;
 use crate::head::set_of;
-use crate::longs::{long, short};
-use big_memory::read_longs;
+use crate::longs::{long, read_longs, short};
 use m68_isa::Regs68;
 use mix_bits::Isa;
 use ppc_isa::RegsPpc;
@@ -15,7 +14,6 @@ use switch_frame::Active;
 /// The active set's number and its registers.
 #[tactic(auto, unfolding(crate::specs::Fields::active_from))]
 pub fn read_active(bytes: &[u8], at: usize) -> Result<Active, ImageError>
-    requires small { length bytes.now ≤ 17825792 }
     requires place { at ≤ 40000 }
     ensures { result ≡ active_from bytes.now at }
 {
@@ -35,7 +33,6 @@ pub fn file_size(set: Isa) -> usize
 }
 
 fn read_file(bytes: &[u8], at: usize, set: Isa) -> Result<Active, ImageError>
-    requires small { length bytes.now ≤ 17825792 }
     requires place { at ≤ 40004 }
     ensures { result ≡ file_from bytes.now at set }
 {
@@ -46,7 +43,6 @@ fn read_file(bytes: &[u8], at: usize, set: Isa) -> Result<Active, ImageError>
 }
 
 fn read_m68(bytes: &[u8], at: usize) -> Result<Active, ImageError>
-    requires small { length bytes.now ≤ 17825792 }
     requires place { at ≤ 40004 }
     ensures { result ≡ m68_from bytes.now at }
 {
@@ -63,7 +59,6 @@ fn read_m68(bytes: &[u8], at: usize) -> Result<Active, ImageError>
 }
 
 fn read_ppc(bytes: &[u8], at: usize) -> Result<Active, ImageError>
-    requires small { length bytes.now ≤ 17825792 }
     requires place { at ≤ 40004 }
     ensures { result ≡ ppc_from bytes.now at }
 {

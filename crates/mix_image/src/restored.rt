@@ -2,7 +2,8 @@
 ghost use Rattle.std.specs.Prelude.{◌≡◌, ◌⊎◌, ◌≤◌, length, Ok, Err, IfOk};
 ghost use Rattle.big_memory.specs.Numbers.{AreBytes};
 ghost use Rattle.mix_engine.specs.declared.machine.Machine.{Machine};
-ghost use Rattle.mix_image.specs.Restoring.{IsRestored, Passes};
+ghost use Rattle.mix_image.specs.Restoring.{IsRestored};
+ghost use Rattle.mix_image.specs.inner.Restoring.{Passes};
 ghost use Rattle.mix_image.specs.Spelling.{HasSpelling, spell};
 
 use crate::ImageError;
@@ -15,7 +16,6 @@ use switch_frame::{check, check_gate, guard_frames};
 /// The machine whose spelling the bytes are, or the first refusal. Memory is taken once each field is right, and want of it
 /// may come from then on.
 pub fn restore(alloc: Global, bytes: &[u8]) -> Result<Machine, ImageError>
-    requires { length bytes.now ≤ 17825792 }
     ensures exact { IsRestored bytes.now result }
     ensures whole { IfOk result HasSpelling }
     ensures spelled { IfOk result (λ m. spell m ≡ bytes.now) }
@@ -26,7 +26,6 @@ pub fn restore(alloc: Global, bytes: &[u8]) -> Result<Machine, ImageError>
 }
 
 fn restore_tested(alloc: Global, bytes: &[u8]) -> Result<Machine, ImageError>
-    requires { length bytes.now ≤ 17825792 }
     ensures { IsRestored bytes.now result }
 {
     are_bytes(bytes);

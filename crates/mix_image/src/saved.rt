@@ -1,9 +1,8 @@
 // A machine is kept by its spelling.
 ghost use Rattle.std.specs.Prelude.{◌≡◌, ◌*◌, ◌/◌, ◌%◌, ◌≤◌, length, is_err};
 ghost use Rattle.big_memory.specs.Numbers.{AreLongs, bytes_of_longs};
-ghost use Rattle.byteorder.specs.Endian.{big_bytes};
-ghost use Rattle.mix_io.specs.Counts.{NamedCause};
-ghost use Rattle.mix_io.specs.Kept.{Saves};
+ghost use Rattle.mix_io.specs.CountsClauses.{NamedCause};
+ghost use Rattle.mix_io.specs.KeptClauses.{Saves};
 ghost use Rattle.switch_frame.specs.Chain.{IsFile};
 ghost use Rattle.switch_frame.specs.Records.{isa_of, longs_of_file};
 ghost use Rattle.mixed_machine.specs.Machine.{IsWhole};
@@ -11,14 +10,13 @@ ghost use Rattle.mix_image.specs.Spelling.{HasSpelling, block_longs, head_longs,
 
 use crate::longs::{MARK_FIRST, MARK_SECOND};
 use crate::memory::{PAGE, is_blank};
-use byteorder::{BigEndian, ByteOrder};
+use host_heap::Block;
 use m68_isa::Regs68;
 use mix_bits::Isa;
 use mix_engine::Machine;
 use mix_io::{Failed, Keeper};
 use ppc_isa::RegsPpc;
 use switch_frame::Active;
-use toolbox::Block;
 
 /// Keeps the spelling of a whole machine behind what was kept by this name, or a beginning of it where the keeper fails. It
 /// takes no memory.
@@ -139,22 +137,13 @@ fn save_file<K: Keeper>(active: &Active, keep: &mut K, name: &str) -> Result<(),
     }
 }
 
-/// The bytes of a long.
-fn bytes_of(long: u32) -> [u8; 4]
-    ensures { result ≡ big_bytes 4 long }
-{
-    let mut bytes = [0; 4];
-    BigEndian::write_u32(&mut bytes, long);
-    bytes
-}
-
 /// Keeps longs, each as a piece of four bytes.
 fn save_longs<K: Keeper>(longs: &[u32], keep: &mut K, name: &str) -> Result<(), Failed>
     ensures bytes { Saves (K.kept keep.old) (K.kept keep.new) name.now (bytes_of_longs longs.now) result }
     ensures cause { NamedCause (K.faults keep.old) (K.faults keep.new) name.now (is_err result) }
 {
     'each: for long in longs {
-        keep.keep(name, &bytes_of(*long))?;
+        keep.keep(name, &long.to_be_bytes())?;
     }
     Ok(())
 }

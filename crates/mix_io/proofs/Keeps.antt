@@ -3,7 +3,8 @@ use Rattle.std.proofs.Common.{◌≡◌, ℕ, ◌+◌, ◌≤◌, List, [], ◌+
 use Rattle.std.specs.Prelude.{bytes_eq}
 use Rattle.std.proofs.Math.Seq.{take-append-add}
 use Rattle.std.proofs.lemmas.List.{append-nil, take-append-le}
-use Rattle.mix_io.specs.Kept.{share, KeepsMore, NothingKept, SavesJoin, SavesFront}
+use Rattle.mix_io.specs.Kept.{share, KeepsMore}
+use Rattle.mix_io.specs.laws.Kept.{NothingKept, SavesJoin, SavesFront}
 
 share-nil : (b : Bool) (xs : List ℕ) → xs ≡ xs ++ cond b [] []
 share-nil true xs = sym (append-nil xs)

@@ -3,7 +3,7 @@ use Rattle.std.proofs.Common.{◌++◌, take, refl, sym, ◌∙◌, subst, appen
 use Rattle.std.specs.Io.KnownBytes.{Appends}
 use Rattle.std.proofs.KnownBytes.{Appends-nil, Appends-trans}
 use Rattle.mix_io.specs.Counts.{Rose}
-use Rattle.mix_io.specs.Streams.{NothingGrows, GrowsJoin, BreaksJoin}
+use Rattle.mix_io.specs.laws.Streams.{NothingGrows, GrowsJoin, BreaksJoin}
 
 -- nothing was put yet
 pub grows-none : NothingGrows

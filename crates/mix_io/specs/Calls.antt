@@ -1,6 +1,5 @@
 -- The calls of an object in memory, and which of them fail.
-use Rattle.std.specs.Prelude.{ℕ, ◌+◌, ◌-◌, ◌^◌, ◌==◌, min, Bool, List, Option, if◌then◌else◌}
-use Rattle.std.specs.List.{list_any}
+use Rattle.std.specs.Prelude.{ℕ, ◌+◌, ◌-◌, ◌^◌, min, Bool, List, Option, if◌then◌else◌}
 use Rattle.std.specs.Option.{option_map}
 
 -- a count with one more, which stands still at the last value of 64 bits
@@ -19,13 +18,3 @@ counted_if failed count = if failed then counted count else count
 pub record CallNumbers : Type 0 where
   pub fails : List ℕ
   pub next : ℕ
-
--- calls are numbered from 1
-abbrev pub calls_from_one : List ℕ → CallNumbers
-calls_from_one fails = record { fails = fails; next = 1 }
-
-abbrev pub fails_next : CallNumbers → Bool
-fails_next calls = list_any (λ n. n == calls.next) calls.fails
-
-abbrev pub after_call : CallNumbers → CallNumbers
-after_call calls = record { fails = calls.fails; next = counted calls.next }

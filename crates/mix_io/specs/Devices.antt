@@ -22,11 +22,12 @@ abbrev pub script_answer : Script → Option ℕ
 script_answer s = first_answer s.answers
 
 abbrev pub after_script : Script → ℕ → Script
-after_script s word = record {
-  answers = drop 1 s.answers;
-  told = noted s.told word (script_answer s);
-  faults = counted_if (is_none (script_answer s)) s.faults;
-}
+after_script s word =
+    record {
+      answers = drop 1 s.answers;
+      told = noted s.told word (script_answer s);
+      faults = counted_if (is_none (script_answer s)) s.faults;
+    }
 
 -- ---- a counter: the total of the words, in 32 bits
 
@@ -39,11 +40,12 @@ abbrev pub total_with : Count → ℕ → ℕ
 total_with s word = (s.total + word) % 2 ^ 32
 
 abbrev pub after_count : Count → ℕ → Count
-after_count s word = record {
-  total = total_with s word;
-  told = noted s.told word (Some (total_with s word));
-  faults = s.faults;
-}
+after_count s word =
+    record {
+      total = total_with s word;
+      told = noted s.told word (Some (total_with s word));
+      faults = s.faults;
+    }
 
 -- ---- a tape: the words that it keeps, at most 1024
 
@@ -57,8 +59,9 @@ abbrev pub tape_answer : Words → Option ℕ
 tape_answer s = if nat_lt (length s.words) 1024 then Some (length s.words) else None
 
 abbrev pub after_tape : Words → ℕ → Words
-after_tape s word = record {
-  words = if nat_lt (length s.words) 1024 then s.words ++ word ∷ [] else s.words;
-  told = noted s.told word (tape_answer s);
-  faults = counted_if (is_none (tape_answer s)) s.faults;
-}
+after_tape s word =
+    record {
+      words = if nat_lt (length s.words) 1024 then s.words ++ word ∷ [] else s.words;
+      told = noted s.told word (tape_answer s);
+      faults = counted_if (is_none (tape_answer s)) s.faults;
+    }

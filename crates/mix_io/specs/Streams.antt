@@ -1,5 +1,5 @@
 -- What a sink holds after several puts: all that was put, or all until the put that failed.
-use Rattle.std.specs.Prelude.{◌≡◌, ℕ, ◌≤◌, List, [], ◌++◌, length, take, Option}
+use Rattle.std.specs.Prelude.{◌≡◌, ℕ, ◌≤◌, List, ◌++◌, length, take, Option}
 use Rattle.std.specs.Io.KnownBytes.{Appends}
 use Rattle.mix_io.specs.Counts.{Rose}
 
@@ -7,9 +7,6 @@ use Rattle.mix_io.specs.Counts.{Rose}
 pub record Output : Type 0 where
   pub held : Option (List ℕ)
   pub faults : ℕ
-
-abbrev pub output : Option (List ℕ) → ℕ → Output
-output held faults = record { held = held; faults = faults }
 
 -- the sink took these bytes, and no put failed
 pub record Grows (old new : Output) (bytes : List ℕ) : Type 0 where
@@ -30,13 +27,3 @@ pub record StopsWithin (old new : Output) (text : List ℕ) : Type 0 where
   pub rest : List ℕ
   pub order : text ≡ before ++ (line ++ rest)
   pub breaks : Breaks old new before line
-
--- nothing that was put leaves a sink as it is; and bytes put after others, or before a put that failed, join these
-abbrev pub NothingGrows : Type 0
-NothingGrows = (a : Output) → Grows a a []
-
-abbrev pub GrowsJoin : Type 0
-GrowsJoin = (a b c : Output) (xs ys : List ℕ) → Grows a b xs → Grows b c ys → Grows a c (xs ++ ys)
-
-abbrev pub BreaksJoin : Type 0
-BreaksJoin = (a b c : Output) (xs ys piece : List ℕ) → Grows a b xs → Breaks b c ys piece → Breaks a c (xs ++ ys) piece

@@ -1,6 +1,6 @@
 // A device that adds up its words.
 ghost use Rattle.std.specs.Prelude.{◌≡◌, [], Some, Ok, IfOk};
-ghost use Rattle.mix_io.specs.Counts.{HasCause};
+ghost use Rattle.mix_io.specs.CountsClauses.{HasCause};
 ghost use Rattle.mix_io.specs.Told.{Hears};
 ghost use Rattle.mix_io.specs.Devices.{Count, total_with, after_count};
 

@@ -1,8 +1,8 @@
 // A shelf over the files of the system.
 ghost use Rattle.std.specs.Prelude.{◌≡◌, ◌≤◌, ℕ, List, None, IfOk, IfSome, length};
 ghost use Rattle.std.specs.IoError.{error_kind};
-ghost use Rattle.mix_io.specs.Told.{NamesLimit};
-ghost use Rattle.mix_io.specs.Files.{IsRefusal, ReadsWhole};
+ghost use Rattle.mix_io.specs.inner.Told.{NamesLimit};
+ghost use Rattle.mix_io.specs.inner.Files.{IsRefusal, ReadsWhole};
 
 use super::counts::count_fault;
 use super::errors::FetchError;

@@ -1,7 +1,7 @@
 // A device that answers from a script.
 ghost use Rattle.std.specs.Prelude.{◌≡◌, [], Option, Some, IfOk, ok_or};
 ghost use Rattle.std.specs.Vec.Iter.{into_iter_items};
-ghost use Rattle.mix_io.specs.Counts.{HasCause};
+ghost use Rattle.mix_io.specs.CountsClauses.{HasCause};
 ghost use Rattle.mix_io.specs.Told.{Hears};
 ghost use Rattle.mix_io.specs.Devices.{Script, script_answer, after_script};
 

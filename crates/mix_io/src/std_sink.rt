@@ -1,6 +1,6 @@
 // A sink over a writer of std.
 ghost use Rattle.std.specs.Prelude.{◌≡◌, None};
-ghost use Rattle.mix_io.specs.Counts.{HasCause};
+ghost use Rattle.mix_io.specs.CountsClauses.{HasCause};
 ghost use Rattle.mix_io.specs.Told.{Puts};
 
 use super::errors::Failed;

@@ -1,8 +1,8 @@
 // A source over a reader of std.
 ghost use Rattle.std.specs.Prelude.{◌≡◌, ◌↔◌, Option, None, Some, [], Ok, IsTrue, if◌then◌else◌};
 ghost use Rattle.std.specs.Bool.{OnFalse, OnTrue};
-ghost use Rattle.mix_io.specs.Counts.{HasCause};
-ghost use Rattle.mix_io.specs.Told.{Reads, Takes};
+ghost use Rattle.mix_io.specs.CountsClauses.{HasCause};
+ghost use Rattle.mix_io.specs.inner.Told.{Reads, Takes};
 
 use super::counts::count_fault;
 use super::errors::Failed;

@@ -1,6 +1,6 @@
 // A device that keeps its words.
 ghost use Rattle.std.specs.Prelude.{◌≡◌, ◌≤◌, [], Some, IfOk, ok_or, length, vec_capacity};
-ghost use Rattle.mix_io.specs.Counts.{HasCause};
+ghost use Rattle.mix_io.specs.CountsClauses.{HasCause};
 ghost use Rattle.mix_io.specs.Told.{Hears};
 ghost use Rattle.mix_io.specs.Devices.{Words, tape_answer, after_tape};
 

@@ -1,5 +1,5 @@
 // Whole pieces written to a writer of std, which may take less at once.
-ghost use Rattle.mix_io.specs.Counts.{HasCause};
+ghost use Rattle.mix_io.specs.CountsClauses.{HasCause};
 ghost use Rattle.mix_io.specs.Told.{Puts};
 
 use super::counts::count_fault;

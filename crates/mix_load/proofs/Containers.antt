@@ -1,11 +1,13 @@
 -- The sections of a container in memory, before and after their relocations.
 use Rattle.std.proofs.Common.{◌≡◌, subst, sym, ap, ◌∙◌, ℕ, ◌+◌, ◌<◌, ◌≤◌, List, length, take, arith}
 use Rattle.big_memory.specs.Lists.{part}
-use Rattle.pef_reloc.specs.Laws.{KeepsSize}
+use Rattle.pef_reloc.specs.laws.Laws.{KeepsSize}
 use Rattle.big_memory.specs.Memory.{Memory}
 use Rattle.switch_frame.specs.Pieces.{puts}
 use Rattle.mix_load.specs.Pieces.{with_pieces}
-use Rattle.mix_load.specs.Sections.{Stand, contents_at, relocated_bytes, relocated_pieces, section_base, section_pieces, sections_end, total_at}
+use Rattle.mix_load.specs.inner.Sections.{Stand, section_pieces}
+use Rattle.mix_load.specs.Sections.{contents_at, relocated_bytes, relocated_pieces, section_base, sections_end}
+use Rattle.mix_load.specs.laws.Sections.{total_at}
 use Rattle.mix_load.proofs.Ends.{section_above, section_within, sections_apart}
 use Rattle.mix_load.proofs.Placing.{piece-back, pieces-behind, pieces-front, pieces-over}
 use Rattle.mix_load.proofs.Relocated.{relocated-length}

@@ -1,36 +1,22 @@
 -- No name in the host table has 64 bytes, so the first 64 of a name tell whether it is there.
-use Rattle.std.proofs.Common.{◌≡◌, refl, sym, ap, ◌∙◌, lit<, ℕ, ◌<◌, Bool, true, false, true≢false, ◌&&◌, if◌then◌else◌, List, [], ◌∷◌, bytes_eq, length, take, length-take, Option, Some, None, arith}
+use Rattle.std.proofs.Common.{◌≡◌, refl, sym, ap, ◌∙◌, ℕ, ◌<◌, Bool, true, false, true≢false, ◌&&◌, if◌then◌else◌, List, [], ◌∷◌, bytes_eq, length, take, length-take, ◌+◌, nat_lt, Option, Some, None, arith}
+use Rattle.std.specs.List.{list_all, position_from}
+use Rattle.std.proofs.lemmas.Bool.{and_parts, ltb-true}
 use Rattle.std.proofs.lemmas.List.{take_all}
 use Rattle.std.proofs.lemmas.Slice.Eq.{bytes_eq-Decides}
-use Rattle.pef_head.specs.Parts.{ImportParts, cut}
-use Rattle.toolbox.specs.declared.function.Function.{Function}
-use Rattle.toolbox.specs.declared.function.Function.TheVariants.{NewRoutineDescriptor, NewFatRoutineDescriptor, DisposeRoutineDescriptor, CallUniversalProc, NewPtr, NewPtrClear, DisposePtr, BlockMove, ExitToShell, PutByte, GetByte, PutBlock, AskDevice, EjectDevice, ExitWith, UnloadSeg}
-use Rattle.toolbox.specs.Table.{functions}
-use Rattle.toolbox.specs.Functions.{number_of}
-use Rattle.toolbox.specs.Names.{import_among, import_index, import_of, is_named}
+use Rattle.pef_head.specs.Parts.{ImportParts}
+use Rattle.pef_head.specs.inner.Parts.{cut}
+use Rattle.toolbox.specs.Table.{imports}
+use Rattle.toolbox.specs.Names.{import_index, is_named}
 use Rattle.mix_load.specs.Sections.{import_address, resolved}
 
-abbrev IsShort : Option (List ℕ × List ℕ) → Type 0
-IsShort None = Unit {0}
-IsShort (Some both) = (length both.0 < 64) × (length both.1 < 64)
+-- whether both names have fewer than 64 bytes
+abbrev is_short : Option (List ℕ × List ℕ) → Bool
+is_short None = true
+is_short (Some both) = nat_lt (length both.0) 64 && nat_lt (length both.1) 64
 
-short : (f : Function) → IsShort (import_of f)
-short NewRoutineDescriptor = (lit< tt, lit< tt)
-short NewFatRoutineDescriptor = (lit< tt, lit< tt)
-short DisposeRoutineDescriptor = (lit< tt, lit< tt)
-short CallUniversalProc = (lit< tt, lit< tt)
-short NewPtr = (lit< tt, lit< tt)
-short NewPtrClear = (lit< tt, lit< tt)
-short DisposePtr = (lit< tt, lit< tt)
-short BlockMove = (lit< tt, lit< tt)
-short ExitToShell = (lit< tt, lit< tt)
-short PutByte = (lit< tt, lit< tt)
-short GetByte = (lit< tt, lit< tt)
-short PutBlock = (lit< tt, lit< tt)
-short AskDevice = (lit< tt, lit< tt)
-short EjectDevice = (lit< tt, lit< tt)
-short ExitWith = (lit< tt, lit< tt)
-short UnloadSeg = tt
+all-short : list_all is_short imports ≡ true
+all-short = refl
 
 -- a list of fewer than 64 is the first 64 of another exactly where it is the other
 same_eq : (x a : List ℕ) → length x < 64 → bytes_eq x (take 64 a) ≡ bytes_eq x a
@@ -51,21 +37,23 @@ same_eq x a lt = by (bytes_eq x (take 64 a)) (bytes_eq x a) (bytes_eq-Decides x 
         let few : length a < 64 = omega (arith, ap (λ (l : List ℕ). length l) is, lt) in
         absurd (true≢false (sym ((bytes_eq-Decides x (take 64 a)).1 (is ∙ sym (all few))) ∙ p))
 
-same_named : (library name : List ℕ) (o : Option (List ℕ × List ℕ)) → IsShort o → is_named (take 64 library) (take 64 name) o ≡ is_named library name o
+same_named : (library name : List ℕ) (o : Option (List ℕ × List ℕ)) → is_short o ≡ true → is_named (take 64 library) (take 64 name) o ≡ is_named library name o
 same_named library name None is = refl
 same_named library name (Some both) is =
-    ap (λ (b : Bool). b && bytes_eq both.1 (take 64 name)) (same_eq both.0 library is.0) ∙ ap (λ (b : Bool). bytes_eq both.0 library && b) (same_eq both.1 name is.1)
+    let parts = and_parts (nat_lt (length both.0) 64) (nat_lt (length both.1) 64) is in
+    ap (λ (b : Bool). b && bytes_eq both.1 (take 64 name)) (same_eq both.0 library (ltb-true _ _ parts.0)) ∙ ap (λ (b : Bool). bytes_eq both.0 library && b) (same_eq both.1 name (ltb-true _ _ parts.1))
 
-among_same : (fs : List Function) (library name : List ℕ) → import_among fs (take 64 library) (take 64 name) ≡ import_among fs library name
-unfolding import_among
-among_same [] library name = refl
-among_same (f ∷ fs) library name =
-    ap (λ (b : Bool). if b then Some (number_of f) else import_among fs (take 64 library) (take 64 name)) (same_named library name (import_of f) (short f))
-    ∙ ap (λ (o : Option ℕ). if is_named library name (import_of f) then Some (number_of f) else o) (among_same fs library name)
+same_place : (os : List (Option (List ℕ × List ℕ))) (k : ℕ) (library name : List ℕ) → list_all is_short os ≡ true
+    → position_from (is_named (take 64 library) (take 64 name)) k os ≡ position_from (is_named library name) k os
+same_place [] k library name short = refl
+same_place (o ∷ os) k library name short =
+    let parts = and_parts (is_short o) (list_all is_short os) short in
+    ap (λ (b : Bool). if b then Some k else position_from (is_named (take 64 library) (take 64 name)) (k + 1) os) (same_named library name o parts.0)
+    ∙ ap (λ (r : Option ℕ). if is_named library name o then Some k else r) (same_place os (k + 1) library name parts.1)
 
 cut_index : (library name : List ℕ) → import_index (take 64 library) (take 64 name) ≡ import_index library name
 unfolding import_index
-cut_index library name = among_same functions library name
+cut_index library name = same_place imports 0 library name all-short
 
 pub cut_address : (i : ImportParts) → import_address (cut 64 i) ≡ import_address i
 cut_address i = ap (resolved i.weak) (cut_index i.library i.name)

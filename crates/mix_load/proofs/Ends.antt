@@ -8,7 +8,8 @@ use Rattle.switch_frame.specs.Pieces.{Piece}
 use Rattle.mix_bits.specs.Multiples.{rounded_up}
 use Rattle.mix_load.specs.Pieces.{with_pieces}
 use Rattle.mix_load.specs.Segments.{added_segment, segment_at, segment_pieces, segments_end, with_segment}
-use Rattle.mix_load.specs.Sections.{base_behind, section_base, sections_end, total_at}
+use Rattle.mix_load.specs.Sections.{base_behind, section_base, sections_end}
+use Rattle.mix_load.specs.laws.Sections.{total_at}
 
 segment_grows : (end : ℕ) (segment : Option (List ℕ)) → end ≤ with_segment end segment
 segment_grows end None = omega arith

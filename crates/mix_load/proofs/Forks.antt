@@ -9,10 +9,12 @@ use Rattle.mix_load.specs.declared.error.LoadError.TheVariants.{NoMemory, Rsrc}
 use Rattle.mix_load.specs.declared.error.LoadError.{LoadError}
 use Rattle.mix_load.specs.declared.image.Image.{Image}
 use Rattle.mix_load.specs.Pieces.{with_pieces}
-use Rattle.mix_load.specs.Outcome.{Gives, unless}
+use Rattle.mix_load.specs.OutcomeClauses.{Gives}
+use Rattle.mix_load.specs.Outcome.{unless}
 use Rattle.mix_load.specs.Segments.{a5_of, entry_count, entry_of, header_of, id_count, segment_pieces, segment_places, segments_start, table_pieces, table_start}
-use Rattle.mix_load.specs.ForkImage.{HasRoom, fork_end, fork_image, fork_memory, fork_refusal, with_codes, with_fork, with_resources}
-use Rattle.mix_load.specs.Loaded.{IsImage}
+use Rattle.mix_load.specs.inner.ForkImage.{HasRoom}
+use Rattle.mix_load.specs.ForkImage.{fork_end, fork_image, fork_memory, fork_refusal, with_codes, with_fork, with_resources}
+use Rattle.mix_load.specs.inner.Loaded.{IsImage}
 use Rattle.mix_load.proofs.Wholes.{fork_whole}
 
 pub codes-memory : (ids : ℕ) (resources : List Resource) (code0 : List ℕ) (start : ℕ) (places : List ℕ) (new held old : Memory) → start ≡ segments_start (header_of code0)

@@ -10,7 +10,8 @@ use Rattle.big_memory.specs.Memory.{floor_of}
 use Rattle.pef_head.specs.declared.error.PefError.{PefError}
 use Rattle.pef_head.specs.Container.{instantiated_count}
 use Rattle.pef_head.specs.Refusals.{refusal_of}
-use Rattle.mix_bits.specs.Search.{◌or◌, least, refused}
+use Rattle.mix_bits.specs.SearchOperator.{◌or◌}
+use Rattle.mix_bits.specs.Search.{least, refused}
 use Rattle.mix_bits.proofs.Searches.{fails_below}
 use Rattle.rsrc_fork.specs.declared.error.RsrcError.{RsrcError}
 use Rattle.rsrc_fork.specs.References.{resources_of}
@@ -27,8 +28,9 @@ use Rattle.mix_load.specs.declared.header.CodeHeader.{CodeHeader}
 use Rattle.mix_load.specs.declared.image.Image.{Image}
 use Rattle.mix_load.specs.ContainerImage.{container_image, container_refusal, with_container, with_head, with_sections}
 use Rattle.mix_load.specs.ForkImage.{fork_end, fork_image, fork_memory, fork_refusal, segments_refusal, table_refusal, too_large, with_codes, with_fork, with_resources}
-use Rattle.mix_load.specs.Laws.{ForkLies, Leads, PiecesLie, SectionsLie, SegmentsLie}
-use Rattle.mix_load.specs.Load.{IsAlone, flat_image, no_image, with_file, with_flat}
+use Rattle.mix_load.specs.laws.Laws.{ForkLies, Leads, PiecesLie, SectionsLie, SegmentsLie}
+use Rattle.mix_load.specs.LoadClauses.{IsAlone}
+use Rattle.mix_load.specs.Load.{flat_image, no_image, with_file, with_flat}
 use Rattle.mix_load.specs.Outcome.{unless}
 use Rattle.mix_load.specs.Sections.{relocated_bytes, section_base, sections_end}
 use Rattle.mix_load.specs.Segments.{code_at, entry_count, entry_place, has_table, header_of, id_count, is_bad_entry, is_unloaded, jump_target, offset_in, reaches, segment_at, segment_in, segment_pieces, segment_place, segment_places, segments_end, segments_start, table_start, with_segment}

@@ -6,7 +6,9 @@ use Rattle.pef_head.specs.Parts.{SectionParts, section_at}
 use Rattle.big_memory.specs.Memory.{Memory, with_bytes}
 use Rattle.mix_load.specs.declared.error.LoadError.TheVariants.{Reloc}
 use Rattle.mix_load.specs.Pieces.{with_pieces}
-use Rattle.mix_load.specs.Sections.{base_behind, contents, section_base, section_pieces, sections_end, total_at}
+use Rattle.mix_load.specs.Sections.{base_behind, contents, section_base, sections_end}
+use Rattle.mix_load.specs.inner.Sections.{section_pieces}
+use Rattle.mix_load.specs.laws.Sections.{total_at}
 use Rattle.mix_load.proofs.Ends.{section_within, sections_grow}
 
 pub small_room : (n room : ℕ) → n ≤ room → room ≤ 2 ^ 24 → n < 2 ^ 32

@@ -6,11 +6,12 @@ use Rattle.pef_head.specs.Container.{instantiated_count}
 use Rattle.pef_head.specs.declared.error.PefError.{PefError}
 use Rattle.pef_head.specs.Refusals.{refusal_of}
 use Rattle.mix_load.specs.declared.error.LoadError.TheVariants.{Pef}
-use Rattle.mix_bits.specs.Search.{◌or◌}
+use Rattle.mix_bits.specs.SearchOperator.{◌or◌}
 use Rattle.mix_load.specs.declared.error.LoadError.{LoadError}
 use Rattle.mix_load.specs.declared.image.Image.{Image}
 use Rattle.mix_load.specs.Pieces.{with_pieces}
-use Rattle.mix_load.specs.Outcome.{Gives, unless}
+use Rattle.mix_load.specs.OutcomeClauses.{Gives}
+use Rattle.mix_load.specs.Outcome.{unless}
 use Rattle.mix_load.specs.ContainerImage.{container_image, imports_refusal, main_refusal, patterns_of, relocations_refusal, with_container, with_head, with_sections}
 use Rattle.mix_load.specs.ForkImage.{too_large}
 use Rattle.mix_load.specs.Sections.{main_vector, relocated_pieces, sections_end}

@@ -6,10 +6,13 @@ use Rattle.big_memory.specs.Memory.{Memory, in_memory}
 use Rattle.pef_head.specs.Container.{instantiated_count}
 use Rattle.pef_head.specs.Parts.{relocs_of}
 use Rattle.pef_reloc.specs.Additions.{Sources}
-use Rattle.pef_reloc.specs.Laws.{KeepsSize}
-use Rattle.pef_reloc.specs.Program.{relocated, relocated_in}
+use Rattle.pef_reloc.specs.laws.Laws.{KeepsSize}
+use Rattle.pef_reloc.specs.Program.{relocated}
+use Rattle.pef_reloc.specs.ProgramClauses.{relocated_in}
 use Rattle.mix_load.specs.declared.sections.Placement.{Placement}
-use Rattle.mix_load.specs.Sections.{HasBases, IsPlaced, bases, contents_at, relocated_bytes, relocated_section, section_base, sources, total_at}
+use Rattle.mix_load.specs.inner.Sections.{HasBases, IsPlaced}
+use Rattle.mix_load.specs.Sections.{bases, contents_at, relocated_bytes, relocated_section, section_base, sources}
+use Rattle.mix_load.specs.laws.Sections.{total_at}
 use Rattle.mix_load.proofs.Numbered.{numbered-at, numbered-length}
 
 pub relocated-length : KeepsSize → (bytes : List ℕ) (start k : ℕ) → length (relocated_bytes bytes start k) ≡ length (contents_at bytes k)

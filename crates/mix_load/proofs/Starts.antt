@@ -11,7 +11,9 @@ use Rattle.switch_frame.specs.declared.active.Active.{Active}
 use Rattle.switch_frame.specs.declared.program.Program.{Program}
 use Rattle.switch_frame.specs.Records.{isa_of}
 use Rattle.switch_frame.specs.Pieces.{Piece, puts}
-use Rattle.switch_frame.specs.Program.{blank, gate_longs, page_bytes, told, vectors, start_sp_of, IsProgram}
+use Rattle.switch_frame.specs.Program.{blank, gate_longs, told, vectors, start_sp_of}
+use Rattle.switch_frame.specs.laws.Program.{page_bytes}
+use Rattle.switch_frame.specs.ProgramClauses.{IsProgram}
 use Rattle.switch_frame.proofs.Gates.{length-blank, page_has_longs}
 use Rattle.big_memory.specs.Map.{exit_gate, host_vector_at}
 use Rattle.mix_load.specs.declared.image.Image.{Image}
@@ -19,7 +21,7 @@ use Rattle.mix_bits.specs.Multiples.{rounded_up}
 use Rattle.mix_load.specs.Pieces.{with_pieces}
 use Rattle.mix_load.specs.Start.{program_of, stack_pieces, start_file, start_memory}
 use Rattle.mix_load.specs.Load.{no_image}
-use Rattle.mix_load.specs.Loaded.{IsImage}
+use Rattle.mix_load.specs.inner.Loaded.{IsImage}
 
 pub take-blank : (n len : ℕ) → n ≤ len → take n (replicate len 0) ≡ blank n
 unfolding blank

@@ -3,7 +3,8 @@ use Rattle.std.proofs.Common.{◌≡◌, ap, ◌∙◌, refl, ℕ, ◌+◌, ◌<
 use Rattle.std.proofs.lemmas.Bool.Decides.{nat_tests}
 use Rattle.pef_head.specs.Container.{instantiated_count}
 use Rattle.pef_head.specs.Parts.{main_of}
-use Rattle.mix_load.specs.Sections.{main_vector, section_base, total_at, vector_in}
+use Rattle.mix_load.specs.Sections.{main_vector, section_base, vector_in}
+use Rattle.mix_load.specs.laws.Sections.{total_at}
 
 neither : (a b : Bool) (x : ℕ) → b ≡ false → (if a && b then Some x else None) ≡ None
 neither true b x q = rw q refl

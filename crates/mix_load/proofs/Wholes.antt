@@ -14,9 +14,10 @@ use Rattle.mix_load.specs.Segments.{a5_of, entry_count, header_of, segment_piece
 use Rattle.std.proofs.lemmas.Bool.Decides.{nat_tests}
 use Rattle.mix_bits.specs.Search.{refused}
 use Rattle.mix_load.specs.declared.error.LoadError.TheVariants.{TooLarge}
-use Rattle.mix_load.specs.ForkImage.{HasRoom, too_large, fork_end, fork_image}
+use Rattle.mix_load.specs.inner.ForkImage.{HasRoom}
+use Rattle.mix_load.specs.ForkImage.{too_large, fork_end, fork_image}
 use Rattle.mix_load.specs.Load.{flat_entry, flat_image}
-use Rattle.mix_load.specs.Loaded.{IsImage}
+use Rattle.mix_load.specs.inner.Loaded.{IsImage}
 use Rattle.mix_load.proofs.Ends.{ends_grow}
 use Rattle.mix_load.proofs.Images.{segments-front, segments-length, table-front, table-length}
 use Rattle.mix_load.proofs.Placing.{take-put_behind}

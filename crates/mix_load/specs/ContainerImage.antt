@@ -7,7 +7,8 @@ use Rattle.pef_head.specs.declared.error.PefError.{PefError}
 use Rattle.pef_head.specs.Container.{instantiated_count}
 use Rattle.pef_head.specs.Parts.{import_count}
 use Rattle.pef_head.specs.Refusals.{refusal_of}
-use Rattle.mix_bits.specs.Search.{◌or◌, refused, least}
+use Rattle.mix_bits.specs.SearchOperator.{◌or◌}
+use Rattle.mix_bits.specs.Search.{refused, least}
 use Rattle.mix_load.specs.declared.error.LoadError.{LoadError}
 use Rattle.mix_load.specs.declared.error.LoadError.TheVariants.{Pef, Reloc, Unresolved, NoMain}
 use Rattle.mix_load.specs.declared.image.Image.{Image}
@@ -43,11 +44,12 @@ container_refusal main floor bytes start =
     or main_refusal main bytes start
 
 abbrev pub container_image : List ℕ → Image → Image
-container_image bytes image = record image {
-  ram = with_pieces (relocated_pieces bytes image.end (instantiated_count bytes)) image.ram;
-  end = sections_end bytes image.end (instantiated_count bytes);
-  vector = unwrap_or (main_vector bytes image.end) 0;
-}
+container_image bytes image =
+    record image {
+      ram = with_pieces (relocated_pieces bytes image.end (instantiated_count bytes)) image.ram;
+      end = sections_end bytes image.end (instantiated_count bytes);
+      vector = unwrap_or (main_vector bytes image.end) 0;
+    }
 
 abbrev pub with_sections : Isa → List ℕ → Image → Result Image LoadError
 with_sections main bytes image =

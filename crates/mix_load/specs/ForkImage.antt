@@ -1,7 +1,8 @@
 -- A resource fork as a program in memory, or why it is refused.
-use Rattle.std.specs.Prelude.{ℕ, ◌+◌, ◌≤◌, pos, not, nat_lt, List, Option, Some, None, option_map, Result, Ok, Err}
+use Rattle.std.specs.Prelude.{ℕ, pos, not, nat_lt, List, Option, Some, None, option_map, Result, Ok, Err}
 use Rattle.big_memory.specs.Memory.{Memory, floor_of}
-use Rattle.mix_bits.specs.Search.{◌or◌, refused, any_below, least}
+use Rattle.mix_bits.specs.SearchOperator.{◌or◌}
+use Rattle.mix_bits.specs.Search.{refused, any_below, least}
 use Rattle.rsrc_fork.specs.declared.error.RsrcError.{RsrcError}
 use Rattle.rsrc_fork.specs.Resources.{Resource}
 use Rattle.rsrc_fork.specs.References.{resources_of}
@@ -12,7 +13,7 @@ use Rattle.mix_load.specs.declared.image.Image.{Image}
 use Rattle.mix_bits.specs.Multiples.{rounded_up}
 use Rattle.mix_load.specs.Pieces.{with_pieces}
 use Rattle.mix_load.specs.Outcome.{unless}
-use Rattle.mix_load.specs.Segments.{HasTable, code_at, id_count, header_of, a5_of, segments_start, table_start, entry_of, segments_end, segment_places, segment_pieces, is_segment, is_far, is_short, has_table, entry_count, entry_place, is_bad_entry, table_pieces}
+use Rattle.mix_load.specs.Segments.{code_at, id_count, header_of, a5_of, segments_start, table_start, entry_of, segments_end, segment_places, segment_pieces, is_segment, is_far, is_short, has_table, entry_count, entry_place, is_bad_entry, table_pieces}
 
 -- an end that is, rounded up to 16, above the floor of the stack
 abbrev pub too_large : ℕ → ℕ → Option LoadError
@@ -47,12 +48,13 @@ fork_memory ids resources code0 m =
     with_pieces (table_pieces places (table_start h) code0 (entry_count code0)) (with_pieces (segment_pieces resources (segments_start h) ids) m)
 
 abbrev pub fork_image : ℕ → List Resource → List ℕ → Image → Image
-fork_image ids resources code0 image = record image {
-  ram = fork_memory ids resources code0 image.ram;
-  end = fork_end ids resources (header_of code0);
-  entry = entry_of (header_of code0);
-  a5 = a5_of (header_of code0);
-}
+fork_image ids resources code0 image =
+    record image {
+      ram = fork_memory ids resources code0 image.ram;
+      end = fork_end ids resources (header_of code0);
+      entry = entry_of (header_of code0);
+      a5 = a5_of (header_of code0);
+    }
 
 abbrev pub with_codes : ℕ → List Resource → Option (List ℕ) → Image → Result Image LoadError
 with_codes ids resources None image = Err (NoCode (pos 0))
@@ -66,9 +68,3 @@ with_resources ids (Err e) image = Err (Rsrc e)
 -- what a fork's file adds to what is loaded
 unfoldable pub with_fork : List ℕ → Image → Result Image LoadError
 with_fork bytes image = with_resources id_count (resources_of bytes) image
-
--- a fork that is not refused has its room
-pub record HasRoom (ids floor : ℕ) (resources : List Resource) (code0 : List ℕ) : Type 0 where
-  pub table : HasTable code0
-  pub end_fits : rounded_up 16 (fork_end ids resources (header_of code0)) ≤ floor
-  pub world_fits : a5_of (header_of code0) + (header_of code0).above ≤ floor

@@ -1,5 +1,5 @@
 -- Loading files: the program as it starts, or the first rule that is broken.
-use Rattle.std.specs.Prelude.{◌≡◌, ℕ, ◌+◌, ◌==◌, ◌^◌, ◌≤◌, if◌then◌else◌, List, [], ◌∷◌, length, Option, Some, None, Result, Ok, Err, IsSome}
+use Rattle.std.specs.Prelude.{ℕ, ◌+◌, ◌==◌, if◌then◌else◌, List, [], ◌∷◌, length, Option, Some, None, Result, Ok, Err}
 use Rattle.mix_bits.specs.Results.{◌>>=◌}
 use Rattle.mix_bits.specs.declared.isa.Isa.{Isa}
 use Rattle.mix_bits.specs.declared.isa.Isa.TheVariants.{M68, Ppc}
@@ -29,11 +29,12 @@ flat_entry M68 = program_start
 flat_entry Ppc = 0
 
 abbrev pub flat_image : Isa → List ℕ → Image → Image
-flat_image main bytes image = record image {
-  ram = with_pieces (piece program_start bytes ∷ []) image.ram;
-  end = program_start + length bytes;
-  entry = flat_entry main;
-}
+flat_image main bytes image =
+    record image {
+      ram = with_pieces (piece program_start bytes ∷ []) image.ram;
+      end = program_start + length bytes;
+      entry = flat_entry main;
+    }
 
 -- what a flat file adds
 abbrev pub with_flat : Isa → List ℕ → Image → Result Image LoadError
@@ -52,22 +53,3 @@ load_of files main len =
     >>= (λ image. with_file Rsrc with_fork files.rsrc image
     >>= (λ image. with_file Pef (with_container main) files.pef image
     >>= (λ image. Ok (program_of main image))))
-
--- the files that a job can name: a flat file alone, or a fork, a container or both, with that of the main program
-abbrev pub IsSmall : Option (List ℕ) → Type 0
-IsSmall None = Unit {0}
-IsSmall (Some bytes) = length bytes ≤ 2 ^ 24
-
-abbrev pub HasMain : Isa → Files → Type 0
-HasMain M68 files = IsSome files.rsrc
-HasMain Ppc files = IsSome files.pef
-
-abbrev pub IsAlone : Option (List ℕ) → Isa → Files → Type 0
-IsAlone None main files = HasMain main files
-IsAlone (Some flat) main files = (files.rsrc ≡ None) × (files.pef ≡ None)
-
-pub record AreLoadable (files : Files) (main : Isa) : Type 0 where
-  pub named : IsAlone files.flat main files
-  pub flat : IsSmall files.flat
-  pub rsrc : IsSmall files.rsrc
-  pub pef : IsSmall files.pef

@@ -1,17 +1,15 @@
 -- The instantiated sections of a container in memory (Inside Macintosh: PowerPC System Software; Mac OS
 -- Runtime Architectures, 'PEF Structure'). Where they are placed is this project's own.
-use Rattle.std.specs.Prelude.{◌≡◌, ◌<◌, ◌^◌, length, ℕ, zero, suc, ◌+◌, ◌-◌, max, Bool, ◌&&◌, nat_lt, nat_le, if◌then◌else◌, List, ◌++◌, replicate, Option, Some, None, is_none, unwrap_or}
-use Rattle.big_memory.specs.Lists.{part}
+use Rattle.std.specs.Prelude.{ℕ, zero, suc, ◌+◌, ◌-◌, max, Bool, ◌&&◌, nat_lt, nat_le, if◌then◌else◌, List, ◌++◌, replicate, Option, Some, None, is_none, unwrap_or}
 use Rattle.pef_head.specs.Container.{instantiated_count, is_pattern}
 use Rattle.pef_head.specs.Parts.{SectionParts, ImportParts, section_at, import_of, import_count, main_of, relocs_of}
-use Rattle.mix_bits.specs.Search.{◌or◌}
+use Rattle.mix_bits.specs.SearchOperator.{◌or◌}
 use Rattle.pef_reloc.specs.declared.error.RelocError.{RelocError}
 use Rattle.pef_reloc.specs.Additions.{Sources}
 use Rattle.pef_reloc.specs.Pattern.{unpacked}
 use Rattle.pef_reloc.specs.Program.{Relocated, relocated}
 use Rattle.big_memory.specs.Map.{host_vector_at}
 use Rattle.switch_frame.specs.Pieces.{Piece}
-use Rattle.mix_load.specs.declared.sections.Placement.{Placement}
 use Rattle.toolbox.specs.Names.{import_index}
 use Rattle.mix_bits.specs.Multiples.{rounded_up}
 use Rattle.mix_load.specs.Pieces.{numbered, numbered_pieces}
@@ -32,12 +30,6 @@ section_base bytes start k = base_behind (section_at bytes k) (sections_end byte
 -- where the first sections stand, and their sizes in memory
 abbrev pub bases : List ℕ → ℕ → ℕ → List ℕ
 bases bytes start count = numbered (section_base bytes start) count
-
-abbrev pub total_at : List ℕ → ℕ → ℕ
-total_at bytes k = (section_at bytes k).total
-
-abbrev pub totals : List ℕ → ℕ → List ℕ
-totals bytes count = numbered (total_at bytes) count
 
 -- the bytes that a section has from the file, and zeros behind them
 abbrev pub unpacked_bytes : SectionParts → List ℕ
@@ -62,9 +54,6 @@ patterns_refusal bytes k = pattern_refusal (section_at bytes k)
 abbrev pub contents_at : List ℕ → ℕ → List ℕ
 contents_at bytes k = contents (section_at bytes k)
 
-abbrev pub section_pieces : List ℕ → ℕ → ℕ → List Piece
-section_pieces bytes start count = numbered_pieces (section_base bytes start) (contents_at bytes) count
-
 -- an import is the transition vector of a host function; a weak one that the host lacks is 0
 abbrev pub resolved : Bool → Option ℕ → Option ℕ
 resolved weak None = if weak then Some 0 else None
@@ -85,10 +74,11 @@ import_addresses bytes count = numbered (address_at bytes) count
 
 -- what relocations add
 abbrev pub sources : List ℕ → ℕ → Sources
-sources bytes start = record {
-  bases = bases bytes start (instantiated_count bytes);
-  imports = import_addresses bytes (import_count bytes);
-}
+sources bytes start =
+    record {
+      bases = bases bytes start (instantiated_count bytes);
+      imports = import_addresses bytes (import_count bytes);
+    }
 
 -- a section after its relocations, or as far as they came
 abbrev pub relocated_section : List ℕ → ℕ → ℕ → Relocated
@@ -114,19 +104,3 @@ vector_in bytes start (Some main) =
 
 abbrev pub main_vector : List ℕ → ℕ → Option ℕ
 main_vector bytes start = vector_in bytes start (main_of bytes)
-
--- a placement has the bases and sizes of all sections
-pub record HasBases (bytes : List ℕ) (p : Placement) : Type 0 where
-  pub at_bases : p.bases.items ≡ bases bytes p.start (instantiated_count bytes)
-  pub of_sizes : p.totals.items ≡ totals bytes (instantiated_count bytes)
-
--- and with it come the imports' addresses
-pub record IsPlaced (bytes : List ℕ) (p : Placement) (imports : List ℕ) : Type 0 where
-  pub bases : HasBases bytes p
-  pub from_imports : imports ≡ import_addresses bytes (import_count bytes)
-  pub few : length imports < 2 ^ 32
-
--- the first sections stand in memory with these bytes
-abbrev pub Stand : List ℕ → ℕ → (ℕ → List ℕ) → ℕ → List ℕ → Type 0
-Stand bytes start held count memory =
-    (k : ℕ) → k < count → part (section_base bytes start k) (total_at bytes k) memory ≡ held k

@@ -5,7 +5,7 @@
 -- CODE 0 begins with four longs: the size of the world above A5 and of that below it, the length of the jump
 -- table, and its offset from A5. The table's entries follow, of four words each: an offset, $3F3C, the
 -- number of a segment, and $A9F0. The segments are the CODEs above 0, each with a header of 4 bytes.
-use Rattle.std.specs.Prelude.{ℕ, zero, suc, ◌+◌, ◌*◌, ◌≤◌, ◌<◌, ◌/◌, ◌%◌, ◌^◌, slice_index, pos, Bool, false, not, ◌==◌, ◌&&◌, ◌||◌, nat_lt, nat_le, if◌then◌else◌, List, [], ◌∷◌, length, Option, Some, None, is_some}
+use Rattle.std.specs.Prelude.{ℕ, zero, suc, ◌+◌, ◌*◌, ◌/◌, ◌%◌, ◌^◌, slice_index, pos, Bool, false, not, ◌==◌, ◌&&◌, ◌||◌, nat_lt, nat_le, if◌then◌else◌, List, [], ◌∷◌, length, Option, Some, None, is_some}
 use Rattle.std.specs.Option.{option_map_or}
 use Rattle.mix_bits.specs.Fields.{word_at, long_at}
 use Rattle.rsrc_fork.specs.Resources.{Resource, bytes_of, named}
@@ -33,12 +33,13 @@ id_count = 32768
 
 -- what CODE 0 says
 abbrev pub header_of : List ℕ → CodeHeader
-header_of code0 = record {
-  above = long_at code0 0;
-  below = long_at code0 4;
-  table_len = long_at code0 8;
-  table_offset = long_at code0 12;
-}
+header_of code0 =
+    record {
+      above = long_at code0 0;
+      below = long_at code0 4;
+      table_len = long_at code0 8;
+      table_offset = long_at code0 12;
+    }
 
 -- where A5 points: behind what is below it
 abbrev pub a5_of : CodeHeader → ℕ
@@ -101,13 +102,6 @@ has_table code0 =
     let h = header_of code0 in
     nat_le 16 (length code0) && nat_lt 0 h.table_len && h.table_len % 8 == 0
     && nat_le (16 + h.table_len) (length code0) && nat_le (h.table_offset + h.table_len) h.above
-
--- the same as facts
-pub record HasTable (code0 : List ℕ) : Type 0 where
-  pub longs : 16 ≤ length code0
-  pub some : 0 < (header_of code0).table_len
-  pub within : 16 + (header_of code0).table_len ≤ length code0
-  pub above : (header_of code0).table_offset + (header_of code0).table_len ≤ (header_of code0).above
 
 abbrev pub entry_count : List ℕ → ℕ
 entry_count code0 = (header_of code0).table_len / 8

@@ -28,18 +28,20 @@ toc_of image = if image.vector == 0 then 0 else long_at (image.vector + 4) image
 
 -- 68K code has its A5, and its stack pointer at the address to which it returns
 abbrev pub start_m68 : Image → ℕ → Regs68
-start_m68 image len = record cleared_m68 {
-  a = slice_set (slice_set cleared_m68.a 5 image.a5) 7 (len - 4);
-  pc = image.entry;
-}
+start_m68 image len =
+    record cleared_m68 {
+      a = slice_set (slice_set cleared_m68.a 5 image.a5) 7 (len - 4);
+      pc = image.entry;
+    }
 
 -- PowerPC code has its stack pointer, its TOC, and the address to which it returns
 abbrev pub start_ppc : Image → ℕ → RegsPpc
-start_ppc image len = record cleared_ppc {
-  gpr = slice_set (slice_set cleared_ppc.gpr 1 (start_sp_of set_ppc len)) 2 (toc_of image);
-  lr = exit_gate set_ppc;
-  pc = code_of image;
-}
+start_ppc image len =
+    record cleared_ppc {
+      gpr = slice_set (slice_set cleared_ppc.gpr 1 (start_sp_of set_ppc len)) 2 (toc_of image);
+      lr = exit_gate set_ppc;
+      pc = code_of image;
+    }
 
 abbrev pub start_file : Isa → Image → ℕ → Active
 start_file set_m68 image len = M68 (start_m68 image len)
@@ -56,12 +58,13 @@ start_memory main image len =
 
 -- the program as it starts
 abbrev pub program_of : Isa → Image → Program
-program_of main image = record {
-  ram = start_memory main image (length image.ram.bytes);
-  active = start_file main image (length image.ram.bytes);
-  a5 = image.a5;
-  main = main;
-  start_sp = start_sp_of main (length image.ram.bytes);
-  heap_lo = rounded_up 16 image.end;
-  heap_hi = floor_of image.ram;
-}
+program_of main image =
+    record {
+      ram = start_memory main image (length image.ram.bytes);
+      active = start_file main image (length image.ram.bytes);
+      a5 = image.a5;
+      main = main;
+      start_sp = start_sp_of main (length image.ram.bytes);
+      heap_lo = rounded_up 16 image.end;
+      heap_hi = floor_of image.ram;
+    }

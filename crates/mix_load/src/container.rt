@@ -2,10 +2,12 @@
 ghost use Rattle.std.specs.Prelude.{◌≡◌, ℕ, ◌+◌, ◌^◌, ◌≤◌, ◌&&◌, is_none, length, take, IfOk, IfSome, OnOk};
 ghost use Rattle.std.specs.Result.{result_err};
 ghost use Rattle.pef_head.specs.Container.{instantiated_count};
-ghost use Rattle.mix_bits.specs.Search.{◌or◌, refused};
+ghost use Rattle.mix_bits.specs.SearchOperator.{◌or◌};
+ghost use Rattle.mix_bits.specs.Search.{refused};
 ghost use Rattle.mix_load.specs.ContainerImage.{imports_refusal, is_ppc, patterns_of, relocations_refusal, with_container, with_sections};
-ghost use Rattle.mix_load.specs.Loaded.{IsImage};
-ghost use Rattle.mix_load.specs.Outcome.{Finds, Gives};
+ghost use Rattle.mix_load.specs.inner.Loaded.{IsImage};
+ghost use Rattle.mix_load.specs.inner.Outcome.{Finds};
+ghost use Rattle.mix_load.specs.OutcomeClauses.{Gives};
 ghost use Rattle.mix_load.specs.Pieces.{with_pieces};
 ghost use Rattle.mix_load.specs.Sections.{main_vector, relocated_pieces, sections_end};
 

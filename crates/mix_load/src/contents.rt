@@ -1,8 +1,8 @@
 //! The bytes of a section before it is relocated.
 ghost use Rattle.std.specs.Prelude.{◌≡◌, length, option_map, IfOk, OnOk};
 ghost use Rattle.std.specs.Result.{result_err};
-ghost use Rattle.pef_head.specs.Parts.{IsLoadable, parts};
-ghost use Rattle.mix_load.specs.Outcome.{Finds};
+ghost use Rattle.pef_head.specs.PartsClauses.{IsLoadable, parts};
+ghost use Rattle.mix_load.specs.inner.Outcome.{Finds};
 ghost use Rattle.mix_load.specs.Sections.{contents, pattern_refusal, unpacked_bytes};
 
 use crate::error::LoadError;

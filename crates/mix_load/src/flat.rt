@@ -1,8 +1,8 @@
 //! Flat files as programs.
 ghost use Rattle.std.specs.Prelude.{◌≡◌, ◌^◌, ◌≤◌, length, IfOk};
 ghost use Rattle.mix_load.specs.Load.{flat_entry, with_flat};
-ghost use Rattle.mix_load.specs.Loaded.{IsImage};
-ghost use Rattle.mix_load.specs.Outcome.{Gives};
+ghost use Rattle.mix_load.specs.inner.Loaded.{IsImage};
+ghost use Rattle.mix_load.specs.OutcomeClauses.{Gives};
 
 use crate::error::LoadError;
 use crate::image::{Image, test_end};

@@ -1,9 +1,10 @@
 //! Resource forks as programs.
 ghost use Rattle.std.specs.Prelude.{◌≡◌, ◌^◌, ◌≤◌, length, IfOk, OnOk};
 ghost use Rattle.std.specs.Result.{result_err};
-ghost use Rattle.mix_load.specs.ForkImage.{HasRoom, fork_end, fork_memory, fork_refusal, with_codes, with_fork, with_resources};
-ghost use Rattle.mix_load.specs.Loaded.{IsImage};
-ghost use Rattle.mix_load.specs.Outcome.{Gives};
+ghost use Rattle.mix_load.specs.inner.ForkImage.{HasRoom};
+ghost use Rattle.mix_load.specs.ForkImage.{fork_end, fork_memory, fork_refusal, with_codes, with_fork, with_resources};
+ghost use Rattle.mix_load.specs.inner.Loaded.{IsImage};
+ghost use Rattle.mix_load.specs.OutcomeClauses.{Gives};
 ghost use Rattle.mix_load.specs.Segments.{code_at, header_of};
 
 use crate::error::{LoadError, fork_error};

@@ -1,5 +1,6 @@
 ghost use Rattle.std.specs.Prelude.{IsTrue, ◌≡◌, ◌+◌, ◌^◌, ◌≤◌, ◌<◌, length};
-ghost use Rattle.mix_load.specs.Segments.{HasTable, a5_of, has_table, header_of, segments_start, table_start};
+ghost use Rattle.mix_load.specs.inner.Segments.{HasTable};
+ghost use Rattle.mix_load.specs.Segments.{a5_of, has_table, header_of, segments_start, table_start};
 
 use mix_bits::{long_at, round_up};
 use switch_frame::PROGRAM_START;

@@ -1,9 +1,11 @@
 //! The imports of a container: transition vectors of the host's functions.
 ghost use Rattle.std.specs.Prelude.{◌≡◌, ℕ, ◌^◌, ◌<◌, ◌≤◌, length, option_map, slice_index, IfOk};
-ghost use Rattle.pef_head.specs.Parts.{import_count, import_of, library_of, names};
+ghost use Rattle.pef_head.specs.Parts.{import_count, import_of};
+ghost use Rattle.pef_head.specs.inner.Parts.{library_of};
+ghost use Rattle.pef_head.specs.PartsClauses.{names};
 ghost use Rattle.mix_bits.specs.Search.{least};
 ghost use Rattle.mix_load.specs.ContainerImage.{imports_refusal};
-ghost use Rattle.mix_load.specs.Outcome.{Finds};
+ghost use Rattle.mix_load.specs.inner.Outcome.{Finds};
 ghost use Rattle.mix_load.specs.Sections.{import_address, import_addresses, is_missing};
 
 use crate::error::LoadError;

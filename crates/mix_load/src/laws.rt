@@ -1,4 +1,4 @@
-ghost use Rattle.mix_load.specs.Laws.{PiecesLie};
+ghost use Rattle.mix_load.specs.laws.Laws.{PiecesLie};
 
 /// Where the pieces of every program lie that is loaded. It does nothing: the clause is its point.
 ///

@@ -1,10 +1,11 @@
 ghost use Rattle.std.specs.Prelude.{◌≡◌, ◌==◌, ◌*◌, ◌%◌, ◌≤◌, IfErr, IfOk, MatchResult, length, false, true};
-ghost use Rattle.switch_frame.specs.Program.{IsProgram};
+ghost use Rattle.switch_frame.specs.ProgramClauses.{IsProgram};
 ghost use Rattle.mix_load.specs.ContainerImage.{with_container};
 ghost use Rattle.mix_load.specs.ForkImage.{with_fork};
-ghost use Rattle.mix_load.specs.Load.{AreLoadable, IsSmall, load_of, no_image, with_file, with_flat};
-ghost use Rattle.mix_load.specs.Loaded.{IsImage};
-ghost use Rattle.mix_load.specs.Outcome.{Gives};
+ghost use Rattle.mix_load.specs.LoadClauses.{AreLoadable, IsSmall};
+ghost use Rattle.mix_load.specs.Load.{load_of, no_image, with_file, with_flat};
+ghost use Rattle.mix_load.specs.inner.Loaded.{IsImage};
+ghost use Rattle.mix_load.specs.OutcomeClauses.{Gives};
 
 use crate::container::add_container;
 use crate::error::LoadError;

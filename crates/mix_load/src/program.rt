@@ -1,7 +1,7 @@
 //! Programs as they start.
 ghost use Rattle.std.specs.Prelude.{◌≡◌, ◌+◌, ◌^◌, ◌≤◌, length};
-ghost use Rattle.switch_frame.specs.Program.{IsProgram};
-ghost use Rattle.mix_load.specs.Loaded.{IsImage};
+ghost use Rattle.switch_frame.specs.ProgramClauses.{IsProgram};
+ghost use Rattle.mix_load.specs.inner.Loaded.{IsImage};
 ghost use Rattle.mix_load.specs.Pieces.{with_pieces};
 ghost use Rattle.mix_load.specs.Start.{program_of, stack_pieces, start_file, start_m68, start_ppc};
 

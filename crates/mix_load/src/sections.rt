@@ -1,12 +1,14 @@
 //! Where the sections of a container are placed.
 ghost use Rattle.std.specs.Prelude.{◌≡◌, ℕ, ◌+◌, ◌*◌, ◌^◌, ◌≤◌, ◌<◌, length, option_map, IfOk, OnOk};
 ghost use Rattle.pef_head.specs.Container.{instantiated_count};
-ghost use Rattle.pef_head.specs.Parts.{IsLoadable, parts};
+ghost use Rattle.pef_head.specs.PartsClauses.{IsLoadable, parts};
 ghost use Rattle.big_memory.specs.Memory.{with_bytes};
 ghost use Rattle.mix_load.specs.ContainerImage.{patterns_of};
-ghost use Rattle.mix_load.specs.Outcome.{Finds};
+ghost use Rattle.mix_load.specs.inner.Outcome.{Finds};
 ghost use Rattle.mix_load.specs.Pieces.{with_pieces};
-ghost use Rattle.mix_load.specs.Sections.{HasBases, base_behind, bases, contents, contents_at, first_refusal, pattern_refusal, patterns_refusal, section_pieces, sections_end, total_at, totals};
+ghost use Rattle.mix_load.specs.inner.Sections.{HasBases, section_pieces, totals};
+ghost use Rattle.mix_load.specs.Sections.{base_behind, bases, contents, contents_at, first_refusal, pattern_refusal, patterns_refusal, sections_end};
+ghost use Rattle.mix_load.specs.laws.Sections.{total_at};
 
 use crate::contents::contents;
 use crate::error::LoadError;

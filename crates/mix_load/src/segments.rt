@@ -2,7 +2,8 @@
 ghost use Rattle.std.specs.Prelude.{◌≡◌, ◌+◌, ◌^◌, ◌≤◌, ◌<◌, [], false, length, option_map, IfSome, IfOk};
 ghost use Rattle.std.specs.Result.{result_err};
 ghost use Rattle.std.specs.Option.{option_map_or};
-ghost use Rattle.mix_bits.specs.Search.{◌or◌, any_below, least, refused};
+ghost use Rattle.mix_bits.specs.SearchOperator.{◌or◌};
+ghost use Rattle.mix_bits.specs.Search.{any_below, least, refused};
 ghost use Rattle.mix_load.specs.ForkImage.{segments_refusal};
 ghost use Rattle.mix_bits.specs.Multiples.{rounded_up};
 ghost use Rattle.mix_load.specs.Pieces.{with_pieces};

@@ -1,7 +1,8 @@
 //! The main vector of a container.
 ghost use Rattle.std.specs.Prelude.{◌≡◌, ◌+◌, ◌^◌, ◌≤◌, IfSome};
 ghost use Rattle.pef_head.specs.Container.{instantiated_count};
-ghost use Rattle.mix_load.specs.Sections.{HasBases, main_vector, sections_end};
+ghost use Rattle.mix_load.specs.inner.Sections.{HasBases};
+ghost use Rattle.mix_load.specs.Sections.{main_vector, sections_end};
 
 use crate::sections::Placement;
 use pef_head::Pef;

@@ -11,17 +11,18 @@ use Rattle.big_memory.specs.Memory.{Memory}
 use Rattle.big_memory.specs.Stores.{stored_value}
 use Rattle.m68_isa.specs.declared.registers.Regs68.{Regs68}
 use Rattle.m68_isa.specs.declared.ea.Ea.{Ea}
-use Rattle.m68_effects.specs.declared.places.Place68.{Place68}
-use Rattle.m68_effects.specs.declared.places.Place68.TheVariants.{Dn, An, Mem, Imm}
-use Rattle.m68_effects.specs.Places.{backward, placed}
-use Rattle.m68_effects.specs.Accesses.{or_fault}
-use Rattle.m68_effects.specs.Operands.{put_into, sourced, value_at, written_at}
+use Rattle.m68_ea.specs.declared.places.Place68.{Place68}
+use Rattle.m68_ea.specs.declared.places.Place68.TheVariants.{Dn, An, Mem, Imm}
+use Rattle.mix_bits.specs.Addresses.{backward}
+use Rattle.m68_ea.specs.Places.{placed}
+use Rattle.m68_ea.specs.Accesses.{or_fault}
+use Rattle.m68_ea.specs.Operands.{put_into, sourced, value_at, written_at}
 use Rattle.m68_alu.specs.declared.sums.Out.{Out}
 use Rattle.m68_effects.specs.Parts.{Effect, changed, either_way, into_data, pairwise, partner}
 use Rattle.m68_effects.specs.Multiple.{stored_along, stored_down}
 use Rattle.mix_reach.specs.declared.reach.Reach.{Reach}
-use Rattle.mix_reach.specs.Ranges.{Beside, nothing, range}
-use Rattle.mix_reach.specs.Rows68.{at_place, behind, if_into, into}
+use Rattle.mix_reach.specs.laws.Ranges.{Beside, nothing, range}
+use Rattle.mix_reach.specs.laws.Rows68.{at_place, behind, if_into, into}
 use Rattle.mix_reach.proofs.Leaving.{IsShort, Leaves, Stores, along, anywhere, few-bytes, short-kept, stay, stores, wider}
 
 abbrev pub Holds : Reach → Memory → Effect → Type 0

@@ -11,11 +11,11 @@ use Rattle.big_memory.specs.declared.refusals.Access.{Access}
 use Rattle.big_memory.specs.Lists.{put}
 use Rattle.big_memory.specs.Memory.{Memory, refusal, stored}
 use Rattle.big_memory.specs.Stores.{stored_longs, stored_unless, stored_value}
-use Rattle.big_memory.specs.Laws.{Passes}
+use Rattle.big_memory.specs.laws.Laws.{Passes}
 use Rattle.big_memory.proofs.Lists.{get_or-put_outside, length-put, put-nil}
 use Rattle.big_memory.proofs.Guarded.{passes}
 use Rattle.mix_reach.specs.declared.reach.Reach.{Reach}
-use Rattle.mix_reach.specs.Ranges.{Beside, range}
+use Rattle.mix_reach.specs.laws.Ranges.{Beside, range}
 
 -- memory that is left as it was, and a change beside a smaller range
 pub stay : (w : Reach) (m : List ℕ) → Beside w m m

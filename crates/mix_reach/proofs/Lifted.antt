@@ -9,7 +9,8 @@ use Rattle.big_memory.specs.Lists.{part, put}
 use Rattle.big_memory.specs.Memory.{Memory, floor_of}
 use Rattle.big_memory.proofs.Lists.{get_or-put_inside, get_or-put_outside, length-put}
 use Rattle.switch_frame.specs.declared.active.Active.{Active}
-use Rattle.switch_frame.specs.Chain.{Chain, FitsAlone, Frames, Links, cleared, outer_of, view, zeros}
+use Rattle.switch_frame.specs.Chain.{Chain, FitsAlone, Frames, Links, cleared, outer_of, view}
+use Rattle.big_memory.specs.Lists.{zeros}
 use Rattle.switch_frame.specs.Files.{sp_of}
 use Rattle.switch_frame.specs.Records.{Record, image, isa_of}
 use Rattle.switch_frame.specs.Sets.{frame_size}
@@ -29,9 +30,9 @@ use Rattle.mixed_machine.specs.Machine.{IsWhole, callers_of, flat, memory_of}
 use Rattle.mixed_machine.specs.Step.{step}
 use Rattle.mix_reach.specs.declared.reach.Reach.{Reach}
 use Rattle.mix_reach.specs.declared.reach.Stores.{Stores}
-use Rattle.mix_reach.specs.Ranges.{Beside, range}
-use Rattle.mix_reach.specs.Steps.{frame_given_up, frame_made, is_made, next_stores, reach}
-use Rattle.mix_reach.specs.Laws.{StoredIn, StoredInBlock, StoresWhereTold}
+use Rattle.mix_reach.specs.laws.Ranges.{Beside, range}
+use Rattle.mix_reach.specs.laws.Steps.{frame_given_up, frame_made, is_made, next_stores, reach}
+use Rattle.mix_reach.specs.laws.Laws.{StoredIn, StoredInBlock, StoresWhereTold}
 use Rattle.mix_reach.proofs.Leaving.{wider}
 use Rattle.mix_reach.proofs.Went.{Changed, InBlock, IsTold, IsWent, Resumed, Suspended, Went, steps-went}
 use Rattle.mix_reach.proofs.Went.Went.{Entered, Left, Stayed, Took}

@@ -21,29 +21,30 @@ use Rattle.m68_isa.specs.declared.operand.Operand.{Operand}
 use Rattle.m68_isa.specs.Arithmetic.{at_size}
 use Rattle.m68_isa.specs.Decode.{decoded, ended, operation, read}
 use Rattle.m68_isa.specs.First.{First, condition_of, first_of, long_or_word, low_byte, one_to_eight, size_of}
-use Rattle.m68_isa.specs.Fits.{Fits}
+use Rattle.m68_isa.specs.laws.Fits.{Fits}
 use Rattle.m68_isa.specs.Made.{made}
 use Rattle.m68_isa.specs.Miscellaneous.{masked}
 use Rattle.m68_isa.specs.Moves.{move_mode, moved_of}
 use Rattle.m68_isa.specs.Operands.{extended_word, immediate_at, immediate_words, long_at, operand_at, plain as plain_operand}
 use Rattle.m68_isa.specs.Rows.{taken}
 use Rattle.mix_bits.specs.declared.fault.Fault.{Fault}
-use Rattle.m68_effects.specs.declared.operands.Target.{Target}
-use Rattle.m68_effects.specs.declared.places.Place68.{Place68}
-use Rattle.m68_effects.specs.Finds.{Finds}
-use Rattle.m68_effects.specs.Places.{placed}
-use Rattle.m68_effects.specs.Words.{words_at}
+use Rattle.m68_ea.specs.declared.operands.Target.{Target}
+use Rattle.m68_ea.specs.declared.places.Place68.{Place68}
+use Rattle.m68_ea.specs.inner.Finds.{Finds}
+use Rattle.m68_ea.specs.Places.{placed}
+use Rattle.m68_ea.specs.Words.{words_at}
 use Rattle.big_memory.specs.Memory.{Memory}
 use Rattle.mix_reach.specs.declared.reach.Reach.{Reach}
-use Rattle.mix_reach.specs.Ranges.{nothing, plain}
-use Rattle.mix_reach.specs.Rows68.{at_place, behind, into, links, stores}
+use Rattle.mix_reach.specs.laws.Ranges.{nothing, plain}
+use Rattle.mix_reach.specs.laws.Rows68.{at_place, behind, into, links, stores}
 use Rattle.m68_effects.specs.Bits.{bit_size}
 use Rattle.m68_effects.specs.Parts.{partner}
 use Rattle.m68_isa.specs.Immediates.{immediate_with}
 use Rattle.m68_isa.specs.declared.instructions.ImmediateOp.{ImmediateOp}
 use Rattle.m68_isa.specs.declared.instructions.ImmediateOp.TheVariants as ImmediateBy
-use Rattle.mix_reach.specs.Quick.{Changes, ChangesBy, IsInto, Moves, Saves, keeps_memory}
-use Rattle.mix_reach.specs.Steps.{Tells, TellsBy, decoded_stores}
+use Rattle.mix_reach.specs.inner.Quick.{Changes, ChangesBy, IsInto, Moves, Saves, keeps_memory}
+use Rattle.mix_reach.specs.inner.Steps.{Tells, TellsBy}
+use Rattle.mix_reach.specs.laws.Steps.{decoded_stores}
 
 -- an instruction whose words are all there
 ended-told : (r : Regs68) (i : Instr68) (used count : ℕ) (good : Bool) (w : Reach) → used ≤ count → good ≡ true → stores r i ≡ w → decoded_stores r (ended (Made i used good) count) ≡ plain w

@@ -34,8 +34,9 @@ use Rattle.m68_alu.specs.declared.quotients.Quotient.{Quotient}
 use Rattle.m68_alu.specs.declared.quotients.Quotient.TheVariants.{ByZero, Overflow, Done}
 use Rattle.m68_alu.specs.declared.quotients.LongQuotient.{LongQuotient}
 use Rattle.m68_alu.specs.declared.quotients.LongQuotient.TheVariants.{ByZero as LongByZero, Overflow as LongOverflow, Done as LongDone}
-use Rattle.m68_effects.specs.Places.{address_of, backward, placed, with_address}
-use Rattle.m68_effects.specs.Operands.{put_into, sourced, stored_at}
+use Rattle.m68_ea.specs.Places.{address_of, placed, with_address}
+use Rattle.mix_bits.specs.Addresses.{backward}
+use Rattle.m68_ea.specs.Operands.{put_into, sourced, stored_at}
 use Rattle.m68_effects.specs.Arithmetic.{addq, is_out, long_quotient_into, quotient_into, subq}
 use Rattle.m68_effects.specs.Bits.{bit_done, bit_place, bit_size}
 use Rattle.m68_effects.specs.Control.{bcc, called, counted, dbcc}
@@ -43,8 +44,8 @@ use Rattle.m68_effects.specs.Movement.{exg, link, move}
 use Rattle.m68_effects.specs.Multiple.{listed, loaded_along, movem_before, movem_behind, movem_from_memory, movem_onto, movem_out_of, movem_to_memory, movep, peripheral_number, register_of, sixteen, stored_along, stored_down}
 use Rattle.m68_effects.specs.Parts.{Effect, goes_on, popped}
 use Rattle.m68_effects.specs.Rows.{effect, immediate}
-use Rattle.mix_reach.specs.Ranges.{Beside, nothing, range}
-use Rattle.mix_reach.specs.Rows68.{behind, below, into, links, pushes, several, stores}
+use Rattle.mix_reach.specs.laws.Ranges.{Beside, nothing, range}
+use Rattle.mix_reach.specs.laws.Rows68.{behind, below, into, links, pushes, several, stores}
 use Rattle.mix_reach.proofs.Leaving.{IsShort, Leaves, stores as one-store}
 use Rattle.mix_reach.proofs.Effects68.{Kept, Reaches, along-still, changes, down-still, either, either-way, ends, from-source, pairs, put, reads, refused, still, stored-along, stored-down, stored-left, stored-then, writes}
 

@@ -12,18 +12,28 @@ use Rattle.big_memory.specs.Steps.{After, after_store}
 use Rattle.big_memory.specs.Steps.After.{Goes, Leaves as LeavesSet, Stops}
 use Rattle.ppc_isa.specs.declared.registers.RegsPpc.{RegsPpc}
 use Rattle.ppc_isa.specs.declared.instruction.InstrPpc.{InstrPpc}
-use Rattle.ppc_isa.specs.declared.instruction.InstrPpc.TheVariants.{TrapWordImmediate, MultiplyLowImmediate, SubtractFromImmediateCarrying, CompareImmediate, AddImmediateCarrying, AddImmediate, BranchConditional, Branch, RotateLeftImmediate, RotateLeft, LogicalImmediate, Load, Store, LoadMultiple, StoreMultiple, MoveConditionField, BranchConditionalToRegister, ConditionLogical, InstructionSynchronize, Add, AddExtended, SubtractFrom, SubtractFromExtended, Negate, MultiplyLow, MultiplyHigh, Divide, Logical, Unary, Shift, ShiftRightAlgebraicImmediate, Compare, TrapWord, LoadIndexed, StoreIndexed, LoadReversed, StoreReversed, LoadStringImmediate, StoreStringImmediate, LoadStringIndexed, StoreStringIndexed, MoveFromConditionRegister, MoveToConditionFields, MoveXerToConditionField, MoveFromSpecial, MoveToSpecial, Synchronize}
+use Rattle.ppc_isa.specs.declared.instruction.InstrPpc.TheVariants.{TrapWordImmediate, MultiplyLowImmediate, SubtractFromImmediateCarrying, CompareImmediate, AddImmediateCarrying, AddImmediate, BranchConditional, Branch, LogicalImmediate, Load, Store, MoveConditionField, BranchConditionalToRegister, ConditionLogical, InstructionSynchronize, Add, AddExtended, SubtractFrom, SubtractFromExtended, Negate, Divide, Logical, Unary, Shift, ShiftRightAlgebraicImmediate, LoadIndexed, StoreIndexed, MoveXerToConditionField, Synchronize, Rotate, Multiple, Multiply, CompareOrTrap, Reversed, StringImmediate, StringIndexed, MoveCondition, MoveSpecial}
+use Rattle.ppc_isa.specs.declared.instruction.Rotation.TheVariants.{RotateLeftImmediate, RotateLeft}
+use Rattle.ppc_isa.specs.declared.instruction.MultipleAccess.TheVariants.{LoadMultiple, StoreMultiple}
+use Rattle.ppc_isa.specs.declared.instruction.Multiplication.TheVariants.{MultiplyLow, MultiplyHigh}
+use Rattle.ppc_isa.specs.declared.instruction.Comparison.TheVariants.{Compare, TrapWord}
+use Rattle.ppc_isa.specs.declared.instruction.ReversedAccess.TheVariants.{LoadReversed, StoreReversed}
+use Rattle.ppc_isa.specs.declared.instruction.StringImmediateAccess.TheVariants.{LoadStringImmediate, StoreStringImmediate}
+use Rattle.ppc_isa.specs.declared.instruction.StringIndexedAccess.TheVariants.{LoadStringIndexed, StoreStringIndexed}
+use Rattle.ppc_isa.specs.declared.instruction.ConditionMove.TheVariants.{MoveFromConditionRegister, MoveToConditionFields}
+use Rattle.ppc_isa.specs.declared.instruction.SpecialMove.TheVariants.{MoveFromSpecial, MoveToSpecial}
 use Rattle.ppc_integer.specs.Traps.{traps_on}
-use Rattle.ppc_isa.specs.Valid.{string_length}
+use Rattle.ppc_isa.specs.Operands.{string_length}
 use Rattle.ppc_integer.specs.Xer.{string_length_of}
 use Rattle.ppc_integer.specs.Arithmetic.{immediate_of}
 use Rattle.ppc_integer.specs.Effects.{runs, trap_word}
 use Rattle.ppc_integer.specs.File.{base_of, gpr_of}
-use Rattle.ppc_integer.specs.Storage.{after_load, index_address, load_size, offset_address, reversed_size, store_size}
+use Rattle.big_memory.specs.Steps.{after_load}
+use Rattle.ppc_integer.specs.Storage.{index_address, load_size, offset_address, reversed_size, store_size}
 use Rattle.ppc_integer.specs.Strings.{fills, in_order, load_byte, load_word, store_byte, string_byte}
 use Rattle.mix_reach.specs.declared.reach.Reach.{Reach}
-use Rattle.mix_reach.specs.Ranges.{Beside, nothing, range}
-use Rattle.mix_reach.specs.RowsPpc.{stores, string_at}
+use Rattle.mix_reach.specs.laws.Ranges.{Beside, nothing, range}
+use Rattle.mix_reach.specs.laws.RowsPpc.{stores, string_at}
 use Rattle.mix_reach.proofs.Leaving.{IsShort, Leaves, Stores, along, longs-leave, stay, stores as one-store, wider}
 
 abbrev pub AfterHolds : {R : Type 0} → Reach → Memory → After R → Type 0
@@ -126,46 +136,46 @@ rows r m word (AddExtended operand d a oe rc) short = goes nothing m _
 rows r m word (SubtractFrom carry d a b oe rc) short = goes nothing m _
 rows r m word (SubtractFromExtended operand d a oe rc) short = goes nothing m _
 rows r m word (Negate d a oe rc) short = goes nothing m _
-rows r m word (MultiplyLow d a b oe rc) short = goes nothing m _
-rows r m word (MultiplyHigh signed d a b rc) short = goes nothing m _
+rows r m word (Multiply (MultiplyLow d a b oe rc)) short = goes nothing m _
+rows r m word (Multiply (MultiplyHigh signed d a b rc)) short = goes nothing m _
 rows r m word (Divide signed d a b oe rc) short = goes nothing m _
 rows r m word (LogicalImmediate op a s i) short = goes nothing m _
 rows r m word (Logical op a s b rc) short = goes nothing m _
 rows r m word (Unary op a s rc) short = goes nothing m _
-rows r m word (RotateLeftImmediate outside a s sh mb me rc) short = goes nothing m _
-rows r m word (RotateLeft a s b mb me rc) short = goes nothing m _
+rows r m word (Rotate (RotateLeftImmediate outside a s sh mb me rc)) short = goes nothing m _
+rows r m word (Rotate (RotateLeft a s b mb me rc)) short = goes nothing m _
 rows r m word (Shift op a s b rc) short = goes nothing m _
 rows r m word (ShiftRightAlgebraicImmediate a s sh rc) short = goes nothing m _
 rows r m word (CompareImmediate signed field a i) short = goes nothing m _
-rows r m word (Compare signed field a b) short = goes nothing m _
+rows r m word (CompareOrTrap (Compare signed field a b)) short = goes nothing m _
 rows r m word (MoveConditionField field from) short = goes nothing m _
 rows r m word (ConditionLogical op d a b) short = goes nothing m _
-rows r m word (MoveFromConditionRegister d) short = goes nothing m _
-rows r m word (MoveToConditionFields mask s) short = goes nothing m _
+rows r m word (MoveCondition (MoveFromConditionRegister d)) short = goes nothing m _
+rows r m word (MoveCondition (MoveToConditionFields mask s)) short = goes nothing m _
 rows r m word (MoveXerToConditionField field) short = goes nothing m _
-rows r m word (MoveFromSpecial d register) short = goes nothing m _
-rows r m word (MoveToSpecial register s) short = goes nothing m _
+rows r m word (MoveSpecial (MoveFromSpecial d register)) short = goes nothing m _
+rows r m word (MoveSpecial (MoveToSpecial register s)) short = goes nothing m _
 rows r m word (Branch displacement aa lk) short = goes nothing m _
 rows r m word (BranchConditional bo bi displacement aa lk) short = goes nothing m _
 rows r m word (BranchConditionalToRegister register bo bi lk) short = goes nothing m _
 rows r m word (TrapWordImmediate to a i) short = trapped r m word to (gpr_of r a) (immediate_of i)
-rows r m word (TrapWord to a b) short = trapped r m word to (gpr_of r a) (gpr_of r b)
+rows r m word (CompareOrTrap (TrapWord to a b)) short = trapped r m word to (gpr_of r a) (gpr_of r b)
 rows r m word (Load kind update d a offset) short = loads nothing m r.pc _ (loaded m (offset_address r a offset) (load_size kind)) (λ v. goes nothing m _)
 rows r m word (LoadIndexed kind update d a b) short = loads nothing m r.pc _ (loaded m (index_address r a b) (load_size kind)) (λ v. goes nothing m _)
 rows r m word (Store kind update s a offset) short = stored-one m (offset_address r a offset) (store_size kind) (gpr_of r s) r.pc _
 rows r m word (StoreIndexed kind update s a b) short = stored-one m (index_address r a b) (store_size kind) (gpr_of r s) r.pc _
-rows r m word (LoadReversed kind d a b) short = loads nothing m r.pc _ (loaded m (index_address r a b) (reversed_size kind)) (λ v. goes nothing m _)
-rows r m word (StoreReversed kind s a b) short = stored-one m (index_address r a b) (reversed_size kind) _ r.pc _
-rows r m word (LoadMultiple d a offset) short = loads nothing m r.pc _ (in_order (load_word m (offset_address r a offset) d) r.gpr (32 - d)) (λ v. goes nothing m _)
-rows r m word (StoreMultiple s a offset) short =
+rows r m word (Reversed (LoadReversed kind d a b)) short = loads nothing m r.pc _ (loaded m (index_address r a b) (reversed_size kind)) (λ v. goes nothing m _)
+rows r m word (Reversed (StoreReversed kind s a b)) short = stored-one m (index_address r a b) (reversed_size kind) _ r.pc _
+rows r m word (Multiple (LoadMultiple d a offset)) short = loads nothing m r.pc _ (in_order (load_word m (offset_address r a offset) d) r.gpr (32 - d)) (λ v. goes nothing m _)
+rows r m word (Multiple (StoreMultiple s a offset)) short =
     stored-after (range (offset_address r a offset) (4 * length r.gpr)) m r.pc _ (stored_longs m (offset_address r a offset) (drop s r.gpr))
     (longs-wider m (offset_address r a offset) (drop s r.gpr) (length r.gpr) (stored_longs m (offset_address r a offset) (drop s r.gpr)) (length-behind s r.gpr)
     (longs-leave m (offset_address r a offset) (drop s r.gpr) short))
-rows r m word (LoadStringImmediate d a nb) short = loads nothing m r.pc _ (in_order (load_byte m (base_of r a) d) r.gpr (string_length nb)) (λ v. goes nothing m _)
-rows r m word (StoreStringImmediate s a nb) short = stored-string r m s (base_of r a) (string_length nb) r.pc _ short
-rows r m word (LoadStringIndexed d a b) short =
+rows r m word (StringImmediate (LoadStringImmediate d a nb)) short = loads nothing m r.pc _ (in_order (load_byte m (base_of r a) d) r.gpr (string_length nb)) (λ v. goes nothing m _)
+rows r m word (StringImmediate (StoreStringImmediate s a nb)) short = stored-string r m s (base_of r a) (string_length nb) r.pc _ short
+rows r m word (StringIndexed (LoadStringIndexed d a b)) short =
     either nothing m (fills a d (string_length_of r.xer) || fills b d (string_length_of r.xer)) _ _ (stops nothing m _)
     (loads nothing m r.pc _ (in_order (load_byte m (index_address r a b) d) r.gpr (string_length_of r.xer)) (λ v. goes nothing m _))
-rows r m word (StoreStringIndexed s a b) short = stored-string r m s (index_address r a b) (string_length_of r.xer) r.pc _ short
+rows r m word (StringIndexed (StoreStringIndexed s a b)) short = stored-string r m s (index_address r a b) (string_length_of r.xer) r.pc _ short
 rows r m word InstructionSynchronize short = goes nothing m _
 rows r m word Synchronize short = goes nothing m _

@@ -15,7 +15,7 @@ use Rattle.ppc_isa.specs.declared.instruction.InstrPpc.{InstrPpc}
 use Rattle.ppc_isa.specs.Rows.{decoded as decoded_ppc}
 use Rattle.big_memory.specs.declared.refusals.Access.{Access}
 use Rattle.big_memory.specs.declared.refusals.Access.TheVariants.{Outside as IsOutside}
-use Rattle.big_memory.specs.Laws.{Passes}
+use Rattle.big_memory.specs.laws.Laws.{Passes}
 use Rattle.big_memory.proofs.Lists.{put-nil}
 use Rattle.big_memory.proofs.Guarded.{passes}
 use Rattle.big_memory.specs.Lists.{part, put}
@@ -24,31 +24,32 @@ use Rattle.big_memory.specs.Memory.{Memory, copied, copy_refusal, filled, floor_
 use Rattle.big_memory.specs.Stores.{stored_value}
 use Rattle.big_memory.specs.Steps.{After}
 use Rattle.big_memory.specs.Steps.After.{Goes as GoesOn, Leaves as LeavesSet, Stops as StopsAt}
-use Rattle.m68_effects.specs.Words.{words_at}
+use Rattle.m68_ea.specs.Words.{words_at}
 use Rattle.m68_effects.specs.Parts.{Effect, after}
 use Rattle.m68_effects.specs.Rows.{effect as effect_68k}
 use Rattle.m68_effects.specs.Step.{runs_decoded as runs_decoded_68k, stepped as stepped_68k}
 use Rattle.ppc_integer.specs.Effects.{at_gate_page, runs as runs_ppc, runs_decoded as runs_decoded_ppc, stepped as stepped_ppc}
-use Rattle.ppc_integer.specs.Storage.{after_load}
+use Rattle.big_memory.specs.Steps.{after_load}
 use Rattle.proc_info.specs.declared.param.Param.{Param}
 use Rattle.proc_info.specs.Signature.{Signature, signature_in}
-use Rattle.proc_info.specs.Build.{image}
-use Rattle.proc_info.specs.Layout.{mixed_mode_magic}
-use Rattle.mode_switch.specs.declared.m68_places.Place.{Place}
-use Rattle.mode_switch.specs.declared.m68_places.Place.TheVariants.{Data, Address}
-use Rattle.mode_switch.specs.declared.m68_places.Route.{Route}
-use Rattle.mode_switch.specs.declared.m68_places.Route.TheVariants.{PascalStack, CStack, Registers}
-use Rattle.mode_switch.specs.Gather68.{values_at as values_at_68k}
-use Rattle.mode_switch.specs.Places68.{next_base, place_of, result_place, route_of, widths}
-use Rattle.mode_switch.specs.Results68.{after_call, with_result as with_result_68k}
-use Rattle.mode_switch.specs.Values68.{Given as Given68, above_sp, put_at, value_at as value_at_68k}
-use Rattle.mode_switch.specs.WordsPpc.{value_at as value_at_ppc, values_at as values_at_ppc}
+use Rattle.routine_desc.specs.Build.{image}
+use Rattle.routine_desc.specs.Layout.{mixed_mode_magic}
+use Rattle.args_m68.specs.declared.places.Place.{Place}
+use Rattle.args_m68.specs.declared.places.Place.TheVariants.{Data, Address}
+use Rattle.args_m68.specs.declared.places.Route.{Route}
+use Rattle.args_m68.specs.declared.places.Route.TheVariants.{PascalStack, CStack, Registers}
+use Rattle.args_m68.specs.Gather.{values_at as values_at_68k}
+use Rattle.args_m68.specs.Places.{next_base, place_of, result_place, route_of, widths}
+use Rattle.args_m68.specs.Results.{after_call, with_result as with_result_68k}
+use Rattle.args_m68.specs.Values.{Given as Given68, above_sp, put_at, value_at as value_at_68k}
+use Rattle.args_ppc.specs.Words.{value_at as value_at_ppc, values_at as values_at_ppc}
 use Rattle.switch_frame.specs.declared.active.Active.{Active}
 use Rattle.switch_frame.specs.declared.active.Active.TheVariants.{M68, Ppc}
 use Rattle.switch_frame.specs.declared.full.Full.{Full}
 use Rattle.switch_frame.specs.declared.full.Full.TheVariants.{Frames, Outside, Crossed, Stack as StackFull}
 use Rattle.switch_frame.specs.Calls.{room_of}
-use Rattle.switch_frame.specs.Chain.{Chain, cleared, zeros}
+use Rattle.switch_frame.specs.Chain.{Chain, cleared}
+use Rattle.big_memory.specs.Lists.{zeros}
 use Rattle.switch_frame.specs.Files.{sp_of}
 use Rattle.switch_frame.specs.Records.{Record}
 use Rattle.switch_frame.specs.Sets.{callee_isa}
@@ -60,9 +61,10 @@ use Rattle.mode_switch.specs.Passed.{Passage, behind, entry_at, gathered, passed
 use Rattle.mode_switch.specs.Returned.{Given, Returned, given_back, put_result, result_at}
 use Rattle.mode_switch.specs.Wanted.{Crossing, Want, passed_selector, wants_68k, wants_ppc}
 use Rattle.mode_switch.specs.Wanted.Want.{Calls, Jumps, Refuses}
-use Rattle.toolbox.specs.Space.{HasNone, IsLowest, Space, block_limit, rounded}
-use Rattle.toolbox.proofs.Lowest.{lowest_fit-lowest}
-use Rattle.toolbox.specs.Place.{place_for, taken, lowest_fit}
+use Rattle.host_heap.specs.SpaceClauses.{HasNone, IsLowest}
+use Rattle.host_heap.specs.Space.{Space, block_limit, rounded}
+use Rattle.host_heap.proofs.Lowest.{lowest_fit-lowest}
+use Rattle.host_heap.specs.Place.{place_for, taken, lowest_fit}
 use Rattle.toolbox.specs.declared.function.Function.{Function}
 use Rattle.toolbox.specs.declared.function.Function.TheVariants.{NewRoutineDescriptor, NewFatRoutineDescriptor, DisposeRoutineDescriptor, CallUniversalProc, NewPtr, NewPtrClear, DisposePtr, BlockMove, ExitToShell, PutByte, GetByte, PutBlock, AskDevice, EjectDevice, ExitWith, UnloadSeg}
 use Rattle.toolbox.specs.declared.values.Operands.{Operands}
@@ -81,11 +83,11 @@ use Rattle.mixed_machine.specs.Host.{after_host, host_of, hosted_by, hosts, trap
 use Rattle.mixed_machine.specs.Step.{after_68k, after_ppc, step, step_68k, step_of, step_ppc}
 use Rattle.mix_reach.specs.declared.reach.Reach.{Reach}
 use Rattle.mix_reach.specs.declared.reach.Stores.{Stores}
-use Rattle.mix_reach.specs.Ranges.{Beside, filling, nothing, plain, range}
-use Rattle.mix_reach.specs.Rows68.{stores as stores_68k}
-use Rattle.mix_reach.specs.RowsPpc.{stores as stores_ppc}
-use Rattle.mix_reach.specs.Laws.{MakesNone}
-use Rattle.mix_reach.specs.Steps.{decoded_stores, function_stores, host_stores, next_stores, word_decoded, word_stores}
+use Rattle.mix_reach.specs.laws.Ranges.{Beside, filling, nothing, plain, range}
+use Rattle.mix_reach.specs.laws.Rows68.{stores as stores_68k}
+use Rattle.mix_reach.specs.laws.RowsPpc.{stores as stores_ppc}
+use Rattle.mix_reach.specs.laws.Laws.{MakesNone}
+use Rattle.mix_reach.specs.laws.Steps.{decoded_stores, function_stores, host_stores, next_stores, word_decoded, word_stores}
 use Rattle.mix_reach.proofs.Leaving.{IsShort, Stores as IsLeft, put-beside, stay, stores, wider}
 use Rattle.mix_reach.proofs.Effects68.{Kept}
 use Rattle.mix_reach.proofs.Rows68.{rows as rows_68k}

@@ -4,7 +4,7 @@ use Rattle.mix_bits.specs.Addresses.{onward}
 use Rattle.mix_bits.specs.declared.size.Size.TheVariants.{Two}
 use Rattle.big_memory.specs.declared.refusals.Access.{Access}
 use Rattle.big_memory.specs.Memory.{Memory, loaded}
-use Rattle.m68_effects.specs.Words.{word_and, words_from}
+use Rattle.m68_ea.specs.Words.{word_and, words_from}
 
 pub no-word : (m : Memory) (a : ℕ) → words_from 0 m a ≡ []
 unfolding words_from

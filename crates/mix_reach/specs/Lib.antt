@@ -1,6 +1,2 @@
-pub mod Ranges
-pub mod Rows68
-pub mod Quick
-pub mod RowsPpc
-pub mod Steps
-pub mod Laws
+pub mod laws
+pub mod inner

@@ -13,4 +13,4 @@ mod steps;
 
 pub use laws::reach_laws;
 pub use reach::{Reach, Stores, Told, no_stores, plain};
-pub use steps::{next_stores, step_reach, told_68k, told_ppc};
+pub use steps::{makes_frame, next_stores, step_reach, told_68k, told_ppc};

@@ -2,17 +2,17 @@
 ghost use Rattle.std.specs.Prelude.{◌≡◌, ◌<◌};
 ghost use Rattle.m68_isa.specs.Decode.{decoded};
 ghost use Rattle.m68_isa.specs.Fields.{HasDecoded, HasFields, HasRegisters};
-ghost use Rattle.m68_effects.specs.Places.{address_of as address_of_operand};
-ghost use Rattle.m68_effects.specs.Words.{words_at};
+ghost use Rattle.m68_ea.specs.Places.{address_of as address_of_operand};
+ghost use Rattle.m68_ea.specs.Words.{words_at};
 ghost use Rattle.m68_effects.specs.Bits.{bit_size as bit_size_of};
 ghost use Rattle.m68_effects.specs.Parts.{partner as partner_of};
-ghost use Rattle.mix_reach.specs.Rows68.{at_place as at_place_of, behind as behind_of, below as below_of, if_into as if_into_of, into as into_of, links as links_of, pushes as pushes_of, several as several_of, stores as stores_of};
+ghost use Rattle.mix_reach.specs.laws.Rows68.{at_place as at_place_of, behind as behind_of, below as below_of, if_into as if_into_of, into as into_of, links as links_of, pushes as pushes_of, several as several_of, stores as stores_of};
 
 use crate::reach::{Reach, nothing, range};
 use big_memory::Ram;
-use m68_effects::{Place68, backward, place};
+use m68_ea::{Place68, operand_law, place};
 use m68_isa::{Decoded68, Ea, Instr68, Regs68, decode68};
-use mix_bits::{Size, onward};
+use mix_bits::{Size, backward, onward};
 
 /// The instruction at an address.
 pub fn decode_at(ram: &Ram, pc: u32) -> Decoded68
@@ -139,6 +139,7 @@ fn into(regs: &Regs68, size: Size, to: Ea) -> Reach
     ensures { result ≡ into_of regs.now size to }
 {
     let mut found = *regs;
+    operand_law(to);
     at_place(place(&mut found, to, size))
 }
 
@@ -149,6 +150,7 @@ fn behind(regs: &Regs68, size: Size, from: Ea, to: Ea) -> Reach
     ensures { result ≡ behind_of regs.now size from to }
 {
     let mut found = *regs;
+    operand_law(from);
     let _source = place(&mut found, from, size);
     into(&found, size, to)
 }
@@ -225,6 +227,7 @@ fn address_of(regs: &Regs68, operand: Ea) -> u32
     ensures { result ≡ address_of_operand regs.now operand }
 {
     let mut found = *regs;
+    operand_law(operand);
     match place(&mut found, operand, Size::Zero) {
         Place68::Mem(a) => a,
         _ => 0,

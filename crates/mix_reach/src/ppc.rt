@@ -3,9 +3,10 @@ ghost use Rattle.std.specs.Prelude.{◌≡◌};
 ghost use Rattle.ppc_isa.specs.Fields.{fields_of};
 ghost use Rattle.ppc_isa.specs.Rows.{decoded};
 ghost use Rattle.ppc_integer.specs.Storage.{index_address as index_address_of, offset_address as offset_address_of};
-ghost use Rattle.mix_reach.specs.Ranges.{range as range_of, stored_at};
-ghost use Rattle.mix_reach.specs.RowsPpc.{string_at as string_at_of};
-ghost use Rattle.mix_reach.specs.Steps.{word_decoded};
+ghost use Rattle.mix_reach.specs.laws.Ranges.{range as range_of};
+ghost use Rattle.mix_reach.specs.inner.Ranges.{stored_at};
+ghost use Rattle.mix_reach.specs.laws.RowsPpc.{string_at as string_at_of};
+ghost use Rattle.mix_reach.specs.laws.Steps.{word_decoded};
 
 use crate::reach::{Reach, range};
 use mix_bits::onward;

@@ -4,19 +4,20 @@ ghost use Rattle.m68_isa.specs.Decode.{decoded};
 ghost use Rattle.m68_isa.specs.Moves.{move_mode};
 ghost use Rattle.m68_isa.specs.Operands.{immediate_words};
 ghost use Rattle.m68_isa.specs.First.{first_of};
-ghost use Rattle.m68_effects.specs.Words.{words_at};
-ghost use Rattle.mix_reach.specs.Quick.{Changes, ChangesBy, IsInto, Moves, Saves, keeps_memory as keeps_memory_by};
-ghost use Rattle.mix_reach.specs.Ranges.{nothing as nothing_of, plain as plain_of};
-ghost use Rattle.mix_reach.specs.Steps.{Tells, TellsBy, decoded_stores};
+ghost use Rattle.m68_ea.specs.Words.{words_at};
+ghost use Rattle.mix_reach.specs.inner.Quick.{Changes, ChangesBy, IsInto, Moves, Saves, keeps_memory as keeps_memory_by};
+ghost use Rattle.mix_reach.specs.laws.Ranges.{nothing as nothing_of, plain as plain_of};
+ghost use Rattle.mix_reach.specs.inner.Steps.{Tells, TellsBy};
+ghost use Rattle.mix_reach.specs.laws.Steps.{decoded_stores};
 
 use crate::m68::{at_place, below, links, pushes};
 use crate::reach::{Reach, nothing};
 use big_memory::Ram;
-use m68_effects::{backward, find, word_at};
+use m68_ea::{find, word_at};
 use m68_isa::{
-    Op68, Operations, Regs68, lower_of, mode_of, move_mode_of, size_of, transfer_size_of, upper_of,
+    Op68, Regs68, lower_of, mode_of, move_mode_of, op_of_word, size_of, transfer_size_of, upper_of,
 };
-use mix_bits::{Fault, FaultKind, Size};
+use mix_bits::{Fault, FaultKind, Size, backward};
 
 /// Whether an operation leaves memory as it is, as the first word tells: it changes a data register, or stores nowhere.
 #[inline(always)]
@@ -87,22 +88,22 @@ fn moves_to_data(word: u32) -> bool
 
 /// Whether an instruction none of whose words is missing leaves memory as it is, as its first word tells.
 #[inline(always)]
-pub fn is_still(ram: &Ram, operations: &Operations, regs: &Regs68) -> bool
+pub fn is_still(ram: &Ram, regs: &Regs68) -> bool
     requires { 5 ≤ length (words_at ram.now regs.now.pc) }
     ensures { result ≡ true → decoded_stores regs.now (decoded (words_at ram.now regs.now.pc)) ≡ plain_of nothing_of }
 {
     let word = word_at(ram, regs.pc, 0);
-    keeps_memory(operations.of(word), word)
+    keeps_memory(op_of_word(word), word)
 }
 
 /// Where an instruction stores none of whose words is missing; None where it has to be decoded.
 #[inline(always)]
-pub fn quick_stores(ram: &Ram, operations: &Operations, regs: &Regs68) -> Option<Reach>
+pub fn quick_stores(ram: &Ram, regs: &Regs68) -> Option<Reach>
     requires { 5 ≤ length (words_at ram.now regs.now.pc) }
     ensures { IfSome result (Tells regs.now (words_at ram.now regs.now.pc)) }
 {
     let word = word_at(ram, regs.pc, 0);
-    let op = operations.of(word);
+    let op = op_of_word(word);
     if keeps_memory(op, word) {
         Some(nothing())
     } else {

@@ -4,11 +4,12 @@ ghost use Rattle.big_memory.specs.Map.{host_code as host_code_of};
 ghost use Rattle.toolbox.specs.Functions.{trap_number};
 ghost use Rattle.toolbox.specs.Registers.{operands_of};
 ghost use Rattle.toolbox.specs.declared.function.Function.TheVariants.{BlockMove, NewPtrClear};
-ghost use Rattle.mix_reach.specs.Ranges.{IsTold, nothing as nothing_of, plain as plain_of, range as range_of, stored_at as stored_at_of};
-ghost use Rattle.mix_reach.specs.Steps.{decoded_stores as decoded_stores_of, frame_given_up as frame_given_up_of, frame_made as frame_made_of, host_stores as host_stores_of, next_stores as next_stores_of, reach, word_stores as word_stores_of};
+ghost use Rattle.mix_reach.specs.inner.Ranges.{IsTold, stored_at as stored_at_of};
+ghost use Rattle.mix_reach.specs.laws.Ranges.{nothing as nothing_of, plain as plain_of, range as range_of};
+ghost use Rattle.mix_reach.specs.laws.Steps.{decoded_stores as decoded_stores_of, frame_given_up as frame_given_up_of, frame_made as frame_made_of, host_stores as host_stores_of, is_made, next_stores as next_stores_of, reach, word_stores as word_stores_of};
 ghost use Rattle.big_memory.specs.Memory.{loaded};
 ghost use Rattle.m68_isa.specs.Decode.{decoded};
-ghost use Rattle.m68_effects.specs.Words.{words_at};
+ghost use Rattle.m68_ea.specs.Words.{words_at};
 ghost use Rattle.mix_bits.specs.declared.size.Size.TheVariants.{Four};
 ghost use Rattle.switch_frame.specs.declared.active.Active.TheVariants.{M68, Ppc};
 
@@ -16,8 +17,8 @@ use crate::quick::quick_stores;
 use crate::reach::{Reach, Stores, Told, filling, nothing, plain, range, stored_at};
 use crate::{m68, ppc, quick};
 use big_memory::{GATE_PAGE_END, Ram, host_code, in_gate_page};
-use m68_effects::has_five;
-use m68_isa::{Decoded68, Operations, Regs68};
+use m68_ea::has_five;
+use m68_isa::{Decoded68, Regs68};
 use mix_bits::onward;
 use ppc_isa::RegsPpc;
 use switch_frame::{Active, LARGEST_FRAME};
@@ -25,11 +26,11 @@ use toolbox::{Function, trap_index, trap_laws};
 
 /// Where the next step of code stores, unless it makes or gives up a frame.
 #[inline(always)]
-pub fn next_stores(ram: &Ram, operations: &Operations, active: &Active) -> Stores
+pub fn next_stores(ram: &Ram, active: &Active) -> Stores
     ensures { result ≡ next_stores_of ram.now active.now }
 {
     match active {
-        Active::M68(regs) => code_stores(ram, operations, regs, active),
+        Active::M68(regs) => code_stores(ram, regs, active),
         Active::Ppc(regs) => {
             if in_gate_page(regs.pc) {
                 host_stores(host_code(regs.pc), active)
@@ -42,10 +43,10 @@ pub fn next_stores(ram: &Ram, operations: &Operations, active: &Active) -> Store
 
 /// What is told at once of where the next step of 68K code stores.
 #[inline(always)]
-pub fn told_68k(ram: &Ram, operations: &Operations, regs: &Regs68) -> Told
+pub fn told_68k(ram: &Ram, regs: &Regs68) -> Told
     ensures { IsTold result (next_stores_of ram.now (M68 regs.now)) }
 {
-    if has_five(ram, regs.pc) && quick::is_still(ram, operations, regs) {
+    if has_five(ram, regs.pc) && quick::is_still(ram, regs) {
         Told::Nowhere
     } else {
         Told::Unknown
@@ -68,14 +69,14 @@ pub fn told_ppc(ram: &Ram, regs: &RegsPpc) -> Told
 
 /// The same for 68K code: its first word and its operands tell, or it is decoded.
 #[inline(always)]
-fn code_stores(ram: &Ram, operations: &Operations, regs: &Regs68, active: &Active) -> Stores
+fn code_stores(ram: &Ram, regs: &Regs68, active: &Active) -> Stores
     requires { active.now ≡ M68 regs.now }
     ensures { result ≡ decoded_stores_of regs.now (decoded (words_at ram.now regs.now.pc)) }
 {
     if !has_five(ram, regs.pc) {
         return instruction_stores(ram, regs, active);
     }
-    match quick_stores(ram, operations, regs) {
+    match quick_stores(ram, regs) {
         Some(reach) => plain(reach),
         None => instruction_stores(ram, regs, active),
     }
@@ -162,11 +163,20 @@ pub fn step_reach(next: Stores, old: u32, new: u32, active: &Active) -> Reach
 {
     if new == old {
         next.reach
-    } else if new != 0 && (old == 0 || new < old) {
+    } else if makes_frame(old, new) {
         frame_made(new, active)
     } else {
         frame_given_up(old, active)
     }
+}
+
+/// Whether a step made a frame, by where the innermost one began before and after it, if it did not stay: it begins lower
+/// than before, or none was live.
+#[inline(always)]
+pub fn makes_frame(old: u32, new: u32) -> bool
+    ensures { result ≡ is_made old new }
+{
+    new != 0 && (old == 0 || new < old)
 }
 
 /// From the callee's stack pointer up to the end of the frame.

@@ -9,10 +9,10 @@ use Rattle.mix_bits.proofs.ReadHexadecimals.{reads_hexadecimals}
 use Rattle.big_memory.specs.Lists.{part}
 use Rattle.big_memory.specs.Memory.{IsRam, Memory}
 use Rattle.big_memory.specs.Numbers.{AreBytes}
-use Rattle.m68_text.specs.Laws.{NamesAreListed}
+use Rattle.m68_text.specs.laws.Laws.{NamesAreListed}
 use Rattle.mix_text.specs.Listing.{Listed, instruction, line_at, listing, listing_with}
 use Rattle.mix_text.specs.Assembling.{Assembles}
-use Rattle.mix_text.specs.Laws.{ListingsComeBack, bytes_with, listed_bytes}
+use Rattle.mix_text.specs.laws.Laws.{ListingsComeBack, bytes_with, listed_bytes}
 use Rattle.mix_text.specs.Lines.{address_in, is_silent, lines_of}
 use Rattle.mix_text.proofs.Instructions.{given-addressed}
 use Rattle.mix_text.proofs.Bytes.{parts_join}

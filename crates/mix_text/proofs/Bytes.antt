@@ -10,8 +10,8 @@ use Rattle.big_memory.specs.declared.refusals.Access.TheVariants.{Outside}
 use Rattle.big_memory.specs.Lists.{part}
 use Rattle.big_memory.specs.Memory.{IsRam, Memory, in_memory, loaded}
 use Rattle.big_memory.specs.Numbers.{AreBytes, number_at}
-use Rattle.m68_effects.specs.Words.{word_and, words_from}
-use Rattle.mix_text.specs.SpellingLaws.{AreWords}
+use Rattle.m68_ea.specs.Words.{word_and, words_from}
+use Rattle.asm_m68.specs.Assembly.{AreWords}
 use Rattle.mix_text.specs.Assembling.{long_bytes, word_bytes}
 
 pub parts_join : (at n k : ℕ) (bytes : List ℕ) → part at (n + k) bytes ≡ part at n bytes ++ part (at + n) k bytes

@@ -4,41 +4,42 @@ use Rattle.std.specs.Prelude.{◌↔◌, MatchBool}
 use Rattle.std.proofs.lemmas.List.{length-drop, take_all}
 use Rattle.mix_bits.specs.declared.isa.Isa.{Isa}
 use Rattle.mix_bits.specs.Names.{name_of}
-use Rattle.m68_text.specs.Listed.{is_name as is_name_68k}
-use Rattle.mix_text.specs.declared.code.Code68.{Code68}
-use Rattle.mix_text.specs.Code.{kept}
-use Rattle.mix_text.specs.Assembly.{answer, Gives as Gives68k}
-use Rattle.mix_text.specs.declared.assembler.AsmError.{AsmError as Error68k}
-use Rattle.mix_text.specs.declared.assembler.AsmError.TheVariants.{Name as Name68k, Operands as Operands68k}
+use Rattle.m68_text.specs.Listed.{is_name as is_name_m68}
+use Rattle.asm_m68.specs.declared.code.Code68.{Code68}
+use Rattle.asm_m68.specs.Code.{kept}
+use Rattle.asm_m68.specs.AssemblyClauses.{answer}
+use Rattle.asm_m68.specs.Assembly.{Gives as GivesM68}
+use Rattle.asm_m68.specs.declared.assembler.AsmError.{AsmError as ErrorM68}
+use Rattle.asm_m68.specs.declared.assembler.AsmError.TheVariants.{Name as NameM68, Operands as OperandsM68}
 use Rattle.ppc_text.specs.Listed.{is_name as is_name_ppc}
-use Rattle.ppc_text.specs.Assembly.{Gives as GivesPpc}
-use Rattle.ppc_text.specs.declared.assembler.AsmError.{AsmError as ErrorPpc}
-use Rattle.ppc_text.specs.declared.assembler.AsmError.TheVariants.{Name as NamePpc, Operands as OperandsPpc}
+use Rattle.asm_ppc.specs.Assembly.{Gives as GivesPpc}
+use Rattle.asm_ppc.specs.declared.assembler.AsmError.{AsmError as ErrorPpc}
+use Rattle.asm_ppc.specs.declared.assembler.AsmError.TheVariants.{Name as NamePpc, Operands as OperandsPpc}
 use Rattle.mix_text.specs.Lines.{address_in, is_silent}
-use Rattle.mix_text.specs.Assembling.{Is68k, IsAddressed, IsGiven, IsInstruction, IsPpc, long_bytes, word_bytes}
-use Rattle.mix_text.specs.Parts.{GivesBytes, SpellsBytes, reason_68k, reason_ppc}
+use Rattle.mix_text.specs.Assembling.{IsM68, IsAddressed, IsGiven, IsInstruction, IsPpc, long_bytes, word_bytes}
+use Rattle.mix_text.specs.inner.Parts.{GivesBytes, SpellsBytes, reason_m68, reason_ppc}
 use Rattle.mix_text.specs.declared.refused.Reason.{Reason}
 use Rattle.mix_text.specs.declared.refused.Reason.TheVariants.{Address}
 
 -- what the clauses of an assembler say of one line
-abbrev pub Words68k : List ℕ → ℕ → Result Code68 Error68k → Type 0
-Words68k line at r = (ws : List ℕ) → (answer r ≡ Ok ws) ↔ Gives68k line at ws
+abbrev pub WordsM68 : List ℕ → ℕ → Result Code68 ErrorM68 → Type 0
+WordsM68 line at r = (ws : List ℕ) → (answer r ≡ Ok ws) ↔ GivesM68 line at ws
 
-abbrev pub Name68kIs : List ℕ → Result Code68 Error68k → Type 0
-Name68kIs line r = (r ≡ Err Name68k) ↔ (is_name_68k (name_of line) ≡ false)
+abbrev pub NameM68Is : List ℕ → Result Code68 ErrorM68 → Type 0
+NameM68Is line r = (r ≡ Err NameM68) ↔ (is_name_m68 (name_of line) ≡ false)
 
-abbrev pub Operands68kAre : List ℕ → ℕ → Result Code68 Error68k → Type 0
-Operands68kAre line at r = (r ≡ Err Operands68k) ↔ ((is_name_68k (name_of line) ≡ true) × ((ws : List ℕ) → Gives68k line at ws → ⊥))
+abbrev pub OperandsM68Are : List ℕ → ℕ → Result Code68 ErrorM68 → Type 0
+OperandsM68Are line at r = (r ≡ Err OperandsM68) ↔ ((is_name_m68 (name_of line) ≡ true) × ((ws : List ℕ) → GivesM68 line at ws → ⊥))
 
-pub words-68k : (line : List ℕ) (at : ℕ) (code : Code68) (bytes : List ℕ) → Words68k line at (Ok code) → bytes ≡ word_bytes (kept code) → Is68k line at (Ok bytes)
+pub words-68k : (line : List ℕ) (at : ℕ) (code : Code68) (bytes : List ℕ) → WordsM68 line at (Ok code) → bytes ≡ word_bytes (kept code) → IsM68 line at (Ok bytes)
 words-68k line at code bytes words is = (kept code, (words (kept code)).0 refl, is)
 
-is-refused : (line : List ℕ) (at : ℕ) (e : Error68k) → Name68kIs line (Err e) → Operands68kAre line at (Err e) → Is68k line at (Err (reason_68k e))
-is-refused line at Name68k named operands = named.0 refl
-is-refused line at Operands68k named operands = operands.0 refl
+is-refused : (line : List ℕ) (at : ℕ) (e : ErrorM68) → NameM68Is line (Err e) → OperandsM68Are line at (Err e) → IsM68 line at (Err (reason_m68 e))
+is-refused line at NameM68 named operands = named.0 refl
+is-refused line at OperandsM68 named operands = operands.0 refl
 
-pub refused-68k : (line : List ℕ) (at : ℕ) (e : Error68k) (reason : Reason) → Name68kIs line (Err e) → Operands68kAre line at (Err e) → reason ≡ reason_68k e → Is68k line at (Err reason)
-refused-68k line at e reason named operands is = subst (λ x. Is68k line at (Err x)) (sym is) (is-refused line at e named operands)
+pub refused-68k : (line : List ℕ) (at : ℕ) (e : ErrorM68) (reason : Reason) → NameM68Is line (Err e) → OperandsM68Are line at (Err e) → reason ≡ reason_m68 e → IsM68 line at (Err reason)
+refused-68k line at e reason named operands is = subst (λ x. IsM68 line at (Err x)) (sym is) (is-refused line at e named operands)
 
 -- the same of PowerPC code
 abbrev pub WordPpc : List ℕ → ℕ → Result ℕ ErrorPpc → Type 0

@@ -13,18 +13,18 @@ use Rattle.big_memory.specs.Numbers.{AreBytes}
 use Rattle.m68_isa.specs.Decode.{decoded}
 use Rattle.m68_isa.specs.declared.instructions.Decoded68.{Decoded68}
 use Rattle.m68_isa.specs.declared.instructions.Decoded68.TheVariants.{Op, LineA, LineF, Privileged, Illegal, Short}
-use Rattle.m68_effects.specs.Words.{words_at}
-use Rattle.m68_text.specs.Laws.{NamesAreListed}
+use Rattle.m68_ea.specs.Words.{words_at}
+use Rattle.m68_text.specs.laws.Laws.{NamesAreListed}
 use Rattle.m68_text.specs.Text.{text_of}
-use Rattle.mix_text.specs.SpellingLaws.{AreWords}
-use Rattle.mix_text.specs.Assembly.{count_of}
-use Rattle.mix_text.proofs.Prefix.{none_missing}
-use Rattle.mix_text.proofs.TakenBack.{first_given}
+use Rattle.asm_m68.specs.Assembly.{AreWords}
+use Rattle.asm_m68.specs.laws.Assembly.{count_of}
+use Rattle.asm_m68.proofs.Prefix.{none_missing}
+use Rattle.asm_m68.proofs.TakenBack.{first_given}
 use Rattle.ppc_text.specs.Text.{word_text}
-use Rattle.mix_text.specs.Listing.{Listed, bytes_68k, instruction, listed_ppc, listed_as}
+use Rattle.mix_text.specs.Listing.{Listed, bytes_m68, instruction, listed_ppc, listed_as}
 use Rattle.mix_text.specs.Assembling.{IsInstruction}
 use Rattle.mix_text.proofs.Bytes.{AreBytesOf, IsLong, is_long, words_are, words_back}
-use Rattle.mix_text.proofs.OneLines.{OneLine, text_line_68k, word_line}
+use Rattle.mix_text.proofs.OneLines.{OneLine, text_line_m68, word_line}
 
 -- an instruction whose text gives its bytes of memory
 pub record Gives (set : Isa) (m : Memory) (at : ℕ) (i : Listed) : Type 0 where
@@ -61,7 +61,7 @@ record Lists (ws : List ℕ) (at : ℕ) (i : Listed) : Type 0 where
   whole : decoded ws ≢ Short
   is : listed_as (text_of (decoded ws) ws at) (2 * count_of (decoded ws)) ≡ i
 
-lists_by : (d : Decoded68) (ws : List ℕ) (at : ℕ) (i : Listed) → decoded ws ≡ d → d ≢ Short → bytes_68k d ≡ Some (2 * count_of d) → option_map (listed_as (text_of d ws at)) (bytes_68k d) ≡ Some i → Lists ws at i
+lists_by : (d : Decoded68) (ws : List ℕ) (at : ℕ) (i : Listed) → decoded ws ≡ d → d ≢ Short → bytes_m68 d ≡ Some (2 * count_of d) → option_map (listed_as (text_of d ws at)) (bytes_m68 d) ≡ Some i → Lists ws at i
 lists_by d ws at i is whole bytes h =
     let made : Some (listed_as (text_of d ws at) (2 * count_of d)) ≡ Some i = sym (ap (option_map (listed_as (text_of d ws at))) bytes) ∙ h in
     let one : listed_as (text_of d ws at) (2 * count_of d) ≡ i = cc in
@@ -70,7 +70,7 @@ lists_by d ws at i is whole bytes h =
       is = ap (λ x. listed_as (text_of x ws at) (2 * count_of x)) is ∙ one;
     }
 
-lists : (d : Decoded68) (ws : List ℕ) (at : ℕ) (i : Listed) → decoded ws ≡ d → option_map (listed_as (text_of d ws at)) (bytes_68k d) ≡ Some i → Lists ws at i
+lists : (d : Decoded68) (ws : List ℕ) (at : ℕ) (i : Listed) → decoded ws ≡ d → option_map (listed_as (text_of d ws at)) (bytes_m68 d) ≡ Some i → Lists ws at i
 lists (Op j used) ws at i is h = lists_by (Op j used) ws at i is (λ e. cc) refl h
 lists (LineA w) ws at i is h = lists_by (LineA w) ws at i is (λ e. cc) refl h
 lists LineF ws at i is h = lists_by LineF ws at i is (λ e. cc) refl h
@@ -80,7 +80,7 @@ lists Short ws at i is h = cc
 
 text_one_line : NamesAreListed → (ws : List ℕ) (at : ℕ) → AreWords ws → decoded ws ≢ Short → OneLine (text_of (decoded ws) ws at)
 text_one_line names [] at are whole = absurd (whole refl)
-text_one_line names (w ∷ ws) at are whole = text_line_68k names (decoded (w ∷ ws)) w at ws are.0 refl
+text_one_line names (w ∷ ws) at are whole = text_line_m68 names (decoded (w ∷ ws)) w at ws are.0 refl
 
 double : (n : ℕ) → 0 < 2 * n → 0 < n
 double n some = omega (arith, some)

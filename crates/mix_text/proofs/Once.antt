@@ -5,15 +5,15 @@ use Rattle.mix_bits.specs.Addresses.{onward}
 use Rattle.mix_bits.specs.declared.isa.Isa.{Isa}
 use Rattle.mix_bits.specs.declared.isa.Isa.TheVariants.{M68, Ppc}
 use Rattle.mix_bits.specs.Names.{name_of}
-use Rattle.m68_text.specs.Listed.{is_name as is_name_68k}
-use Rattle.mix_text.specs.Assembly.{Gives as Gives68k}
-use Rattle.mix_text.proofs.Complete.{given_named as named_68k, gives_one as one_68k}
+use Rattle.m68_text.specs.Listed.{is_name as is_name_m68}
+use Rattle.asm_m68.specs.Assembly.{Gives as GivesM68}
+use Rattle.asm_m68.proofs.Complete.{given_named as named_m68, gives_one as one_m68}
 use Rattle.ppc_text.specs.Listed.{is_name as is_name_ppc}
-use Rattle.ppc_text.specs.Assembly.{Gives as GivesPpc}
-use Rattle.ppc_text.proofs.Complete.{given_named as named_ppc, gives_one as one_ppc}
+use Rattle.asm_ppc.specs.Assembly.{Gives as GivesPpc}
+use Rattle.asm_ppc.proofs.Complete.{given_named as named_ppc, gives_one as one_ppc}
 use Rattle.mix_text.specs.Lines.{address_in, is_silent, lines_of}
 use Rattle.mix_text.specs.Assembling.{Assembles, IsAddressed, IsAnswer, IsGiven, IsInstruction, IsWithRest, before, long_bytes, refused_at, word_bytes}
-use Rattle.mix_text.specs.Laws.{AnswersOnce}
+use Rattle.mix_text.specs.laws.Laws.{AnswersOnce}
 use Rattle.mix_text.specs.declared.refused.Reason.{Reason}
 use Rattle.mix_text.specs.declared.refused.Reason.TheVariants.{Address, Name, Operands}
 use Rattle.mix_text.specs.declared.refused.Refused.{Refused}
@@ -41,7 +41,7 @@ one_answer {X} Gives bytes_of known one named (Err Operands) (Err Name) a b = no
 one_answer {X} Gives bytes_of known one named (Err Operands) (Err Operands) a b = refl
 
 one_instruction : (set : Isa) (line : List ℕ) (at : ℕ) → at < 2 ^ 32 → IsOne (IsInstruction set line at)
-one_instruction M68 line at fits = one_answer (Gives68k line at) word_bytes (is_name_68k (name_of line)) (λ vs ws. one_68k line at vs ws fits) (λ ws. named_68k line at ws fits)
+one_instruction M68 line at fits = one_answer (GivesM68 line at) word_bytes (is_name_m68 (name_of line)) (λ vs ws. one_m68 line at vs ws fits) (λ ws. named_m68 line at ws fits)
 one_instruction Ppc line at fits = one_answer (GivesPpc line at) long_bytes (is_name_ppc (name_of line)) (λ v w. one_ppc line at v w fits) (λ w. named_ppc line at w fits)
 
 -- of two ways, by a test

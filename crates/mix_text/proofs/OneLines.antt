@@ -16,11 +16,11 @@ use Rattle.m68_isa.specs.declared.instructions.Decoded68.TheVariants.{Op, LineA,
 use Rattle.m68_isa.specs.Decode.{decoded}
 use Rattle.m68_text.specs.declared.operand.Operand.{Operand as Operand68}
 use Rattle.m68_text.specs.declared.operand.Operand.TheVariants.{Data, Pair, Address, Indirect, PostIncrement, PreDecrement, Displaced, Indexed, ShortAddress, LongAddress, PcDisplaced, PcIndexed, Byte, Word, Long, Number, ConditionCodes, StatusRegister, Target}
-use Rattle.m68_text.specs.Laws.{NamesAreListed}
-use Rattle.m68_text.specs.Listed.{conditions as conditions_68k, names as names_68k, plain_names as plain_68k, stems as stems_68k, tested as tested_68k, wide_stems as wide_68k}
-use Rattle.m68_text.specs.Names.{name as name_68k}
-use Rattle.m68_text.specs.Operands.{address_register, data_register, hex, index_text, indirect, operand_text as text_68k, operands as operands_68k, operands_text as operands_text_68k, scale_text}
-use Rattle.m68_text.specs.Text.{text_of as text_of_68k}
+use Rattle.m68_text.specs.laws.Laws.{NamesAreListed}
+use Rattle.m68_text.specs.Listed.{conditions as conditions_m68, names as names_m68, plain_names as plain_m68, stems as stems_m68, tested as tested_m68, wide_stems as wide_m68}
+use Rattle.m68_text.specs.Names.{name as name_m68}
+use Rattle.m68_text.specs.Operands.{address_register, data_register, hex, index_text, indirect, operand_text as text_m68, operands as operands_m68, operands_text as operands_text_m68, scale_text}
+use Rattle.m68_text.specs.Text.{text_of as text_of_m68}
 use Rattle.ppc_isa.specs.declared.instruction.InstrPpc.{InstrPpc}
 use Rattle.ppc_isa.specs.Rows.{decoded as decoded_ppc}
 use Rattle.ppc_text.specs.declared.operand.Operand.{Operand as OperandPpc}
@@ -119,30 +119,30 @@ index_line i =
     join (join (choose_line i.address _ _ (address_line i.reg) (data_line i.reg)) (choose_line i.long _ _ (lit (codes ".l") refl) (lit (codes ".w") refl)))
     (scale_line i.scale)
 
-line_68k : (o : Operand68) → OneLine (text_68k o)
-line_68k (Data n) = data_line n
-line_68k (Pair high low) = join (join (data_line high) (lit (codes ":") refl)) (data_line low)
-line_68k (Address n) = address_line n
-line_68k (Indirect n) = indirect_line n
-line_68k (PostIncrement n) = join (indirect_line n) (lit (codes "+") refl)
-line_68k (PreDecrement n) = join (lit (codes "-") refl) (indirect_line n)
-line_68k (Displaced n d) = join (dollar_line 4 d) (indirect_line n)
-line_68k (Indexed n i) = join (join (join (join (join (dollar_line 2 i.disp) (lit (codes "(") refl)) (address_line n)) (lit (codes ",") refl)) (index_line i)) (lit (codes ")") refl)
-line_68k (ShortAddress a) = join (dollar_line 4 a) (lit (codes ".w") refl)
-line_68k (LongAddress a) = join (dollar_line 8 a) (lit (codes ".l") refl)
-line_68k (PcDisplaced d) = join (dollar_line 4 d) (lit (codes "(pc)") refl)
-line_68k (PcIndexed i) = join (join (join (dollar_line 2 i.disp) (lit (codes "(pc,") refl)) (index_line i)) (lit (codes ")") refl)
-line_68k (Byte v) = join (lit (codes "#") refl) (dollar_line 2 v)
-line_68k (Word v) = join (lit (codes "#") refl) (dollar_line 4 v)
-line_68k (Long v) = join (lit (codes "#") refl) (dollar_line 8 v)
-line_68k (Number n) = join (lit (codes "#") refl) (decimal_line n)
-line_68k ConditionCodes = lit (codes "ccr") refl
-line_68k StatusRegister = lit (codes "sr") refl
-line_68k (Target a) = dollar_line 8 a
+line_m68 : (o : Operand68) → OneLine (text_m68 o)
+line_m68 (Data n) = data_line n
+line_m68 (Pair high low) = join (join (data_line high) (lit (codes ":") refl)) (data_line low)
+line_m68 (Address n) = address_line n
+line_m68 (Indirect n) = indirect_line n
+line_m68 (PostIncrement n) = join (indirect_line n) (lit (codes "+") refl)
+line_m68 (PreDecrement n) = join (lit (codes "-") refl) (indirect_line n)
+line_m68 (Displaced n d) = join (dollar_line 4 d) (indirect_line n)
+line_m68 (Indexed n i) = join (join (join (join (join (dollar_line 2 i.disp) (lit (codes "(") refl)) (address_line n)) (lit (codes ",") refl)) (index_line i)) (lit (codes ")") refl)
+line_m68 (ShortAddress a) = join (dollar_line 4 a) (lit (codes ".w") refl)
+line_m68 (LongAddress a) = join (dollar_line 8 a) (lit (codes ".l") refl)
+line_m68 (PcDisplaced d) = join (dollar_line 4 d) (lit (codes "(pc)") refl)
+line_m68 (PcIndexed i) = join (join (join (dollar_line 2 i.disp) (lit (codes "(pc,") refl)) (index_line i)) (lit (codes ")") refl)
+line_m68 (Byte v) = join (lit (codes "#") refl) (dollar_line 2 v)
+line_m68 (Word v) = join (lit (codes "#") refl) (dollar_line 4 v)
+line_m68 (Long v) = join (lit (codes "#") refl) (dollar_line 8 v)
+line_m68 (Number n) = join (lit (codes "#") refl) (decimal_line n)
+line_m68 ConditionCodes = lit (codes "ccr") refl
+line_m68 StatusRegister = lit (codes "sr") refl
+line_m68 (Target a) = dollar_line 8 a
 
-operands_line_68k : (os : List Operand68) → OneLine (operands_text_68k os)
-operands_line_68k [] = lit [] refl
-operands_line_68k (o ∷ os) = join (lit (codes " ") refl) (joined_line text_68k line_68k (o ∷ os))
+operands_line_m68 : (os : List Operand68) → OneLine (operands_text_m68 os)
+operands_line_m68 [] = lit [] refl
+operands_line_m68 (o ∷ os) = join (lit (codes " ") refl) (joined_line text_m68 line_m68 (o ∷ os))
 
 register_line : (n : ℕ) → OneLine (register_text n)
 register_line n = join (lit (codes "r") refl) (decimal_line n)
@@ -171,9 +171,9 @@ listed_line (m ∷ ns) n all h =
     let rest : list_any (λ k. bytes_eq k n) ns ≡ true → OneLine n = listed_line ns n parts.1 in
     elim (or_cases (bytes_eq m n) (list_any (λ k. bytes_eq k n) ns) h) [ inl here ↦ subst OneLine ((bytes_eq-Decides m n).0 here) (lit m parts.0) | inr there ↦ rest there ]
 
-names_are_68k : are_lines names_68k ≡ true
-unfolding names_68k stems_68k wide_68k plain_68k tested_68k conditions_68k
-names_are_68k = refl
+names_are_m68 : are_lines names_m68 ≡ true
+unfolding names_m68 stems_m68 wide_m68 plain_m68 tested_m68 conditions_m68
+names_are_m68 = refl
 
 names_are_ppc : are_lines names_ppc ≡ true
 unfolding names_ppc shapes
@@ -181,13 +181,13 @@ names_are_ppc = refl
 
 -- Texts.
 
-pub text_line_68k : NamesAreListed → (d : Decoded68) (w at : ℕ) (ws : List ℕ) → w < 2 ^ 16 → decoded (w ∷ ws) ≡ d → OneLine (text_of_68k d (w ∷ ws) at)
-text_line_68k names (Op i used) w at ws below is = join (listed_line names_68k (name_68k i used) names_are_68k (names w ws i used below is)) (operands_line_68k (operands_68k i (w ∷ ws) at))
-text_line_68k names (LineA v) w at ws below is = join (lit (codes "dc.w ") refl) (dollar_line 4 w)
-text_line_68k names LineF w at ws below is = join (lit (codes "dc.w ") refl) (dollar_line 4 w)
-text_line_68k names Privileged w at ws below is = join (lit (codes "dc.w ") refl) (dollar_line 4 w)
-text_line_68k names Illegal w at ws below is = join (lit (codes "dc.w ") refl) (dollar_line 4 w)
-text_line_68k names Short w at ws below is = join (lit (codes "dc.w ") refl) (dollar_line 4 w)
+pub text_line_m68 : NamesAreListed → (d : Decoded68) (w at : ℕ) (ws : List ℕ) → w < 2 ^ 16 → decoded (w ∷ ws) ≡ d → OneLine (text_of_m68 d (w ∷ ws) at)
+text_line_m68 names (Op i used) w at ws below is = join (listed_line names_m68 (name_m68 i used) names_are_m68 (names w ws i used below is)) (operands_line_m68 (operands_m68 i (w ∷ ws) at))
+text_line_m68 names (LineA v) w at ws below is = join (lit (codes "dc.w ") refl) (dollar_line 4 w)
+text_line_m68 names LineF w at ws below is = join (lit (codes "dc.w ") refl) (dollar_line 4 w)
+text_line_m68 names Privileged w at ws below is = join (lit (codes "dc.w ") refl) (dollar_line 4 w)
+text_line_m68 names Illegal w at ws below is = join (lit (codes "dc.w ") refl) (dollar_line 4 w)
+text_line_m68 names Short w at ws below is = join (lit (codes "dc.w ") refl) (dollar_line 4 w)
 
 text_line_ppc : (o : Option InstrPpc) (word at : ℕ) → OneLine (text_of_ppc o word at)
 text_line_ppc (Some i) word at = join (listed_line names_ppc (name_ppc i) names_are_ppc (names_listed i)) (operands_line_ppc (operands_ppc i at))

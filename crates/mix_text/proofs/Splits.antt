@@ -2,7 +2,7 @@
 use Rattle.std.proofs.Common.{◌≡◌, ℕ, suc, ◌<◌, ◌==◌, Bool, true, false, List, [], ◌∷◌, length, take, drop, if◌then◌else◌, arith, ap, refl}
 use Rattle.std.proofs.lemmas.List.{length-drop}
 use Rattle.mix_text.specs.Lines.{lines_of, with_byte}
-use Rattle.mix_text.specs.Parts.{behind_line, first_line, line_length}
+use Rattle.mix_text.specs.inner.Parts.{behind_line, first_line, line_length}
 
 by-feed : (b : Bool) (byte : ℕ) (text : List ℕ) → (0 < length text → lines_of text ≡ first_line text ∷ lines_of (behind_line text))
     → (if b then [] ∷ lines_of text else with_byte byte (lines_of text))

@@ -1,13 +1,13 @@
--- What a text of lines assembles to.
+-- What a text of lines assembles to, line by line: its bytes, or the first line that is refused (this project's own).
 use Rattle.std.specs.Prelude.{ℕ, ◌≡◌, ◌+◌, ◌/◌, ◌%◌, ◌==◌, List, [], ◌∷◌, ◌++◌, length, drop, Bool, true, false, MatchBool, Option, Some, None, Result, Ok, Err}
 use Rattle.mix_bits.specs.Addresses.{onward}
 use Rattle.mix_bits.specs.declared.isa.Isa.{Isa}
 use Rattle.mix_bits.specs.declared.isa.Isa.TheVariants.{M68, Ppc}
 use Rattle.mix_bits.specs.Names.{name_of}
-use Rattle.m68_text.specs.Listed.{is_name as is_name_68k}
-use Rattle.mix_text.specs.Assembly.{Gives as Gives68k}
+use Rattle.m68_text.specs.Listed.{is_name as is_name_m68}
+use Rattle.asm_m68.specs.Assembly.{Gives as GivesM68}
 use Rattle.ppc_text.specs.Listed.{is_name as is_name_ppc}
-use Rattle.ppc_text.specs.Assembly.{Gives as GivesPpc}
+use Rattle.asm_ppc.specs.Assembly.{Gives as GivesPpc}
 use Rattle.mix_text.specs.Lines.{address_in, is_silent, lines_of}
 use Rattle.mix_text.specs.declared.refused.Reason.{Reason}
 use Rattle.mix_text.specs.declared.refused.Reason.TheVariants.{Address, Name, Operands}
@@ -30,15 +30,15 @@ IsAnswer {X = X} Gives bytes_of known (Err Name) = known ≡ false
 IsAnswer {X = X} Gives bytes_of known (Err Operands) = (known ≡ true) × ((code : X) → ¬ Gives code)
 
 -- a line of 68K code stands for the words whose text at an address it is
-abbrev pub Is68k : List ℕ → ℕ → Result (List ℕ) Reason → Type 0
-Is68k line at given = IsAnswer (Gives68k line at) word_bytes (is_name_68k (name_of line)) given
+abbrev pub IsM68 : List ℕ → ℕ → Result (List ℕ) Reason → Type 0
+IsM68 line at given = IsAnswer (GivesM68 line at) word_bytes (is_name_m68 (name_of line)) given
 
 -- a line of PowerPC code, the same of its word
 abbrev pub IsPpc : List ℕ → ℕ → Result (List ℕ) Reason → Type 0
 IsPpc line at given = IsAnswer (GivesPpc line at) long_bytes (is_name_ppc (name_of line)) given
 
 abbrev pub IsInstruction : Isa → List ℕ → ℕ → Result (List ℕ) Reason → Type 0
-IsInstruction M68 line at given = Is68k line at given
+IsInstruction M68 line at given = IsM68 line at given
 IsInstruction Ppc line at given = IsPpc line at given
 
 -- an address in front has to be the line's
@@ -74,7 +74,3 @@ Assembles set number at (line ∷ lines) all =
 -- the bytes of a text, whose first line stands at an address and has the number 1
 abbrev pub IsAssembled : Isa → ℕ → List ℕ → Result (List ℕ) Refused → Type 0
 IsAssembled set at text all = Assembles set 1 at (lines_of text) all
-
--- no line is refused
-abbrev pub HasBytes : Isa → ℕ → List ℕ → Type 0
-HasBytes set at text = (bytes : List ℕ) × IsAssembled set at text (Ok bytes)

@@ -1,13 +1,5 @@
-pub mod Listing
-pub mod ListingParts
-pub mod Lines
 pub mod Assembling
-pub mod Parts
-pub mod Laws
-pub mod Assembly
-pub mod AssemblerLaws
-pub mod Code
-pub mod Reading
-pub mod Operands
-pub mod Spelling
-pub mod SpellingLaws
+pub mod Lines
+pub mod Listing
+pub mod laws
+pub mod inner

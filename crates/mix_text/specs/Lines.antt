@@ -1,4 +1,4 @@
--- The lines of a text.
+-- The lines of a text, and the address in front of a line (this project's own).
 use Rattle.std.specs.Prelude.{ℕ, ◌==◌, ◌&&◌, nat_le, Bool, true, List, [], ◌∷◌, length, take, slice_index, if◌then◌else◌, Option, None}
 use Rattle.mix_bits.specs.Numbers.{hexadecimal_number}
 

@@ -1,4 +1,4 @@
--- The listing of a program: a line for each instruction.
+-- The listing of a program: a line for each instruction (this project's own).
 use Rattle.std.specs.Prelude.{ℕ, zero, suc, ◌*◌, List, [], ◌++◌, codes, Option, Some, None, Result, Ok, Err}
 use Rattle.std.specs.Option.{option_map}
 use Rattle.mix_bits.specs.Addresses.{onward}
@@ -11,7 +11,7 @@ use Rattle.big_memory.specs.Memory.{Memory, loaded}
 use Rattle.m68_isa.specs.Decode.{decoded}
 use Rattle.m68_isa.specs.declared.instructions.Decoded68.{Decoded68}
 use Rattle.m68_isa.specs.declared.instructions.Decoded68.TheVariants.{Op, LineA, LineF, Privileged, Illegal, Short}
-use Rattle.m68_effects.specs.Words.{words_at}
+use Rattle.m68_ea.specs.Words.{words_at}
 use Rattle.m68_text.specs.Text.{text_of}
 use Rattle.ppc_text.specs.Text.{word_text}
 
@@ -25,16 +25,16 @@ listed_as text bytes = record { text = text; bytes = bytes }
 
 -- how many bytes a 68K instruction has, of which no word is missing; a word that is no instruction of a program stands
 -- alone
-abbrev pub bytes_68k : Decoded68 → Option ℕ
-bytes_68k (Op i used) = Some (2 * used)
-bytes_68k (LineA word) = Some 2
-bytes_68k LineF = Some 2
-bytes_68k Privileged = Some 2
-bytes_68k Illegal = Some 2
-bytes_68k Short = None
+abbrev pub bytes_m68 : Decoded68 → Option ℕ
+bytes_m68 (Op i used) = Some (2 * used)
+bytes_m68 (LineA word) = Some 2
+bytes_m68 LineF = Some 2
+bytes_m68 Privileged = Some 2
+bytes_m68 Illegal = Some 2
+bytes_m68 Short = None
 
-abbrev pub listed_68k : List ℕ → ℕ → Option Listed
-listed_68k ws at = option_map (listed_as (text_of (decoded ws) ws at)) (bytes_68k (decoded ws))
+abbrev pub listed_m68 : List ℕ → ℕ → Option Listed
+listed_m68 ws at = option_map (listed_as (text_of (decoded ws) ws at)) (bytes_m68 (decoded ws))
 
 -- PowerPC code: a word each
 abbrev pub listed_ppc : Result ℕ Access → ℕ → Option Listed
@@ -43,7 +43,7 @@ listed_ppc (Err e) at = None
 
 -- the instruction of a set at an address, if it lies whole in memory
 unfoldable pub instruction : Isa → Memory → ℕ → Option Listed
-instruction M68 m at = listed_68k (words_at m at) at
+instruction M68 m at = listed_m68 (words_at m at) at
 instruction Ppc m at = listed_ppc (loaded m at Four) at
 
 -- `ADDRESS: TEXT`

@@ -3,12 +3,12 @@ ghost use Rattle.std.specs.Prelude.{◌≡◌, ◌≤◌, ℕ, [], length};
 ghost use Rattle.mix_bits.specs.declared.size.Size.TheVariants.{Four};
 ghost use Rattle.big_memory.specs.Memory.{loaded};
 ghost use Rattle.m68_isa.specs.Fields.{HasWords};
-ghost use Rattle.m68_effects.specs.Words.{words_at};
-ghost use Rattle.mix_text.specs.Listing.{bytes_68k, instruction, listed_68k, listed_ppc};
-ghost use Rattle.mix_text.specs.ListingParts.{Writes};
+ghost use Rattle.m68_ea.specs.Words.{words_at};
+ghost use Rattle.mix_text.specs.Listing.{bytes_m68, instruction, listed_m68, listed_ppc};
+ghost use Rattle.mix_text.specs.inner.ListingParts.{Writes};
 
 use big_memory::Ram;
-use m68_effects::read_words;
+use m68_ea::read_words;
 use m68_isa::{Decoded68, decode68};
 use m68_text::text68;
 use mix_bits::{Isa, Line};
@@ -26,15 +26,15 @@ pub fn write_instruction(ram: &Ram, set: Isa, at: u32, text: &mut Line) -> Optio
     ensures short { length text.new ≤ 84 }
 {
     match set {
-        Isa::M68 => write_68k(ram, at, text),
+        Isa::M68 => write_m68(ram, at, text),
         Isa::Ppc => write_word(ram, at, text),
     }
 }
 
 /// The same of 68K code, whose words are read up to the first one that does not lie in memory.
-fn write_68k(ram: &Ram, at: u32, text: &mut Line) -> Option<u32>
+fn write_m68(ram: &Ram, at: u32, text: &mut Line) -> Option<u32>
     requires { text.old ≡ [] }
-    ensures is { Writes (listed_68k (words_at ram.now at) at) result text.new }
+    ensures is { Writes (listed_m68 (words_at ram.now at) at) result text.new }
     ensures short { length text.new ≤ 84 }
 {
     let mut words = [0; MOST_WORDS];
@@ -46,7 +46,7 @@ fn write_68k(ram: &Ram, at: u32, text: &mut Line) -> Option<u32>
 /// word of it is missing.
 pub fn write_words(words: &[u16], at: u32, text: &mut Line) -> Option<u32>
     requires { text.old ≡ [] }
-    ensures is { Writes (listed_68k words.now at) result text.new }
+    ensures is { Writes (listed_m68 words.now at) result text.new }
     ensures short { length text.new ≤ 84 }
 {
     let decoded = decode68(words);
@@ -60,7 +60,7 @@ pub fn write_words(words: &[u16], at: u32, text: &mut Line) -> Option<u32>
 /// How many bytes a 68K instruction has, or None where a word of it is missing.
 fn bytes_of(decoded: Decoded68) -> Option<u32>
     requires { (count : ℕ) × HasWords decoded count }
-    ensures { result ≡ bytes_68k decoded }
+    ensures { result ≡ bytes_m68 decoded }
 {
     match decoded {
         Decoded68::Op(_, used) => Some(2 * used),

@@ -1,4 +1,4 @@
-ghost use Rattle.mix_text.specs.Laws.{AnswersOnce, ListingsComeBack};
+ghost use Rattle.mix_text.specs.laws.Laws.{AnswersOnce, ListingsComeBack};
 
 /// What holds of texts and of listings. It does nothing: the clauses are its point.
 pub fn assembly_laws()

@@ -1,14 +1,14 @@
 // The bytes of one line.
 ghost use Rattle.std.specs.Prelude.{◌≡◌, ◌≤◌, Ok, Err, IfErr, IfOk, length};
 ghost use Rattle.mix_text.specs.Assembling.{IsGiven, IsInstruction, long_bytes, word_bytes as word_bytes_of};
-ghost use Rattle.mix_text.specs.Parts.{GivesBytes, SpellsBytes, reason_68k as reason_68k_of, reason_ppc as reason_ppc_of};
+ghost use Rattle.mix_text.specs.inner.Parts.{GivesBytes, SpellsBytes, reason_m68 as reason_m68_of, reason_ppc as reason_ppc_of};
 
-use super::assembler::{AsmError as Error68k, assemble68, known68};
 use super::lines::{address_in, is_silent};
 use super::refused::Reason;
 use arrayvec::ArrayVec;
+use asm_m68::{AsmError as ErrorM68, assemble68, known68};
+use asm_ppc::{AsmError as ErrorPpc, assemble_ppc, known_ppc};
 use mix_bits::Isa;
-use ppc_text::{AsmError as ErrorPpc, assemble_ppc, known_ppc};
 
 /// How many bytes an instruction has at most.
 const MOST_BYTES: usize = 10;
@@ -44,7 +44,7 @@ fn assemble_instruction(set: Isa, line: &[u8], at: u32) -> Result<Bytes, Reason>
     match set {
         Isa::M68 => match assemble68(line, at) {
             Ok(code) => Ok(bytes_of(&code.words[..code.count as usize])),
-            Err(error) => Err(reason_68k(error)),
+            Err(error) => Err(reason_m68(error)),
         },
         Isa::Ppc => match assemble_ppc(line, at) {
             Ok(word) => Ok(bytes_of_long(word)),
@@ -82,12 +82,12 @@ fn known_instruction(set: Isa, line: &[u8], at: u32) -> Bytes
 }
 
 /// Why a 68K line is refused.
-fn reason_68k(error: Error68k) -> Reason
-    ensures { result ≡ reason_68k_of error }
+fn reason_m68(error: ErrorM68) -> Reason
+    ensures { result ≡ reason_m68_of error }
 {
     match error {
-        Error68k::Name => Reason::Name,
-        Error68k::Operands => Reason::Operands,
+        ErrorM68::Name => Reason::Name,
+        ErrorM68::Operands => Reason::Operands,
     }
 }
 

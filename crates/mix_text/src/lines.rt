@@ -1,7 +1,7 @@
 // The lines of a text, and the parts of a line.
 ghost use Rattle.std.specs.Prelude.{◌≡◌, ◌≤◌, length};
 ghost use Rattle.mix_text.specs.Lines.{address_in as address_of, has_colon as has_colon_of, is_silent as is_silent_of};
-ghost use Rattle.mix_text.specs.Parts.{behind_line, first_line, line_length as line_length_of};
+ghost use Rattle.mix_text.specs.inner.Parts.{behind_line, first_line, line_length as line_length_of};
 
 use mix_bits::read_hexadecimal;
 

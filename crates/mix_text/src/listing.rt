@@ -1,5 +1,6 @@
-ghost use Rattle.std.specs.Prelude.{◌≡◌, ◌+◌, ◌≤◌, ◌++◌, [], OnErr, OnOk, length};
-ghost use Rattle.mix_io.specs.Streams.{Breaks, Grows, StopsWithin, output};
+ghost use Rattle.std.specs.Prelude.{◌≡◌, ◌≤◌, [], OnErr, OnOk, length};
+ghost use Rattle.mix_io.specs.Streams.{Breaks, Grows, StopsWithin};
+ghost use Rattle.mix_io.specs.StreamsClauses.{output};
 ghost use Rattle.mix_text.specs.Listing.{line_at, listing};
 
 use super::instruction::write_instruction;

@@ -1,8 +1,10 @@
 // The bytes of a text.
-ghost use Rattle.std.specs.Prelude.{◌≡◌, ◌^◌, ◌+◌, ◌<◌, ◌≤◌, ◌++◌, [], Err, IfErr, OnErr, OnOk, length};
-ghost use Rattle.mix_io.specs.Streams.{Breaks, Grows, StopsWithin, output};
-ghost use Rattle.mix_text.specs.Assembling.{HasBytes, IsAssembled};
-ghost use Rattle.mix_text.specs.Parts.{Adds, OfBytes};
+ghost use Rattle.std.specs.Prelude.{◌^◌, ◌+◌, ◌<◌, ◌≤◌, [], Err, IfErr, OnErr, OnOk, length};
+ghost use Rattle.mix_io.specs.Streams.{Breaks, Grows, StopsWithin};
+ghost use Rattle.mix_io.specs.StreamsClauses.{output};
+ghost use Rattle.mix_text.specs.inner.Assembling.{HasBytes, OfBytes};
+ghost use Rattle.mix_text.specs.Assembling.{IsAssembled};
+ghost use Rattle.mix_text.specs.inner.Parts.{Adds};
 
 use super::line::{assemble_line, known_line};
 use super::lines::split_line;

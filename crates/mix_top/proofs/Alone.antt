@@ -5,15 +5,19 @@ use Rattle.mix_bits.specs.declared.fault.Fault.{Fault}
 use Rattle.mix_io.specs.Counts.{Rose}
 use Rattle.switch_frame.specs.declared.active.Active.{Active}
 use Rattle.switch_frame.specs.Records.{isa_of}
-use Rattle.toolbox.specs.Calls.{Taken, outside}
+use Rattle.toolbox.specs.Calls.{Taken}
+use Rattle.toolbox.specs.CallsClauses.{outside}
 use Rattle.mixed_machine.specs.declared.body.Body.{Body}
 use Rattle.mixed_machine.specs.declared.stop.Stop.{Stop}
 use Rattle.mixed_machine.specs.declared.stop.Stop.TheVariants.{Exit as ExitStop, Fault as FaultStop, Limit as LimitStop}
 use Rattle.mixed_machine.specs.Exec.How.{Exited, Faulted, Limited}
 use Rattle.mixed_machine.specs.Machine.{flat}
-use Rattle.mixed_machine.specs.Outside.{At, TookAll, ToldAll, at}
-use Rattle.mixed_machine.specs.Runs.{Runs, Stops, sinks_of}
-use Rattle.mix_top.specs.Samples.{Steps, nothing}
+use Rattle.mixed_machine.specs.OutsideClauses.{At, at}
+use Rattle.mixed_machine.specs.Outside.{TookAll, ToldAll}
+use Rattle.mixed_machine.specs.RunsClauses.{Runs, sinks_of}
+use Rattle.mixed_machine.specs.Runs.{Stops}
+use Rattle.mix_top.specs.inner.Samples.{Steps}
+use Rattle.mix_top.specs.Samples.{nothing}
 use Rattle.call_trace.specs.declared.end.End.TheVariants.{Exit as ExitEnd, Fault as FaultEnd, Limit as LimitEnd}
 
 -- the machine, with nothing outside

@@ -4,19 +4,20 @@ use Rattle.std.specs.Prelude.{IsSomeAnd, MatchBool}
 use Rattle.mix_bits.specs.declared.isa.Isa.{Isa}
 use Rattle.mix_io.specs.Counts.{CountRose, CountsStay, Rose}
 use Rattle.mix_io.specs.Streams.{Output as Sink, Breaks}
-use Rattle.mix_io.specs.Accounts.{Accounts}
-use Rattle.mix_io.proofs.Steps.{accounts-none}
+use Rattle.dev_rack.specs.Accounts.{Accounts}
+use Rattle.dev_rack.proofs.Steps.{accounts-none}
 use Rattle.toolbox.specs.declared.broken.Broken.{Broken}
 use Rattle.toolbox.specs.declared.broken.Broken.TheVariants.{Input, Output, Trace}
 use Rattle.toolbox.specs.Blames.{BlamesOnly, Counts}
-use Rattle.toolbox.specs.Calls.{counts_beside}
-use Rattle.mixed_machine.specs.Counts.{Blames}
+use Rattle.toolbox.specs.CallsClauses.{counts_beside}
+use Rattle.mixed_machine.specs.CountsClauses.{Blames}
 use Rattle.mixed_machine.specs.declared.stop.Stop.{Stop}
 use Rattle.mixed_machine.specs.declared.stop.Stop.TheVariants.{Exit, Fault, Limit, ReadFault, OutFault, TraceFault}
 use Rattle.mix_engine.specs.declared.machine.Machine.{Machine}
-use Rattle.mix_top.specs.World.{Beside, Keep, Accounted, Closes, Early, EndsIn, OnlyPuts, PutsText, RoseAt, RoseFor}
+use Rattle.mix_top.specs.World.{Beside, Keep, Accounted, Closes, Early, OnlyPuts, PutsText, RoseAt, RoseFor}
+use Rattle.mix_top.specs.inner.World.{EndsIn}
 use Rattle.mix_top.specs.Running.{broken_status}
-use Rattle.mix_top.specs.Parts.{Finishes, Keeps}
+use Rattle.mix_top.specs.inner.Parts.{Finishes, Keeps}
 
 -- a count that stays, where the status is another one; and one that rose, where it is this one
 pub quiet : (n status result old new : ℕ) → (status == n) ≡ false → result ≡ status → new ≡ old → RoseAt n result old new

@@ -7,10 +7,12 @@ use Rattle.switch_frame.specs.declared.active.Active.{Active}
 use Rattle.switch_frame.specs.Records.{isa_of}
 use Rattle.mixed_machine.specs.declared.body.Body.{Body}
 use Rattle.mixed_machine.specs.State.{State}
-use Rattle.mixed_machine.specs.Crossings.{Counting, gives_up_frame, makes_frame}
+use Rattle.mixed_machine.specs.laws.Crossings.{Counting}
+use Rattle.mixed_machine.specs.Crossings.{gives_up_frame, makes_frame}
 use Rattle.mixed_machine.specs.Machine.{callers_of, flat}
 use Rattle.mixed_machine.proofs.Crossings.{count-exits, count-faults, count-goes_on, count-limit}
-use Rattle.mix_top.specs.Samples.{CountedRun, Steps, nothing}
+use Rattle.mix_top.specs.Samples.{CountedRun, nothing}
+use Rattle.mix_top.specs.inner.Samples.{Steps}
 use Rattle.call_trace.specs.declared.end.End.TheVariants.{Exit, Fault, Limit}
 use Rattle.mixed_machine.specs.Endings.{end_of}
 use Rattle.mixed_machine.specs.Exec.{How}

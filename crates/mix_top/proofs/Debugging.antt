@@ -1,22 +1,23 @@
 -- How a script's events make up a way to end.
 use Rattle.std.proofs.Common.{◌≡◌, ℕ, List, [], ◌++◌, Option, Some, None, Result, Err, subst, refl}
 use Rattle.mix_io.specs.Streams.{Output as Sink}
-use Rattle.mix_io.specs.Accounts.{Accounts}
+use Rattle.dev_rack.specs.Accounts.{Accounts}
 use Rattle.switch_frame.specs.declared.program.Program.{Program}
 use Rattle.toolbox.specs.Calls.{Outside, answers_since}
 use Rattle.toolbox.specs.Effects.{Around}
 use Rattle.mixed_machine.specs.Machine.{flat}
-use Rattle.mixed_machine.specs.Outside.{around_at}
+use Rattle.toolbox.specs.Calls.{around_at}
 use Rattle.mixed_machine.specs.State.{State}
 use Rattle.mix_engine.specs.declared.machine.Machine.{Machine}
-use Rattle.mix_debug.specs.Trails.{Trail}
-use Rattle.mix_top.specs.Places.{place, stop_in}
+use Rattle.mix_debug.specs.TrailsClauses.{Trail}
+use Rattle.mix_top.specs.inner.Places.{place, stop_in}
 use Rattle.toolbox.specs.Blames.{BlamesOnly}
-use Rattle.mix_top.specs.Plays.{Plays}
-use Rattle.mix_top.specs.declared.command.Command.{Command}
+use Rattle.mix_top.specs.inner.Plays.{Plays}
+use Rattle.mix_top.specs.declared.command.ScriptCommand.{ScriptCommand}
 use Rattle.toolbox.specs.declared.broken.Broken.{Broken}
-use Rattle.mix_top.specs.World.{Accounted, Beside, EndsIn, Keep, beside}
-use Rattle.mix_io.specs.declared.job.Job.{Job}
+use Rattle.mix_top.specs.World.{Accounted, Beside, Keep, beside}
+use Rattle.mix_top.specs.inner.World.{EndsIn}
+use Rattle.job_words.specs.declared.job.Job.{Job}
 use Rattle.mix_load.specs.declared.files.Files.{Files}
 use Rattle.mix_top.specs.Scripts.{script_of}
 use Rattle.mix_top.specs.Ends.{DebugWay}
@@ -36,7 +37,7 @@ accounted-script None old new result same blames devices keep =
 accounted-script (Some broken) old new result same blames devices keep = accounted-broke None broken old new result same blames (same-counts old.keep new.keep keep) devices
 
 -- a debugger that has done no step played a script
-pub ends-script : (commands : List Command) (m : Machine) (t u : Trail) (o p : Outside) (x y : Sink) (k : Keep) (done : Result (Unit {0}) Broken) (result : ℕ)
+pub ends-script : (commands : List ScriptCommand) (m : Machine) (t u : Trail) (o p : Outside) (x y : Sink) (k : Keep) (done : Result (Unit {0}) Broken) (result : ℕ)
     → t ≡ record { machine = m; kept = []; breaks = [] } → result ≡ script_status (stop_in done) → Plays commands (place t o x) (place u p y) done
     → EndsIn None (MachineWay commands (flat m.body m.active)) (beside o x k) (beside p y k) result
 ends-script commands m t u o p x y k done result fresh same plays =
@@ -55,7 +56,7 @@ ends-script commands m t u o p x y k done result fresh same plays =
     }
 
 -- the machine at a program's start
-machine-from : (commands : List Command) (start from : Around → State) (old new : Beside) (result : ℕ) → ((around : Around) → start around ≡ from around)
+machine-from : (commands : List ScriptCommand) (start from : Around → State) (old new : Beside) (result : ℕ) → ((around : Around) → start around ≡ from around)
     → MachineWay commands start old new result → MachineWay commands from old new result
 machine-from commands start from old new result same (no_debugger early) = no_debugger early
 machine-from commands start from old new result same (scripted own) =
@@ -70,7 +71,7 @@ machine-from commands start from old new result same (scripted own) =
       };
     })
 
-pub ends-started : (commands : List Command) (program : Program) (start from : Around → State) (old new : Beside) (result : ℕ) → ((around : Around) → start around ≡ from around)
+pub ends-started : (commands : List ScriptCommand) (program : Program) (start from : Around → State) (old new : Beside) (result : ℕ) → ((around : Around) → start around ≡ from around)
     → EndsIn None (MachineWay commands start) old new result → Accounted None old new result × MachineWay commands from old new result
 ends-started commands program start from old new result same ends = (ends.accounted, machine-from commands start from old new result same ends.way)
 

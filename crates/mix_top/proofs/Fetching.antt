@@ -6,14 +6,14 @@ use Rattle.mix_bits.specs.declared.file.File.TheVariants.{Flat, Rsrc, Pef}
 use Rattle.mix_io.specs.Counts.{CountsStay, CountRose, Rose}
 use Rattle.mix_io.specs.declared.errors.FetchError.{FetchError}
 use Rattle.mix_io.specs.declared.errors.FetchError.TheVariants.{NoMemory, Failed, TooLong}
-use Rattle.mix_io.specs.Jobs.{keys_in_order, limit_of, place_in, wanted_among, wanted_at}
-use Rattle.mix_io.specs.Words.{name_at}
-use Rattle.mix_io.specs.declared.job.Command.{Command}
-use Rattle.mix_io.specs.declared.job.Key.{Key}
-use Rattle.mix_io.specs.declared.job.Key.TheVariants.{Program, Image, Text, Script}
+use Rattle.job_words.specs.Jobs.{keys_in_order, limit_of, place_in, wanted_among, wanted_at}
+use Rattle.job_words.specs.Words.{name_at}
+use Rattle.job_words.specs.declared.job.Command.{Command}
+use Rattle.job_words.specs.declared.job.Key.{Key}
+use Rattle.job_words.specs.declared.job.Key.TheVariants.{Program, Image, Text, Script}
 use Rattle.mix_top.specs.World.{Contents, NoneRose, ShelfCounts}
 use Rattle.mix_top.specs.Files.{AreFetched, AreFiles, IsNamed, IsOf}
-use Rattle.mix_top.specs.Parts.{Adds, IsCause, Misses, MissesFirst, with_file}
+use Rattle.mix_top.specs.inner.Parts.{Adds, IsCause, Misses, MissesFirst, with_file}
 use Rattle.mix_top.specs.declared.files.Fetched.{Fetched}
 use Rattle.mix_top.specs.declared.files.Missing.{Missing}
 

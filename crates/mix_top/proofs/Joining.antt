@@ -16,7 +16,8 @@ use Rattle.mixed_machine.specs.Machine.{flat}
 use Rattle.mixed_machine.specs.Exec.{How, exec, log, said_of, line_of}
 use Rattle.mixed_machine.specs.Exec.How.{Limited, Exited, Faulted}
 use Rattle.mixed_machine.specs.Exec.End.{Ended}
-use Rattle.mixed_machine.specs.Outside.{ToldAll, around_at}
+use Rattle.mixed_machine.specs.Outside.{ToldAll}
+use Rattle.toolbox.specs.Calls.{around_at}
 use Rattle.mixed_machine.proofs.Logs.{log-continues}
 use Rattle.mixed_machine.proofs.Over.{told-both, took-append}
 use Rattle.mixed_machine.proofs.Runs.{exec-continues, limits-last}
@@ -25,10 +26,12 @@ use Rattle.mix_image.specs.Spelling.{HasSpelling, spell}
 use Rattle.mix_image.proofs.Finishing.{spellings_differ}
 use Rattle.mix_top.specs.World.{Beside, Closes, Keep}
 use Rattle.mix_top.specs.Keeping.{KeptAt}
-use Rattle.mix_top.specs.Running.{RunWay, answers_given, broken_status, end_of, status_of}
+use Rattle.mix_top.specs.Running.{RunWay, broken_status, status_of}
+use Rattle.mix_top.specs.laws.Running.{answers_given}
+use Rattle.mixed_machine.specs.Endings.{end_of}
 use Rattle.mix_top.specs.Running.RunWay.{broke, ended, keep_failed}
 use Rattle.mix_top.specs.Continuing.ContinueWay.{continued, image_refused, no_memory}
-use Rattle.mix_top.specs.Laws.{AreOneRun, ContinuedRunsAreOne, IsBetween, IsEnd, TookBoth}
+use Rattle.mix_top.specs.laws.Laws.{AreOneRun, ContinuedRunsAreOne, IsBetween, IsEnd, TookBoth}
 
 -- a status of an end is none of a failure
 pub record IsCalm (result : ℕ) : Type 0 where

@@ -6,7 +6,6 @@ pub mod Debugging
 pub mod Alone
 pub mod Loading
 pub mod Crossings
-pub mod Images
 pub mod Splits
 pub mod Spellings
 pub mod Scripts

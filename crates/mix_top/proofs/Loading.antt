@@ -11,14 +11,15 @@ use Rattle.mix_bits.specs.Results.{◌>>=◌}
 use Rattle.mix_load.specs.declared.files.Files.{Files}
 use Rattle.mix_load.specs.declared.image.Image.{Image}
 use Rattle.mix_load.specs.ForkImage.{too_large, with_fork}
-use Rattle.mix_load.specs.Load.{AreLoadable, flat_image, load_of, no_image, with_file, with_flat}
+use Rattle.mix_load.specs.LoadClauses.{AreLoadable}
+use Rattle.mix_load.specs.Load.{flat_image, load_of, no_image, with_file, with_flat}
 use Rattle.mix_load.specs.ContainerImage.{with_container}
 use Rattle.mix_load.specs.Outcome.{unless}
 use Rattle.mix_bits.specs.declared.file.File.TheVariants.{Flat, Pef, Rsrc}
 use Rattle.mix_load.specs.declared.error.LoadError.TheVariants.{NoMemory, Empty, Rsrc as NoFork, NoCode, Far, JumpTable, Pef as NoHead, TooLarge, Reloc, Unresolved, NoMain}
 use Rattle.mix_load.specs.Start.{program_of}
-use Rattle.mix_top.specs.Sample.{sample_files, sample_image}
-use Rattle.mix_top.proofs.Images.{length-sample}
+use Rattle.mix_gen.specs.Sample.{sample_files, sample_image}
+use Rattle.mix_gen.proofs.Images.{length-sample}
 use Rattle.mix_top.specs.Samples.{sample_program}
 
 -- the room that the image has, in RAM of the least size and of each other

@@ -1,16 +1,17 @@
 -- Claims on the sessions that a debugger stands for, one after the other.
 use Rattle.std.proofs.Common.{[], ◌++◌, Option, None, sym, subst}
 use Rattle.mix_io.specs.Streams.{Output}
-use Rattle.mix_io.proofs.Steps.{accounts-join, accounts-none}
+use Rattle.dev_rack.proofs.Steps.{accounts-join, accounts-none}
 use Rattle.toolbox.specs.Calls.{Outside, answers_since}
 use Rattle.toolbox.specs.Effects.{Around}
 use Rattle.toolbox.specs.Blames.{BlamesOnly}
 use Rattle.toolbox.proofs.Blaming.{blamed-after, calm-first}
-use Rattle.mixed_machine.specs.Outside.{around_at}
+use Rattle.toolbox.specs.Calls.{around_at}
 use Rattle.mixed_machine.proofs.Over.{since-more, since-none, told-both, told-none, took-append}
-use Rattle.mix_debug.specs.Trails.{Trail}
-use Rattle.mix_top.specs.Sessions.{Session, session_of}
-use Rattle.mix_top.specs.Places.{Over, Place, counts_in, place, session_at}
+use Rattle.mix_debug.specs.TrailsClauses.{Trail}
+use Rattle.mix_top.specs.Sessions.{Session}
+use Rattle.mix_top.specs.inner.Sessions.{session_of}
+use Rattle.mix_top.specs.inner.Places.{Over, Place, counts_in, place, session_at}
 use Rattle.toolbox.specs.declared.broken.Broken.{Broken}
 
 -- nothing was taken, and no device asked

@@ -6,10 +6,12 @@ use Rattle.std.proofs.lemmas.Bool.Decides.{Decides-eqb}
 use Rattle.std.proofs.lemmas.List.Elements.{All-nil, All-cons, All-head, All-tail}
 use Rattle.std.proofs.lemmas.Slice.Eq.{ends_is}
 use Rattle.std.proofs.Math.Seq.{drop-append_seam, take-append_seam}
-use Rattle.mix_top.specs.Commands.{IsProper, command_of, text_of}
-use Rattle.mix_top.specs.Scripts.{behind_line, command_in, commands_from, first_line, in_front, line_length, lines_of, read_then, script_of}
-use Rattle.mix_top.specs.SpellingLaws.{BadLinesAreFirst, ScriptsAreLines, written}
-use Rattle.mix_top.specs.declared.command.Command.{Command}
+use Rattle.mix_top.specs.laws.Commands.{IsProper, text_of}
+use Rattle.mix_top.specs.Commands.{command_of}
+use Rattle.mix_top.specs.inner.Scripts.{behind_line, first_line, line_length}
+use Rattle.mix_top.specs.Scripts.{command_in, commands_from, in_front, lines_of, read_then, script_of}
+use Rattle.mix_top.specs.laws.SpellingLaws.{BadLinesAreFirst, ScriptsAreLines, written}
+use Rattle.mix_top.specs.declared.command.ScriptCommand.{ScriptCommand}
 use Rattle.mix_top.proofs.Splits.{behind-less, lines-split}
 use Rattle.mix_top.proofs.Spellings.{HasNoFeed, command-read, command-spelled, text-no_feed}
 
@@ -71,14 +73,14 @@ line-command xs =
     ((ends_is Decides-eqb (line xs) (10 ∷ []) (ends_with nat_eq (line xs) (10 ∷ [])) refl).1 xs refl) (without xs)
 
 -- a command has its line
-pub command-in : (c : Command) → IsProper c → command_in (line (text_of c)) ≡ Some c
+pub command-in : (c : ScriptCommand) → IsProper c → command_in (line (text_of c)) ≡ Some c
 command-in c proper = line-command (text_of c) ∙ command-read c proper
 
-pub record IsLine (bytes : List ℕ) (c : Command) : Type 0 where
+pub record IsLine (bytes : List ℕ) (c : ScriptCommand) : Type 0 where
   pub proper : IsProper c
   pub is : bytes ≡ line (text_of c)
 
-line-by : (b : Bool) (bytes : List ℕ) (c : Command) → b ≡ ends_with nat_eq bytes (10 ∷ []) → (if b then command_of (take (length bytes - 1) bytes) else None) ≡ Some c → IsLine bytes c
+line-by : (b : Bool) (bytes : List ℕ) (c : ScriptCommand) → b ≡ ends_with nat_eq bytes (10 ∷ []) → (if b then command_of (take (length bytes - 1) bytes) else None) ≡ Some c → IsLine bytes c
 line-by true bytes c same is =
     let own = command-spelled (take (length bytes - 1) bytes) c is in
     record {
@@ -87,12 +89,12 @@ line-by true bytes c same is =
     }
 line-by false bytes c same is = cc
 
-line-of : (bytes : List ℕ) (c : Command) → command_in bytes ≡ Some c → IsLine bytes c
+line-of : (bytes : List ℕ) (c : ScriptCommand) → command_in bytes ≡ Some c → IsLine bytes c
 line-of bytes c is = line-by (ends_with nat_eq bytes (10 ∷ [])) bytes c refl is
 
 -- ---- a script of commands is their lines
 
-pub written-read : (number : ℕ) (cs : List Command) → All IsProper cs → commands_from number (lines_of (written cs)) ≡ Ok cs
+pub written-read : (number : ℕ) (cs : List ScriptCommand) → All IsProper cs → commands_from number (lines_of (written cs)) ≡ Ok cs
 written-read number [] all = refl
 written-read number (c ∷ cs) all =
     let proper = All-head IsProper c cs all in
@@ -104,24 +106,24 @@ written-read number (c ∷ cs) all =
 whole : (text : List ℕ) → text ≡ first_line text ++ behind_line text
 whole text = sym (take-append-drop (line_length text) text)
 
-pub record IsWritten (text : List ℕ) (cs : List Command) : Type 0 where
+pub record IsWritten (text : List ℕ) (cs : List ScriptCommand) : Type 0 where
   pub proper : All IsProper cs
   pub is : written cs ≡ text
 
-front-ok : (o : Option Command) (number : ℕ) (r : Result (List Command) ℕ) (cs : List Command) → read_then number o r ≡ Ok cs
-    → (c : Command) × (more : List Command) × (o ≡ Some c) × (r ≡ Ok more) × (cs ≡ c ∷ more)
+front-ok : (o : Option ScriptCommand) (number : ℕ) (r : Result (List ScriptCommand) ℕ) (cs : List ScriptCommand) → read_then number o r ≡ Ok cs
+    → (c : ScriptCommand) × (more : List ScriptCommand) × (o ≡ Some c) × (r ≡ Ok more) × (cs ≡ c ∷ more)
 front-ok None number r cs is = cc
 front-ok (Some c) number (Ok more) cs is = (c, more, refl, refl, cc)
 front-ok (Some c) number (Err k) cs is = cc
 
-front-err : (o : Option Command) (number k : ℕ) (r : Result (List Command) ℕ) → read_then number o r ≡ Err k
-    → ((o ≡ None) × (number ≡ k)) ⊎ ((c : Command) × (o ≡ Some c) × (r ≡ Err k))
+front-err : (o : Option ScriptCommand) (number k : ℕ) (r : Result (List ScriptCommand) ℕ) → read_then number o r ≡ Err k
+    → ((o ≡ None) × (number ≡ k)) ⊎ ((c : ScriptCommand) × (o ≡ Some c) × (r ≡ Err k))
 front-err None number k r is = inl (refl, cc)
 front-err (Some c) number k (Ok more) is = cc
 front-err (Some c) number k (Err j) is = inr (c, refl, cc)
 
 -- the line of a command in front of a text
-pub front-of : (text : List ℕ) (c : Command) → command_in (first_line text) ≡ Some c → text ≡ text_of c ++ (10 ∷ behind_line text)
+pub front-of : (text : List ℕ) (c : ScriptCommand) → command_in (first_line text) ≡ Some c → text ≡ text_of c ++ (10 ∷ behind_line text)
 front-of text c is =
     let own = line-of (first_line text) c is in
     whole text ∙ (ap (λ xs. xs ++ behind_line text) own.is ∙ append_assoc (text_of c) (10 ∷ []) (behind_line text))
@@ -129,7 +131,7 @@ front-of text c is =
 less-fuel : (fuel : ℕ) (text : List ℕ) → 0 < length text → length text ≤ suc fuel → length (behind_line text) ≤ fuel
 less-fuel fuel text some enough = let less = behind-less text some in omega (arith, enough, less)
 
-pub is-written : (fuel number : ℕ) (text : List ℕ) (cs : List Command) → length text ≤ fuel → commands_from number (lines_of text) ≡ Ok cs → IsWritten text cs
+pub is-written : (fuel number : ℕ) (text : List ℕ) (cs : List ScriptCommand) → length text ≤ fuel → commands_from number (lines_of text) ≡ Ok cs → IsWritten text cs
 is-written fuel number [] cs enough is = let none : [] ≡ cs = cc in record { proper = subst (All IsProper) none (All-nil IsProper); is = ap written (sym none) }
 is-written zero number (byte ∷ text) cs enough is = absurd (omega (arith, enough))
 is-written (suc fuel) number (byte ∷ text) cs enough is =
@@ -151,15 +153,15 @@ scripts-are_lines text cs = (
 -- ---- the first line that is none
 
 pub record IsBadFrom (text : List ℕ) (number k : ℕ) : Type 0 where
-  pub before : List Command
+  pub before : List ScriptCommand
   pub rest : List ℕ
   pub proper : All IsProper before
   pub order : text ≡ written before ++ rest
   pub count : k ≡ number + length before
   pub some : rest ≢ []
-  pub none : (c : Command) (behind : List ℕ) → IsProper c → rest ≢ text_of c ++ (10 ∷ behind)
+  pub none : (c : ScriptCommand) (behind : List ℕ) → IsProper c → rest ≢ text_of c ++ (10 ∷ behind)
 
-starts-none : (text : List ℕ) → command_in (first_line text) ≡ None → (c : Command) (behind : List ℕ) → IsProper c → text ≢ text_of c ++ (10 ∷ behind)
+starts-none : (text : List ℕ) → command_in (first_line text) ≡ None → (c : ScriptCommand) (behind : List ℕ) → IsProper c → text ≢ text_of c ++ (10 ∷ behind)
 starts-none text none c behind proper same =
     let first : first_line text ≡ line (text_of c) = ap first_line same ∙ first-is (text_of c) behind (text-no_feed c proper) in
     let both : None ≡ Some c = sym none ∙ (ap command_in first ∙ command-in c proper) in cc

@@ -11,9 +11,10 @@ use Rattle.mix_bits.specs.Numbers.{decimal_number, hexadecimal_number}
 use Rattle.mix_bits.specs.Text.{hexadecimal}
 use Rattle.mix_bits.proofs.ReadDecimals.{reads_decimals}
 use Rattle.mix_bits.proofs.ReadHexadecimals.{reads_hexadecimals}
-use Rattle.mix_top.specs.Commands.{IsCount, IsProper, begins, command_of, count_in, counted, text_of}
-use Rattle.mix_top.specs.declared.command.Command.{Command}
-use Rattle.mix_top.specs.declared.command.Command.TheVariants.{Step, Over, Go, Back, Break, Clear, Where}
+use Rattle.mix_top.specs.laws.Commands.{IsCount, IsProper, text_of}
+use Rattle.mix_top.specs.Commands.{begins, command_of, count_in, counted}
+use Rattle.mix_top.specs.declared.command.ScriptCommand.{ScriptCommand}
+use Rattle.mix_top.specs.declared.command.ScriptCommand.TheVariants.{Step, Over, Go, Back, Break, Clear, Where}
 
 -- ---- a number of steps, and an address
 
@@ -49,22 +50,22 @@ address-read a small = (reads_hexadecimals 8 (hexadecimal 8 a) a).1 (omega (arit
 
 -- ---- which text is a command
 
-pub record Spelled (text : List ℕ) (c : Command) : Type 0 where
+pub record Spelled (text : List ℕ) (c : ScriptCommand) : Type 0 where
   pub proper : IsProper c
   pub is : text_of c ≡ text
 
-mapped : (f : ℕ → Command) (o : Option ℕ) (c : Command) → option_map f o ≡ Some c → (n : ℕ) × (o ≡ Some n) × (f n ≡ c)
+mapped : (f : ℕ → ScriptCommand) (o : Option ℕ) (c : ScriptCommand) → option_map f o ≡ Some c → (n : ℕ) × (o ≡ Some n) × (f n ≡ c)
 mapped f None c is = cc
 mapped f (Some n) c is = (n, refl, cc)
 
-chosen : (b : Bool) (x y : Option Command) (c : Command) → (if b then x else y) ≡ Some c → ((b ≡ true) × (x ≡ Some c)) ⊎ (y ≡ Some c)
+chosen : (b : Bool) (x y : Option ScriptCommand) (c : ScriptCommand) → (if b then x else y) ≡ Some c → ((b ≡ true) × (x ≡ Some c)) ⊎ (y ≡ Some c)
 chosen true x y c is = inl (refl, is)
 chosen false x y c is = inr is
 
 behind : (word text : List ℕ) → begins word text ≡ true → text ≡ word ++ drop (length word) text
 behind word text is = (starts_is Decides-eqb text word (begins word text) refl).0 is
 
-spelled-count : (word text : List ℕ) (f : ℕ → Command) (c : Command) → ((n : ℕ) → IsCount n → IsProper (f n)) → ((n : ℕ) → text_of (f n) ≡ word ++ decimal n)
+spelled-count : (word text : List ℕ) (f : ℕ → ScriptCommand) (c : ScriptCommand) → ((n : ℕ) → IsCount n → IsProper (f n)) → ((n : ℕ) → text_of (f n) ≡ word ++ decimal n)
     → begins word text ≡ true → option_map f (count_in (drop (length word) text)) ≡ Some c → Spelled text c
 spelled-count word text f c proper written is made =
     let own = mapped f (count_in (drop (length word) text)) c made in
@@ -74,7 +75,7 @@ spelled-count word text f c proper written is made =
       is = ap text_of (sym own.2) ∙ (written own.0 ∙ (ap (λ xs. word ++ xs) both.1 ∙ sym (behind word text is)));
     }
 
-spelled-address : (word text : List ℕ) (f : ℕ → Command) (c : Command) → ((a : ℕ) → a < 2 ^ 32 → IsProper (f a)) → ((a : ℕ) → text_of (f a) ≡ word ++ hexadecimal 8 a)
+spelled-address : (word text : List ℕ) (f : ℕ → ScriptCommand) (c : ScriptCommand) → ((a : ℕ) → a < 2 ^ 32 → IsProper (f a)) → ((a : ℕ) → text_of (f a) ≡ word ++ hexadecimal 8 a)
     → begins word text ≡ true → option_map f (hexadecimal_number 8 (drop (length word) text)) ≡ Some c → Spelled text c
 spelled-address word text f c proper written is made =
     let own = mapped f (hexadecimal_number 8 (drop (length word) text)) c made in
@@ -112,12 +113,12 @@ where-text : text_of Where ≡ codes "where"
 unfolding text_of
 where-text = refl
 
-spelled-where : (text : List ℕ) (c : Command) → bytes_eq text (codes "where") ≡ true → Some Where ≡ Some c → Spelled text c
+spelled-where : (text : List ℕ) (c : ScriptCommand) → bytes_eq text (codes "where") ≡ true → Some Where ≡ Some c → Spelled text c
 spelled-where text c is made =
     let same : Where ≡ c = cc in
     record { proper = subst IsProper same tt; is = ap text_of (sym same) ∙ (where-text ∙ sym ((bytes_eq-Decides text (codes "where")).0 is)) }
 
-pub command-spelled : (text : List ℕ) (c : Command) → command_of text ≡ Some c → Spelled text c
+pub command-spelled : (text : List ℕ) (c : ScriptCommand) → command_of text ≡ Some c → Spelled text c
 unfolding command_of
 command-spelled text c is =
     elim (chosen (bytes_eq text (codes "where")) (Some Where) _ c is) [
@@ -143,7 +144,7 @@ command-spelled text c is =
       ]
     ]
 
-pub command-read : (c : Command) → IsProper c → command_of (text_of c) ≡ Some c
+pub command-read : (c : ScriptCommand) → IsProper c → command_of (text_of c) ≡ Some c
 unfolding command_of text_of
 command-read (Step n) proper = ap (option_map Step) (count-read n proper)
 command-read (Over n) proper = ap (option_map Over) (count-read n proper)
@@ -184,7 +185,7 @@ count-no_feed word n first proper = let small : n < 2 ^ 32 = proper.1 in no-feed
 address-no_feed : (word : List ℕ) (a : ℕ) → HasNoFeed word → HasNoFeed (word ++ hexadecimal 8 a)
 address-no_feed word a first = no-feed_append word (hexadecimal 8 a) first (hexadecimal-no_feed 8 a)
 
-pub text-no_feed : (c : Command) → IsProper c → HasNoFeed (text_of c)
+pub text-no_feed : (c : ScriptCommand) → IsProper c → HasNoFeed (text_of c)
 unfolding text_of
 text-no_feed (Step n) proper = count-no_feed (codes "step ") n (refl, (refl, (refl, (refl, (refl, tt))))) proper
 text-no_feed (Over n) proper = count-no_feed (codes "over ") n (refl, (refl, (refl, (refl, (refl, tt))))) proper

@@ -3,8 +3,9 @@ use Rattle.std.proofs.Common.{◌≡◌, ℕ, suc, ◌+◌, ◌<◌, ◌==◌, B
 use Rattle.std.specs.Prelude.{IsSome, MatchOption, is_some}
 use Rattle.std.specs.Option.{option_to_list}
 use Rattle.std.proofs.lemmas.List.{length-drop}
-use Rattle.mix_top.specs.declared.command.Command.{Command}
-use Rattle.mix_top.specs.Scripts.{AreCommands, bad_in, behind_line, command_in, commands_among, commands_from, first_line, in_front, line_length, lines_of, read_then, script_of, with_byte}
+use Rattle.mix_top.specs.declared.command.ScriptCommand.{ScriptCommand}
+use Rattle.mix_top.specs.inner.Scripts.{AreCommands, bad_in, behind_line, commands_among, first_line, line_length}
+use Rattle.mix_top.specs.Scripts.{command_in, commands_from, in_front, lines_of, read_then, script_of, with_byte}
 
 by-feed : (b : Bool) (byte : ℕ) (text : List ℕ) → (0 < length text → lines_of text ≡ first_line text ∷ lines_of (behind_line text))
     → (if b then (byte ∷ []) ∷ lines_of text else with_byte byte (lines_of text))
@@ -29,7 +30,7 @@ pub behind-less : (text : List ℕ) → 0 < length text → length (behind_line 
 behind-less text some = let more = some-line text some in omega (arith, length-drop (line_length text) text, more)
 
 -- the first bad line stands behind a line that is a command
-bad-behind : (c : Command) (r : Result (List Command) ℕ) → bad_in (in_front c r) ≡ bad_in r
+bad-behind : (c : ScriptCommand) (r : Result (List ScriptCommand) ℕ) → bad_in (in_front c r) ≡ bad_in r
 bad-behind c (Ok cs) = refl
 bad-behind c (Err number) = refl
 
@@ -48,7 +49,7 @@ pub taken-lines : (rest line behind : List ℕ) → Takes rest line behind → l
 taken-lines rest line behind takes =
     lines-split rest takes.some ∙ (ap (λ l. l ∷ lines_of (behind_line rest)) (sym takes.first) ∙ ap (λ b. line ∷ lines_of b) (sym takes.others))
 
-tested-by : (o : Option Command) (number : ℕ) (r : Result (List Command) ℕ) → IsSome o → bad_in (read_then number o r) ≡ bad_in r
+tested-by : (o : Option ScriptCommand) (number : ℕ) (r : Result (List ScriptCommand) ℕ) → IsSome o → bad_in (read_then number o r) ≡ bad_in r
 tested-by None number r some = let no : false ≡ true = some in cc
 tested-by (Some c) number r some = bad-behind c r
 
@@ -77,11 +78,11 @@ pub record IsScript (number : ℕ) (lines : List (List ℕ)) : Type 0 where
   pub commands : commands_from number lines ≡ Ok (commands_among lines)
   pub all : AreCommands lines
 
-script-by : (o : Option Command) (number : ℕ) (r : Result (List Command) ℕ) → bad_in (read_then number o r) ≡ None → IsSome o × (bad_in r ≡ None)
+script-by : (o : Option ScriptCommand) (number : ℕ) (r : Result (List ScriptCommand) ℕ) → bad_in (read_then number o r) ≡ None → IsSome o × (bad_in r ≡ None)
 script-by None number r none = let no : Some number ≡ None = none in cc
 script-by (Some c) number r none = (refl, sym (bad-behind c r) ∙ none)
 
-script-with : (o : Option Command) (number : ℕ) (r : Result (List Command) ℕ) (cs : List Command) → IsSome o → r ≡ Ok cs
+script-with : (o : Option ScriptCommand) (number : ℕ) (r : Result (List ScriptCommand) ℕ) (cs : List ScriptCommand) → IsSome o → r ≡ Ok cs
     → read_then number o r ≡ Ok (option_to_list o ++ cs)
 script-with None number r cs some is = let no : false ≡ true = some in cc
 script-with (Some c) number r cs some is = ap (in_front c) is
@@ -94,24 +95,24 @@ is-script number (line ∷ lines) none =
     record { commands = script-with (command_in line) number (commands_from (number + 1) lines) (commands_among lines) both.0 rest.commands; all = (both.0, rest.all) }
 
 -- what the test of a command that was read says
-pub none-of : (o p : Option Command) → o ≡ p → is_some o ≡ false → p ≡ None
+pub none-of : (o p : Option ScriptCommand) → o ≡ p → is_some o ≡ false → p ≡ None
 none-of None p same none = sym same
 none-of (Some c) p same none = cc
 
-pub some-of : (o p : Option Command) → o ≡ p → is_some o ≡ true → IsSome p
+pub some-of : (o p : Option ScriptCommand) → o ≡ p → is_some o ≡ true → IsSome p
 some-of None p same some = cc
-some-of (Some c) p same some = subst (λ (q : Option Command). IsSome q) same refl
+some-of (Some c) p same some = subst (λ (q : Option ScriptCommand). IsSome q) same refl
 
 -- the next command
-pub record TakesCommand (text behind : List ℕ) (o : Option Command) : Type 0 where
+pub record TakesCommand (text behind : List ℕ) (o : Option ScriptCommand) : Type 0 where
   pub left : AreCommands (lines_of behind)
   pub taken : MatchOption o ((commands_among (lines_of text) ≡ []) × (commands_among (lines_of behind) ≡ [])) (λ c. commands_among (lines_of text) ≡ c ∷ commands_among (lines_of behind))
 
-taken-by : (all rest : List Command) (o p : Option Command) → all ≡ option_to_list p ++ rest → IsSome p → o ≡ p → MatchOption o ((all ≡ []) × (rest ≡ [])) (λ c. all ≡ c ∷ rest)
-taken-by all rest None p is some same = let no : false ≡ true = subst (λ (q : Option Command). is_some q ≡ true) (sym same) some in cc
+taken-by : (all rest : List ScriptCommand) (o p : Option ScriptCommand) → all ≡ option_to_list p ++ rest → IsSome p → o ≡ p → MatchOption o ((all ≡ []) × (rest ≡ [])) (λ c. all ≡ c ∷ rest)
+taken-by all rest None p is some same = let no : false ≡ true = subst (λ (q : Option ScriptCommand). is_some q ≡ true) (sym same) some in cc
 taken-by all rest (Some c) p is some same = is ∙ ap (λ q. option_to_list q ++ rest) (sym same)
 
-pub takes-command : (text line behind : List ℕ) (o : Option Command) → Takes text line behind → AreCommands (lines_of text) → o ≡ command_in line → TakesCommand text behind o
+pub takes-command : (text line behind : List ℕ) (o : Option ScriptCommand) → Takes text line behind → AreCommands (lines_of text) → o ≡ command_in line → TakesCommand text behind o
 takes-command text line behind o takes all read =
     let are : AreCommands (line ∷ lines_of behind) = subst AreCommands (taken-lines text line behind takes) all in
     record {

@@ -8,31 +8,35 @@ use Rattle.switch_frame.specs.Records.{isa_of}
 use Rattle.switch_frame.proofs.Seen.{seen_is_memory}
 use Rattle.toolbox.specs.Calls.{Outside}
 use Rattle.toolbox.specs.Effects.{Around}
-use Rattle.mix_io.specs.Accounts.{Accounts}
+use Rattle.dev_rack.specs.Accounts.{Accounts}
 use Rattle.toolbox.specs.Blames.{BlamesOnly}
-use Rattle.mixed_machine.specs.Counts.{Blames}
+use Rattle.mixed_machine.specs.CountsClauses.{Blames}
 use Rattle.mixed_machine.specs.Exec.{GoesTo, Leads, Reads, Says, Tells, exec_to, goes_on, is_back, line_of, log, log_then, rests, said_of}
 use Rattle.mixed_machine.specs.Exec.How.{Limited, Exited, Faulted}
 use Rattle.mixed_machine.specs.Exec.End.{Ended}
 use Rattle.mixed_machine.specs.Machine.{callers_of, flat, memory_of}
 use Rattle.mixed_machine.specs.Next.{Next, Effects}
 use Rattle.mixed_machine.specs.Next.Next.{Goes, Exits, Faults}
-use Rattle.mixed_machine.specs.Outside.{at}
-use Rattle.mixed_machine.specs.Runs.{Runs, Sinks, Stops}
+use Rattle.mixed_machine.specs.OutsideClauses.{at}
+use Rattle.mixed_machine.specs.RunsClauses.{Runs}
+use Rattle.mixed_machine.specs.Runs.{Sinks, Stops}
 use Rattle.mixed_machine.specs.State.{State, seen}
 use Rattle.mixed_machine.specs.Step.{step}
 use Rattle.mixed_machine.specs.declared.stop.Stop.{Stop}
 use Rattle.mixed_machine.specs.declared.stop.Stop.TheVariants.{Exit, Fault, Limit, ReadFault, OutFault, TraceFault}
 use Rattle.mix_engine.specs.declared.machine.Machine.{Machine}
-use Rattle.mix_debug.specs.Entries.{file_cost}
-use Rattle.mix_debug.specs.Machines.{IsSound, Kept, cost_between, fitting as fitting_kept}
-use Rattle.mix_debug.specs.Runs.{runs_cost, runs_from}
-use Rattle.mix_debug.specs.Trails.{Keeps, Trail, history_room, is_done}
-use Rattle.mix_top.specs.Sessions.{Past, Session, cost_of, fitting, past_of, session_of, stepped}
+use Rattle.mix_debug.specs.Costs.{file_cost}
+use Rattle.mix_debug.specs.Machines.{IsSound}
+use Rattle.mix_debug.specs.CostsClauses.{Kept, cost_between, fitting as fitting_kept}
+use Rattle.mix_debug.specs.Changes.{runs_cost, runs_from}
+use Rattle.mix_debug.specs.TrailsClauses.{Keeps, Trail, is_done}
+use Rattle.mix_debug.specs.Trails.{history_room}
+use Rattle.mix_top.specs.Sessions.{Past, Session, cost_of, fitting, stepped}
+use Rattle.mix_top.specs.inner.Sessions.{past_of, session_of}
 use Rattle.mix_top.specs.Events.{Event, after, lines_by, said_by, steps_to}
-use Rattle.mix_top.specs.Places.{Over, Place, counts_in, place, sinks_in}
+use Rattle.mix_top.specs.inner.Places.{Over, Place, counts_in, place, sinks_in}
 use Rattle.mix_top.specs.Plays.{AllDone}
-use Rattle.mix_top.specs.ScriptParts.{DoesOnce, halt_in, once_in, once_of}
+use Rattle.mix_top.specs.inner.ScriptParts.{DoesOnce, halt_in, once_in, once_of}
 use Rattle.mix_top.specs.declared.walk.Once.{Once}
 
 -- ---- a run of one step

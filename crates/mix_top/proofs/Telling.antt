@@ -13,15 +13,18 @@ use Rattle.toolbox.specs.Effects.{Around}
 use Rattle.mixed_machine.specs.Runs.{Sinks}
 use Rattle.mixed_machine.specs.Machine.{callers_of}
 use Rattle.mix_engine.specs.declared.machine.Machine.{Machine}
-use Rattle.mix_debug.specs.Crawl.{caller_lines, crawl_of, here_line, place_of}
-use Rattle.mix_debug.specs.Trails.{Trail}
-use Rattle.mix_top.specs.Sessions.{Session, session_of}
+use Rattle.mix_debug.specs.Crawl.{caller_lines, here_line, place_of}
+use Rattle.mix_debug.specs.CrawlClauses.{crawl_of}
+use Rattle.mix_debug.specs.TrailsClauses.{Trail}
+use Rattle.mix_top.specs.Sessions.{Session}
+use Rattle.mix_top.specs.inner.Sessions.{session_of}
 use Rattle.mix_top.specs.Events.{Event, Walk, after, answer, at_line, can_set, is_set, end_events, events_in, events_of, lines_by, said_by, tells, told, told_behind}
-use Rattle.mix_top.specs.Places.{Over, Place, counts_in, place, sinks_in}
-use Rattle.mix_top.specs.Plays.{AllDone, Does, Played}
-use Rattle.mix_top.specs.ScriptParts.{TellsEnd, TellsTo, Walks, WalksBack}
-use Rattle.mix_top.specs.declared.command.Command.{Command}
-use Rattle.mix_top.specs.declared.command.Command.TheVariants.{Break, Clear, Where}
+use Rattle.mix_top.specs.inner.Places.{Over, Place, counts_in, place, sinks_in}
+use Rattle.mix_top.specs.Plays.{AllDone, Played}
+use Rattle.mix_top.specs.inner.Plays.{Does}
+use Rattle.mix_top.specs.inner.ScriptParts.{TellsEnd, TellsTo, Walks, WalksBack}
+use Rattle.mix_top.specs.declared.command.ScriptCommand.{ScriptCommand}
+use Rattle.mix_top.specs.declared.command.ScriptCommand.TheVariants.{Break, Clear, Where}
 use Rattle.toolbox.specs.declared.broken.Broken.{Broken}
 use Rattle.toolbox.specs.declared.broken.Broken.TheVariants.{Input, Output as Out, Trace}
 use Rattle.mix_top.specs.declared.walk.Walked.{Walked}
@@ -151,25 +154,25 @@ walks-beside walk walked t u o x walks =
 
 -- ---- the commands of a script
 
-pub record Running (commands left : List Command) (s t : Session) (old new : Sinks) : Type 0 where
+pub record Running (commands left : List ScriptCommand) (s t : Session) (old new : Sinks) : Type 0 where
   pub events : List Event
   pub order : events_in commands s ≡ events ++ events_in left t
   pub all : AllDone events s t old new
 
-abbrev pub RunningAt : List Command → List Command → Place → Place → Type 0
+abbrev pub RunningAt : List ScriptCommand → List ScriptCommand → Place → Place → Type 0
 RunningAt commands left a b = Over None (λ s t. Running commands left s t (sinks_in a) (sinks_in b)) a b
 
-pub running-begins : (commands : List Command) (a : Place) → RunningAt commands commands a a
+pub running-begins : (commands : List ScriptCommand) (a : Place) → RunningAt commands commands a a
 running-begins commands a =
     over-none (λ s t. Running commands commands s t (sinks_in a) (sinks_in a)) a (λ around. record { events = []; order = refl; all = all-none (session_of a.trail around) (sinks_in a) })
 
 -- one command more
-events-more : (commands left rest : List Command) (c : Command) (s t : Session) (events : List Event) → left ≡ c ∷ rest → events_in commands s ≡ events ++ events_in left t
+events-more : (commands left rest : List ScriptCommand) (c : ScriptCommand) (s t : Session) (events : List Event) → left ≡ c ∷ rest → events_in commands s ≡ events ++ events_in left t
     → events_in commands s ≡ events ++ (events_of c t ++ events_in rest (after t (events_of c t)))
 unfolding events_in
 events-more commands left rest c s t events is order = order ∙ ap (λ cs. events ++ events_in cs t) is
 
-running-one : (commands left rest : List Command) (c : Command) (s t u : Session) (a b d : Sinks) → left ≡ c ∷ rest → Running commands left s t a b → AllDone (events_of c t) t u b d → Running commands rest s u a d
+running-one : (commands left rest : List ScriptCommand) (c : ScriptCommand) (s t u : Session) (a b d : Sinks) → left ≡ c ∷ rest → Running commands left s t a b → AllDone (events_of c t) t u b d → Running commands rest s u a d
 running-one commands left rest c s t u a b d is running all =
     record {
       events = running.events ++ events_of c t;
@@ -178,28 +181,28 @@ running-one commands left rest c s t u a b d is running all =
       all = all-more running.events (events_of c t) s t u a b d running.all all;
     }
 
-pub running-on : (commands left rest : List Command) (c : Command) (a b d : Place) → left ≡ c ∷ rest → RunningAt commands left a b → Does (events_of c) b d None → RunningAt commands rest a d
+pub running-on : (commands left rest : List ScriptCommand) (c : ScriptCommand) (a b d : Place) → left ≡ c ∷ rest → RunningAt commands left a b → Does (events_of c) b d None → RunningAt commands rest a d
 running-on commands left rest c a b d is running does =
     over-more None _ _ _ a b d (λ x y z so_far all. running-one commands left rest c _ _ _ (sinks_in a) (sinks_in b) (sinks_in d) is so_far all) running does
 
-running-part : (commands left rest : List Command) (c : Command) (stopped : Broken) (s t u : Session) (a b d : Sinks) → left ≡ c ∷ rest → Running commands left s t a b → Played (Some stopped) (events_of c t) t u b d
+running-part : (commands left rest : List ScriptCommand) (c : ScriptCommand) (stopped : Broken) (s t u : Session) (a b d : Sinks) → left ≡ c ∷ rest → Running commands left s t a b → Played (Some stopped) (events_of c t) t u b d
     → Played (Some stopped) (events_in commands s) s u a d
 running-part commands left rest c stopped s t u a b d is running part =
     let more : List Event = events_in rest (after t (events_of c t)) in
     played-as (Some stopped) (running.events ++ (events_of c t ++ more)) (events_in commands s) s u a d (sym (events-more commands left rest c s t running.events is running.order))
     (played-more (Some stopped) running.events (events_of c t ++ more) s t u a b d running.all (played-front stopped (events_of c t) more t u b d part))
 
-pub running-stops : (commands left rest : List Command) (c : Command) (stopped : Broken) (a b d : Place) → left ≡ c ∷ rest → RunningAt commands left a b → Does (events_of c) b d (Some stopped)
+pub running-stops : (commands left rest : List ScriptCommand) (c : ScriptCommand) (stopped : Broken) (a b d : Place) → left ≡ c ∷ rest → RunningAt commands left a b → Does (events_of c) b d (Some stopped)
     → Does (events_in commands) a d (Some stopped)
 running-stops commands left rest c stopped a b d is running does =
     over-more (Some stopped) _ _ _ a b d (λ x y z so_far part. running-part commands left rest c stopped _ _ _ (sinks_in a) (sinks_in b) (sinks_in d) is so_far part) running does
 
-running-last : (commands left : List Command) (s t : Session) (a b : Sinks) → left ≡ [] → Running commands left s t a b → AllDone (events_in commands s) s t a b
+running-last : (commands left : List ScriptCommand) (s t : Session) (a b : Sinks) → left ≡ [] → Running commands left s t a b → AllDone (events_in commands s) s t a b
 unfolding events_in
 running-last commands left s t a b none running =
     subst (λ es. AllDone es s t a b) (sym (running.order ∙ (ap (λ cs. running.events ++ events_in cs t) none ∙ append-nil running.events))) running.all
 
-pub running-ends : (commands left : List Command) (a b : Place) → left ≡ [] → RunningAt commands left a b → Does (events_in commands) a b None
+pub running-ends : (commands left : List ScriptCommand) (a b : Place) → left ≡ [] → RunningAt commands left a b → Does (events_in commands) a b None
 running-ends commands left a b none running = over-same None _ _ a b (λ x y so_far. running-last commands left _ _ (sinks_in a) (sinks_in b) none so_far) running
 
 -- ---- texts that are not empty, and the commands that do no step

@@ -13,58 +13,67 @@ use Rattle.toolbox.specs.Effects.{Around}
 use Rattle.call_trace.specs.Lines.{end_line}
 use Rattle.mixed_machine.specs.State.{State}
 use Rattle.mixed_machine.specs.Machine.{flat}
-use Rattle.mixed_machine.specs.Counts.{Blames}
+use Rattle.mixed_machine.specs.CountsClauses.{Blames}
 use Rattle.mixed_machine.specs.Exec.{How, log, line_of, said_of}
 use Rattle.mixed_machine.specs.Exec.How.{Limited, Exited, Faulted}
-use Rattle.mixed_machine.specs.Outside.{At, answers_between, around_at, state_of}
-use Rattle.mixed_machine.specs.Runs.{Ran, Runs, Stops}
+use Rattle.mixed_machine.specs.OutsideClauses.{At}
+use Rattle.mixed_machine.specs.inner.Outside.{answers_between, state_of}
+use Rattle.toolbox.specs.Calls.{around_at}
+use Rattle.mixed_machine.specs.Runs.{Ran, Stops}
+use Rattle.mixed_machine.specs.RunsClauses.{Runs}
 use Rattle.toolbox.specs.declared.broken.Broken.TheVariants.{Input, Output as BrokenOutput, Trace}
 use Rattle.mixed_machine.specs.declared.stop.Stop.{Stop}
 use Rattle.mixed_machine.specs.declared.stop.Stop.TheVariants.{Exit, Fault, Limit, ReadFault, OutFault, TraceFault}
 use Rattle.std.specs.Prelude.{IfNone, IfSome, IsSome}
-use Rattle.mix_io.specs.Drafts.{main_file}
-use Rattle.mix_io.specs.Jobs.{IsProperJob, job_in, keys_in_order, limit_of, place_in}
-use Rattle.mix_io.specs.Words.{bad_at, command_of, name_at}
-use Rattle.mix_io.specs.declared.job.Command.{Command}
-use Rattle.mix_io.specs.declared.job.Command.TheVariants.{Run, List as Lists, Sample, Assemble, Continue, Debug}
+use Rattle.job_words.specs.Jobs.{main_file}
+use Rattle.job_words.specs.JobsClauses.{IsProperJob, job_in}
+use Rattle.job_words.specs.Jobs.{keys_in_order, limit_of, place_in}
+use Rattle.job_words.specs.Words.{bad_at, command_of, name_at}
+use Rattle.job_words.specs.declared.job.Command.{Command}
+use Rattle.job_words.specs.declared.job.Command.TheVariants.{Run, List as Lists, Sample, Assemble, Continue, Debug}
 use Rattle.call_trace.specs.declared.end.End.{End}
 use Rattle.call_trace.specs.declared.end.End.TheVariants.{Exit as ExitEnd, Fault as FaultEnd, Limit as LimitEnd}
 use Rattle.mix_top.specs.declared.sampled.Sampled.{Sampled}
 use Rattle.std.specs.Option.{option_and_then, option_map}
 use Rattle.std.specs.Result.{result_ok}
-use Rattle.mix_io.specs.declared.job.Job.{Job}
-use Rattle.mix_io.specs.declared.job.Key.{Key}
-use Rattle.mix_io.specs.declared.job.Key.TheVariants.{Program as OfProgram, Image, Text, Script}
-use Rattle.mix_load.specs.Load.{AreLoadable, HasMain, IsAlone, IsSmall, load_of}
-use Rattle.mix_load.specs.Outcome.{Gives}
+use Rattle.job_words.specs.declared.job.Job.{Job}
+use Rattle.job_words.specs.declared.job.Key.{Key}
+use Rattle.job_words.specs.declared.job.Key.TheVariants.{Program as OfProgram, Image, Text, Script}
+use Rattle.mix_load.specs.LoadClauses.{AreLoadable, HasMain, IsAlone, IsSmall}
+use Rattle.mix_load.specs.Load.{load_of}
+use Rattle.mix_load.specs.OutcomeClauses.{Gives}
 use Rattle.mix_load.specs.declared.files.Files.{Files}
 use Rattle.mix_load.specs.declared.error.LoadError.{LoadError}
 use Rattle.mix_load.specs.declared.error.LoadError.TheVariants.{NoMemory}
-use Rattle.mix_io.specs.Accounts.{Accounts}
+use Rattle.dev_rack.specs.Accounts.{Accounts}
 use Rattle.mix_io.specs.declared.errors.Failed.{Failed as Failure}
 use Rattle.mix_engine.specs.declared.machine.Machine.{Machine}
 use Rattle.mix_image.specs.Restoring.{IsRestored}
 use Rattle.mix_image.specs.Spelling.{HasSpelling, spell}
 use Rattle.mix_image.specs.declared.error.ImageError.{ImageError}
-use Rattle.mix_top.specs.Lines.{Refusal, load_line, load_refusal, memory_line, refused_line, refused_status, words_line}
-use Rattle.mix_top.specs.World.{Beside, Keep, World, Accounted, Closes, Contents, Early, EndsIn, NoneRose, OnlyPuts, PutsText, beside}
-use Rattle.mix_engine.specs.Does.{beside as sinks_beside}
+use Rattle.mix_top.specs.Lines.{Refusal, load_line, load_refusal, memory_line, words_line}
+use Rattle.mix_top.specs.inner.Lines.{refused_line, refused_status}
+use Rattle.mix_top.specs.World.{Beside, Keep, World, Accounted, Closes, Contents, Early, NoneRose, OnlyPuts, PutsText, beside}
+use Rattle.mix_top.specs.inner.World.{EndsIn}
+use Rattle.mix_engine.specs.inner.Does.{beside as sinks_beside}
 use Rattle.mix_top.specs.Files.{AreFiles, IsNamed, bytes_in, ram_size}
 use Rattle.mix_text.specs.Assembling.{IsAssembled}
-use Rattle.mix_text.specs.Parts.{OfBytes}
+use Rattle.mix_text.specs.inner.Assembling.{OfBytes}
 use Rattle.mix_text.specs.declared.refused.Refused.{Refused}
 use Rattle.mix_top.specs.Assembling.{AssembleWay, line_refusal}
 use Rattle.mix_top.specs.Assembling.AssembleWay.{assembled, line_refused}
 use Rattle.mix_top.specs.declared.files.Fetched.{Fetched}
 use Rattle.mix_top.specs.Keeping.{KeepsPart, KeptAt, Spells}
-use Rattle.mix_top.specs.Running.{MachineRan, RunWay, answers_given, end_of, sinks_at, status_of}
+use Rattle.mix_top.specs.Running.{MachineRan, RunWay, sinks_at, status_of}
+use Rattle.mix_top.specs.laws.Running.{answers_given}
+use Rattle.mixed_machine.specs.Endings.{end_of}
 use Rattle.mix_top.specs.Running.RunWay.{broke, ended, keep_failed}
 use Rattle.mix_top.specs.Continuing.{ContinueWay, image_refusal}
 use Rattle.mix_top.specs.Continuing.ContinueWay.{image_refused, no_memory as no_machine_memory}
 use Rattle.mix_top.specs.Ends.{Ends, FilesWay, IsNext, LoadWay, PutsSample, Way, saved_by, saved_name}
 use Rattle.mix_top.specs.Ends.LoadWay.{no_memory, refused}
 use Rattle.mix_top.specs.Ends.Way.{bad_words, fetched, long_file, no_file, no_memory_for_file}
-use Rattle.mix_top.specs.Parts.{AreFor, AreShort, Finishes, IsCause, Keeps, MissesFirst, due_at, unfetched_line, unfetched_status}
+use Rattle.mix_top.specs.inner.Parts.{AreFor, AreShort, Finishes, IsCause, Keeps, MissesFirst, due_at, unfetched_line, unfetched_status}
 use Rattle.mix_top.specs.declared.files.Missing.{Missing}
 use Rattle.mix_top.proofs.Counting.{IsPlain, accounted-early, accounted-puts, accounted-quiet, accounted-stop, accounted-unkept, counts_at, ends-quiet, keeps-calm}
 

@@ -1,35 +1,11 @@
 -- The commands of a script: what is written of each, and the command that a text is.
-use Rattle.std.specs.Prelude.{ℕ, ◌^◌, ◌<◌, ◌==◌, ◌++◌, List, drop, codes, decimal, nat_eq, Bool, Option, Some, None, if◌then◌else◌}
+use Rattle.std.specs.Prelude.{ℕ, ◌==◌, List, drop, codes, nat_eq, Bool, Option, Some, None, if◌then◌else◌}
 use Rattle.std.specs.Option.{option_map}
 use Rattle.std.specs.List.{starts_with}
 use Rattle.std.specs.Str.{bytes_eq}
 use Rattle.mix_bits.specs.Numbers.{decimal_number, hexadecimal_number}
-use Rattle.mix_bits.specs.Text.{hexadecimal}
-use Rattle.mix_top.specs.declared.command.Command.{Command}
-use Rattle.mix_top.specs.declared.command.Command.TheVariants.{Step, Over, Go, Back, Break, Clear, Where}
-
--- the line of a command, without its line feed
-unfoldable pub text_of : Command → List ℕ
-text_of (Step n) = codes "step " ++ decimal n
-text_of (Over n) = codes "over " ++ decimal n
-text_of (Go n) = codes "go " ++ decimal n
-text_of (Back n) = codes "back " ++ decimal n
-text_of (Break a) = codes "break " ++ hexadecimal 8 a
-text_of (Clear a) = codes "clear " ++ hexadecimal 8 a
-text_of Where = codes "where"
-
--- a number of steps, and an address
-abbrev pub IsCount : ℕ → Type 0
-IsCount n = (0 < n) × (n < 2 ^ 32)
-
-abbrev pub IsProper : Command → Type 0
-IsProper (Step n) = IsCount n
-IsProper (Over n) = IsCount n
-IsProper (Go n) = IsCount n
-IsProper (Back n) = IsCount n
-IsProper (Break a) = a < 2 ^ 32
-IsProper (Clear a) = a < 2 ^ 32
-IsProper Where = Unit {0}
+use Rattle.mix_top.specs.declared.command.ScriptCommand.{ScriptCommand}
+use Rattle.mix_top.specs.declared.command.ScriptCommand.TheVariants.{Step, Over, Go, Back, Break, Clear, Where}
 
 -- the number of steps whose decimal digits a text is
 abbrev pub counted : Option ℕ → Option ℕ
@@ -44,7 +20,7 @@ abbrev pub begins : List ℕ → List ℕ → Bool
 begins word text = starts_with nat_eq text word
 
 -- the command that a text without a line feed is
-unfoldable pub command_of : List ℕ → Option Command
+unfoldable pub command_of : List ℕ → Option ScriptCommand
 command_of text =
     if bytes_eq text (codes "where") then Some Where
     else (if begins (codes "step ") text then option_map Step (count_in (drop 5 text))

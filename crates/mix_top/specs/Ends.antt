@@ -16,13 +16,13 @@ use Rattle.call_trace.specs.declared.end.End.{End}
 use Rattle.call_trace.specs.declared.end.End.TheVariants.{Exit as ExitEnd, Fault as FaultEnd, Limit as LimitEnd}
 use Rattle.mix_top.specs.declared.sampled.Sampled.{Sampled}
 use Rattle.mix_top.specs.Scripts.{script_of}
-use Rattle.mix_top.specs.declared.command.Command.{Command as Commanded}
-use Rattle.mix_io.specs.Jobs.{limit_of, save_in, wants}
-use Rattle.mix_io.specs.Words.{bad_at, command_of, name_at}
-use Rattle.mix_io.specs.declared.job.Command.{Command}
-use Rattle.mix_io.specs.declared.job.Command.TheVariants.{Run, List as Lists, Sample, Assemble, Continue, Debug}
-use Rattle.mix_io.specs.declared.job.Job.{Job}
-use Rattle.mix_io.specs.declared.job.Key.{Key}
+use Rattle.mix_top.specs.declared.command.ScriptCommand.{ScriptCommand}
+use Rattle.job_words.specs.Jobs.{limit_of, save_in, wants}
+use Rattle.job_words.specs.Words.{bad_at, command_of, name_at}
+use Rattle.job_words.specs.declared.job.Command.{Command}
+use Rattle.job_words.specs.declared.job.Command.TheVariants.{Run, List as Lists, Sample, Assemble, Continue, Debug}
+use Rattle.job_words.specs.declared.job.Job.{Job}
+use Rattle.job_words.specs.declared.job.Key.{Key}
 use Rattle.mix_top.specs.Lines.{Refusal, memory_line, words_line, fetch_line, load_line, long_file as long_refusal, load_refusal}
 use Rattle.mix_top.specs.World.{Beside, Contents, World, Early, Accounted, HasExceeded, HasFailed, NoneRose, Listed, OnlyPuts, PutsText}
 use Rattle.mix_top.specs.Running.{MachineRan}
@@ -58,7 +58,7 @@ pub data DebugWay (job : Job) (files : Files) (script : List ℕ) (old new : Bes
   line_refused : (number : ℕ) → script_of script ≡ Err number → Early old new (load_line (script_refusal number)) 3 result
       → DebugWay job files script old new result
   -- each line is a command
-  lines_read : (commands : List Commanded) → script_of script ≡ Ok commands → LoadWay job files (ScriptWay commands) old new result
+  lines_read : (commands : List ScriptCommand) → script_of script ≡ Ok commands → LoadWay job files (ScriptWay commands) old new result
       → DebugWay job files script old new result
 
 -- the line of a sample, by how it ended; at the step limit nothing is written

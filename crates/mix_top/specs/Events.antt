@@ -15,8 +15,8 @@ use Rattle.mixed_machine.specs.State.{State}
 use Rattle.mixed_machine.specs.Step.{step}
 use Rattle.mix_debug.specs.Crawl.{caller_lines, here_line}
 use Rattle.mix_top.specs.Sessions.{Past, Session, returned, stepped}
-use Rattle.mix_top.specs.declared.command.Command.{Command}
-use Rattle.mix_top.specs.declared.command.Command.TheVariants.{Step, Over, Go, Back, Break, Clear, Where}
+use Rattle.mix_top.specs.declared.command.ScriptCommand.{ScriptCommand}
+use Rattle.mix_top.specs.declared.command.ScriptCommand.TheVariants.{Step, Over, Go, Back, Break, Clear, Where}
 use Rattle.mix_top.specs.declared.walk.Until.{Until}
 use Rattle.mix_top.specs.declared.walk.Until.TheVariants.{Count, Breakpoint, Frames}
 
@@ -127,7 +127,7 @@ is_set s a = list_any (λ b. b == a) s.breaks
 abbrev pub can_set : Session → ℕ → Bool
 can_set s a = not (is_set s a) && nat_lt (length s.breaks) 64
 
-abbrev pub events_of : Command → Session → List Event
+abbrev pub events_of : ScriptCommand → Session → List Event
 events_of (Step n) s = told s (forward Count n s)
 events_of (Over n) s = told s (forward (Frames (length s.state.callers)) n s)
 events_of (Go n) s = told s (forward Breakpoint n s)
@@ -137,6 +137,6 @@ events_of (Clear a) s = tells (answer (is_set s a)) (record s { breaks = filter 
 events_of Where s = tells (crawl_in s.state) s ∷ []
 
 -- the events of a script: those of each command, in the session after the commands before it
-unfoldable pub events_in : List Command → Session → List Event
+unfoldable pub events_in : List ScriptCommand → Session → List Event
 events_in [] s = []
 events_in (c ∷ cs) s = events_of c s ++ events_in cs (after s (events_of c s))

@@ -2,12 +2,12 @@
 use Rattle.std.specs.Prelude.{◌≡◌, ℕ, ◌*◌, ◌<◌, ◌≤◌, List, [], ◌∷◌, length, Option, Some, None, IsSomeAnd, IfSome, unwrap_or}
 use Rattle.std.specs.Option.{option_map}
 use Rattle.mix_bits.specs.declared.file.File.TheVariants.{Flat, Rsrc, Pef}
-use Rattle.mix_io.specs.Jobs.{limit_of, place_in}
-use Rattle.mix_io.specs.Words.{name_at}
-use Rattle.mix_io.specs.declared.job.Command.{Command}
-use Rattle.mix_io.specs.declared.job.Job.{Job}
-use Rattle.mix_io.specs.declared.job.Key.{Key}
-use Rattle.mix_io.specs.declared.job.Key.TheVariants.{Program, Image, Text, Script}
+use Rattle.job_words.specs.Jobs.{limit_of, place_in}
+use Rattle.job_words.specs.Words.{name_at}
+use Rattle.job_words.specs.declared.job.Command.{Command}
+use Rattle.job_words.specs.declared.job.Job.{Job}
+use Rattle.job_words.specs.declared.job.Key.{Key}
+use Rattle.job_words.specs.declared.job.Key.TheVariants.{Program, Image, Text, Script}
 use Rattle.mix_top.specs.World.{Contents}
 use Rattle.mix_top.specs.declared.files.Fetched.{Fetched}
 

@@ -3,9 +3,9 @@ use Rattle.std.specs.Prelude.{ℕ, ℤ, pos, List, ◌++◌, codes, Option, None
 use Rattle.std.specs.Fmt.{signed_decimal}
 use Rattle.mix_bits.specs.declared.file.File.{File}
 use Rattle.mix_bits.specs.declared.file.File.TheVariants.{Flat, Rsrc, Pef}
-use Rattle.mix_io.specs.Settings.{key_text}
-use Rattle.mix_io.specs.declared.job.Key.{Key}
-use Rattle.mix_io.specs.declared.job.Key.TheVariants.{Program, Image, Text, Script}
+use Rattle.job_words.specs.Settings.{key_text}
+use Rattle.job_words.specs.declared.job.Key.{Key}
+use Rattle.job_words.specs.declared.job.Key.TheVariants.{Program, Image, Text, Script}
 use Rattle.rsrc_fork.specs.declared.error.RsrcError.{RsrcError}
 use Rattle.rsrc_fork.specs.declared.error.RsrcError.TheVariants.{NoMemory as NoForkMemory, Short as ForkShort, Overlap, BadOffset, Twice, Compressed}
 use Rattle.pef_head.specs.declared.error.PefError.{PefError}
@@ -38,15 +38,6 @@ refusal name number = record { name = name; number = number }
 
 abbrev pub load_line : Refusal → List ℕ
 load_line r = numbered (codes "load " ++ r.name) r.number
-
--- the last line and the status where there is a refusal, or else no memory
-abbrev pub refused_line : Option Refusal → List ℕ
-refused_line None = memory_line
-refused_line (Some why) = load_line why
-
-abbrev pub refused_status : Option Refusal → ℕ
-refused_status None = 9
-refused_status (Some why) = 3
 
 -- the numbers of the files
 abbrev pub file_number : File → ℕ

@@ -1,11 +1,9 @@
 -- How far the events of a script were done: all of them, or those before one at which the outside failed.
-use Rattle.std.specs.Prelude.{◌≡◌, ◌<◌, true, List, ◌∷◌, ◌++◌, length, Option, Some, None, Result}
+use Rattle.std.specs.Prelude.{◌≡◌, ◌<◌, true, List, ◌∷◌, ◌++◌, length, Option, Some, None}
 use Rattle.mix_io.specs.Streams.{Grows, Breaks}
 use Rattle.mixed_machine.specs.Runs.{Sinks}
 use Rattle.mix_top.specs.Sessions.{Session}
-use Rattle.mix_top.specs.Events.{Event, after, events_in, lines_by, said_by}
-use Rattle.mix_top.specs.Places.{Over, Place, sinks_in, stop_in}
-use Rattle.mix_top.specs.declared.command.Command.{Command}
+use Rattle.mix_top.specs.Events.{Event, after, lines_by, said_by}
 use Rattle.toolbox.specs.declared.broken.Broken.{Broken}
 use Rattle.toolbox.specs.declared.broken.Broken.TheVariants.{Input, Output, Trace}
 
@@ -53,11 +51,3 @@ Played None events start end old new = AllDone events start end old new
 Played (Some Input) events start end old new = ReadFailed events start end old new
 Played (Some Output) events start end old new = OutFailed events start end old new
 Played (Some Trace) events start end old new = TraceFailed events start end old new
-
--- a debugger did the events that a list gives for each session
-abbrev pub Does : (Session → List Event) → Place → Place → Option Broken → Type 0
-Does events a b stop = Over stop (λ s t. Played stop (events s) s t (sinks_in a) (sinks_in b)) a b
-
--- it ran a script
-abbrev pub Plays : List Command → Place → Place → Result (Unit {0}) Broken → Type 0
-Plays commands a b result = Does (events_in commands) a b (stop_in result)

@@ -4,7 +4,6 @@ use Rattle.mix_io.specs.Streams.{Grows}
 use Rattle.switch_frame.specs.Records.{isa_of}
 use Rattle.toolbox.specs.declared.broken.Broken.{Broken}
 use Rattle.toolbox.specs.declared.broken.Broken.TheVariants.{Input, Output, Trace}
-use Rattle.toolbox.specs.Calls.{answers_since}
 use Rattle.toolbox.specs.Effects.{Around}
 use Rattle.call_trace.specs.Lines.{end_line}
 use Rattle.mixed_machine.specs.State.{State}
@@ -13,7 +12,7 @@ use Rattle.mixed_machine.specs.Counts.{broken_at}
 use Rattle.mixed_machine.specs.Exec.{How, exec, log, said_of, line_of}
 use Rattle.mixed_machine.specs.Exec.How.{Limited, Exited, Faulted}
 use Rattle.mixed_machine.specs.Exec.End.{Ended}
-pub use Rattle.mixed_machine.specs.Endings.{end_of}
+use Rattle.mixed_machine.specs.Endings.{end_of}
 use Rattle.mixed_machine.specs.Outside.{Between}
 use Rattle.mixed_machine.specs.Runs.{Ran, Sinks, Stops}
 use Rattle.mix_top.specs.World.{Beside, Closes}
@@ -55,10 +54,6 @@ pub data RunWay (save : Option (List ℕ)) (steps : ℕ) (start : State) (around
       → broken_at stop ≡ Some broken → Stops 0 steps left start last (sinks_at old) (sinks_at new) stop → last.around ≡ around
       → new.keep ≡ old.keep → result ≡ broken_status broken
       → RunWay save steps start around old new result
-
--- the answers that the devices gave in the call: those of the journal's new entries
-abbrev pub answers_given : Beside → Beside → List (Option ℕ)
-answers_given old new = answers_since old.outside.rack new.outside.rack
 
 -- a machine ran from this state, for each outside: as the definition says, with the answers that the devices gave
 abbrev pub MachineRan : Option (List ℕ) → (Around → State) → ℕ → Beside → Beside → ℕ → Type 0

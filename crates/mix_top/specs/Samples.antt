@@ -3,17 +3,15 @@ use Rattle.std.specs.Prelude.{◌≡◌, ℕ, ◌-◌, ◌*◌, [], Result, Ok}
 use Rattle.mix_bits.specs.declared.isa.Isa.TheVariants.{M68}
 use Rattle.switch_frame.specs.declared.program.Program.{Program}
 use Rattle.switch_frame.specs.Records.{isa_of}
-use Rattle.call_trace.specs.declared.end.End.{End}
 use Rattle.toolbox.specs.Effects.{Around}
 use Rattle.mixed_machine.specs.State.{State}
-use Rattle.mixed_machine.specs.Exec.{How, exec}
-use Rattle.mixed_machine.specs.Exec.End.{Ended}
+use Rattle.mixed_machine.specs.Exec.{How}
 use Rattle.mixed_machine.specs.Endings.{end_of}
 use Rattle.mixed_machine.specs.Crossings.{Counted}
 use Rattle.mix_engine.specs.Start.{start_of}
 use Rattle.mix_load.specs.Load.{load_of}
 use Rattle.mix_load.specs.declared.error.LoadError.{LoadError}
-use Rattle.mix_top.specs.Sample.{sample_files}
+use Rattle.mix_gen.specs.Sample.{sample_files}
 use Rattle.mix_top.specs.declared.sampled.Sampled.{Sampled}
 
 -- no input, no device and no answer
@@ -45,10 +43,3 @@ pub record IsSample (kib steps n depth : ℕ) (sampled : Sampled) : Type 0 where
   pub program : Program
   pub loaded : sample_program kib n depth ≡ Ok program
   pub ran : CountedRun steps (start_of program nothing) sampled
-
--- a run of one step
-pub record Steps (s t : State) (end : End) : Type 0 where
-  pub left : ℕ
-  pub how : How
-  pub ends : exec 1 s ≡ Ended how t left
-  pub end_is : end ≡ end_of (isa_of t.active) how

@@ -1,12 +1,10 @@
 -- A session of the debugger: a state of the machine, which steps lead forward and back.
-use Rattle.std.specs.Prelude.{ℕ, ◌+◌, ◌-◌, nat_le, if◌then◌else◌, List, [], ◌∷◌, map}
+use Rattle.std.specs.Prelude.{ℕ, ◌+◌, ◌-◌, nat_le, if◌then◌else◌, List, [], ◌∷◌}
 use Rattle.toolbox.specs.Effects.{Around}
-use Rattle.mixed_machine.specs.Machine.{flat}
 use Rattle.mixed_machine.specs.State.{State, seen}
-use Rattle.mix_debug.specs.Entries.{file_cost}
-use Rattle.mix_debug.specs.Machines.{Kept}
-use Rattle.mix_debug.specs.Runs.{runs_cost, runs_from}
-use Rattle.mix_debug.specs.Trails.{Trail, history_room}
+use Rattle.mix_debug.specs.Costs.{file_cost}
+use Rattle.mix_debug.specs.Changes.{runs_cost, runs_from}
+use Rattle.mix_debug.specs.Trails.{history_room}
 
 -- a step that can be taken back: the state before it, whatever is around by then, and how many bytes of history it takes
 pub record Past : Type 0 where
@@ -42,10 +40,3 @@ stepped s t =
 -- and after a step back: the machine is that before the step, and what is around it stays
 abbrev pub returned : Session → Past → List Past → Session
 returned s p ps = record { state = p.before s.state.around; past = ps; breaks = s.breaks }
-
--- the session that a debugger stands for, with something around it
-abbrev pub past_of : Kept → Past
-past_of k = record { before = flat k.machine.body k.machine.active; cost = k.cost }
-
-abbrev pub session_of : Trail → Around → Session
-session_of t around = record { state = flat t.machine.body t.machine.active around; past = map past_of t.kept; breaks = t.breaks }

@@ -2,7 +2,7 @@
 use Rattle.std.specs.Prelude.{◌≡◌, ℕ, ◌==◌, ◌⊎◌, List, [], ◌++◌, MatchBool, Option, IsSomeAnd}
 use Rattle.mix_io.specs.Counts.{CountRose, CountsStay, Rose}
 use Rattle.mix_io.specs.Streams.{Output, Grows, Breaks, StopsWithin}
-use Rattle.mix_io.specs.Accounts.{Accounts}
+use Rattle.dev_rack.specs.Accounts.{Accounts}
 use Rattle.toolbox.specs.Calls.{Outside}
 
 -- the files of a shelf by their names, where it tells them
@@ -13,9 +13,6 @@ Contents = Option (List ℕ → Option (List ℕ))
 pub record ShelfCounts : Type 0 where
   pub faults : List ℕ → ℕ
   pub excesses : List ℕ → ℕ
-
-abbrev pub counting : (List ℕ → ℕ) → (List ℕ → ℕ) → ShelfCounts
-counting faults excesses = record { faults = faults; excesses = excesses }
 
 -- a shelf: its files, and its counts
 pub record Shelf : Type 0 where
@@ -40,9 +37,6 @@ pub record Keep : Type 0 where
   pub kept : Option (List ℕ → List ℕ)
   pub faults : List ℕ → ℕ
 
-abbrev pub keeping : Option (List ℕ → List ℕ) → (List ℕ → ℕ) → Keep
-keeping kept faults = record { kept = kept; faults = faults }
-
 -- what lies beside the shelf: the input, the devices and the output; the trace; and the keeper
 pub record Beside : Type 0 where
   pub outside : Outside
@@ -55,9 +49,6 @@ beside outside trace keep = record { outside = outside; trace = trace; keep = ke
 pub record World : Type 0 where
   pub shelf : Shelf
   pub beside : Beside
-
-abbrev pub world : Contents → ShelfCounts → Beside → World
-world contents counts beside = record { shelf = record { contents = contents; counts = counts }; beside = beside }
 
 -- the trace took these bytes and then a last line, and the status is this one; or it failed within that line, and the
 -- status is 7
@@ -102,8 +93,3 @@ pub record Accounted (save : Option (List ℕ)) (old new : Beside) (result : ℕ
   pub trace : RoseAt 7 result old.trace.faults new.trace.faults
   pub keep : RoseFor save result old.keep new.keep
   pub devices : Accounts old.outside.rack new.outside.rack
-
--- a call that may keep something under this name ended in one of these ways, and accounts for each failure and each device
-pub record EndsIn (save : Option (List ℕ)) (Way : Beside → Beside → ℕ → Type 0) (old new : Beside) (result : ℕ) : Type 0 where
-  pub accounted : Accounted save old new result
-  pub way : Way old new result

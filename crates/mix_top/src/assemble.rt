@@ -1,19 +1,21 @@
 // A text of lines, from its lines to the last byte.
 ghost use Rattle.std.specs.Prelude.{◌≤◌, length};
-ghost use Rattle.mix_engine.specs.Beside.{AreSame};
-ghost use Rattle.mix_io.specs.Streams.{output};
-ghost use Rattle.mix_text.specs.Assembling.{HasBytes};
-ghost use Rattle.mix_text.specs.Parts.{OfBytes};
-ghost use Rattle.mix_top.specs.World.{EndsIn, Keep, PutsText};
+ghost use Rattle.mix_engine.specs.inner.Beside.{AreSame};
+ghost use Rattle.mix_io.specs.StreamsClauses.{output};
+ghost use Rattle.mix_text.specs.inner.Assembling.{HasBytes};
+ghost use Rattle.mix_text.specs.inner.Assembling.{OfBytes};
+ghost use Rattle.mix_top.specs.inner.World.{EndsIn};
+ghost use Rattle.mix_top.specs.World.{Keep, PutsText};
 ghost use Rattle.mix_top.specs.Assembling.{AssembleWay};
-ghost use Rattle.mix_top.specs.Parts.{beside_lent};
+ghost use Rattle.mix_top.specs.inner.Parts.{beside_lent};
 
 use super::close::close;
 use super::lines::line_text;
 use super::status::{NOT_LOADED, OUTPUT_FAILED, SUCCESS};
+use dev_rack::Devices;
 use mix_bits::Isa;
 use mix_engine::Outside;
-use mix_io::{Devices, Sink, Source};
+use mix_io::{Sink, Source};
 use mix_text::{check_text, put_text};
 
 /// Assembles the lines of a text, the first at an address: where none is refused, their bytes go to the output.

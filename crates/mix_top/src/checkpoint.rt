@@ -2,8 +2,8 @@
 ghost use Rattle.std.specs.Prelude.{◌≡◌, option_copied};
 ghost use Rattle.switch_frame.specs.Records.{isa_of};
 ghost use Rattle.mixed_machine.specs.Machine.{IsWhole};
-ghost use Rattle.mix_top.specs.World.{keeping};
-ghost use Rattle.mix_top.specs.Parts.{Keeps, due_at};
+ghost use Rattle.mix_top.specs.WorldClauses.{keeping};
+ghost use Rattle.mix_top.specs.inner.Parts.{Keeps, due_at};
 
 use mix_engine::Machine;
 use mix_image::save;

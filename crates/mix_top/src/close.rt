@@ -3,10 +3,11 @@ ghost use Rattle.std.specs.Prelude.{[]};
 ghost use Rattle.switch_frame.specs.Records.{isa_of};
 ghost use Rattle.call_trace.specs.Lines.{end_line};
 ghost use Rattle.mix_top.specs.Continuing.{image_refusal};
-ghost use Rattle.mix_top.specs.Lines.{load_refusal, memory_line, refused_line, refused_status};
-ghost use Rattle.mix_io.specs.Streams.{output};
+ghost use Rattle.mix_top.specs.Lines.{load_refusal, memory_line};
+ghost use Rattle.mix_top.specs.inner.Lines.{refused_line, refused_status};
+ghost use Rattle.mix_io.specs.StreamsClauses.{output};
 ghost use Rattle.mix_top.specs.World.{Closes};
-ghost use Rattle.mix_top.specs.Parts.{Finishes, unfetched_line, unfetched_status};
+ghost use Rattle.mix_top.specs.inner.Parts.{Finishes, unfetched_line, unfetched_status};
 
 use super::files::Missing;
 use super::lines::{fetch_text, image_text, load_text, long_text};

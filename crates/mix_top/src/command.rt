@@ -6,7 +6,7 @@ use mix_bits::{read_decimal, read_hexadecimal};
 
 /// A command of a script. A number of steps is at least 1.
 #[derive(Clone, Copy, Debug, PartialEq, Eq)]
-pub enum Command {
+pub enum ScriptCommand {
     /// Does steps, up to so many.
     Step(u32),
     /// Does steps, up to so many, until no more frames are live than before the first.
@@ -25,23 +25,23 @@ pub enum Command {
 
 /// The command that a text is, which has no line feed.
 #[tactic(auto, unfolding(crate::specs::Commands::command_of))]
-pub fn read_command(text: &[u8]) -> Option<Command>
+pub fn read_command(text: &[u8]) -> Option<ScriptCommand>
     ensures { result ≡ command_of text.now }
 {
     if text == b"where".as_slice() {
-        Some(Command::Where)
+        Some(ScriptCommand::Where)
     } else if text.starts_with(b"step ") {
-        read_count(&text[5..]).map(Command::Step)
+        read_count(&text[5..]).map(ScriptCommand::Step)
     } else if text.starts_with(b"over ") {
-        read_count(&text[5..]).map(Command::Over)
+        read_count(&text[5..]).map(ScriptCommand::Over)
     } else if text.starts_with(b"go ") {
-        read_count(&text[3..]).map(Command::Go)
+        read_count(&text[3..]).map(ScriptCommand::Go)
     } else if text.starts_with(b"back ") {
-        read_count(&text[5..]).map(Command::Back)
+        read_count(&text[5..]).map(ScriptCommand::Back)
     } else if text.starts_with(b"break ") {
-        read_hexadecimal(&text[6..], 8).map(Command::Break)
+        read_hexadecimal(&text[6..], 8).map(ScriptCommand::Break)
     } else if text.starts_with(b"clear ") {
-        read_hexadecimal(&text[6..], 8).map(Command::Clear)
+        read_hexadecimal(&text[6..], 8).map(ScriptCommand::Clear)
     } else {
         None
     }

@@ -1,15 +1,17 @@
 // A machine that was kept, from its image to its end.
 ghost use Rattle.std.specs.Prelude.{◌≤◌, length, option_copied};
-ghost use Rattle.mix_engine.specs.Beside.{AreSame};
-ghost use Rattle.mix_top.specs.World.{EndsIn, keeping};
+ghost use Rattle.mix_engine.specs.inner.Beside.{AreSame};
+ghost use Rattle.mix_top.specs.inner.World.{EndsIn};
+ghost use Rattle.mix_top.specs.WorldClauses.{keeping};
 ghost use Rattle.mix_top.specs.Continuing.{ContinueWay};
-ghost use Rattle.mix_top.specs.Parts.{beside_lent};
+ghost use Rattle.mix_top.specs.inner.Parts.{beside_lent};
 
 use super::close::close_unrestored;
 use super::run::run_machine;
+use dev_rack::Devices;
 use mix_engine::Outside;
 use mix_image::restore;
-use mix_io::{Devices, Keeper, Sink, Source};
+use mix_io::{Keeper, Sink, Source};
 use std::alloc::Global;
 
 /// Makes the machine of an image, and runs it on for at most `steps` steps.

@@ -1,24 +1,27 @@
 // A script of the debugger over a program, from its first line to its last one.
 ghost use Rattle.std.specs.Prelude.{◌≡◌, ◌≤◌, None, Some, length};
-ghost use Rattle.mix_load.specs.Load.{AreLoadable};
-ghost use Rattle.mix_io.specs.Jobs.{IsProperJob};
-ghost use Rattle.switch_frame.specs.Program.{IsProgram};
+ghost use Rattle.mix_load.specs.LoadClauses.{AreLoadable};
+ghost use Rattle.job_words.specs.JobsClauses.{IsProperJob};
+ghost use Rattle.switch_frame.specs.ProgramClauses.{IsProgram};
 ghost use Rattle.switch_frame.specs.Records.{isa_of};
 ghost use Rattle.mixed_machine.specs.Machine.{IsWhole, flat};
-ghost use Rattle.mix_top.specs.Places.{stop_in};
-ghost use Rattle.mix_engine.specs.Beside.{AreSame};
-ghost use Rattle.mix_top.specs.World.{EndsIn, Keep};
+ghost use Rattle.mix_top.specs.inner.Places.{stop_in};
+ghost use Rattle.mix_engine.specs.inner.Beside.{AreSame};
+ghost use Rattle.mix_top.specs.inner.World.{EndsIn};
+ghost use Rattle.mix_top.specs.World.{Keep};
 ghost use Rattle.mix_top.specs.Debugging.{MachineWay, ScriptWay, script_status as status_by};
 ghost use Rattle.mix_top.specs.Ends.{DebugWay, LoadWay};
-ghost use Rattle.mix_top.specs.Parts.{beside_lent};
+ghost use Rattle.mix_top.specs.inner.Parts.{beside_lent};
 
 use super::close::{close, close_unloaded, close_without_memory};
 use super::lines::script_text;
 use super::status::{INPUT_FAILED, NOT_LOADED, OUTPUT_FAILED, SUCCESS, TRACE_FAILED};
 use crate::{Script, run_script};
+use dev_rack::Devices;
+use job_words::Job;
 use mix_debug::Debug;
 use mix_engine::{Machine, Outside};
-use mix_io::{Devices, Job, Sink, Source};
+use mix_io::{Sink, Source};
 use mix_load::{Files, load};
 use std::alloc::Global;
 use switch_frame::Program;

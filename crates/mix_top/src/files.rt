@@ -1,13 +1,16 @@
 // The files that a command wants.
 ghost use Rattle.std.specs.Prelude.{◌≡◌, IfErr, IfOk, OnOk, map};
 ghost use Rattle.std.specs.String.{string_bytes};
-ghost use Rattle.mix_io.specs.Jobs.{NamesFiles, keys_in_order};
+ghost use Rattle.job_words.specs.JobsClauses.{NamesFiles};
+ghost use Rattle.job_words.specs.Jobs.{keys_in_order};
 ghost use Rattle.mix_top.specs.Files.{AreFiles, IsOf, bytes_in};
-ghost use Rattle.mix_top.specs.World.{NoneRose, counting};
-ghost use Rattle.mix_top.specs.Parts.{Adds, Misses, MissesFirst, with_file as with_file_of};
+ghost use Rattle.mix_top.specs.World.{NoneRose};
+ghost use Rattle.mix_top.specs.WorldClauses.{counting};
+ghost use Rattle.mix_top.specs.inner.Parts.{Adds, Misses, MissesFirst, with_file as with_file_of};
 
+use job_words::{Command, Key, file_name};
 use mix_bits::File;
-use mix_io::{Command, FetchError, Key, Shelf, file_name};
+use mix_io::{FetchError, Shelf};
 use mix_load::{FileBytes, Files};
 use std::alloc::Global;
 

@@ -1,4 +1,4 @@
-ghost use Rattle.mix_top.specs.Laws.{ContinuedRunsAreOne};
+ghost use Rattle.mix_top.specs.laws.Laws.{ContinuedRunsAreOne};
 
 /// That a run which is cut, kept and continued is the uncut run. It does nothing: the clause is its point.
 ///

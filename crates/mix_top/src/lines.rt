@@ -7,9 +7,9 @@ ghost use Rattle.mix_top.specs.Assembling.{line_refusal, reason_name as reason_n
 ghost use Rattle.mix_top.specs.Continuing.{image_refusal};
 
 use itoa::Buffer;
+use job_words::Key;
 use mix_bits::{File, Line};
 use mix_image::ImageError;
-use mix_io::Key;
 use mix_load::LoadError;
 use mix_text::{Reason, Refused};
 use pef_head::PefError;

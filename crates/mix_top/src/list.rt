@@ -1,19 +1,22 @@
 // A listing of a program, from its files to its last line.
-ghost use Rattle.mix_io.specs.Jobs.{IsProperJob};
+ghost use Rattle.job_words.specs.JobsClauses.{IsProperJob};
 ghost use Rattle.mix_text.specs.Listing.{listing};
-ghost use Rattle.mix_load.specs.Load.{AreLoadable};
-ghost use Rattle.mix_engine.specs.Beside.{AreSame};
-ghost use Rattle.mix_io.specs.Streams.{output};
-ghost use Rattle.mix_top.specs.World.{EndsIn, Keep, PutsText};
+ghost use Rattle.mix_load.specs.LoadClauses.{AreLoadable};
+ghost use Rattle.mix_engine.specs.inner.Beside.{AreSame};
+ghost use Rattle.mix_io.specs.StreamsClauses.{output};
+ghost use Rattle.mix_top.specs.inner.World.{EndsIn};
+ghost use Rattle.mix_top.specs.World.{Keep, PutsText};
 ghost use Rattle.mix_top.specs.Ends.{ListsWay};
-ghost use Rattle.mix_top.specs.Parts.{beside_lent};
+ghost use Rattle.mix_top.specs.inner.Parts.{beside_lent};
 
 use super::close::close_unloaded;
 use super::status::{OUTPUT_FAILED, SUCCESS};
 use big_memory::Ram;
+use dev_rack::Devices;
+use job_words::Job;
 use mix_bits::Isa;
 use mix_engine::Outside;
-use mix_io::{Devices, Job, Sink, Source};
+use mix_io::{Sink, Source};
 use mix_load::{Files, load};
 use mix_text::list;
 use std::alloc::Global;

@@ -1,7 +1,8 @@
 // An outside that has nothing, keeps nothing and never fails.
 ghost use Rattle.std.specs.Prelude.{[], Some, None};
 
-use mix_io::{Answer, Asked, Devices, Failed, Sink, Source};
+use dev_rack::{Answer, Asked, Devices};
+use mix_io::{Failed, Sink, Source};
 
 /// An input without a byte.
 #[derive(Drop)]

@@ -1,17 +1,18 @@
 // The commands of a script, one after the other.
 ghost use Rattle.std.specs.Prelude.{◌≡◌, length};
-ghost use Rattle.mix_engine.specs.Beside.{AreSame};
+ghost use Rattle.mix_engine.specs.inner.Beside.{AreSame};
 ghost use Rattle.mix_top.specs.Events.{events_of, forward, told, told_behind};
-ghost use Rattle.mix_top.specs.Places.{place_beside, stop_in};
-ghost use Rattle.mix_top.specs.Plays.{Does, Plays};
+ghost use Rattle.mix_top.specs.inner.Places.{place_beside, stop_in};
+ghost use Rattle.mix_top.specs.inner.Plays.{Does, Plays};
 
-use crate::command::Command;
+use crate::command::ScriptCommand;
 use crate::script::Script;
 use crate::texts::{tell_answer, tell_crawl, tell_end, tell_place};
 use crate::walk::{Until, Walked, live, walk_back, walk_forward};
+use dev_rack::Devices;
 use mix_debug::Debug;
 use mix_engine::Outside;
-use mix_io::{Devices, Sink, Source};
+use mix_io::{Sink, Source};
 use toolbox::Broken;
 
 /// Does the commands of a script, one after the other, and puts their texts among the lines of the steps; where the outside
@@ -42,7 +43,7 @@ pub fn run_script<'i, 'o, 't, 'd, I: Source, O: Sink, T: Sink, D: Devices>(
 /// Does a command.
 fn do_command<'i, 'o, 't, 'd, I: Source, O: Sink, T: Sink, D: Devices>(
     debug: &mut Debug,
-    command: Command,
+    command: ScriptCommand,
     outside: &mut Outside<'i, 'o, 't, 'd, I, O, T, D>,
 ) -> Result<(), Broken>
     ensures does { Does (events_of command)
@@ -52,13 +53,13 @@ fn do_command<'i, 'o, 't, 'd, I: Source, O: Sink, T: Sink, D: Devices>(
     ensures same { AreSame outside.old outside.new }
 {
     match command {
-        Command::Step(count) => go_forward(debug, Until::Count, count, outside),
-        Command::Over(count) => go_over(debug, count, outside),
-        Command::Go(count) => go_forward(debug, Until::Breakpoint, count, outside),
-        Command::Back(count) => go_back(debug, count, outside),
-        Command::Break(a) => set_break(debug, a, outside),
-        Command::Clear(a) => clear_break(debug, a, outside),
-        Command::Where => crawl(debug, outside),
+        ScriptCommand::Step(count) => go_forward(debug, Until::Count, count, outside),
+        ScriptCommand::Over(count) => go_over(debug, count, outside),
+        ScriptCommand::Go(count) => go_forward(debug, Until::Breakpoint, count, outside),
+        ScriptCommand::Back(count) => go_back(debug, count, outside),
+        ScriptCommand::Break(a) => set_break(debug, a, outside),
+        ScriptCommand::Clear(a) => clear_break(debug, a, outside),
+        ScriptCommand::Where => crawl(debug, outside),
     }
 }
 
@@ -68,7 +69,7 @@ fn go_over<'i, 'o, 't, 'd, I: Source, O: Sink, T: Sink, D: Devices>(
     count: u32,
     outside: &mut Outside<'i, 'o, 't, 'd, I, O, T, D>,
 ) -> Result<(), Broken>
-    ensures does { Does (events_of (Command.Over count))
+    ensures does { Does (events_of (ScriptCommand.Over count))
         (place_beside I.left I.faults O.held O.faults T.held T.faults D.state debug.old outside.old)
         (place_beside I.left I.faults O.held O.faults T.held T.faults D.state debug.new outside.new)
         (stop_in result) }
@@ -103,7 +104,7 @@ fn go_back<'i, 'o, 't, 'd, I: Source, O: Sink, T: Sink, D: Devices>(
     count: u32,
     outside: &mut Outside<'i, 'o, 't, 'd, I, O, T, D>,
 ) -> Result<(), Broken>
-    ensures does { Does (events_of (Command.Back count))
+    ensures does { Does (events_of (ScriptCommand.Back count))
         (place_beside I.left I.faults O.held O.faults T.held T.faults D.state debug.old outside.old)
         (place_beside I.left I.faults O.held O.faults T.held T.faults D.state debug.new outside.new)
         (stop_in result) }
@@ -137,7 +138,7 @@ fn set_break<'i, 'o, 't, 'd, I: Source, O: Sink, T: Sink, D: Devices>(
     a: u32,
     outside: &mut Outside<'i, 'o, 't, 'd, I, O, T, D>,
 ) -> Result<(), Broken>
-    ensures does { Does (events_of (Command.Break a))
+    ensures does { Does (events_of (ScriptCommand.Break a))
         (place_beside I.left I.faults O.held O.faults T.held T.faults D.state debug.old outside.old)
         (place_beside I.left I.faults O.held O.faults T.held T.faults D.state debug.new outside.new)
         (stop_in result) }
@@ -153,7 +154,7 @@ fn clear_break<'i, 'o, 't, 'd, I: Source, O: Sink, T: Sink, D: Devices>(
     a: u32,
     outside: &mut Outside<'i, 'o, 't, 'd, I, O, T, D>,
 ) -> Result<(), Broken>
-    ensures does { Does (events_of (Command.Clear a))
+    ensures does { Does (events_of (ScriptCommand.Clear a))
         (place_beside I.left I.faults O.held O.faults T.held T.faults D.state debug.old outside.old)
         (place_beside I.left I.faults O.held O.faults T.held T.faults D.state debug.new outside.new)
         (stop_in result) }
@@ -168,7 +169,7 @@ fn crawl<'i, 'o, 't, 'd, I: Source, O: Sink, T: Sink, D: Devices>(
     debug: &Debug,
     outside: &mut Outside<'i, 'o, 't, 'd, I, O, T, D>,
 ) -> Result<(), Broken>
-    ensures does { Does (events_of Command.Where)
+    ensures does { Does (events_of ScriptCommand.Where)
         (place_beside I.left I.faults O.held O.faults T.held T.faults D.state debug.now outside.old)
         (place_beside I.left I.faults O.held O.faults T.held T.faults D.state debug.now outside.new)
         (stop_in result) }

@@ -1,21 +1,24 @@
 // A program from its files to its end, and a machine from where it is to its end.
 ghost use Rattle.std.specs.Prelude.{option_copied};
-ghost use Rattle.mix_load.specs.Load.{AreLoadable};
-ghost use Rattle.mix_io.specs.Jobs.{IsProperJob};
-ghost use Rattle.switch_frame.specs.Program.{IsProgram};
+ghost use Rattle.mix_load.specs.LoadClauses.{AreLoadable};
+ghost use Rattle.job_words.specs.JobsClauses.{IsProperJob};
+ghost use Rattle.switch_frame.specs.ProgramClauses.{IsProgram};
 ghost use Rattle.switch_frame.specs.Records.{isa_of};
 ghost use Rattle.mixed_machine.specs.Machine.{IsWhole, flat};
-ghost use Rattle.mix_engine.specs.Beside.{AreSame};
-ghost use Rattle.mix_top.specs.World.{EndsIn, keeping};
+ghost use Rattle.mix_engine.specs.inner.Beside.{AreSame};
+ghost use Rattle.mix_top.specs.inner.World.{EndsIn};
+ghost use Rattle.mix_top.specs.WorldClauses.{keeping};
 ghost use Rattle.mix_top.specs.Running.{MachineRan};
 ghost use Rattle.mix_top.specs.Ends.{ProgramWay, RunsWay};
-ghost use Rattle.mix_top.specs.Parts.{beside_lent};
+ghost use Rattle.mix_top.specs.inner.Parts.{beside_lent};
 
 use super::checkpoint::{due, keep_machine};
 use super::close::{close_unloaded, close_without_memory, finish};
 use super::status::NOT_KEPT;
+use dev_rack::Devices;
+use job_words::Job;
 use mix_engine::{Machine, Outside, run};
-use mix_io::{Devices, Job, Keeper, Sink, Source};
+use mix_io::{Keeper, Sink, Source};
 use mix_load::{Files, load};
 use std::alloc::Global;
 use switch_frame::Program;

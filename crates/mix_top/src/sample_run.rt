@@ -1,16 +1,17 @@
 // The run, step by step.
 ghost use Rattle.std.specs.Prelude.{◌≡◌, ◌≤◌, IfOk, Ok, length};
-ghost use Rattle.switch_frame.specs.Program.{IsProgram};
+ghost use Rattle.switch_frame.specs.ProgramClauses.{IsProgram};
 ghost use Rattle.switch_frame.specs.Records.{isa_of};
 ghost use Rattle.mixed_machine.specs.Machine.{IsWhole, callers_of, flat};
-ghost use Rattle.mix_top.specs.Samples.{IsSample, CountedRun, Steps, nothing, sample_program, sample_ram, sample_steps};
+ghost use Rattle.mix_top.specs.Samples.{IsSample, CountedRun, nothing, sample_program, sample_ram, sample_steps};
+ghost use Rattle.mix_top.specs.inner.Samples.{Steps};
 
-use super::image::sample;
 use super::nothing::{NoDevices, NoInput, Nowhere};
 use super::sampled::Sampled;
 use call_trace::End;
 use mix_bits::{Isa, NoMemory};
 use mix_engine::{Machine, Stop, run};
+use mix_gen::sample;
 use mix_load::{LoadError, load};
 use std::alloc::Global;
 use switch_frame::{Program, depth as live_frames};

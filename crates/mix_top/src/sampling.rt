@@ -1,19 +1,21 @@
 // The sample, from its run to its line.
 ghost use Rattle.std.specs.Prelude.{◌≡◌, ◌+◌, ◌≤◌, ◌++◌, length};
-ghost use Rattle.mix_engine.specs.Beside.{AreSame};
-ghost use Rattle.mix_io.specs.Streams.{output};
-ghost use Rattle.mix_top.specs.World.{EndsIn, Keep, PutsText};
+ghost use Rattle.mix_engine.specs.inner.Beside.{AreSame};
+ghost use Rattle.mix_io.specs.StreamsClauses.{output};
+ghost use Rattle.mix_top.specs.inner.World.{EndsIn};
+ghost use Rattle.mix_top.specs.World.{Keep, PutsText};
 ghost use Rattle.mix_top.specs.SampleLine.{counted, exit_text, fault_text, sample_head, sample_line};
 ghost use Rattle.mix_top.specs.Ends.{PutsSample, SampleWay};
-ghost use Rattle.mix_top.specs.Parts.{beside_lent};
+ghost use Rattle.mix_top.specs.inner.Parts.{beside_lent};
 
 use super::close::close_without_memory;
 use super::status::{FAULTED, LIMIT_REACHED, OUTPUT_FAILED, SUCCESS};
 use super::{Sampled, run_sample};
 use call_trace::{End, fault_name};
+use dev_rack::Devices;
 use mix_bits::{Fault, Line};
 use mix_engine::Outside;
-use mix_io::{Devices, Sink, Source};
+use mix_io::{Sink, Source};
 use std::alloc::Global;
 
 /// Runs the sample image, and writes what it did.

@@ -1,7 +1,8 @@
 ghost use Rattle.std.specs.Prelude.{◌≡◌, ◌^◌, ◌<◌, ◌∷◌, [], Ok, Err, MatchOption, MatchResult, length};
-ghost use Rattle.mix_top.specs.Scripts.{bad_in, script_of};
+ghost use Rattle.mix_top.specs.inner.Scripts.{bad_in};
+ghost use Rattle.mix_top.specs.Scripts.{script_of};
 
-use crate::command::Command;
+use crate::command::ScriptCommand;
 use crate::script_lines::{read_line, split_line};
 use std::marker::Model;
 
@@ -19,10 +20,11 @@ pub struct Script<'a> {
 
 impl<'a> Model for Script<'a> {
     ghost use Rattle.std.specs.Prelude.{List};
-    ghost use Rattle.mix_top.specs.declared.command.Command.{Command};
-    ghost use Rattle.mix_top.specs.Scripts.{AreCommands, commands_among, lines_of};
+    ghost use Rattle.mix_top.specs.declared.command.ScriptCommand.{ScriptCommand};
+    ghost use Rattle.mix_top.specs.inner.Scripts.{AreCommands, commands_among};
+    ghost use Rattle.mix_top.specs.Scripts.{lines_of};
 
-    ghost Value = { List Command };
+    ghost Value = { List ScriptCommand };
 
     ghost view = { λ s. commands_among (lines_of s.rest.now) };
 
@@ -42,7 +44,7 @@ impl<'a> Script<'a> {
     }
 
     /// Takes the next command.
-    pub fn next(&mut self) -> Option<Command>
+    pub fn next(&mut self) -> Option<ScriptCommand>
         ensures { MatchOption result ((self.old ≡ []) × (self.new ≡ [])) (λ c. self.old ≡ c ∷ self.new) }
     {
         if self.rest.is_empty() {

@@ -1,8 +1,9 @@
 // The lines of a text, each with the line feed that ends it.
 ghost use Rattle.std.specs.Prelude.{◌≡◌, ◌<◌, ◌≤◌, length};
-ghost use Rattle.mix_top.specs.Scripts.{behind_line, command_in, first_line, line_length as line_length_of};
+ghost use Rattle.mix_top.specs.inner.Scripts.{behind_line, first_line, line_length as line_length_of};
+ghost use Rattle.mix_top.specs.Scripts.{command_in};
 
-use crate::command::{Command, read_command};
+use crate::command::{ScriptCommand, read_command};
 
 /// The first line of a text, and what stands behind it.
 pub fn split_line(text: &[u8]) -> (&[u8], &[u8])
@@ -27,7 +28,7 @@ fn line_length(text: &[u8]) -> usize
 }
 
 /// The command that a line is, which has to end with a line feed.
-pub fn read_line(line: &[u8]) -> Option<Command>
+pub fn read_line(line: &[u8]) -> Option<ScriptCommand>
     ensures { result ≡ command_in line.now }
 {
     if line.ends_with(b"\n") {

@@ -1,10 +1,10 @@
 // The texts of a script on the trace.
 ghost use Rattle.std.specs.Prelude.{◌≡◌, ◌+◌, ◌≤◌, ◌<◌, ◌++◌, [], length};
-ghost use Rattle.mix_io.specs.Streams.{output};
-ghost use Rattle.mix_debug.specs.Crawl.{crawl_of};
+ghost use Rattle.mix_io.specs.StreamsClauses.{output};
+ghost use Rattle.mix_debug.specs.CrawlClauses.{crawl_of};
 ghost use Rattle.mix_top.specs.Events.{answer, at_line};
-ghost use Rattle.mix_top.specs.ScriptParts.{TellsEnd, TellsTo, traced_of};
-ghost use Rattle.mix_top.specs.Places.{stop_in};
+ghost use Rattle.mix_top.specs.inner.ScriptParts.{TellsEnd, TellsTo, traced_of};
+ghost use Rattle.mix_top.specs.inner.Places.{stop_in};
 
 use call_trace::{End, put_end, set_name};
 use mix_bits::Line;

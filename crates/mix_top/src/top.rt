@@ -1,13 +1,15 @@
 ghost use Rattle.std.specs.Prelude.{◌≡◌, IfSome, Ok, map, option_copied};
 ghost use Rattle.std.specs.String.{string_bytes};
-ghost use Rattle.toolbox.specs.Calls.{outside as outside_of};
-ghost use Rattle.mix_io.specs.Jobs.{IsProper, IsProperJob, NamesSave, job_in};
-ghost use Rattle.mix_io.specs.Words.{command_of};
-ghost use Rattle.mix_engine.specs.Beside.{AreSame};
-ghost use Rattle.mix_io.specs.Streams.{output};
-ghost use Rattle.mix_top.specs.World.{EndsIn, beside, counting, keeping, world};
+ghost use Rattle.toolbox.specs.CallsClauses.{outside as outside_of};
+ghost use Rattle.job_words.specs.JobsClauses.{IsProper, IsProperJob, NamesSave, job_in};
+ghost use Rattle.job_words.specs.Words.{command_of};
+ghost use Rattle.mix_engine.specs.inner.Beside.{AreSame};
+ghost use Rattle.mix_io.specs.StreamsClauses.{output};
+ghost use Rattle.mix_top.specs.inner.World.{EndsIn};
+ghost use Rattle.mix_top.specs.World.{beside};
+ghost use Rattle.mix_top.specs.WorldClauses.{counting, keeping, world};
 ghost use Rattle.mix_top.specs.Ends.{Ends, FilesWay, saved_by};
-ghost use Rattle.mix_top.specs.Parts.{AreFor, AreShort, beside_lent};
+ghost use Rattle.mix_top.specs.inner.Parts.{AreFor, AreShort, beside_lent};
 
 use super::assemble::assemble_text;
 use super::close::{close, close_unfetched};
@@ -19,8 +21,10 @@ use super::list::{Span, list_files};
 use super::run::run_files;
 use super::sampling::write_sample;
 use super::status::BAD_WORDS;
+use dev_rack::Devices;
+use job_words::{Command, file_name, read_words};
 use mix_engine::Outside;
-use mix_io::{Command, Devices, Keeper, Shelf, Sink, Source, file_name, read_words};
+use mix_io::{Keeper, Shelf, Sink, Source};
 use std::alloc::Global;
 
 /// All that the program does, over words and six objects of the outside. The answer is the status of the

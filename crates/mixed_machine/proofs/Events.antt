@@ -12,7 +12,9 @@ use Rattle.mixed_machine.specs.Step.{step}
 use Rattle.mixed_machine.specs.Exec.{How, exec_to, goes_on, rests, is_back, Leads, GoesTo, Says, Tells, Reads, log, said_of, line_of}
 use Rattle.mixed_machine.specs.Exec.How.{Limited, Exited, Faulted}
 use Rattle.mixed_machine.specs.Exec.End.{Back, Ended}
-use Rattle.mixed_machine.specs.Runs.{Sinks, SinksTook, Going, Ran, CameBack, ReadBroke, OutBroke, TraceBroke, Stops}
+use Rattle.mixed_machine.specs.Runs.{Sinks, SinksTook, Ran, ReadBroke, OutBroke, TraceBroke, Stops}
+use Rattle.mixed_machine.specs.laws.Runs.{Going}
+use Rattle.mixed_machine.specs.RunsClauses.{CameBack}
 use Rattle.mixed_machine.proofs.Runs.{exec-continues, ends-reach, backs-continue, limits-last}
 use Rattle.mixed_machine.proofs.Logs.{leads-none, leads-more, leads-append, exec-back, exec-exits, exec-faults, log-continues, log-more, log-exits, log-none}
 

@@ -8,7 +8,7 @@ use Rattle.mixed_machine.specs.Step.{step}
 use Rattle.mixed_machine.specs.Exec.{exec_to, goes_on, rests, is_back, Leads, GoesTo, log, log_then}
 use Rattle.mixed_machine.specs.Exec.How.{Limited, Exited, Faulted}
 use Rattle.mixed_machine.specs.Exec.End.{Back, Ended}
-use Rattle.mixed_machine.specs.Laws.{LogsContinue}
+use Rattle.mixed_machine.specs.laws.Laws.{LogsContinue}
 use Rattle.mixed_machine.proofs.Runs.{exec-continues, suc-more, no-steps, back-now}
 
 -- no step was done yet

@@ -10,11 +10,13 @@ use Rattle.mixed_machine.specs.Next.{Next}
 use Rattle.mixed_machine.specs.Step.{step}
 use Rattle.mixed_machine.specs.Exec.{GoesTo, line_of, said_of}
 use Rattle.mixed_machine.specs.Machine.{callers_of}
-use Rattle.mixed_machine.specs.Outside.{state_of}
-use Rattle.mixed_machine.specs.Acts.{BothGrow, Done}
-use Rattle.mixed_machine.specs.Runs.{CameBack, Going, Sinks, Stops, sinks_of}
-use Rattle.mixed_machine.specs.Events.{BeginsAt, CalleeCameBack, CalleeStopped, ComesBackAt, CutGoesOn, ExitsAt, FaultsAt, GoesOnAt, IsDone, LimitAt, OutBreaksAt, ReadBreaksAt, StopsImply, TraceBreaksAt}
-use Rattle.mixed_machine.specs.Laws.{CutsContinue}
+use Rattle.mixed_machine.specs.inner.Outside.{state_of}
+use Rattle.mixed_machine.specs.laws.Acts.{BothGrow, Done}
+use Rattle.mixed_machine.specs.RunsClauses.{CameBack, sinks_of}
+use Rattle.mixed_machine.specs.laws.Runs.{Going}
+use Rattle.mixed_machine.specs.Runs.{Sinks, Stops}
+use Rattle.mixed_machine.specs.laws.Events.{BeginsAt, CalleeCameBack, CalleeStopped, ComesBackAt, CutGoesOn, ExitsAt, FaultsAt, GoesOnAt, IsDone, LimitAt, OutBreaksAt, ReadBreaksAt, StopsImply, TraceBreaksAt}
+use Rattle.mixed_machine.specs.laws.Laws.{CutsContinue}
 use Rattle.mixed_machine.proofs.Events.{going-none, going-more, back-now, limited-now, exits-now, faults-now, read-broke-now, out-broke-now, trace-broke-now, nested-back, nested-stops, cut-stops}
 use Rattle.mixed_machine.proofs.Over.{over-none, over-same, over-more}
 

@@ -2,13 +2,15 @@
 use Rattle.std.proofs.Common.{◌≡◌, ℕ, List, [], ◌∷◌, ◌++◌, length, map, drop, Option, refl, sym, ap, ◌∙◌, subst, append_assoc}
 use Rattle.std.proofs.Math.Seq.{drop-append_seam, drop-length}
 use Rattle.std.proofs.lemmas.List.{map-append}
-use Rattle.mix_io.specs.declared.answers.Asked.{Asked}
-use Rattle.mix_io.specs.Rack.{State as Rack}
-use Rattle.mix_io.specs.Accounts.{Accounts}
+use Rattle.dev_rack.specs.declared.answers.Asked.{Asked}
+use Rattle.dev_rack.specs.Rack.{State as Rack}
+use Rattle.dev_rack.specs.Accounts.{Accounts}
 use Rattle.toolbox.specs.Calls.{Taken, answers_since}
 use Rattle.mixed_machine.specs.State.{State}
-use Rattle.mixed_machine.specs.Laws.{AnswersJoin, NoAnswers, ToldJoins, ToldNothing, TookSplits}
-use Rattle.mixed_machine.specs.Outside.{At, Over, TookAll, answers_between, state_of}
+use Rattle.mixed_machine.specs.laws.Laws.{AnswersJoin, NoAnswers, ToldJoins, ToldNothing, TookSplits}
+use Rattle.mixed_machine.specs.OutsideClauses.{At, Over}
+use Rattle.mixed_machine.specs.Outside.{TookAll}
+use Rattle.mixed_machine.specs.inner.Outside.{answers_between, state_of}
 
 -- what was taken by calls, and by more of them
 pub took-append : TookSplits

@@ -8,7 +8,7 @@ use Rattle.mixed_machine.specs.Step.{step}
 use Rattle.mixed_machine.specs.Exec.{How, End, exec_to, goes_on, rests, is_back, Leads}
 use Rattle.mixed_machine.specs.Exec.How.{Limited, Faulted}
 use Rattle.mixed_machine.specs.Exec.End.{Back, Ended}
-use Rattle.mixed_machine.specs.Laws.{NoStepsStay}
+use Rattle.mixed_machine.specs.laws.Laws.{NoStepsStay}
 
 pub suc-more : (n m : ℕ) → suc n + m ≡ suc (n + m)
 suc-more n m = omega arith

@@ -10,7 +10,7 @@ use Rattle.big_memory.specs.Steps.After.{Goes as GoesOn, Leaves as LeavesSet, St
 use Rattle.m68_effects.specs.Step.{stepped as stepped_68k}
 use Rattle.ppc_integer.specs.Effects.{stepped as stepped_ppc}
 use Rattle.proc_info.specs.Signature.{Signature, signature_in}
-use Rattle.proc_info.specs.Layout.{mixed_mode_magic}
+use Rattle.routine_desc.specs.Layout.{mixed_mode_magic}
 use Rattle.switch_frame.specs.declared.active.Active.{Active}
 use Rattle.switch_frame.specs.declared.active.Active.TheVariants.{M68, Ppc}
 use Rattle.switch_frame.specs.declared.full.Full.{Full}
@@ -20,9 +20,9 @@ use Rattle.mode_switch.specs.Passed.{Passage, passed}
 use Rattle.mode_switch.specs.Returned.{Returned, given_back}
 use Rattle.mode_switch.specs.Wanted.{Crossing, Want, wants_68k, wants_ppc}
 use Rattle.mode_switch.specs.Wanted.Want.{Calls, Jumps, Refuses}
-use Rattle.toolbox.specs.Space.{Space}
-use Rattle.toolbox.specs.Place.{begins_at, freed, place_for}
-use Rattle.toolbox.proofs.Keeps.{freed-none}
+use Rattle.host_heap.specs.Space.{Space}
+use Rattle.host_heap.specs.Place.{begins_at, freed, place_for}
+use Rattle.host_heap.proofs.Keeps.{freed-none}
 use Rattle.toolbox.specs.declared.function.Function.{Function}
 use Rattle.toolbox.specs.declared.function.Function.TheVariants.{NewRoutineDescriptor, NewFatRoutineDescriptor, DisposeRoutineDescriptor, CallUniversalProc, NewPtr, NewPtrClear, DisposePtr, BlockMove, ExitToShell, PutByte, GetByte, PutBlock, AskDevice, EjectDevice, ExitWith, UnloadSeg}
 use Rattle.toolbox.specs.declared.values.Operands.{Operands}
@@ -38,7 +38,7 @@ use Rattle.mixed_machine.specs.Leave.{at_gate, at_gate_of, is_exit, is_return, l
 use Rattle.mixed_machine.specs.Enter.{crosses, enters, enters_in, enters_with}
 use Rattle.mixed_machine.specs.Host.{host_of, hosted_by, hosts, traps, traps_to, universal}
 use Rattle.mixed_machine.specs.Step.{after_68k, after_ppc, step, step_68k, step_of, step_ppc}
-use Rattle.mixed_machine.specs.StepLaws.{HeapMoves, IsKind, StepsAreKinds}
+use Rattle.mixed_machine.specs.laws.StepLaws.{HeapMoves, IsKind, StepsAreKinds}
 
 -- a test chooses between two steps of a kind
 either : (s : State) (b : Bool) (x y : Next) → IsKind s x → IsKind s y → IsKind s (if b then x else y)

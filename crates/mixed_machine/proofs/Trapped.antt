@@ -1,19 +1,22 @@
 -- No trap goes on into other code: CallUniversalProc alone does, and it has no trap.
-use Rattle.std.proofs.Common.{◌≡◌, ℕ, zero, suc, Bool, true, false, if◌then◌else◌, List, [], ◌∷◌, Option, Some, None, refl, sym, ap, ◌∙◌}
+use Rattle.std.proofs.Common.{◌≡◌, ℕ, Bool, true, false, if◌then◌else◌, List, [], ◌∷◌, Option, Some, None, refl, sym, ap, subst, ◌∙◌}
 use Rattle.big_memory.specs.declared.refusals.Access.{Access}
 use Rattle.big_memory.specs.Memory.{Memory, copied, copy_refusal, in_memory}
-use Rattle.toolbox.specs.Place.{place_for}
+use Rattle.host_heap.specs.Place.{place_for}
 use Rattle.switch_frame.specs.declared.active.Active.{Active}
 use Rattle.toolbox.specs.declared.function.Function.{Function}
 use Rattle.toolbox.specs.declared.function.Function.TheVariants.{NewRoutineDescriptor, NewFatRoutineDescriptor, DisposeRoutineDescriptor, CallUniversalProc, NewPtr, NewPtrClear, DisposePtr, BlockMove, ExitToShell, PutByte, GetByte, PutBlock, AskDevice, EjectDevice, ExitWith, UnloadSeg}
 use Rattle.toolbox.specs.declared.values.Operands.{Operands}
-use Rattle.toolbox.specs.Functions.{function_at, has_trap, trap_below, trap_of}
+use Rattle.toolbox.specs.Functions.{function_at, trap_number}
+use Rattle.toolbox.specs.FunctionsClauses.{trap_of}
+use Rattle.toolbox.specs.NamesClauses.{IsTrapIndex}
+use Rattle.toolbox.proofs.OneNumber.{index_from, numbers-own}
 use Rattle.toolbox.specs.Registers.{operands_of}
 use Rattle.toolbox.specs.Effects.{Resources, Effect, effect, made_at, moved_unless, takes_from}
 use Rattle.toolbox.specs.Effects.Effect.{Gives, Crosses as CrossesInto, Leaves as LeavesWith, Refuses as Refused}
 use Rattle.toolbox.specs.Host.{host, settled}
 use Rattle.toolbox.specs.Host.Hosted.{Crosses}
-use Rattle.mixed_machine.specs.StepLaws.{TrapsNeverCross}
+use Rattle.mixed_machine.specs.laws.StepLaws.{TrapsNeverCross}
 
 -- a call that crosses is one of CallUniversalProc
 abbrev HasNoTrap : Function → Effect → Type 0
@@ -56,16 +59,11 @@ no-trap EjectDevice o r = tt
 no-trap ExitWith o r = tt
 no-trap UnloadSeg o r = tt
 
--- a function that a trap word reaches has a trap
-trapped-by : (n word k : ℕ) (here : Bool) → has_trap (trap_of (function_at n)) word ≡ here → (if here then Some n else trap_below n word) ≡ Some k
-    → (trap_below n word ≡ Some k → has_trap (trap_of (function_at k)) word ≡ true) → has_trap (trap_of (function_at k)) word ≡ true
-trapped-by n word k true has is below = let same : n ≡ k = cc in ap (λ j. has_trap (trap_of (function_at j)) word) (sym same) ∙ has
-trapped-by n word k false has is below = below is
-
-trapped : (n word k : ℕ) → trap_below n word ≡ Some k → has_trap (trap_of (function_at k)) word ≡ true
-unfolding trap_below
-trapped zero word k is = cc
-trapped (suc n) word k is = trapped-by n word k (has_trap (trap_of (function_at n)) word) refl is (trapped n word k)
+-- a function that a trap word reaches has that trap
+trapped : (word k : ℕ) → trap_number word ≡ Some k → trap_of (function_at k) ≡ Some word
+trapped word k is =
+    let found = subst (IsTrapIndex word) is (index_from word) in
+    ap trap_of (ap function_at found.2 ∙ numbers-own found.0) ∙ found.1
 
 -- so it is not one that crosses
 crossing-none : (f : Function) (active : Active) (x : Effect) (pointer info : ℕ) → HasNoTrap f x → settled f active x ≡ Crosses pointer info → trap_of f ≡ None
@@ -78,6 +76,5 @@ pub traps-never_cross : TrapsNeverCross
 unfolding host
 traps-never_cross word k pointer info h reached is =
     let none : trap_of (function_at k) ≡ None = crossing-none (function_at k) h.active _ pointer info (no-trap (function_at k) (operands_of (function_at k) h.active) h.resources) is in
-    let has = trapped 16 word k reached in
-    let not : false ≡ true = ap (λ trap. has_trap trap word) (sym none) ∙ has in
+    let no = sym none ∙ trapped word k reached in
     cc

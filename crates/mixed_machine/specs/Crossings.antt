@@ -5,7 +5,7 @@ use Rattle.mixed_machine.specs.State.{State}
 use Rattle.mixed_machine.specs.Next.{Next}
 use Rattle.mixed_machine.specs.Next.Next.{Goes, Exits, Faults}
 use Rattle.mixed_machine.specs.Step.{step}
-use Rattle.mixed_machine.specs.Exec.{How, Leads, exec}
+use Rattle.mixed_machine.specs.Exec.{How, exec}
 use Rattle.mixed_machine.specs.Exec.End.{Ended}
 
 -- whether more callers are suspended after a step from one state to another than before it, or fewer
@@ -30,14 +30,6 @@ count_of test (suc n) s = count_with (step s) (test s) (count_of test n)
 pub record Crossed (done : ℕ) (s : State) (made given_up : ℕ) : Type 0 where
   pub calls : made ≡ count_of makes_frame done s
   pub returns : given_up ≡ count_of gives_up_frame done s
-
--- a run of at most n steps on its way, with so many steps left and so many crossings behind it
-pub record Counting (n left : ℕ) (s t : State) (calls returns : ℕ) : Type 0 where
-  pub fewer : left ≤ n
-  pub leads : Leads 0 (n - left) s t
-  pub crossed : Crossed (n - left) s calls returns
-  pub few_calls : calls ≤ n - left
-  pub few_returns : returns ≤ n - left
 
 -- one that ended
 pub record Counted (n left : ℕ) (s t : State) (how : How) (calls returns : ℕ) : Type 0 where

@@ -12,7 +12,8 @@ use Rattle.switch_frame.specs.declared.full.Full.TheVariants.{Frames, Outside, C
 use Rattle.switch_frame.specs.Sets.{callee_isa}
 use Rattle.switch_frame.specs.Files.{at_pc, sp_of}
 use Rattle.switch_frame.specs.Records.{Record}
-use Rattle.switch_frame.specs.Chain.{most_frames, zeros}
+use Rattle.switch_frame.specs.Chain.{most_frames}
+use Rattle.big_memory.specs.Lists.{zeros}
 use Rattle.switch_frame.specs.Calls.{room_of}
 use Rattle.mode_switch.specs.Wanted.{Crossing, Want, address_of, passed_selector, or_zero}
 use Rattle.mode_switch.specs.Wanted.Want.{Calls, Jumps, Refuses}

@@ -4,7 +4,7 @@ use Rattle.mix_bits.specs.declared.fault.FaultKind.TheVariants.{NoTrap}
 use Rattle.m68_isa.specs.declared.registers.Regs68.{Regs68}
 use Rattle.switch_frame.specs.declared.active.Active.{Active}
 use Rattle.switch_frame.specs.declared.active.Active.TheVariants.{M68, Ppc}
-use Rattle.proc_info.specs.Layout.{mixed_mode_magic}
+use Rattle.routine_desc.specs.Layout.{mixed_mode_magic}
 use Rattle.toolbox.specs.Effects.{Ask, Effects as HostEffects}
 use Rattle.toolbox.specs.Functions.{trap_number}
 use Rattle.toolbox.specs.Host.{Host, Hosted, host}

@@ -1,13 +1,11 @@
 -- A machine in memory: the state that it stands for, and what its parts have to satisfy.
 use Rattle.std.specs.Prelude.{◌≡◌, ℕ, List, length}
 use Rattle.mix_bits.specs.declared.isa.Isa.{Isa}
-use Rattle.big_memory.specs.Memory.{Memory}
 use Rattle.switch_frame.specs.declared.active.Active.{Active}
 use Rattle.switch_frame.specs.Records.{Record}
 use Rattle.switch_frame.specs.Chain.{Chain, records, cleared}
 use Rattle.switch_frame.specs.Calls.{IsOutermost, active_set}
 use Rattle.switch_frame.specs.Program.{HasGatePage, HasHeap, start_sp_of}
-use Rattle.switch_frame.specs.Seen.{seen_by}
 use Rattle.toolbox.specs.Effects.{Around}
 use Rattle.mixed_machine.specs.declared.body.Body.{Body}
 use Rattle.mixed_machine.specs.State.{State}
@@ -33,10 +31,6 @@ flat b active around =
       a5 = b.a5;
       start_sp = b.start_sp;
     }
-
--- what loads and stores see of it
-abbrev pub seen_of : Body → Memory
-seen_of b = seen_by (memory_of b) (callers_of b)
 
 -- its suspended callers stand in a whole chain of frames
 abbrev pub HasChain : Body → Type 0

@@ -1,31 +1,8 @@
 -- A machine in memory beside the outside: what the outside tells, and how a claim on states is one on machines.
 use Rattle.std.specs.Prelude.{◌≡◌, ℕ, List, [], ◌∷◌, ◌++◌, Option}
-use Rattle.mix_io.specs.Streams.{Output}
-use Rattle.switch_frame.specs.declared.active.Active.{Active}
 use Rattle.toolbox.specs.Calls.{IsLeft, Outside, Taken, Took, answers_since}
-pub use Rattle.toolbox.specs.Calls.{around_at}
+use Rattle.toolbox.specs.Calls.{around_at}
 use Rattle.toolbox.specs.Effects.{Around}
-use Rattle.mixed_machine.specs.declared.body.Body.{Body}
-use Rattle.mixed_machine.specs.State.{State}
-use Rattle.mixed_machine.specs.Machine.{flat}
-
--- a machine, and what the outside tells: input, devices and output, and the trace
-pub record At : Type 0 where
-  pub body : Body
-  pub active : Active
-  pub outside : Outside
-  pub trace : Output
-
-abbrev pub at : Body → Active → Outside → Output → At
-at body active outside trace = record { body = body; active = active; outside = outside; trace = trace }
-
--- the state that a machine stands for, for some bytes of input that are left and some answers to come
-abbrev pub state_of : At → List ℕ → List (Option ℕ) → State
-state_of a input answers = flat a.body a.active (around_at a.outside input answers)
-
--- the answers that the new entries of the journal tell
-abbrev pub answers_between : At → At → List (Option ℕ)
-answers_between a b = answers_since a.outside.rack b.outside.rack
 
 -- the bytes of an input before and after several calls that took from it
 abbrev pub TookAll : List Taken → List ℕ → List ℕ → Type 0
@@ -46,7 +23,3 @@ pub record Between {S T : Type 0} (P : S → T → Type 0) (from : Around → S)
   pub told : ToldAll taken old.input.left new.input.left
   pub each : (before after : List ℕ) (rest : List (Option ℕ)) → TookAll taken before after
       → P (from (around_at old before (answers_since old.rack new.rack ++ rest))) (to (around_at new after rest))
-
--- one on the states that a machine stands for
-abbrev pub Over : (State → State → Type 0) → At → At → Type 0
-Over P a b = Between P (flat a.body a.active) (flat b.body b.active) a.outside b.outside

@@ -4,19 +4,15 @@ use Rattle.mix_io.specs.Streams.{Output, Grows, Breaks}
 use Rattle.mixed_machine.specs.declared.stop.Stop.{Stop}
 use Rattle.mixed_machine.specs.declared.stop.Stop.TheVariants.{Exit, Fault, Limit, ReadFault, OutFault, TraceFault}
 use Rattle.mixed_machine.specs.State.{State}
-use Rattle.mixed_machine.specs.Outside.{At, Over}
 use Rattle.mixed_machine.specs.Step.{step}
 use Rattle.mixed_machine.specs.Exec.{How, Leads, GoesTo, Says, Tells, Reads, exec_to, log, said_of, line_of}
 use Rattle.mixed_machine.specs.Exec.How.{Limited, Exited, Faulted}
-use Rattle.mixed_machine.specs.Exec.End.{Back, Ended}
+use Rattle.mixed_machine.specs.Exec.End.{Ended}
 
 -- the two sinks of a run
 pub record Sinks : Type 0 where
   pub out : Output
   pub trace : Output
-
-abbrev pub sinks_of : At → Sinks
-sinks_of a = record { out = a.outside.out; trace = a.trace }
 
 -- both took what j steps from a state put
 pub record SinksTook (j : ℕ) (s : State) (old new : Sinks) : Type 0 where
@@ -27,12 +23,6 @@ pub record SinksTook (j : ℕ) (s : State) (old new : Sinks) : Type 0 where
 pub record Ran (d n left : ℕ) (s t : State) (how : How) (old new : Sinks) : Type 0 where
   pub fewer : left ≤ n
   pub ends : exec_to d n s ≡ Ended how t left
-  pub took : SinksTook (n - left) s old new
-
--- one that came back to fewer than d callers
-pub record CameBack (d n left : ℕ) (s t : State) (old new : Sinks) : Type 0 where
-  pub fewer : left ≤ n
-  pub ends : exec_to d n s ≡ Back t left
   pub took : SinksTook (n - left) s old new
 
 -- one that the input stopped: the next step is one of those allowed, and reads the input
@@ -71,16 +61,3 @@ Stops d n left s t old new Limit = Ran d n left s t Limited old new
 Stops d n left s t old new ReadFault = ReadBroke d n left s t old new
 Stops d n left s t old new OutFault = OutBroke d n left s t old new
 Stops d n left s t old new TraceFault = TraceBroke d n left s t old new
-
--- a run of at most n steps of a machine in memory: some steps are left, and the states that the machine stands for
--- are those of the definition's run
-pub record Runs (n : ℕ) (a b : At) (stop : Stop) : Type 0 where
-  pub left : ℕ
-  pub fewer : left ≤ n
-  pub run : Over (λ s t. Stops 0 n left s t (sinks_of a) (sinks_of b) stop) a b
-
--- a run on its way: n - left steps led from s to t
-pub record Going (d n left : ℕ) (s t : State) (old new : Sinks) : Type 0 where
-  pub fewer : left ≤ n
-  pub leads : Leads d (n - left) s t
-  pub took : SinksTook (n - left) s old new

@@ -6,7 +6,7 @@ use Rattle.switch_frame.specs.declared.active.Active.{Active}
 use Rattle.switch_frame.specs.Records.{Record}
 use Rattle.switch_frame.specs.Chain.{cleared}
 use Rattle.switch_frame.specs.Seen.{seen_by}
-use Rattle.toolbox.specs.Space.{Space}
+use Rattle.host_heap.specs.Space.{Space}
 use Rattle.toolbox.specs.Effects.{Around}
 
 pub record State : Type 0 where

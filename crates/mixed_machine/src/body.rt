@@ -1,7 +1,6 @@
 use big_memory::Ram;
-use m68_isa::Operations;
+use host_heap::Heap;
 use mix_bits::Isa;
-use toolbox::Heap;
 
 /// What a machine keeps beside the registers of the active set. Its suspended callers stand in RAM.
 #[derive(Drop)]
@@ -17,6 +16,4 @@ pub struct Body {
     pub main: Isa,
     /// The stack pointer with which the main program is to reach its exit gate.
     pub start_sp: u32,
-    /// The operations of 68K first words, found once.
-    pub operations: Operations,
 }

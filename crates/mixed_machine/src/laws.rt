@@ -1,7 +1,7 @@
-ghost use Rattle.mixed_machine.specs.CrossingLaws.{CountBegins, CountExits, CountFaults, CountGoesOn, CountLimit};
-ghost use Rattle.mixed_machine.specs.Events.{BeginsAt, CalleeCameBack, CalleeStopped, ComesBackAt, CutGoesOn, ExitsAt, FaultsAt, GoesOnAt, LimitAt, OutBreaksAt, ReadBreaksAt, StopsImply, TraceBreaksAt};
-ghost use Rattle.mixed_machine.specs.StepLaws.{StepsAreKinds, TrapsNeverCross};
-ghost use Rattle.mixed_machine.specs.Laws.{AnswersJoin, BacksContinue, BacksStay, CutsContinue, EndsReach, EndsStay, LimitsAreLast, LogsContinue, NeverBack, NoAnswers, NoStepsStay, RunsContinue, ToldJoins, ToldNothing, TookSplits};
+ghost use Rattle.mixed_machine.specs.laws.CrossingLaws.{CountBegins, CountExits, CountFaults, CountGoesOn, CountLimit};
+ghost use Rattle.mixed_machine.specs.laws.Events.{BeginsAt, CalleeCameBack, CalleeStopped, ComesBackAt, CutGoesOn, ExitsAt, FaultsAt, GoesOnAt, LimitAt, OutBreaksAt, ReadBreaksAt, StopsImply, TraceBreaksAt};
+ghost use Rattle.mixed_machine.specs.laws.StepLaws.{StepsAreKinds, TrapsNeverCross};
+ghost use Rattle.mixed_machine.specs.laws.Laws.{AnswersJoin, BacksContinue, BacksStay, CutsContinue, EndsReach, EndsStay, LimitsAreLast, LogsContinue, NeverBack, NoAnswers, NoStepsStay, RunsContinue, ToldJoins, ToldNothing, TookSplits};
 
 /// Laws of single steps. It does nothing: the clauses are its point.
 ///

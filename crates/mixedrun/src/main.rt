@@ -4,11 +4,10 @@
 #![tactic(auto)]
 
 ghost use Rattle.std.specs.Prelude.{IfOk, map, string_bytes};
-ghost use Rattle.mixedrun.specs.Runs.{Runs};
+ghost use Rattle.mixedrun.specs.inner.Runs.{Runs};
 
-use mix_io::{
-    Counter, Device, FileKeep, FileShelf, NoMemory, Rack, Sink, StdSink, StdSource, Tape,
-};
+use dev_rack::Rack;
+use mix_io::{Counter, Device, FileKeep, FileShelf, NoMemory, Sink, StdSink, StdSource, Tape};
 use mix_top::mixed_main;
 use mix_top::status::{BAD_WORDS, NO_MEMORY, OUTPUT_FAILED, SUCCESS, TRACE_FAILED};
 use std::env;

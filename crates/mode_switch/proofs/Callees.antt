@@ -4,11 +4,11 @@ use Rattle.std.proofs.lemmas.List.{places, get_or-set_same, get_or-set_other}
 use Rattle.mix_bits.specs.declared.isa.Isa.TheVariants.{M68 as set_m68, Ppc as set_ppc}
 use Rattle.big_memory.specs.Lists.{put}
 use Rattle.big_memory.proofs.Lists.{length-put}
-use Rattle.mode_switch.proofs.Stacks68 as stacks_68k
-use Rattle.mode_switch.proofs.Back68.{begins-at-stack}
-use Rattle.mode_switch.specs.DeliverPpc.{callee_words, registers_with}
-use Rattle.mode_switch.proofs.FramesPpc as frames_ppc
-use Rattle.mode_switch.specs.Laws.{BeginsAtItsStack, FillsItsStack, IsOfItsSet}
+use Rattle.args_m68.proofs.Stacks as stacks_68k
+use Rattle.args_m68.proofs.Back.{begins-at-stack}
+use Rattle.args_ppc.specs.Deliver.{callee_words, registers_with}
+use Rattle.args_ppc.proofs.Frames as frames_ppc
+use Rattle.mode_switch.specs.laws.Laws.{BeginsAtItsStack, FillsItsStack, IsOfItsSet}
 
 pub fills-stack : FillsItsStack
 fills-stack set_m68 sig selector values count = stacks_68k.length-stack sig selector values count

@@ -1,12 +1,2 @@
 pub mod Meant
 pub mod Callees
-pub mod Stacks68
-pub mod Files68
-pub mod Back68
-pub mod Given68
-pub mod Spots68
-pub mod FramesPpc
-pub mod BackPpc
-pub mod Handed
-pub mod Gathered
-pub mod ApartPpc

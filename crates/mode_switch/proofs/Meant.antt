@@ -11,22 +11,24 @@ use Rattle.big_memory.specs.declared.refusals.Access.{Access}
 use Rattle.big_memory.specs.Memory.{Memory, loaded}
 use Rattle.proc_info.specs.declared.bad_info.BadInfo.{BadInfo}
 use Rattle.proc_info.specs.Codes.{is_dispatched}
-use Rattle.proc_info.specs.Signature.{Signature, signature_of}
-use Rattle.proc_info.specs.declared.record.BadDesc.{BadDesc}
-use Rattle.proc_info.specs.Choice.{choice}
-use Rattle.proc_info.specs.Layout.{Routine, mixed_mode_magic}
-use Rattle.proc_info.specs.Read.{desc_of}
-use Rattle.proc_info.proofs.Held.{holds-records, infos-signed, records-alike}
-use Rattle.proc_info.proofs.Takes.{takes-record}
+use Rattle.proc_info.specs.Signature.{Signature, signature_in, signature_of}
+use Rattle.routine_desc.specs.declared.record.Rec.{Rec}
+use Rattle.routine_desc.specs.declared.record.BadDesc.{BadDesc}
+use Rattle.routine_desc.specs.Choice.{choice}
+use Rattle.routine_desc.specs.Layout.{mixed_mode_magic}
+use Rattle.routine_desc.specs.Read.{desc_of}
+use Rattle.routine_desc.proofs.Held.{holds-records, infos-signed, records-alike}
+use Rattle.routine_desc.proofs.Takes.{takes-record}
 use Rattle.m68_isa.specs.declared.registers.Regs68.{Regs68}
 use Rattle.ppc_isa.specs.declared.registers.RegsPpc.{RegsPpc}
-use Rattle.mode_switch.specs.Gather68.{selector_in as selector_in_68k}
-use Rattle.mode_switch.specs.WordsPpc.{selector_in as selector_in_ppc}
+use Rattle.args_m68.specs.Gather.{selector_in as selector_in_68k}
+use Rattle.args_ppc.specs.Words.{selector_in as selector_in_ppc}
 use Rattle.switch_frame.specs.Sets.{caller_isa, kind_of}
 use Rattle.mode_switch.specs.declared.wanted.Target.{Target}
 use Rattle.mode_switch.specs.declared.wanted.Target.TheVariants.{Code, Vector}
-use Rattle.mode_switch.specs.Wanted.{Want, Means, call_of_record, described, goes_by, loaded_or_fault, matched, raw_call, raw_signature, selector_68k, selector_ppc, settled, taken, takes_68k, takes_by, takes_ppc, target_of, wants_68k, wants_desc_ppc, wants_ppc, wants_raw, wants_word}
-use Rattle.mode_switch.specs.Laws.{MeansWhatItWants}
+use Rattle.mode_switch.specs.Wanted.{Want, call_of_record, described, goes_by, loaded_or_fault, matched, raw_call, raw_signature, selector_68k, selector_ppc, settled, taken, takes_68k, takes_by, takes_ppc, target_of, wants_68k, wants_desc_ppc, wants_ppc, wants_raw, wants_word}
+use Rattle.mode_switch.specs.laws.Wanted.{Means}
+use Rattle.mode_switch.specs.laws.Laws.{MeansWhatItWants}
 use Rattle.mode_switch.specs.Wanted.Want.{Calls}
 
 -- a refusal means nothing, and a chain means what its rest does
@@ -39,7 +41,7 @@ raw_is : (pc info : ℕ) (x : Result Signature BadInfo) (sig : Signature) → ra
 raw_is pc info (Ok s) sig h = let e : s ≡ sig = cc in ap Ok e
 raw_is pc info (Err e) sig h = absurd (cc)
 
-taken_is : (pc : ℕ) (selector : Option ℕ) (o : Option Routine) (rec : Routine) → taken pc selector o ≡ Ok rec → o ≡ Some rec
+taken_is : (pc : ℕ) (selector : Option ℕ) (o : Option Rec) (rec : Rec) → taken pc selector o ≡ Ok rec → o ≡ Some rec
 taken_is pc selector (Some r) rec h = let e : r ≡ rec = cc in ap Some e
 taken_is pc selector None rec h = absurd (cc)
 
@@ -60,8 +62,8 @@ caller-of set_m68 set_ppc = refl
 caller-of set_ppc set_m68 = refl
 caller-of set_ppc set_ppc = refl
 
-means-record : (set : Isa) (m : Memory) (a : ℕ) (records : List Routine) (first rec : Routine) (selector : Option ℕ)
-    → desc_of m a ≡ Ok records → Contains records first → is_some selector ≡ is_dispatched first.sig.conv → choice records set selector ≡ Some rec
+means-record : (set : Isa) (m : Memory) (a : ℕ) (records : List Rec) (first rec : Rec) (selector : Option ℕ)
+    → desc_of m a ≡ Ok records → Contains records first → is_some selector ≡ is_dispatched (signature_in first.info).conv → choice records set selector ≡ Some rec
     → Means set (Calls (call_of_record set rec selector))
 means-record set m a records first rec selector read among some chosen =
     let also : Contains records rec = takes-record records set selector rec chosen in
@@ -69,27 +71,27 @@ means-record set m a records first rec selector read among some chosen =
     record { caller = caller-of set rec.isa; signature = infos-signed m a records rec read also; selector = some ∙ ap is_dispatched like.conv }
 
 -- 68K code
-means-goes : (m : Memory) (a : ℕ) (records : List Routine) (first rec : Routine) (selector : Option ℕ) (target : Target)
-    → desc_of m a ≡ Ok records → Contains records first → is_some selector ≡ is_dispatched first.sig.conv → choice records set_m68 selector ≡ Some rec
+means-goes : (m : Memory) (a : ℕ) (records : List Rec) (first rec : Rec) (selector : Option ℕ) (target : Target)
+    → desc_of m a ≡ Ok records → Contains records first → is_some selector ≡ is_dispatched (signature_in first.info).conv → choice records set_m68 selector ≡ Some rec
     → Means set_m68 (goes_by target rec selector)
 means-goes m a records first rec selector (Code address) read among some chosen = refl
 means-goes m a records first rec selector (Vector address) read among some chosen =
     means-record set_m68 m a records first rec selector read among some chosen
 
-means-takes_68k : (m : Memory) (r : Regs68) (records : List Routine) → desc_of m r.pc ≡ Ok records → Means set_m68 (settled (takes_68k m r records))
-means-takes_68k m r [] read = let few : 1 ≤ length {A = Routine} [] = (holds-records m r.pc [] read).0 in absurd (omega arith)
+means-takes_68k : (m : Memory) (r : Regs68) (records : List Rec) → desc_of m r.pc ≡ Ok records → Means set_m68 (settled (takes_68k m r records))
+means-takes_68k m r [] read = let few : 1 ≤ length {A = Rec} [] = (holds-records m r.pc [] read).0 in absurd (omega arith)
 means-takes_68k m r (first ∷ rest) read =
     let records = first ∷ rest in
     let among : Contains records first = All-head (Contains records) first rest (All-contains_itself records) in
-    means_after set_m68 (loaded_or_fault r.pc (selector_68k first.sig r m))
+    means_after set_m68 (loaded_or_fault r.pc (selector_68k (signature_in first.info) r m))
     (λ selector. taken r.pc selector (choice records set_m68 selector) >>= λ rec. Ok (goes_by (target_of rec) rec selector))
     (λ selector selector_is. means_after set_m68 (taken r.pc selector (choice records set_m68 selector))
     (λ rec. Ok (goes_by (target_of rec) rec selector))
     (λ taker taker_is. means-goes m r.pc records first taker selector (target_of taker) read among
-    (some_68k r.pc (is_dispatched first.sig.conv) (selector_in_68k first.sig r m) selector selector_is)
+    (some_68k r.pc (is_dispatched (signature_in first.info).conv) (selector_in_68k (signature_in first.info) r m) selector selector_is)
     (taken_is r.pc selector (choice records set_m68 selector) taker taker_is)))
 
-means-described_68k : (m : Memory) (r : Regs68) (d : Result (List Routine) BadDesc) → desc_of m r.pc ≡ d → Means set_m68 (settled (described r.pc r.pc d >>= λ records. takes_68k m r records))
+means-described_68k : (m : Memory) (r : Regs68) (d : Result (List Rec) BadDesc) → desc_of m r.pc ≡ d → Means set_m68 (settled (described r.pc r.pc d >>= λ records. takes_68k m r records))
 means-described_68k m r (Ok records) read = means-takes_68k m r records read
 means-described_68k m r (Err bad) read = tt
 
@@ -97,8 +99,8 @@ pub meant-68k : (m : Memory) (r : Regs68) → Means set_m68 (wants_68k m r)
 meant-68k m r = means-described_68k m r (desc_of m r.pc) refl
 
 -- PowerPC code
-means-takes_by : (m : Memory) (r : RegsPpc) (pointer info : ℕ) (records : List Routine) (first : Routine) (selector : Option ℕ)
-    → desc_of m pointer ≡ Ok records → Contains records first → is_some selector ≡ is_dispatched first.sig.conv
+means-takes_by : (m : Memory) (r : RegsPpc) (pointer info : ℕ) (records : List Rec) (first : Rec) (selector : Option ℕ)
+    → desc_of m pointer ≡ Ok records → Contains records first → is_some selector ≡ is_dispatched (signature_in first.info).conv
     → Means set_ppc (settled (takes_by r info records selector))
 means-takes_by m r pointer info records first selector read among some =
     means_after set_ppc (taken r.pc selector (choice records set_ppc selector))
@@ -107,14 +109,14 @@ means-takes_by m r pointer info records first selector read among some =
     (λ same same_is. means-record set_ppc m pointer records first taker selector read among some
     (taken_is r.pc selector (choice records set_ppc selector) taker taker_is)))
 
-means-takes_ppc : (m : Memory) (r : RegsPpc) (pointer info : ℕ) (records : List Routine) → desc_of m pointer ≡ Ok records → Means set_ppc (settled (takes_ppc r info records))
-means-takes_ppc m r pointer info [] read = let few : 1 ≤ length {A = Routine} [] = (holds-records m pointer [] read).0 in absurd (omega arith)
+means-takes_ppc : (m : Memory) (r : RegsPpc) (pointer info : ℕ) (records : List Rec) → desc_of m pointer ≡ Ok records → Means set_ppc (settled (takes_ppc r info records))
+means-takes_ppc m r pointer info [] read = let few : 1 ≤ length {A = Rec} [] = (holds-records m pointer [] read).0 in absurd (omega arith)
 means-takes_ppc m r pointer info (first ∷ rest) read =
     let records = first ∷ rest in
     let among : Contains records first = All-head (Contains records) first rest (All-contains_itself records) in
-    means-takes_by m r pointer info records first (selector_ppc first.sig r) read among (some_if (is_dispatched first.sig.conv) (selector_in_ppc first.sig r))
+    means-takes_by m r pointer info records first (selector_ppc (signature_in first.info) r) read among (some_if (is_dispatched (signature_in first.info).conv) (selector_in_ppc (signature_in first.info) r))
 
-means-described_ppc : (m : Memory) (r : RegsPpc) (pointer info : ℕ) (d : Result (List Routine) BadDesc) → desc_of m pointer ≡ d → Means set_ppc (settled (described r.pc pointer d >>= λ records. takes_ppc r info records))
+means-described_ppc : (m : Memory) (r : RegsPpc) (pointer info : ℕ) (d : Result (List Rec) BadDesc) → desc_of m pointer ≡ d → Means set_ppc (settled (described r.pc pointer d >>= λ records. takes_ppc r info records))
 means-described_ppc m r pointer info (Ok records) read = means-takes_ppc m r pointer info records read
 means-described_ppc m r pointer info (Err bad) read = tt
 

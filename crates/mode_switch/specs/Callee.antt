@@ -2,11 +2,10 @@
 use Rattle.std.specs.Prelude.{ℕ, ◌+◌, ◌-◌, Bool, is_some, List, Option}
 use Rattle.mix_bits.specs.declared.isa.Isa.{Isa}
 use Rattle.mix_bits.specs.declared.isa.Isa.TheVariants.{M68 as set_m68, Ppc as set_ppc}
-use Rattle.big_memory.specs.Memory.{Memory, with_bytes}
 use Rattle.proc_info.specs.Signature.{Signature}
-use Rattle.mode_switch.specs.Deliver68.{below as below_68k, callee_registers as registers_68k, stack_of as stack_68k}
-use Rattle.mode_switch.specs.Results68.{removed as removed_68k}
-use Rattle.mode_switch.specs.DeliverPpc.{below as below_ppc, callee_registers as registers_ppc, callee_words, frame_of}
+use Rattle.args_m68.specs.Deliver.{below as below_68k, callee_registers as registers_68k, stack_of as stack_68k}
+use Rattle.args_m68.specs.Results.{removed as removed_68k}
+use Rattle.args_ppc.specs.Deliver.{below as below_ppc, callee_registers as registers_ppc, callee_words, frame_of}
 use Rattle.switch_frame.specs.declared.active.Active.{Active}
 use Rattle.switch_frame.specs.declared.active.Active.TheVariants.{M68, Ppc}
 use Rattle.mode_switch.specs.declared.passed.Entry.{Entry}
@@ -24,10 +23,6 @@ callee_sp set sig selector lo = lo - below set sig (is_some selector)
 abbrev pub stack_of : Isa → Signature → Option ℕ → List ℕ → List ℕ
 stack_of set_m68 sig selector values = stack_68k sig selector values
 stack_of set_ppc sig selector values = frame_of (callee_words sig selector values)
-
--- the memory that it is given
-abbrev pub delivered : Isa → Signature → Option ℕ → List ℕ → ℕ → Memory → Memory
-delivered set sig selector values lo m = with_bytes (callee_sp set sig selector lo) (stack_of set sig selector values) m
 
 -- its registers: the address of its data is in A5, or, as its TOC, in r2
 abbrev pub fresh : Isa → Signature → Option ℕ → List ℕ → ℕ → Entry → Active

@@ -6,8 +6,8 @@ use Rattle.mix_bits.specs.declared.size.Size.TheVariants.{Four}
 use Rattle.big_memory.specs.declared.refusals.Access.{Access}
 use Rattle.big_memory.specs.Memory.{Memory, loaded}
 use Rattle.proc_info.specs.Signature.{Signature}
-use Rattle.mode_switch.specs.Gather68.{gathered as gathered_68k}
-use Rattle.mode_switch.specs.WordsPpc.{gathered as gathered_ppc}
+use Rattle.args_m68.specs.Gather.{gathered as gathered_68k}
+use Rattle.args_ppc.specs.Words.{gathered as gathered_ppc}
 use Rattle.switch_frame.specs.declared.active.Active.{Active}
 use Rattle.switch_frame.specs.declared.active.Active.TheVariants.{M68, Ppc}
 use Rattle.mode_switch.specs.declared.passed.Entry.{Entry}

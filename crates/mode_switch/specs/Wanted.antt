@@ -1,6 +1,6 @@
 -- What code wants when it switches modes: 68K code by a routine descriptor at its pc, PowerPC code by the host function
 -- CallUniversalProc (Inside Macintosh: PowerPC System Software, chapter 2; the order of the tests is this project's own).
-use Rattle.std.specs.Prelude.{◌≡◌, ℕ, ◌==◌, Bool, true, false, not, ◌&&◌, if◌then◌else◌, List, [], ◌∷◌, Option, Some, None, is_some, Result, Ok, Err}
+use Rattle.std.specs.Prelude.{ℕ, ◌==◌, Bool, true, false, not, ◌&&◌, if◌then◌else◌, List, [], ◌∷◌, Option, Some, None, Result, Ok, Err}
 use Rattle.mix_bits.specs.Results.{◌>>=◌}
 use Rattle.mix_bits.specs.declared.fault.Fault.{Fault}
 use Rattle.mix_bits.specs.declared.fault.FaultKind.TheVariants.{BadDesc as IsBadDesc, Info as IsInfo, Mismatch, NoRecord}
@@ -13,20 +13,21 @@ use Rattle.big_memory.specs.Faults.{fault_of}
 use Rattle.big_memory.specs.Memory.{Memory, loaded}
 use Rattle.proc_info.specs.declared.bad_info.BadInfo.{BadInfo}
 use Rattle.proc_info.specs.Codes.{bad_info_code, is_dispatched}
-use Rattle.proc_info.specs.Signature.{Signature, signature_of}
-use Rattle.proc_info.specs.declared.record.BadDesc.{BadDesc}
-use Rattle.proc_info.specs.declared.record.BadDesc.TheVariants.{Access as IsAccess}
-use Rattle.proc_info.specs.RefusalCodes.{bad_desc_code}
-use Rattle.proc_info.specs.Layout.{Routine, has_flag, mixed_mode_magic}
-use Rattle.proc_info.specs.Read.{desc_of}
-use Rattle.proc_info.specs.Choice.{choice}
+use Rattle.proc_info.specs.Signature.{Signature, signature_in, signature_of}
+use Rattle.routine_desc.specs.declared.record.Rec.{Rec}
+use Rattle.routine_desc.specs.declared.record.BadDesc.{BadDesc}
+use Rattle.routine_desc.specs.declared.record.BadDesc.TheVariants.{Access as IsAccess}
+use Rattle.routine_desc.specs.RefusalCodes.{bad_desc_code}
+use Rattle.routine_desc.specs.Layout.{has_flag, mixed_mode_magic}
+use Rattle.routine_desc.specs.Read.{desc_of}
+use Rattle.routine_desc.specs.Choice.{choice}
 use Rattle.m68_isa.specs.declared.registers.Regs68.{Regs68}
 use Rattle.ppc_isa.specs.declared.registers.RegsPpc.{RegsPpc}
-use Rattle.mode_switch.specs.Gather68.{selector_in as selector_in_68k}
-use Rattle.mode_switch.specs.WordsPpc.{selector_in as selector_in_ppc}
+use Rattle.args_m68.specs.Gather.{selector_in as selector_in_68k}
+use Rattle.args_ppc.specs.Words.{selector_in as selector_in_ppc}
 use Rattle.switch_frame.specs.declared.kind.Kind.{Kind}
 use Rattle.switch_frame.specs.declared.kind.Kind.TheVariants.{PpcToM68}
-use Rattle.switch_frame.specs.Sets.{caller_isa, kind_of}
+use Rattle.switch_frame.specs.Sets.{kind_of}
 use Rattle.mode_switch.specs.declared.wanted.Target.{Target}
 use Rattle.mode_switch.specs.declared.wanted.Target.TheVariants.{Code, Vector}
 
@@ -52,7 +53,7 @@ target_by set_m68 false address = Code address
 target_by set_m68 true address = Vector address
 target_by set_ppc cfm address = Vector address
 
-abbrev pub target_of : Routine → Target
+abbrev pub target_of : Rec → Target
 target_of rec = target_by rec.isa rec.cfm rec.target
 
 -- the selector that the callee gets
@@ -74,7 +75,7 @@ abbrev pub bad_desc : ℕ → ℕ → BadDesc → Fault
 bad_desc pc at bad = record { kind = IsBadDesc; pc = pc; detail = at; also = bad_desc_code bad }
 
 -- its records
-abbrev pub described : ℕ → ℕ → Result (List Routine) BadDesc → Result (List Routine) Fault
+abbrev pub described : ℕ → ℕ → Result (List Rec) BadDesc → Result (List Rec) Fault
 described pc at (Ok records) = Ok records
 described pc at (Err bad) = Err (bad_desc pc at bad)
 
@@ -83,9 +84,9 @@ abbrev pub selector_68k : Signature → Regs68 → Memory → Result (Option ℕ
 selector_68k sig r m = if is_dispatched sig.conv then (selector_in_68k sig r m >>= λ v. Ok (Some v)) else Ok None
 
 -- all records of a descriptor have one convention and one selector size, so the first one tells
-abbrev pub selector_among_68k : List Routine → Regs68 → Memory → Result (Option ℕ) Access
+abbrev pub selector_among_68k : List Rec → Regs68 → Memory → Result (Option ℕ) Access
 selector_among_68k [] r m = Ok None
-selector_among_68k (first ∷ others) r m = selector_68k first.sig r m
+selector_among_68k (first ∷ others) r m = selector_68k (signature_in first.info) r m
 
 abbrev pub loaded_or_fault : ℕ → Result (Option ℕ) Access → Result (Option ℕ) Fault
 loaded_or_fault pc (Ok selector) = Ok selector
@@ -95,42 +96,43 @@ loaded_or_fault pc (Err access) = Err (fault_of pc access)
 abbrev pub selector_ppc : Signature → RegsPpc → Option ℕ
 selector_ppc sig r = if is_dispatched sig.conv then Some (selector_in_ppc sig r) else None
 
-abbrev pub selector_among_ppc : List Routine → RegsPpc → Option ℕ
+abbrev pub selector_among_ppc : List Rec → RegsPpc → Option ℕ
 selector_among_ppc [] r = None
-selector_among_ppc (first ∷ others) r = selector_ppc first.sig r
+selector_among_ppc (first ∷ others) r = selector_ppc (signature_in first.info) r
 
 -- the record that was chosen
 abbrev pub or_zero : Option ℕ → ℕ
 or_zero None = 0
 or_zero (Some v) = v
 
-abbrev pub taken : ℕ → Option ℕ → Option Routine → Result Routine Fault
+abbrev pub taken : ℕ → Option ℕ → Option Rec → Result Rec Fault
 taken pc selector (Some rec) = Ok rec
 taken pc selector None = Err (fault_at pc NoRecord (or_zero selector))
 
 -- the call of a record by code of a set
-abbrev pub call_of_record : Isa → Routine → Option ℕ → Crossing
-call_of_record caller rec selector = record {
-  kind = kind_of caller rec.isa;
-  info = rec.info;
-  sig = rec.sig;
-  selector = selector;
-  passes = is_dispatched rec.sig.conv && not (has_flag rec.flags 8);
-  target = target_of rec;
-}
+abbrev pub call_of_record : Isa → Rec → Option ℕ → Crossing
+call_of_record caller rec selector =
+    record {
+      kind = kind_of caller rec.isa;
+      info = rec.info;
+      sig = signature_in rec.info;
+      selector = selector;
+      passes = is_dispatched (signature_in rec.info).conv && not (has_flag rec.flags 8);
+      target = target_of rec;
+    }
 
 -- what code at pc wants at the descriptor at an address, of whose records it takes what it does
-abbrev pub wants_desc : Memory → ℕ → ℕ → (List Routine → Result Want Fault) → Result Want Fault
+abbrev pub wants_desc : Memory → ℕ → ℕ → (List Rec → Result Want Fault) → Result Want Fault
 wants_desc m pc at takes = described pc at (desc_of m at) >>= takes
 
 -- 68K code
 
 -- code of its own set is gone on with, without a call; what has a vector is called
-abbrev pub goes_by : Target → Routine → Option ℕ → Want
+abbrev pub goes_by : Target → Rec → Option ℕ → Want
 goes_by (Code address) rec selector = Jumps address
 goes_by (Vector address) rec selector = Calls (call_of_record set_m68 rec selector)
 
-abbrev pub takes_68k : Memory → Regs68 → List Routine → Result Want Fault
+abbrev pub takes_68k : Memory → Regs68 → List Rec → Result Want Fault
 takes_68k m r records =
     loaded_or_fault r.pc (selector_among_68k records r m) >>= λ selector.
     taken r.pc selector (choice records set_m68 selector) >>= λ rec.
@@ -161,13 +163,13 @@ wants_raw r pointer info = raw_signature r.pc info (signature_of info) >>= λ si
 abbrev pub matched : ℕ → ℕ → ℕ → Result (Unit {0}) Fault
 matched pc info found = if info == found then Ok tt else Err (record { kind = Mismatch; pc = pc; detail = info; also = found })
 
-abbrev pub called_by : ℕ → ℕ → Option ℕ → Routine → Result Want Fault
+abbrev pub called_by : ℕ → ℕ → Option ℕ → Rec → Result Want Fault
 called_by pc info selector rec = matched pc info rec.info >>= λ same. Ok (Calls (call_of_record set_ppc rec selector))
 
-abbrev pub takes_by : RegsPpc → ℕ → List Routine → Option ℕ → Result Want Fault
+abbrev pub takes_by : RegsPpc → ℕ → List Rec → Option ℕ → Result Want Fault
 takes_by r info records selector = taken r.pc selector (choice records set_ppc selector) >>= called_by r.pc info selector
 
-abbrev pub takes_ppc : RegsPpc → ℕ → List Routine → Result Want Fault
+abbrev pub takes_ppc : RegsPpc → ℕ → List Rec → Result Want Fault
 takes_ppc r info records = takes_by r info records (selector_among_ppc records r)
 
 abbrev pub wants_desc_ppc : Memory → RegsPpc → ℕ → ℕ → Result Want Fault
@@ -180,15 +182,3 @@ wants_word m r pointer info (Err access) = Err (bad_desc r.pc pointer IsAccess)
 
 abbrev pub wants_ppc : Memory → RegsPpc → ℕ → ℕ → Want
 wants_ppc m r pointer info = settled (wants_word m r pointer info (loaded m pointer Two))
-
--- what every wanted call of a set's code meets
-pub record IsMeant (set : Isa) (c : Crossing) : Type 0 where
-  pub caller : caller_isa c.kind ≡ set
-  pub signature : signature_of c.info ≡ Ok c.sig
-  pub selector : is_some c.selector ≡ is_dispatched c.sig.conv
-
--- PowerPC code never goes on without a call
-abbrev pub Means : Isa → Want → Type 0
-Means set (Calls c) = IsMeant set c
-Means set (Jumps target) = set ≡ set_m68
-Means set (Refuses fault) = Unit {0}

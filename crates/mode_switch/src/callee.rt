@@ -2,16 +2,17 @@
 ghost use Rattle.std.specs.Prelude.{◌≡◌, ◌≤◌, ◌%◌, ◌^◌, is_some, length};
 ghost use Rattle.proc_info.specs.Codes.{is_dispatched};
 ghost use Rattle.proc_info.specs.Views.{signature};
-ghost use Rattle.mode_switch.specs.Gather68.{words_of};
+ghost use Rattle.args_m68.specs.Arguments.{words_of};
 ghost use Rattle.switch_frame.specs.Records.{isa_of};
 ghost use Rattle.switch_frame.specs.Sets.{callee_isa};
-ghost use Rattle.mode_switch.specs.Callee.{below as below_lem, callee_sp, delivered, fresh, return_sp};
-ghost use Rattle.mode_switch.specs.Views.{crossing};
+ghost use Rattle.mode_switch.specs.Callee.{below as below_lem, callee_sp, fresh, return_sp};
+ghost use Rattle.mode_switch.specs.inner.Callee.{delivered};
+ghost use Rattle.mode_switch.specs.inner.Views.{crossing};
 ghost use Rattle.mode_switch.specs.Wanted.{passed_selector as passed_selector_lem};
 
-use crate::m68_deliver::start_68;
-use crate::ppc_deliver::start_ppc;
-use crate::{Call, Entry, Words, below_ppc, below68, removed68};
+use crate::{Call, Entry};
+use args_m68::{Start68, Words, below68, removed68, start_68};
+use args_ppc::{StartPpc, below_ppc, start_ppc};
 use big_memory::Ram;
 use m68_isa::Regs68;
 use mix_bits::{Isa, onward};
@@ -61,13 +62,23 @@ pub fn deliver(
         Isa::M68 => {
             *active = Active::M68(Regs68::cleared());
             if let Active::M68(regs) = active {
-                start_68(&call.sig, values, selector, lo, entry, ram, regs);
+                let start = Start68 {
+                    lo,
+                    a5: entry.globals,
+                    target: entry.code,
+                };
+                start_68(&call.sig, values, selector, &start, ram, regs);
             }
         }
         Isa::Ppc => {
             *active = Active::Ppc(RegsPpc::cleared());
             if let Active::Ppc(regs) = active {
-                start_ppc(&call.sig, values, selector, lo, entry, ram, regs);
+                let start = StartPpc {
+                    lo,
+                    code: entry.code,
+                    toc: entry.globals,
+                };
+                start_ppc(&call.sig, values, selector, &start, ram, regs);
             }
         }
     }

@@ -1,19 +1,21 @@
 // What PowerPC code wants.
 ghost use Rattle.std.specs.Prelude.{◌≡◌};
 ghost use Rattle.proc_info.specs.Views.{signature};
-ghost use Rattle.proc_info.specs.RecordViews.{routine, routines};
 ghost use Rattle.mix_bits.specs.declared.size.Size.TheVariants.{Two};
 ghost use Rattle.big_memory.specs.Memory.{loaded};
-ghost use Rattle.mode_switch.specs.Views.{wanted_of};
-ghost use Rattle.mode_switch.specs.Wanted.{Means, called_by as called_by_lem, selector_among_ppc, selector_ppc as selector_ppc_lem, settled, takes_ppc as takes_ppc_lem, wants_ppc as wants_ppc_lem, wants_raw as wants_raw_lem, wants_word as wants_word_lem};
+ghost use Rattle.mode_switch.specs.inner.Views.{wanted_of};
+ghost use Rattle.mode_switch.specs.laws.Wanted.{Means};
+ghost use Rattle.mode_switch.specs.Wanted.{selector_among_ppc, selector_ppc as selector_ppc_lem, settled, takes_ppc as takes_ppc_lem, wants_ppc as wants_ppc_lem, wants_raw as wants_raw_lem, wants_word as wants_word_lem};
 
 use crate::descriptor::{Asker, wants_desc};
 use crate::records::{bad_desc, call_of, no_record};
-use crate::{Call, Target, Wanted, select_ppc};
+use crate::{Call, Target, Wanted};
+use args_ppc::select_ppc;
 use big_memory::Ram;
 use mix_bits::{Fault, FaultKind, Isa};
 use ppc_isa::RegsPpc;
-use proc_info::{BadDesc, MIXED_MODE_MAGIC, Rec, Sig, choose_among, read};
+use proc_info::{Sig, read};
+use routine_desc::{BadDesc, MIXED_MODE_MAGIC, Rec, Signed, choose_among};
 use switch_frame::Kind;
 
 /// What PowerPC code wants by CallUniversalProc with a universal pointer and a procInfo. Refusals come in
@@ -79,6 +81,29 @@ struct Universal<'a> {
     info: u32,
 }
 
+impl Universal<'_> {
+    ghost use Rattle.std.specs.Prelude.{◌≡◌};
+    ghost use Rattle.mode_switch.specs.inner.Views.{wanted_of};
+    ghost use Rattle.mode_switch.specs.Wanted.{called_by as called_by_lem, settled};
+
+    /// The call of a record. Another procInfo than the record's is refused.
+    #[inline(always)]
+    fn calls(&self, rec: &Rec, signed: &Signed, selector: Option<u32>, wanted: &mut Wanted)
+        ensures { wanted_of wanted.new ≡ settled (called_by_lem self.now.regs.now.pc self.now.info selector rec.now) }
+    {
+        if self.info == rec.info {
+            *wanted = Wanted::Calls(call_of(Isa::Ppc, rec, signed, selector));
+        } else {
+            *wanted = Wanted::Refuses(Fault {
+                kind: FaultKind::Mismatch,
+                pc: self.regs.pc,
+                detail: self.info,
+                also: rec.info,
+            });
+        }
+    }
+}
+
 impl Asker for Universal<'_> {
     ghost at = { λ call. call.regs.now.pc };
 
@@ -89,22 +114,22 @@ impl Asker for Universal<'_> {
     }
 
     #[inline(always)]
-    fn takes(&self, _ram: &Ram, records: &[Rec], wanted: &mut Wanted) {
-        let selector = selector_among(self.regs, records);
+    fn takes(&self, _ram: &Ram, records: &[Rec], signed: &Signed, wanted: &mut Wanted) {
+        let selector = selector_among(self.regs, records, signed);
         match choose_among(records, Isa::Ppc, selector) {
-            Some(rec) => called_by(self.regs.pc, self.info, rec, selector, wanted),
+            Some(rec) => self.calls(rec, signed, selector, wanted),
             None => *wanted = no_record(self.regs.pc, selector),
         }
     }
 }
 
 /// The selector of a call by these records: the first one tells whether there is one.
-fn selector_among(regs: &RegsPpc, records: &[Rec]) -> Option<u32>
-    ensures { result ≡ selector_among_ppc (routines records.now) regs.now }
+fn selector_among(regs: &RegsPpc, records: &[Rec], signed: &Signed) -> Option<u32>
+    ensures { result ≡ selector_among_ppc records.now regs.now }
 {
     match records {
         [] => None,
-        [first, ..] => selector(regs, &first.sig),
+        [first, ..] => selector(regs, &signed.of(first.info)),
     }
 }
 
@@ -116,22 +141,5 @@ fn selector(regs: &RegsPpc, sig: &Sig) -> Option<u32>
         Some(select_ppc(sig, regs))
     } else {
         None
-    }
-}
-
-/// The call of a record. Another procInfo than the record's is refused.
-#[inline(always)]
-fn called_by(pc: u32, info: u32, rec: &Rec, selector: Option<u32>, wanted: &mut Wanted)
-    ensures { wanted_of wanted.new ≡ settled (called_by_lem pc info selector (routine rec.now)) }
-{
-    if info == rec.info {
-        *wanted = Wanted::Calls(call_of(Isa::Ppc, rec, selector));
-    } else {
-        *wanted = Wanted::Refuses(Fault {
-            kind: FaultKind::Mismatch,
-            pc,
-            detail: info,
-            also: rec.info,
-        });
     }
 }

@@ -2,16 +2,15 @@
 ghost use Rattle.std.specs.Prelude.{◌≡◌, ℕ, ◌+◌, ◌≤◌, List, Result, length, Ok};
 ghost use Rattle.mix_bits.specs.declared.fault.Fault.{Fault};
 ghost use Rattle.big_memory.specs.Memory.{Memory};
-ghost use Rattle.proc_info.specs.Layout.{Routine};
-ghost use Rattle.proc_info.specs.Read.{Counts};
-ghost use Rattle.proc_info.specs.RecordViews.{routines};
-ghost use Rattle.mode_switch.specs.Views.{wanted_of};
+ghost use Rattle.routine_desc.specs.declared.record.Rec.{Rec as ARec};
+ghost use Rattle.routine_desc.specs.inner.Read.{Counts};
+ghost use Rattle.mode_switch.specs.inner.Views.{wanted_of};
 ghost use Rattle.mode_switch.specs.Wanted.{Want, settled, wants_desc as wants_desc_lem};
 
 use crate::Wanted;
 use crate::records::bad_desc;
 use big_memory::Ram;
-use proc_info::{Rec, count_records, read_all};
+use routine_desc::{Rec, Signed, count_records, read_all};
 
 /// So many records are few: most descriptors have one, and a fat one has two.
 const FEW: u32 = 4;
@@ -20,15 +19,15 @@ const FEW: u32 = 4;
 pub trait Asker {
     ghost at: { Self → ℕ };
 
-    ghost takes_of: { Self → Memory → List Routine → Result Want Fault };
+    ghost takes_of: { Self → Memory → List ARec → Result Want Fault };
 
     /// Its pc.
     fn pc(&self) -> u32
         ensures { result ≡ at self.now };
 
     /// What it wants of the records, put in place.
-    fn takes(&self, ram: &Ram, records: &[Rec], wanted: &mut Wanted)
-        ensures { wanted_of wanted.new ≡ settled (takes_of self.now ram.now (routines records.now)) };
+    fn takes(&self, ram: &Ram, records: &[Rec], signed: &Signed, wanted: &mut Wanted)
+        ensures { wanted_of wanted.new ≡ settled (takes_of self.now ram.now records.now) };
 }
 
 /// What it wants at the descriptor at `pointer`, put in place.
@@ -89,8 +88,9 @@ fn wants_in<A: Asker>(ram: &Ram, asker: &A, pointer: u32, records: &mut [Rec], w
     requires few { length records.old ≤ 64 }
     ensures { wanted_of wanted.new ≡ settled (wants_desc_lem ram.now (A.at asker.now) pointer (A.takes_of asker.now ram.now)) }
 {
-    match read_all(ram, pointer, records) {
-        Ok(()) => asker.takes(ram, records, wanted),
+    let mut signed = Signed::empty();
+    match read_all(ram, pointer, records, &mut signed) {
+        Ok(()) => asker.takes(ram, records, &signed, wanted),
         Err(bad) => *wanted = Wanted::Refuses(bad_desc(asker.pc(), pointer, bad)),
     }
 }

@@ -1,12 +1,14 @@
 // What a caller passes to a call.
 ghost use Rattle.std.specs.Prelude.{◌≡◌, ◌-◌, IfOk, OnErr, drop, replicate};
 ghost use Rattle.proc_info.specs.Views.{signature};
-ghost use Rattle.mode_switch.specs.Gather68.{answered as values_answered};
+ghost use Rattle.args_m68.specs.Arguments.{answered as values_answered};
 ghost use Rattle.switch_frame.specs.Records.{isa_of};
 ghost use Rattle.mode_switch.specs.Passed.{behind, entry_at as entry_at_lem, gathered, passed};
-ghost use Rattle.mode_switch.specs.Views.{answered, crossing, going_on};
+ghost use Rattle.mode_switch.specs.inner.Views.{answered, crossing, going_on};
 
-use crate::{Call, Target, Words, gather_ppc, gather68};
+use crate::{Call, Target};
+use args_m68::{Words, gather68};
+use args_ppc::gather_ppc;
 use big_memory::{Access, Ram};
 use mix_bits::{aligned, onward};
 use proc_info::Sig;

@@ -3,15 +3,15 @@ ghost use Rattle.std.specs.Prelude.{◌≡◌, ◌&&◌, not};
 ghost use Rattle.mix_bits.specs.Faults.{fault_at};
 ghost use Rattle.mix_bits.specs.declared.fault.FaultKind.TheVariants.{NoRecord};
 ghost use Rattle.proc_info.specs.Codes.{is_dispatched};
-ghost use Rattle.proc_info.specs.Layout.{has_flag};
-ghost use Rattle.proc_info.specs.RecordViews.{routine};
-ghost use Rattle.mode_switch.specs.Views.{crossing, wanted_of};
+ghost use Rattle.routine_desc.specs.Layout.{has_flag};
+ghost use Rattle.mode_switch.specs.inner.Views.{crossing, wanted_of};
 ghost use Rattle.mode_switch.specs.Wanted.{bad_desc as bad_desc_lem, call_of_record, or_zero, target_of as target_of_lem};
 ghost use Rattle.mode_switch.specs.Wanted.Want.{Refuses};
 
 use crate::{Call, Target, Wanted};
 use mix_bits::{Fault, FaultKind, Isa};
-use proc_info::{BadDesc, Conv, Rec, RoutineFlags};
+use proc_info::Conv;
+use routine_desc::{BadDesc, Rec, RoutineFlags, Signed};
 use switch_frame::Kind;
 
 /// The fault of a descriptor at an address.
@@ -37,7 +37,7 @@ pub fn no_record(pc: u32, selector: Option<u32>) -> Wanted
 /// The target of a record.
 #[inline(always)]
 pub fn target_of(rec: &Rec) -> Target
-    ensures { result ≡ target_of_lem (routine rec.now) }
+    ensures { result ≡ target_of_lem rec.now }
 {
     match (rec.isa, rec.cfm) {
         (Isa::M68, false) => Target::Code(rec.target),
@@ -48,15 +48,16 @@ pub fn target_of(rec: &Rec) -> Target
 
 /// The call of a record by code of a set.
 #[inline(always)]
-pub fn call_of(caller: Isa, rec: &Rec, selector: Option<u32>) -> Call
-    ensures { crossing result ≡ call_of_record caller (routine rec.now) selector }
+pub fn call_of(caller: Isa, rec: &Rec, signed: &Signed, selector: Option<u32>) -> Call
+    ensures { crossing result ≡ call_of_record caller rec.now selector }
 {
+    let sig = signed.of(rec.info);
     Call {
         kind: Kind::of(caller, rec.isa),
         info: rec.info,
-        sig: rec.sig,
+        sig,
         selector,
-        passes: passes(rec.sig.conv, rec.flags),
+        passes: passes(sig.conv, rec.flags),
         target: target_of(rec),
     }
 }

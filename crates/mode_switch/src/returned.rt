@@ -1,9 +1,11 @@
 // What a return gives back.
 ghost use Rattle.std.specs.Prelude.{◌≡◌};
 ghost use Rattle.proc_info.specs.Views.{signature};
-ghost use Rattle.mode_switch.specs.Returned.{GivesBack, Puts, given_back, put_result as put_result_lem, result_at as result_at_lem};
+ghost use Rattle.mode_switch.specs.inner.Returned.{GivesBack, Puts};
+ghost use Rattle.mode_switch.specs.Returned.{given_back, put_result as put_result_lem, result_at as result_at_lem};
 
-use crate::{put_result_ppc, put_result68, result_ppc, result68};
+use args_m68::{put_result68, result68};
+use args_ppc::{put_result_ppc, result_ppc};
 use big_memory::{Access, Ram, memory_laws};
 use proc_info::Sig;
 use switch_frame::Active;

@@ -3,11 +3,14 @@ use Rattle.std.proofs.Common.{◌≡◌, ◌∙◌, refl, ℕ, zero, suc, ◌+�
 use Rattle.std.proofs.Math.Nat.{mul-mod_right}
 use Rattle.std.proofs.lemmas.Bool.Decides.{nat_tests}
 use Rattle.pef_head.specs.declared.loader.Loader.{Loader}
-use Rattle.pef_head.specs.Container.{IsSection, exponent_of, packed_of, offset_of}
+use Rattle.pef_head.specs.ContainerClauses.{IsSection}
+use Rattle.pef_head.specs.Container.{exponent_of, packed_of, offset_of}
 use Rattle.mix_bits.specs.Fields.{long_at}
-use Rattle.pef_head.specs.Parts.{IsLoadable, relocs_at, section_at}
+use Rattle.pef_head.specs.PartsClauses.{IsLoadable}
+use Rattle.pef_head.specs.Parts.{relocs_at, section_at}
 use Rattle.pef_head.specs.Places.{is_for, relocation, words_end, words_start}
-use Rattle.mix_bits.specs.Search.{◌or◌, refused, least}
+use Rattle.mix_bits.specs.SearchOperator.{◌or◌}
+use Rattle.mix_bits.specs.Search.{refused, least}
 use Rattle.mix_bits.proofs.Searches.{fails_below}
 use Rattle.pef_head.proofs.Whole.{instantiable}
 

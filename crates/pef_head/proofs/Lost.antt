@@ -2,7 +2,8 @@
 use Rattle.std.proofs.Common.{◌≡◌, ◌≢◌, refl, ℕ, ◌<◌, ◌≤◌, Bool, true, false, nat_lt, List, Some, None, eq-eqb, arith}
 use Rattle.std.proofs.lemmas.Bool.Decides.{nat_tests}
 use Rattle.pef_head.specs.declared.loader.Loader.{Loader}
-use Rattle.pef_head.specs.Owners.{AllOwned, IsFirstLost, is_lost, owners}
+use Rattle.pef_head.specs.inner.Owners.{AllOwned, IsFirstLost}
+use Rattle.pef_head.specs.Owners.{is_lost, owners}
 use Rattle.mix_bits.specs.Search.{least}
 use Rattle.mix_bits.proofs.Searches.{least_none, least_first}
 

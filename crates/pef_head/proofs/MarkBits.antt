@@ -6,7 +6,7 @@ use Rattle.std.proofs.lemmas.Bool.Decides.{nat_tests}
 use Rattle.std.proofs.lemmas.List.{get_or-set_same, get_or-set_other}
 use Rattle.std.proofs.lemmas.Nat.Bits.{bit_at-zero, bit_at_set_same, bit_at_set_other}
 use Rattle.pef_head.specs.declared.marks.Marks.{Marks}
-use Rattle.pef_head.specs.Marks.{is_marked}
+use Rattle.pef_head.specs.inner.Marks.{is_marked}
 
 or_no : (b : Bool) → b ≡ (b || false)
 or_no true = refl

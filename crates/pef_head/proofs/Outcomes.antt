@@ -2,7 +2,8 @@
 use Rattle.std.proofs.Common.{◌≡◌, ◌≢◌, sym, refl, ℕ, ◌<◌, ◌≤◌, Bool, true, false, ◌&&◌, ◌||◌, ◌==◌, not, nat_lt, nat_le, Option, Some, None, true≢false, eq-eqb, eqb-true, arith}
 use Rattle.std.specs.Option.{option_map}
 use Rattle.std.proofs.lemmas.Bool.Decides.{nat_tests}
-use Rattle.mix_bits.specs.Search.{◌or◌, refused}
+use Rattle.mix_bits.specs.SearchOperator.{◌or◌}
+use Rattle.mix_bits.specs.Search.{refused}
 
 pub or_none : {A : Type 0} (p q : Option A) → (p or q) ≡ None → (p ≡ None) × (q ≡ None)
 or_none None q h = (refl, h)

@@ -2,11 +2,14 @@
 use Rattle.std.proofs.Common.{◌≡◌, ◌∙◌, sym, ap, subst, refl, ℕ, ◌+◌, ◌<◌, ◌≤◌, Bool, true, false, ◌&&◌, nat_lt, nat_le, List, length, Option, Some, None, unwrap_or, arith}
 use Rattle.std.proofs.lemmas.Bool.Decides.{nat_tests}
 use Rattle.pef_head.specs.declared.loader.Loader.{Loader}
-use Rattle.pef_head.specs.Container.{HasHeaders, HasSections, is_bad_section, is_malformed, packed_of, offset_of, exponent_of, section_count, section_header, instantiated_count, loader_section}
+use Rattle.pef_head.specs.ContainerClauses.{HasHeaders, HasSections}
+use Rattle.pef_head.specs.Container.{is_bad_section, is_malformed, packed_of, offset_of, exponent_of, section_count, section_header, instantiated_count, loader_section}
 use Rattle.pef_head.specs.Loader.{loader_in, loader_of}
-use Rattle.pef_head.specs.Places.{HasTables, is_repeated, has_end, library_name, relocated, symbol_name, words_end}
+use Rattle.pef_head.specs.PlacesClauses.{HasTables}
+use Rattle.pef_head.specs.Places.{is_repeated, has_end, library_name, relocated, symbol_name, words_end}
 use Rattle.pef_head.specs.Owners.{is_lost, owners}
-use Rattle.pef_head.specs.Parts.{ImportParts, cut, import_at, import_of}
+use Rattle.pef_head.specs.Parts.{ImportParts, import_at, import_of}
+use Rattle.pef_head.specs.inner.Parts.{cut}
 use Rattle.pef_head.specs.Read.{IsRead}
 use Rattle.pef_head.specs.Refusals.{entries_refusal, is_bad_relocation, is_nameless_library, is_nameless_symbol, loader_refusal, names_refusal, refusal_of}
 use Rattle.mix_bits.specs.Search.{least}

@@ -2,10 +2,11 @@
 use Rattle.std.proofs.Common.{◌≡◌, ap, subst, sym, ◌∙◌, ℕ, ◌<◌, List, Option, None, Result, Ok, Err, IfOk, Vec, Global, length, slice_index, slice_index_or}
 use Rattle.pef_head.specs.declared.loader.Loader.{Loader}
 use Rattle.pef_head.specs.Loader.{loader_of}
-use Rattle.pef_head.specs.Owners.{HasOwners}
+use Rattle.pef_head.specs.inner.Owners.{HasOwners}
 use Rattle.pef_head.specs.Container.{instantiated_count}
-use Rattle.pef_head.specs.Parts.{header_for, import_count, library_of, owner_of, reloc_header_of, relocs_at, relocs_of}
-use Rattle.pef_head.specs.Relocations.{HasHeadersFor}
+use Rattle.pef_head.specs.Parts.{header_for, import_count, owner_of, relocs_at, relocs_of}
+use Rattle.pef_head.specs.inner.Parts.{library_of, reloc_header_of}
+use Rattle.pef_head.specs.inner.Relocations.{HasHeadersFor}
 
 pub count_same : (bytes now : List ℕ) (l : Loader) → bytes ≡ now → l ≡ loader_of bytes → l.symbols ≡ import_count now
 count_same bytes now l view is = ap (λ (k : Loader). k.symbols) is ∙ ap (λ (n : List ℕ). import_count n) view

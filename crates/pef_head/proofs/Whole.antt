@@ -11,7 +11,8 @@ use Rattle.pef_head.specs.Loader.{loader_in, loader_of}
 use Rattle.pef_head.specs.Places.{holds, is_for, library, relocated, relocation, symbol, symbols_end, words_end}
 use Rattle.pef_head.specs.Owners.{is_lost, owners}
 use Rattle.pef_head.specs.Refusals.{entries_refusal, header_refusal, init_refusal, is_bad_relocation, is_nameless_library, is_nameless_symbol, leaves_symbols, loader_refusal, names_refusal, refusal_of, sections_refusal, tables_refusal}
-use Rattle.mix_bits.specs.Search.{◌or◌, least}
+use Rattle.mix_bits.specs.SearchOperator.{◌or◌}
+use Rattle.mix_bits.specs.Search.{least}
 use Rattle.pef_head.specs.Whole.{IsContainer, IsInstantiable, IsLoader}
 use Rattle.pef_head.proofs.Counts.{any_none, none_below, one_counted, only_counted}
 use Rattle.pef_head.proofs.Outcomes.{all_false, allowed, both_false, both_same, is_below, is_over, is_same, inner_false, made_false, map_none, none_map, not_below, not_other, not_over, not_same, not_true, or_both, or_none, other, parts_false, same_both, same_unless, three_false, unless_same, unrefused}

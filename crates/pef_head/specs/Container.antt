@@ -6,7 +6,7 @@
 -- instantiated, and a long. Section headers of 28 bytes follow: longs for the name, the default address,
 -- the total size, the unpacked size, the packed size and the place of the packed bytes, and then bytes
 -- for the kind, the share, the alignment as an exponent of two, and 0.
-use Rattle.std.specs.Prelude.{◌≡◌, false, ℕ, ◌+◌, ◌*◌, ◌^◌, ◌≤◌, ◌<◌, Bool, ◌&&◌, ◌||◌, ◌==◌, not, nat_lt, List, length, slice_index, Option}
+use Rattle.std.specs.Prelude.{ℕ, ◌+◌, ◌*◌, Bool, ◌&&◌, ◌||◌, ◌==◌, not, nat_lt, List, length, slice_index, Option}
 use Rattle.mix_bits.specs.Fields.{word_at, long_at}
 use Rattle.mix_bits.specs.Search.{least}
 
@@ -66,20 +66,3 @@ is_bad_section bytes k = leaves_file bytes k || (nat_lt k (instantiated_count by
 -- the number of the first loader section
 abbrev pub loader_section : List ℕ → Option ℕ
 loader_section bytes = least (is_loader bytes) (section_count bytes)
-
--- the section headers are in the file, which has at most 16 MiB
-pub record HasHeaders (bytes : List ℕ) : Type 0 where
-  pub headers_fit : section_header (section_count bytes) ≤ length bytes
-  pub small : length bytes ≤ 2 ^ 24
-
--- a section's header and packed bytes are in the file, and it can be instantiated
-pub record IsSection (bytes : List ℕ) (k : ℕ) : Type 0 where
-  pub header_fits : section_header k + 28 ≤ length bytes
-  pub bytes_fit : offset_of bytes k + packed_of bytes k ≤ length bytes
-  pub aligned : exponent_of bytes k ≤ 12
-  pub well_formed : is_malformed bytes k ≡ false
-
--- all packed bytes are in the file, and the instantiated sections are as they should be
-pub record HasSections (bytes : List ℕ) : Type 0 where
-  pub pieces : (k : ℕ) → k < section_count bytes → offset_of bytes k + packed_of bytes k ≤ length bytes
-  pub instantiated : (k : ℕ) → k < instantiated_count bytes → IsSection bytes k

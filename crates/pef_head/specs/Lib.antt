@@ -1,11 +1,13 @@
-pub mod Marks
 pub mod Container
+pub mod ContainerClauses
 pub mod Loader
-pub mod Places
 pub mod Names
 pub mod Owners
-pub mod Relocations
-pub mod Refusals
 pub mod Parts
+pub mod PartsClauses
+pub mod Places
+pub mod PlacesClauses
 pub mod Read
+pub mod Refusals
 pub mod Whole
+pub mod inner

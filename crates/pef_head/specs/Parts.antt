@@ -1,13 +1,11 @@
 -- What a container's accessors give: fields and slices of its file.
-use Rattle.std.specs.Prelude.{◌≡◌, ℕ, ◌+◌, ◌%◌, ◌^◌, ◌≤◌, ◌⊎◌, Bool, false, length, ◌==◌, not, bit_and, if◌then◌else◌, List, [], slice_index, slice_range, take, Option, Some, None, unwrap_or}
+use Rattle.std.specs.Prelude.{ℕ, ◌+◌, ◌^◌, Bool, ◌==◌, not, bit_and, if◌then◌else◌, List, [], slice_index, slice_range, Option, Some, None, unwrap_or}
 use Rattle.std.specs.Option.{option_map_or}
 use Rattle.pef_head.specs.declared.loader.Loader.{Loader}
-use Rattle.pef_head.specs.declared.section.Section.{Section}
-use Rattle.pef_head.specs.declared.import.Import.{Import}
 use Rattle.mix_bits.specs.Fields.{long_at}
 use Rattle.mix_bits.specs.Search.{least}
 use Rattle.pef_head.specs.Names.{name_at}
-use Rattle.pef_head.specs.Container.{is_pattern, is_uninstantiable, kind_of, total_of, unpacked_of, packed_of, offset_of, exponent_of}
+use Rattle.pef_head.specs.Container.{kind_of, total_of, unpacked_of, packed_of, offset_of, exponent_of}
 use Rattle.pef_head.specs.Loader.{loader_of}
 use Rattle.pef_head.specs.Places.{symbol, holds, is_for, words_start, words_end, library_name, symbol_name}
 
@@ -19,28 +17,15 @@ pub record SectionParts : Type 0 where
   pub align : ℕ
   pub bytes : List ℕ
 
-abbrev pub parts : Section → SectionParts
-parts s = record { kind = s.kind; total = s.total; unpacked = s.unpacked; align = s.align; bytes = s.bytes.now }
-
 abbrev pub section_at : List ℕ → ℕ → SectionParts
-section_at bytes k = record {
-  kind = kind_of bytes k;
-  total = total_of bytes k;
-  unpacked = unpacked_of bytes k;
-  align = 2 ^ exponent_of bytes k;
-  bytes = slice_range bytes (offset_of bytes k) (offset_of bytes k + packed_of bytes k);
-}
-
--- what holds of each instantiated section: its unpacked bytes fit its total size, and are the bytes of the file unless it
--- is pattern data; and of its alignment and 16 one divides the other
-pub record IsLoadable (s : SectionParts) : Type 0 where
-  pub kind : is_uninstantiable s.kind ≡ false
-  pub kept : s.unpacked ≤ s.total
-  pub aligned : s.align ≤ 4096
-  pub positive : 1 ≤ s.align
-  pub divides : (s.align % 16 ≡ 0) ⊎ (16 % s.align ≡ 0)
-  pub whole : is_pattern s.kind ≡ false → length s.bytes ≡ s.unpacked
-  pub small : length s.bytes ≤ 2 ^ 24
+section_at bytes k =
+    record {
+      kind = kind_of bytes k;
+      total = total_of bytes k;
+      unpacked = unpacked_of bytes k;
+      align = 2 ^ exponent_of bytes k;
+      bytes = slice_range bytes (offset_of bytes k) (offset_of bytes k + packed_of bytes k);
+    }
 
 -- the section and the offset of main, unless the section is -1
 abbrev pub main_of : List ℕ → Option (ℕ × ℕ)
@@ -57,9 +42,6 @@ pub record ImportParts : Type 0 where
   pub name : List ℕ
   pub weak : Bool
 
-abbrev pub names : Import → ImportParts
-names i = record { library = i.library.now; name = i.name.now; weak = i.weak }
-
 -- the library that has a symbol
 abbrev pub owner_of : List ℕ → Loader → ℕ → ℕ
 owner_of bytes l i = unwrap_or (least (holds bytes l i) l.libraries) 0
@@ -68,29 +50,19 @@ abbrev pub is_weak : List ℕ → Loader → ℕ → Bool
 is_weak bytes l i = not (bit_and (slice_index bytes (symbol l i)) 0x80 == 0)
 
 abbrev pub import_at : List ℕ → Loader → ℕ → ImportParts
-import_at bytes l i = record {
-  library = name_at bytes l (library_name bytes l (owner_of bytes l i));
-  name = name_at bytes l (symbol_name bytes l i);
-  weak = is_weak bytes l i;
-}
+import_at bytes l i =
+    record {
+      library = name_at bytes l (library_name bytes l (owner_of bytes l i));
+      name = name_at bytes l (symbol_name bytes l i);
+      weak = is_weak bytes l i;
+    }
 
 abbrev pub import_of : List ℕ → ℕ → ImportParts
 import_of bytes i = import_at bytes (loader_of bytes) i
 
--- the library of a symbol
-abbrev pub library_of : List ℕ → ℕ → ℕ
-library_of bytes i = owner_of bytes (loader_of bytes) i
-
--- an import with the first bytes of its names, at most so many of each
-abbrev pub cut : ℕ → ImportParts → ImportParts
-cut most i = record { library = take most i.library; name = take most i.name; weak = i.weak }
-
 -- the first relocation header of a section
 abbrev pub header_for : List ℕ → Loader → ℕ → Option ℕ
 header_for bytes l k = least (is_for bytes l k) l.headers
-
-abbrev pub reloc_header_of : List ℕ → ℕ → Option ℕ
-reloc_header_of bytes k = header_for bytes (loader_of bytes) k
 
 -- the words of a section's relocation header
 abbrev pub relocs_at : List ℕ → Loader → ℕ → List ℕ

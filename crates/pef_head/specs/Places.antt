@@ -5,7 +5,7 @@
 -- three for its name. A relocation header has a word for its section, a word 0, a long with the count of
 -- its words and a long with the place of the first of them, counted from the relocation area. Names count
 -- from the strings and end with a zero byte.
-use Rattle.std.specs.Prelude.{ℕ, ◌+◌, ◌*◌, ◌^◌, ◌≤◌, Bool, ◌&&◌, ◌==◌, nat_lt, nat_le, List, length, slice_range}
+use Rattle.std.specs.Prelude.{ℕ, ◌+◌, ◌*◌, Bool, ◌&&◌, ◌==◌, nat_lt, nat_le, List, slice_range}
 use Rattle.std.specs.List.{list_any}
 use Rattle.pef_head.specs.declared.loader.Loader.{Loader}
 use Rattle.mix_bits.specs.Fields.{word_at, three_at, long_at}
@@ -62,12 +62,3 @@ is_zero byte = byte == 0
 -- a name at this place ends in the loader section
 abbrev pub has_end : List ℕ → Loader → ℕ → Bool
 has_end bytes l from = list_any is_zero (slice_range bytes from l.end)
-
--- the loader section and its tables are in the file, which has at most 16 MiB
-pub record HasTables (bytes : List ℕ) (l : Loader) : Type 0 where
-  pub header_fits : l.start + 56 ≤ l.end
-  pub libraries_fit : library l l.libraries ≤ l.end
-  pub symbols_fit : symbol l l.symbols ≤ l.end
-  pub relocations_fit : relocation l l.headers ≤ l.end
-  pub end_fits : l.end ≤ length bytes
-  pub small : length bytes ≤ 2 ^ 24

@@ -1,9 +1,10 @@
 -- What is known of a container that was read.
 use Rattle.std.specs.Prelude.{◌≡◌, ℕ, ◌<◌, ◌≤◌, true, List, None}
 use Rattle.pef_head.specs.declared.loader.Loader.{Loader}
-use Rattle.pef_head.specs.Container.{HasHeaders, HasSections}
+use Rattle.pef_head.specs.ContainerClauses.{HasHeaders, HasSections}
 use Rattle.pef_head.specs.Loader.{loader_of}
-use Rattle.pef_head.specs.Places.{words_end, library_name, symbol_name, has_end, HasTables}
+use Rattle.pef_head.specs.Places.{words_end, library_name, symbol_name, has_end}
+use Rattle.pef_head.specs.PlacesClauses.{HasTables}
 use Rattle.pef_head.specs.Owners.{owners}
 use Rattle.pef_head.specs.Refusals.{refusal_of}
 

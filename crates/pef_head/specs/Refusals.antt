@@ -5,7 +5,8 @@ use Rattle.pef_head.specs.declared.error.PefError.{PefError}
 use Rattle.pef_head.specs.declared.error.PefError.TheVariants.{Short, Magic, Architecture, Version, Section, NoLoader, Loader as Table, Name, Init}
 use Rattle.pef_head.specs.declared.loader.Loader.{Loader}
 use Rattle.mix_bits.specs.Fields.{long_at}
-use Rattle.mix_bits.specs.Search.{◌or◌, refused, least}
+use Rattle.mix_bits.specs.SearchOperator.{◌or◌}
+use Rattle.mix_bits.specs.Search.{refused, least}
 use Rattle.pef_head.specs.Container.{section_count, instantiated_count, section_header, is_bad_section, loader_section}
 use Rattle.pef_head.specs.Loader.{loader_in}
 use Rattle.pef_head.specs.Places.{library, symbol, relocation, symbols_end, relocated, is_repeated, words_end, library_name, symbol_name, has_end}

@@ -2,7 +2,8 @@
 ghost use Rattle.std.specs.Prelude.{◌≡◌, ◌+◌, ◌^◌, ◌≤◌, ◌<◌, length, OnOk, IfSome};
 ghost use Rattle.std.specs.Result.{result_err};
 ghost use Rattle.mix_bits.specs.Search.{least};
-ghost use Rattle.pef_head.specs.Container.{HasHeaders, HasSections, instantiated_count, is_bad_section, is_loader, is_malformed, leaves_file, loader_section, section_count, section_header};
+ghost use Rattle.pef_head.specs.ContainerClauses.{HasHeaders, HasSections};
+ghost use Rattle.pef_head.specs.Container.{instantiated_count, is_bad_section, is_loader, is_malformed, leaves_file, loader_section, section_count, section_header};
 ghost use Rattle.pef_head.specs.Refusals.{header_refusal, sections_refusal};
 
 use crate::error::PefError;

@@ -1,7 +1,10 @@
 ghost use Rattle.std.specs.Prelude.{◌≡◌, ℕ, ◌<◌, true};
 ghost use Rattle.pef_head.specs.Owners.{owners};
-ghost use Rattle.pef_head.specs.Parts.{cut, import_at, is_weak, names, owner_of};
-ghost use Rattle.pef_head.specs.Places.{HasTables, has_end, holds, library_name, symbol_name};
+ghost use Rattle.pef_head.specs.inner.Parts.{cut};
+ghost use Rattle.pef_head.specs.Parts.{import_at, is_weak, owner_of};
+ghost use Rattle.pef_head.specs.PartsClauses.{names};
+ghost use Rattle.pef_head.specs.PlacesClauses.{HasTables};
+ghost use Rattle.pef_head.specs.Places.{has_end, holds, library_name, symbol_name};
 
 use crate::loader::Loader;
 use crate::names::{name_at, name_within};

@@ -3,7 +3,8 @@ ghost use Rattle.std.specs.Prelude.{◌≡◌, ◌+◌, ◌^◌, ◌≤◌, ◌<
 ghost use Rattle.std.specs.Result.{result_err};
 ghost use Rattle.pef_head.specs.Container.{offset_of, packed_of, section_header};
 ghost use Rattle.pef_head.specs.Loader.{loader_in};
-ghost use Rattle.pef_head.specs.Places.{HasTables, library, relocation, symbol};
+ghost use Rattle.pef_head.specs.PlacesClauses.{HasTables};
+ghost use Rattle.pef_head.specs.Places.{library, relocation, symbol};
 ghost use Rattle.pef_head.specs.Refusals.{tables_refusal};
 
 use crate::container::{PACKED, PLACE, section_header};

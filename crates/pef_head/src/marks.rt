@@ -1,5 +1,5 @@
 ghost use Rattle.std.specs.Prelude.{◌≡◌, ℕ, ◌||◌, ◌==◌, false};
-ghost use Rattle.pef_head.specs.Marks.{is_marked};
+ghost use Rattle.pef_head.specs.inner.Marks.{is_marked};
 
 /// Which numbers below 65536 are marked, a bit for each.
 #[derive(Drop)]
@@ -15,7 +15,7 @@ impl Marks {
         Marks { words: [0; 1024] }
     }
 
-    #[tactic(auto, unfolding(crate::specs::Marks::is_marked))]
+    #[tactic(auto, unfolding(crate::specs::inner::Marks::is_marked))]
     pub fn is_set(&self, k: u16) -> bool
         ensures { result ≡ is_marked self.now k }
     {

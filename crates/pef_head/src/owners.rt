@@ -3,8 +3,10 @@
 //! The libraries may stand in any order and there may be millions of symbols, so a walk over the libraries
 //! marks the symbols of one block at a time.
 ghost use Rattle.std.specs.Prelude.{◌≡◌, ◌+◌, ◌-◌, ◌≤◌, ◌<◌, IfSome};
-ghost use Rattle.pef_head.specs.Places.{HasTables, symbols_end, symbols_start};
-ghost use Rattle.pef_head.specs.Owners.{IsFirstLost, Marked, is_lost, owners};
+ghost use Rattle.pef_head.specs.PlacesClauses.{HasTables};
+ghost use Rattle.pef_head.specs.Places.{symbols_end, symbols_start};
+ghost use Rattle.pef_head.specs.inner.Owners.{IsFirstLost, Marked};
+ghost use Rattle.pef_head.specs.Owners.{is_lost, owners};
 ghost use Rattle.mix_bits.specs.Search.{least};
 
 use crate::loader::Loader;

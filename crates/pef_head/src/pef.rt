@@ -32,7 +32,9 @@ impl<'a> Pef<'a> {
     ghost use Rattle.std.specs.Prelude.{◌≡◌, ℕ, ◌^◌, ◌≤◌, ◌<◌, ◌*◌, ◌%◌, length, slice_index, slice_index_or, None, IfOk, OnOk, OnErr};
     ghost use Rattle.std.specs.Result.{result_err};
     ghost use Rattle.pef_head.specs.Container.{instantiated_count};
-    ghost use Rattle.pef_head.specs.Parts.{IsLoadable, cut, import_count, import_of, library_of, main_of, names, parts, reloc_header_of, relocs_of, section_at};
+    ghost use Rattle.pef_head.specs.PartsClauses.{IsLoadable, names, parts};
+    ghost use Rattle.pef_head.specs.inner.Parts.{cut, library_of, reloc_header_of};
+    ghost use Rattle.pef_head.specs.Parts.{import_count, import_of, main_of, relocs_of, section_at};
     ghost use Rattle.pef_head.specs.Refusals.{refusal_of};
     ghost use Rattle.pef_head.specs.Whole.{IsContainer};
 

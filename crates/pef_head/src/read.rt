@@ -1,9 +1,10 @@
 //! The tests that a container must pass, in order.
 ghost use Rattle.std.specs.Prelude.{◌≡◌, ◌+◌, ◌^◌, ◌≤◌, ◌<◌, length, Some, OnOk, IfOk};
 ghost use Rattle.std.specs.Result.{result_err};
-ghost use Rattle.pef_head.specs.Container.{HasHeaders, HasSections, offset_of, packed_of, section_header};
+ghost use Rattle.pef_head.specs.ContainerClauses.{HasHeaders, HasSections};
+ghost use Rattle.pef_head.specs.Container.{offset_of, packed_of, section_header};
 ghost use Rattle.pef_head.specs.Loader.{loader_in, loader_of};
-ghost use Rattle.pef_head.specs.Places.{HasTables};
+ghost use Rattle.pef_head.specs.PlacesClauses.{HasTables};
 ghost use Rattle.pef_head.specs.Refusals.{entries_refusal, init_refusal, loader_refusal, refusal_of};
 
 use crate::container::{loader_section, section_count, test_header, test_sections};

@@ -1,7 +1,8 @@
 //! The table of relocation headers.
 ghost use Rattle.std.specs.Prelude.{◌≡◌, ℕ, ◌+◌, ◌*◌, ◌^◌, ◌≤◌, ◌<◌, length, IfSome, IfOk};
-ghost use Rattle.pef_head.specs.Places.{HasTables, is_repeated, relocated, relocation, words_end, words_start};
-ghost use Rattle.pef_head.specs.Relocations.{HasHeadersFor, Seen};
+ghost use Rattle.pef_head.specs.PlacesClauses.{HasTables};
+ghost use Rattle.pef_head.specs.Places.{is_repeated, relocated, relocation, words_end, words_start};
+ghost use Rattle.pef_head.specs.inner.Relocations.{HasHeadersFor, Seen};
 ghost use Rattle.pef_head.specs.Container.{instantiated_count};
 ghost use Rattle.pef_head.specs.Refusals.{is_bad_relocation};
 ghost use Rattle.pef_head.specs.Parts.{header_for, relocs_at};

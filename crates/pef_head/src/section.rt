@@ -1,6 +1,7 @@
 ghost use Rattle.std.specs.Prelude.{◌≡◌, ◌^◌, ◌≤◌, length};
-ghost use Rattle.pef_head.specs.Container.{IsSection};
-ghost use Rattle.pef_head.specs.Parts.{parts, section_at};
+ghost use Rattle.pef_head.specs.ContainerClauses.{IsSection};
+ghost use Rattle.pef_head.specs.PartsClauses.{parts};
+ghost use Rattle.pef_head.specs.Parts.{section_at};
 
 use crate::container::{ALIGNMENT, KIND, PACKED, PATTERN, PLACE, TOTAL, UNPACKED, section_header};
 use mix_bits::long_at;

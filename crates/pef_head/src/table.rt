@@ -1,7 +1,7 @@
 //! The library of each symbol, found in one walk over the libraries.
 ghost use Rattle.std.specs.Prelude.{◌≡◌, ◌+◌, ◌<◌, length, IfOk};
-ghost use Rattle.pef_head.specs.Owners.{AreOwned, HasOwners};
-ghost use Rattle.pef_head.specs.Places.{HasTables};
+ghost use Rattle.pef_head.specs.inner.Owners.{AreOwned, HasOwners};
+ghost use Rattle.pef_head.specs.PlacesClauses.{HasTables};
 
 use crate::loader::Loader;
 use crate::places::{symbols_end, symbols_start};

@@ -1,9 +1,10 @@
 -- Unpacked pattern data is the concatenation of its pieces.
 use Rattle.std.proofs.Common.{◌≡◌, ℕ, zero, suc, ◌+◌, ◌-◌, ◌<◌, ◌≤◌, ◌==◌, nat_le, if◌then◌else◌, Bool, true, false, List, [], ◌∷◌, ◌++◌, length, Option, None, Some, refl, arith, ap, sym, subst, ◌∙◌, length-append}
 use Rattle.std.proofs.lemmas.Bool.Decides.{nat_tests}
-use Rattle.pef_reloc.specs.Pattern.{Read, with_rest, piece_in, Unpacked, with_piece, unpacked_by, ended, placed, refused}
-use Rattle.pef_reloc.specs.Laws.{Writes, UnpacksPieces}
-use Rattle.pef_reloc.specs.Laws.Writes.{Ends, Then}
+use Rattle.pef_reloc.specs.Reads.{Read}
+use Rattle.pef_reloc.specs.Pattern.{with_rest, piece_in, Unpacked, with_piece, unpacked_by, ended, placed, refused}
+use Rattle.pef_reloc.specs.laws.Laws.{Writes, UnpacksPieces}
+use Rattle.pef_reloc.specs.laws.Laws.Writes.{Ends, Then}
 use Rattle.pef_reloc.proofs.Unpacked.{next_piece, leaves_piece, Leaves}
 
 abbrev whole : List ℕ → Unpacked

@@ -15,7 +15,7 @@ use Rattle.pef_reloc.specs.declared.instruction.Reading.TheVariants.{Whole, Agai
 use Rattle.mix_bits.specs.Results.{◌>>=◌}
 use Rattle.pef_reloc.specs.Additions.{Operation, Add, Skip, Place, Import, SetC, SetD, Sources, State, Refused, refused, added, allowed, base_of, counted, does, executed, finished, given, operations, passed, runs, value_of, with_long}
 use Rattle.pef_reloc.specs.Program.{can_repeat, each_by, end_of, read_and_run, reading_at, repeated, run_at, run_in_span, run_span, run_times, run_words, span_at, start, width_at}
-use Rattle.pef_reloc.specs.Laws.{HasSameRefusal}
+use Rattle.pef_reloc.specs.laws.Laws.{HasSameRefusal}
 
 -- two states that differ in addresses and bytes alone
 record Near (s t : State) : Type 0 where

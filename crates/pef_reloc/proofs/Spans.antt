@@ -4,9 +4,10 @@ use Rattle.std.proofs.lemmas.Bool.Decides.{nat_tests}
 use Rattle.std.specs.Result.{is_ok}
 use Rattle.pef_reloc.specs.Rows.{first_of}
 use Rattle.mix_bits.specs.Results.{◌>>=◌}
-use Rattle.pef_reloc.specs.Program.{each_by, fill_span, fits_in, is_repeat, width_at, word_at}
-use Rattle.pef_reloc.specs.Laws.{Fills, IsFilledSpan}
-use Rattle.pef_reloc.specs.Laws.Fills.{Filled, Next}
+use Rattle.pef_reloc.specs.Program.{each_by, fill_span, fits_in, is_repeat, width_at}
+use Rattle.mix_bits.specs.Fields.{word_at}
+use Rattle.pef_reloc.specs.laws.Laws.{Fills, IsFilledSpan}
+use Rattle.pef_reloc.specs.laws.Laws.Fills.{Filled, Next}
 use Rattle.pef_reloc.proofs.Each.{some_width}
 
 -- it is no repeat, and ends within the span

@@ -2,13 +2,13 @@
 use Rattle.std.proofs.Common.{◌≡◌, ℕ, zero, suc, ◌+◌, ◌-◌, ◌*◌, ◌/◌, ◌%◌, ◌<◌, ◌≤◌, ◌==◌, nat_le, nat_lt, ◌&&◌, Bool, true, false, if◌then◌else◌, List, [], ◌∷◌, arith, refl, ap, ◌∙◌}
 use Rattle.std.proofs.lemmas.Bool.Decides.{nat_tests}
 use borrow.Author.Tests.{eqb-true, ltb-true}
-use Rattle.mix_bits.specs.Ranges.{every}
+use Rattle.mix_bits.specs.laws.Ranges.{every}
 use Rattle.mix_bits.proofs.Every.{every_at}
 use Rattle.pef_reloc.specs.declared.instruction.First.{First}
 use Rattle.pef_reloc.specs.declared.instruction.First.TheVariants.{Two, NoRow}
 use Rattle.pef_reloc.specs.declared.instruction.Large.TheVariants.{LgBySection, LgSetSectC, LgSetSectD}
 use Rattle.pef_reloc.specs.Rows.{Row, rows, first_by, first_of}
-use Rattle.pef_reloc.specs.Laws.{HasAllRows, HasOneRow, IsSpelled, has_row, is_spelled, passing, rows_with}
+use Rattle.pef_reloc.specs.laws.Laws.{HasAllRows, HasOneRow, IsSpelled, has_row, is_spelled, passing, rows_with}
 
 at_most_one : every 7 0 (λ top. nat_lt (rows_with rows top) 2) ≡ true
 at_most_one = refl

@@ -2,7 +2,9 @@
 use Rattle.std.proofs.Common.{◌≡◌, ℕ, zero, suc, ◌+◌, ◌-◌, ◌*◌, ◌/◌, ◌%◌, ◌^◌, ◌<◌, ◌≤◌, ◌==◌, nat_lt, nat_le, if◌then◌else◌, Bool, true, false, List, [], ◌∷◌, length, replicate, take, drop, Option, None, Some, refl, arith, ap, subst, ◌∙◌}
 use Rattle.std.proofs.lemmas.List.{places}
 use Rattle.std.proofs.lemmas.Bool.Decides.{nat_tests}
-use Rattle.pef_reloc.specs.Pattern.{Read, with_rest, ◌>>=◌, number_after, number_in, count_in, bytes_in, repeated_in, parts_in, mixed_in, mixed_zeros_in, opcode_in, piece_in, Unpacked, placed, with_piece, refused, unpacked_by}
+use Rattle.pef_reloc.specs.Reads.{Read}
+use Rattle.pef_reloc.specs.Pattern.{with_rest, number_after, number_in, count_in, bytes_in, repeated_in, parts_in, mixed_in, mixed_zeros_in, opcode_in, piece_in, Unpacked, placed, with_piece, refused, unpacked_by}
+use Rattle.pef_reloc.specs.PatternOperator.{◌>>=◌}
 
 -- no more than n bytes are left behind what was read
 abbrev pub Leaves : {A : Type 0} → ℕ → Option (Read A) → Type 0

@@ -14,8 +14,9 @@ use Rattle.pef_reloc.specs.declared.instruction.Reading.TheVariants.{Whole}
 use Rattle.pef_reloc.specs.Rows.{first_of, whole_of}
 use Rattle.mix_bits.specs.Results.{◌>>=◌}
 use Rattle.pef_reloc.specs.Additions.{Operation, Add, Skip, Place, Import, SetC, SetD, Sources, State, Refused, refused, added, allowed, base_of, counted, does, executed, finished, given, operations, runs, value_of}
-use Rattle.pef_reloc.specs.Program.{can_repeat, each_by, end_of, read_and_run, reading_by, repeated, run_at, run_in_span, run_span, run_times, run_words, span_at, start, width_at, word_at}
-use Rattle.pef_reloc.specs.Laws.{IsBeyondLimit, IsWithinLimit, repeat_work, span_work, summed_by, work_by, work_of}
+use Rattle.pef_reloc.specs.Program.{can_repeat, each_by, end_of, read_and_run, reading_by, repeated, run_at, run_in_span, run_span, run_times, run_words, span_at, start, width_at}
+use Rattle.mix_bits.specs.Fields.{word_at}
+use Rattle.pef_reloc.specs.laws.Laws.{IsBeyondLimit, IsWithinLimit, repeat_work, span_work, summed_by, work_by, work_of}
 
 -- it takes so many of the instructions that are left, or ends at the limit with fewer left
 abbrev Spends : ℕ → State → Result State Refused → Type 0

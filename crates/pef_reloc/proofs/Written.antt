@@ -5,7 +5,7 @@ use Rattle.big_memory.specs.Lists.{put}
 use Rattle.pef_reloc.specs.Lists.{times}
 use Rattle.pef_reloc.specs.declared.piece.Parts.{Parts}
 use Rattle.pef_reloc.specs.Pattern.{followed}
-use Rattle.pef_reloc.specs.Pieces.{AreWhole, mixed}
+use Rattle.pef_reloc.specs.inner.Pieces.{AreWhole, mixed}
 
 -- a list again and again has as many times its elements
 pub length_times : (n : ℕ) (xs : List ℕ) → length (times n xs) ≡ n * length xs

@@ -3,7 +3,7 @@
 --
 -- The order of refusals is this project's own: an addition is refused first where its long leaves the
 -- section, then where what it adds is missing, and last where its instruction is one too many.
-use Rattle.std.specs.Prelude.{ℕ, ◌+◌, ◌-◌, ◌*◌, ◌%◌, ◌^◌, ◌==◌, nat_lt, if◌then◌else◌, List, [], ◌∷◌, length, slice_index, Option, Some, None, Result, Ok, Err}
+use Rattle.std.specs.Prelude.{ℕ, ◌+◌, ◌-◌, ◌*◌, ◌%◌, ◌^◌, ◌==◌, nat_lt, if◌then◌else◌, List, [], ◌∷◌, length, slice_index, Result, Ok, Err}
 use Rattle.byteorder.specs.Endian.{big_bytes}
 use Rattle.mix_bits.specs.Results.{◌>>=◌}
 use Rattle.big_memory.specs.Lists.{put}
@@ -84,10 +84,11 @@ with_long position value section =
     put position (big_bytes 4 ((long_at position section + value) % 2 ^ 32)) section
 
 abbrev pub added : Source → State → ℕ → State
-added source s value = record {
-  section = with_long s.cursor.position value s.section;
-  cursor = passed source s.cursor;
-}
+added source s value =
+    record {
+      section = with_long s.cursor.position value s.section;
+      cursor = passed source s.cursor;
+    }
 
 abbrev pub does : Sources → Operation → State → Result State Refused
 does sources (Add source) s =
@@ -128,9 +129,6 @@ operations (SetPosition n) = Place n ∷ []
 -- an instruction is counted: one too many, where none is left
 abbrev pub begun : Cursor → Cursor
 begun cursor = record cursor { left = cursor.left - 1; over = cursor.left == 0 }
-
-abbrev pub work_left : Cursor → Option RelocError
-work_left cursor = if cursor.over then Some Work else None
 
 -- the end of an instruction that was one too many, whatever it did
 abbrev pub finished : State → Result State Refused

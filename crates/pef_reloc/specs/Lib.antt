@@ -1,8 +1,10 @@
+pub mod Additions
 pub mod Lists
 pub mod Pattern
-pub mod Pieces
-pub mod Rows
-pub mod Additions
-pub mod Held
+pub mod PatternOperator
 pub mod Program
-pub mod Laws
+pub mod ProgramClauses
+pub mod Reads
+pub mod Rows
+pub mod laws
+pub mod inner

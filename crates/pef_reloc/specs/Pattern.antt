@@ -8,20 +8,11 @@ use Rattle.std.specs.Prelude.{ℕ, zero, suc, ◌+◌, ◌-◌, ◌*◌, ◌/◌
 use Rattle.pef_reloc.specs.declared.error.RelocError.{RelocError}
 use Rattle.pef_reloc.specs.declared.error.RelocError.TheVariants.{Pattern}
 use Rattle.pef_reloc.specs.Lists.{times}
-
--- what was read, and the bytes behind it
-pub record Read (X : Type 0) : Type 0 where
-  pub value : X
-  pub rest : List ℕ
+use Rattle.pef_reloc.specs.Reads.{Read}
+use Rattle.pef_reloc.specs.PatternOperator.{◌>>=◌}
 
 abbrev pub with_rest : {X : Type 0} → X → List ℕ → Read X
 with_rest value rest = record { value = value; rest = rest }
-
-infixl 30 ◌>>=◌
--- what follows, where something was read
-abbrev pub ◌>>=◌ : {A B : Type 0} → Option (Read A) → (A → List ℕ → Option B) → Option B
-None >>= next = None
-Some read >>= next = next read.value read.rest
 
 -- a number of at most 32 bits, after groups that make `value`
 abbrev pub number_after : ℕ → List ℕ → Option (Read ℕ)

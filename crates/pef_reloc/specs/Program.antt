@@ -5,8 +5,7 @@
 use Rattle.std.specs.Prelude.{ℕ, zero, suc, ◌+◌, ◌-◌, ◌*◌, nat_lt, nat_le, Bool, true, false, if◌then◌else◌, List, length, slice_index, Option, Some, None, Result, Ok, Err}
 use Rattle.std.specs.Result.{is_ok}
 use Rattle.big_memory.specs.Lists.{part}
-use Rattle.big_memory.specs.Memory.{Memory}
-pub use Rattle.mix_bits.specs.Fields.{word_at}
+use Rattle.mix_bits.specs.Fields.{word_at}
 use Rattle.pef_reloc.specs.declared.error.RelocError.{RelocError}
 use Rattle.pef_reloc.specs.declared.error.RelocError.TheVariants.{Short, Unsupported, RepeatFront}
 use Rattle.pef_reloc.specs.declared.instruction.First.{First}
@@ -108,14 +107,15 @@ run_words sources words s = each words (run_at sources words) 0 s
 
 -- sections C and D are at first sections 0 and 1, and count as at 0 where they are missing
 abbrev pub start : List ℕ → Cursor
-start bases = record {
-  position = 0;
-  index = 0;
-  c = slice_index bases 0;
-  d = slice_index bases 1;
-  left = 16777216;
-  over = false;
-}
+start bases =
+    record {
+      position = 0;
+      index = 0;
+      c = slice_index bases 0;
+      d = slice_index bases 1;
+      left = 16777216;
+      over = false;
+    }
 
 -- the section's bytes, and why no more was done
 pub record Relocated : Type 0 where
@@ -130,8 +130,3 @@ end_of (Err r) = record { section = r.section; refusal = Some r.error }
 abbrev pub relocated : Sources → List ℕ → List ℕ → Relocated
 relocated sources words section =
     end_of (run_words sources words (record { section = section; cursor = start sources.bases }))
-
--- the same for the section with a number, in memory
-abbrev pub relocated_in : ℕ → List ℕ → List ℕ → List ℕ → List ℕ → Memory → Relocated
-relocated_in k words bases totals imports m =
-    relocated (record { bases = bases; imports = imports }) words (part (slice_index bases k) (slice_index totals k) m.bytes)

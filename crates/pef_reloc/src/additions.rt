@@ -3,7 +3,7 @@ ghost use Rattle.std.specs.Prelude.{◌≡◌, ◌+◌, ◌*◌, ◌^◌, ◌≤
 ghost use Rattle.big_memory.specs.Memory.{Memory};
 ghost use Rattle.pef_reloc.specs.Additions.{does, executed, operations, runs, turn_of};
 ghost use Rattle.pef_reloc.specs.Additions.{Add, SetC, SetD};
-ghost use Rattle.pef_reloc.specs.Held.{Fits, budget, outcome_of, outside_of, sources_of, state_of};
+ghost use Rattle.pef_reloc.specs.inner.Held.{Fits, budget, outcome_of, outside_of, sources_of, state_of};
 ghost use Rattle.pef_reloc.specs.Lists.{times};
 
 use crate::cursor::Cursor;

@@ -1,4 +1,4 @@
-ghost use Rattle.pef_reloc.specs.Laws.{HasAllRows, HasOneRow, HasPlan, HasSameRefusal, IsBeyondLimit, IsFilledSpan, IsSpelled, IsWithinLimit, KeepsSize, UnpacksPieces};
+ghost use Rattle.pef_reloc.specs.laws.Laws.{HasAllRows, HasOneRow, HasPlan, HasSameRefusal, IsBeyondLimit, IsFilledSpan, IsSpelled, IsWithinLimit, KeepsSize, UnpacksPieces};
 
 /// What holds of pattern data as a whole. It does nothing: the clause is its point.
 pub fn pattern_laws()

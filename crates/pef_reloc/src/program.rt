@@ -3,8 +3,9 @@ ghost use Rattle.std.specs.Prelude.{◌≡◌, ◌+◌, ◌*◌, ◌%◌, ◌^�
 ghost use Rattle.std.specs.Option.{option_copied};
 ghost use Rattle.std.specs.Result.{result_err};
 ghost use Rattle.big_memory.specs.Memory.{in_memory, with_bytes};
-ghost use Rattle.pef_reloc.specs.Held.{Fits, budget, outcome_of, outside_of, section_of, sources_of, state_of};
-ghost use Rattle.pef_reloc.specs.Program.{can_repeat, relocated, relocated_in, repeated, run_at, run_in_span, run_span, run_times, run_words, span_at, start};
+ghost use Rattle.pef_reloc.specs.inner.Held.{Fits, budget, outcome_of, outside_of, section_of, sources_of, state_of};
+ghost use Rattle.pef_reloc.specs.Program.{can_repeat, relocated, repeated, run_at, run_in_span, run_span, run_times, run_words, span_at, start};
+ghost use Rattle.pef_reloc.specs.ProgramClauses.{relocated_in};
 
 use crate::additions::execute;
 use crate::cursor::Cursor;

@@ -1,7 +1,7 @@
 // The section that is relocated, in memory.
 ghost use Rattle.std.specs.Prelude.{◌≡◌, ◌+◌, ◌^◌, ◌<◌, ◌≤◌, length, IfOk};
 ghost use Rattle.pef_reloc.specs.Additions.{base_of, import_at, value_of, with_long};
-ghost use Rattle.pef_reloc.specs.Held.{Fits, HasNext, outside_of, section_of, sources_of};
+ghost use Rattle.pef_reloc.specs.inner.Held.{Fits, HasNext, outside_of, section_of, sources_of};
 
 use crate::cursor::Cursor;
 use crate::error::RelocError;

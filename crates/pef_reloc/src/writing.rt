@@ -2,7 +2,7 @@
 ghost use Rattle.std.specs.Prelude.{◌≡◌, ℕ, suc, ◌+◌, ◌*◌, ◌^◌, ◌<◌, ◌≤◌, List, length, replicate, take};
 ghost use Rattle.pef_reloc.specs.Lists.{times};
 ghost use Rattle.big_memory.specs.Lists.{put};
-ghost use Rattle.pef_reloc.specs.Pieces.{AreWhole, IsSmall, bytes_of, mixed};
+ghost use Rattle.pef_reloc.specs.inner.Pieces.{AreWhole, IsSmall, bytes_of, mixed};
 
 use crate::piece::{Parts, Piece};
 

@@ -11,12 +11,12 @@ use Rattle.big_memory.specs.declared.steps.Did.TheVariants.{Next, Leave, Stop}
 use Rattle.big_memory.specs.Faults.{fault_of}
 use Rattle.big_memory.specs.Map.{in_gate_page, host_code}
 use Rattle.big_memory.specs.Memory.{Memory, loaded}
-use Rattle.big_memory.specs.Steps.{Does}
+use Rattle.big_memory.specs.StepsClauses.{Does}
 use Rattle.big_memory.specs.Steps.After.{Stops}
 use Rattle.ppc_isa.specs.declared.registers.RegsPpc.{RegsPpc}
 use Rattle.ppc_isa.specs.Rows.{decoded}
 use Rattle.ppc_integer.specs.Effects.{at_gate_page, runs_decoded, stepped}
-use Rattle.ppc_core.specs.Fetch.{Fetches, IsOfWord}
+use Rattle.ppc_core.specs.inner.Fetch.{Fetches, IsOfWord}
 
 -- a step that stops
 stops : (did : Did) (cell fault : Fault) (r : RegsPpc) (m : Memory) → stepped r m ≡ Stops fault → Does (Stops fault) did cell r r m m → Fetches did cell r m

@@ -8,10 +8,11 @@ use Rattle.mix_bits.specs.declared.size.Size.TheVariants.{One, Four}
 use Rattle.byteorder.specs.Endian.{big_bytes}
 use Rattle.big_memory.specs.declared.refusals.Access.{Access}
 use Rattle.big_memory.specs.Memory.{Memory, IsRam, loaded, refusal, stored}
-use Rattle.big_memory.specs.Stores.{OnlyFree, stored_value, stored_unless}
+use Rattle.big_memory.specs.StoresClauses.{OnlyFree}
+use Rattle.big_memory.specs.Stores.{stored_value, stored_unless}
 use Rattle.big_memory.proofs.Free.{free_joins, free_ram, free_refusals, nothing_free, stores_free}
 use Rattle.ppc_integer.specs.Strings.{in_order, load_byte, load_word, store_byte, string_byte, with_string_byte}
-use Rattle.ppc_core.specs.Tested.{BytesOpen, BytesThere, WordsThere}
+use Rattle.ppc_core.specs.inner.Tested.{BytesOpen, BytesThere, WordsThere}
 
 pub order-zero : {A : Type 0} (access : A → ℕ → Result A Access) (start : A) → in_order access start 0 ≡ Ok start
 unfolding in_order

@@ -5,11 +5,11 @@ use Rattle.std.specs.Prelude.{MatchOption}
 use Rattle.mix_bits.specs.Addresses.{onward}
 use Rattle.mix_bits.specs.declared.size.Size.TheVariants.{One}
 use Rattle.big_memory.specs.declared.refusals.Access.{Access}
-use Rattle.big_memory.specs.Laws.{Passes}
+use Rattle.big_memory.specs.laws.Laws.{Passes}
 use Rattle.big_memory.specs.Memory.{Memory, IsRam, in_memory, refusal}
 use Rattle.big_memory.proofs.Guarded.{passes, passes_within}
 use Rattle.big_memory.proofs.Rams.{in_memory_within, loads_part}
-use Rattle.ppc_core.specs.Tested.{BytesOpen, BytesThere}
+use Rattle.ppc_core.specs.inner.Tested.{BytesOpen, BytesThere}
 
 inside : (m : Memory) (a n : ℕ) → 0 < n → in_memory m a n ≡ true → a + n ≤ length m.bytes
 inside m a n some is = grind (arith, nat_tests, some, is)

@@ -10,16 +10,17 @@ use Rattle.mix_bits.specs.Addresses.{onward}
 use Rattle.mix_bits.specs.Digits.{digit_of, digit_replaced}
 use Rattle.mix_bits.specs.declared.size.Size.TheVariants.{One, Four}
 use Rattle.big_memory.specs.declared.refusals.Access.TheVariants.{Outside}
-use Rattle.big_memory.specs.Laws.{Passes}
+use Rattle.big_memory.specs.laws.Laws.{Passes}
 use Rattle.big_memory.specs.Lists.{put}
-use Rattle.big_memory.specs.Memory.{IsFree, IsRam, Memory, in_memory, loaded, meets_gate, refusal, stored}
+use Rattle.big_memory.specs.laws.Memory.{IsFree}
+use Rattle.big_memory.specs.Memory.{IsRam, Memory, in_memory, loaded, meets_gate, refusal, stored}
 use Rattle.big_memory.specs.Numbers.{long_at, number_at}
-use Rattle.big_memory.specs.Stores.{OnlyFree}
+use Rattle.big_memory.specs.StoresClauses.{OnlyFree}
 use Rattle.big_memory.proofs.Free.{free_refusals}
 use Rattle.big_memory.proofs.Guarded.{free_from_test, passes, refusal-none, test_from_free}
 use Rattle.big_memory.proofs.Lists.{put-append}
 use Rattle.ppc_integer.specs.Strings.{in_order, load_byte, string_byte, with_string_byte}
-use Rattle.ppc_core.specs.Tested.{BytesOpen, BytesThere}
+use Rattle.ppc_core.specs.inner.Tested.{BytesOpen, BytesThere}
 use Rattle.ppc_core.proofs.Order.{Stored, byte-more, byte-open, stored-more}
 
 -- where four bytes of a string lie, the first of them byte k: memory has no end between them

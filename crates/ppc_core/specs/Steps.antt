@@ -1,7 +1,7 @@
--- What a step of PowerPC code answers.
+-- What a step of PowerPC code answers. The answers are this project's own.
 use Rattle.std.specs.Prelude.{◌≡◌}
 use Rattle.big_memory.specs.Memory.{Memory}
-use Rattle.big_memory.specs.Stores.{OnlyFree}
+use Rattle.big_memory.specs.StoresClauses.{OnlyFree}
 use Rattle.big_memory.specs.Steps.{After}
 use Rattle.big_memory.specs.Steps.After.{Goes, Leaves, Stops}
 use Rattle.ppc_isa.specs.declared.registers.RegsPpc.{RegsPpc}

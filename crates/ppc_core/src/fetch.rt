@@ -3,10 +3,11 @@ ghost use Rattle.std.specs.Prelude.{◌≡◌, ◌+◌, ◌%◌, ◌≤◌, leng
 ghost use Rattle.std.specs.Bool.{OnTrue};
 ghost use Rattle.big_memory.specs.Map.{gate_page_end, host_code as host_code_of};
 ghost use Rattle.big_memory.specs.Memory.{Memory};
-ghost use Rattle.big_memory.specs.Steps.{Does};
+ghost use Rattle.big_memory.specs.StepsClauses.{Does};
 ghost use Rattle.ppc_integer.specs.Effects.{at_gate_page as at_gate_page_of};
 ghost use Rattle.ppc_isa.specs.declared.registers.RegsPpc.{RegsPpc};
-ghost use Rattle.ppc_core.specs.Fetch.{Fetches, IsOfWord, places_of};
+ghost use Rattle.ppc_core.specs.inner.Fetch.{Fetches, IsOfWord};
+ghost use Rattle.ppc_core.specs.Fetch.{places_of};
 
 use big_memory::{Did, GATE_PAGE_END, Ram, host_code, in_gate_page, leave, refuse, stop};
 use mix_bits::{Fault, FaultKind, Size};

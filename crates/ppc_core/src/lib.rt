@@ -14,11 +14,4 @@ mod stores;
 mod strings;
 
 pub use fetch::places;
-pub use loads::{load, load_indexed};
-pub use multiple::{load_multiple, store_multiple};
-pub use reversed::{load_reversed, store_reversed};
 pub use step::{OutPpc, run, step_ppc};
-pub use stores::{store, store_indexed};
-pub use strings::{
-    load_string_immediate, load_string_indexed, store_string_immediate, store_string_indexed,
-};

@@ -1,6 +1,6 @@
 // Loads.
 ghost use Rattle.std.specs.Prelude.{◌≡◌};
-ghost use Rattle.big_memory.specs.Steps.{Does};
+ghost use Rattle.big_memory.specs.StepsClauses.{Does};
 ghost use Rattle.ppc_isa.specs.Fields.{fields_of};
 ghost use Rattle.ppc_integer.specs.Effects.{runs};
 ghost use Rattle.ppc_integer.specs.Storage.{load as load_of, load_size as load_size_of, load_value as load_value_of};

@@ -1,12 +1,13 @@
 // Loads and stores of several registers.
 ghost use Rattle.std.specs.Prelude.{◌≡◌, ◌+◌, ◌-◌, ◌*◌, ◌<◌, ◌≤◌, length, Ok};
 ghost use Rattle.big_memory.specs.Memory.{IsRam};
-ghost use Rattle.big_memory.specs.Steps.{Does};
+ghost use Rattle.big_memory.specs.StepsClauses.{Does};
 ghost use Rattle.ppc_isa.specs.Fields.{fields_of};
 ghost use Rattle.ppc_integer.specs.Effects.{runs};
 ghost use Rattle.ppc_integer.specs.Strings.{in_order, load_multiple as load_multiple_of, load_word};
-ghost use Rattle.ppc_isa.specs.declared.instruction.InstrPpc.TheVariants.{LoadMultiple, StoreMultiple};
-ghost use Rattle.ppc_core.specs.Tested.{WordsTested, WordsThere};
+ghost use Rattle.ppc_isa.specs.declared.instruction.InstrPpc.TheVariants.{Multiple};
+ghost use Rattle.ppc_isa.specs.declared.instruction.MultipleAccess.TheVariants.{LoadMultiple, StoreMultiple};
+ghost use Rattle.ppc_core.specs.inner.Tested.{WordsTested, WordsThere};
 
 use big_memory::{Access, Did, Ram, refuse};
 use mix_bits::{Fault, onward};
@@ -16,7 +17,7 @@ use ppc_isa::{RegsPpc, d_of};
 /// lmw.
 #[inline(never)]
 pub fn load_multiple(regs: &mut RegsPpc, ram: &Ram, fault: &mut Fault, word: u32) -> Did
-    ensures { let f = fields_of word in Does (runs regs.old ram.now word (LoadMultiple f.d f.a f.low)) result fault.new regs.old regs.new ram.now ram.now }
+    ensures { let f = fields_of word in Does (runs regs.old ram.now word (Multiple (LoadMultiple f.d f.a f.low))) result fault.new regs.old regs.new ram.now ram.now }
 {
     let at = offset_address(regs, word);
     load_registers(regs, ram, fault, d_of(word), at)
@@ -25,7 +26,7 @@ pub fn load_multiple(regs: &mut RegsPpc, ram: &Ram, fault: &mut Fault, word: u32
 /// stmw.
 #[inline(never)]
 pub fn store_multiple(regs: &mut RegsPpc, ram: &mut Ram, fault: &mut Fault, word: u32) -> Did
-    ensures { let f = fields_of word in Does (runs regs.old ram.old word (StoreMultiple f.d f.a f.low)) result fault.new regs.old regs.new ram.old ram.new }
+    ensures { let f = fields_of word in Does (runs regs.old ram.old word (Multiple (StoreMultiple f.d f.a f.low))) result fault.new regs.old regs.new ram.old ram.new }
 {
     let at = offset_address(regs, word);
     match ram.store_longs(at, &regs.gpr[d_of(word)..]) {

@@ -1,12 +1,14 @@
 // Loads and stores with their bytes in the other order.
 ghost use Rattle.std.specs.Prelude.{◌≡◌, ◌^◌, ◌<◌};
-ghost use Rattle.big_memory.specs.Steps.{Does};
+ghost use Rattle.big_memory.specs.StepsClauses.{Does};
 ghost use Rattle.ppc_isa.specs.Fields.{fields_of};
 ghost use Rattle.ppc_integer.specs.Effects.{runs};
 ghost use Rattle.ppc_integer.specs.Storage.{reversed as reversed_of, reversed_size};
-ghost use Rattle.ppc_isa.specs.declared.instruction.InstrPpc.TheVariants.{LoadReversed, StoreReversed};
+ghost use Rattle.ppc_isa.specs.declared.instruction.InstrPpc.TheVariants.{Reversed};
+ghost use Rattle.ppc_isa.specs.declared.instruction.ReversedAccess.TheVariants.{LoadReversed, StoreReversed};
 ghost use Rattle.big_memory.specs.Memory.{loaded};
-ghost use Rattle.big_memory.specs.Stores.{Stores, stored_value};
+ghost use Rattle.big_memory.specs.inner.Stores.{Stores};
+ghost use Rattle.big_memory.specs.Stores.{stored_value};
 
 use big_memory::{Access, Did, Ram, refuse};
 use mix_bits::Fault;
@@ -23,7 +25,7 @@ pub fn load_reversed(
     word: u32,
     kind: ReversedKind,
 ) -> Did
-    ensures { let f = fields_of word in Does (runs regs.old ram.now word (LoadReversed kind f.d f.a f.b)) result fault.new regs.old regs.new ram.now ram.now }
+    ensures { let f = fields_of word in Does (runs regs.old ram.now word (Reversed (LoadReversed kind f.d f.a f.b))) result fault.new regs.old regs.new ram.now ram.now }
 {
     match read(ram, index_address(regs, word), kind) {
         Ok(v) => {
@@ -44,7 +46,7 @@ pub fn store_reversed(
     word: u32,
     kind: ReversedKind,
 ) -> Did
-    ensures { let f = fields_of word in Does (runs regs.old ram.old word (StoreReversed kind f.d f.a f.b)) result fault.new regs.old regs.new ram.old ram.new }
+    ensures { let f = fields_of word in Does (runs regs.old ram.old word (Reversed (StoreReversed kind f.d f.a f.b))) result fault.new regs.old regs.new ram.old ram.new }
 {
     let v = reversed(kind, regs.gpr[d_of(word)]);
     match write(ram, index_address(regs, word), kind, v) {

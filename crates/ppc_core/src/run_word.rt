@@ -1,11 +1,13 @@
-ghost use Rattle.big_memory.specs.Steps.{Does};
+ghost use Rattle.big_memory.specs.StepsClauses.{Does};
 ghost use Rattle.ppc_isa.specs.Rows.{decoded};
 ghost use Rattle.ppc_integer.specs.Effects.{runs_decoded};
 
-use super::{
-    load, load_indexed, load_multiple, load_reversed, load_string_immediate, load_string_indexed,
-    store, store_indexed, store_multiple, store_reversed, store_string_immediate,
-    store_string_indexed,
+use super::loads::{load, load_indexed};
+use super::multiple::{load_multiple, store_multiple};
+use super::reversed::{load_reversed, store_reversed};
+use super::stores::{store, store_indexed};
+use super::strings::{
+    load_string_immediate, load_string_indexed, store_string_immediate, store_string_indexed,
 };
 use big_memory::{Did, Ram, stop};
 use mix_bits::{Fault, FaultKind};

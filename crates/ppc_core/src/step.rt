@@ -1,6 +1,6 @@
 ghost use Rattle.std.specs.Prelude.{◌≡◌, false};
 ghost use Rattle.big_memory.specs.Map.{is_gate};
-ghost use Rattle.big_memory.specs.Steps.{Does};
+ghost use Rattle.big_memory.specs.StepsClauses.{Does};
 ghost use Rattle.ppc_integer.specs.Effects.{stepped};
 ghost use Rattle.ppc_core.specs.Fetch.{places_of};
 ghost use Rattle.ppc_core.specs.Steps.{Steps};

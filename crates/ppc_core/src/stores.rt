@@ -1,6 +1,6 @@
 // Stores.
 ghost use Rattle.std.specs.Prelude.{◌≡◌};
-ghost use Rattle.big_memory.specs.Steps.{Does};
+ghost use Rattle.big_memory.specs.StepsClauses.{Does};
 ghost use Rattle.ppc_isa.specs.Fields.{fields_of};
 ghost use Rattle.ppc_integer.specs.Effects.{runs};
 ghost use Rattle.ppc_integer.specs.Storage.{store as store_of, store_size as store_size_of, updated};

@@ -1,13 +1,15 @@
 // Strings.
 ghost use Rattle.std.specs.Prelude.{◌≡◌, ◌+◌, ◌-◌, ◌*◌, ◌/◌, ◌%◌, ◌^◌, ◌<◌, Ok};
 ghost use Rattle.big_memory.specs.Memory.{IsRam};
-ghost use Rattle.big_memory.specs.Steps.{Does};
+ghost use Rattle.big_memory.specs.StepsClauses.{Does};
 ghost use Rattle.ppc_isa.specs.Fields.{fields_of};
 ghost use Rattle.ppc_integer.specs.Effects.{runs};
-ghost use Rattle.big_memory.specs.Stores.{OnlyFree};
+ghost use Rattle.big_memory.specs.StoresClauses.{OnlyFree};
 ghost use Rattle.ppc_integer.specs.Strings.{fills as fills_lem, in_order, load_byte, load_string as load_string_of, store_byte, store_string as store_string_of, string_byte as string_byte_of, with_string_byte};
-ghost use Rattle.ppc_isa.specs.declared.instruction.InstrPpc.TheVariants.{LoadStringImmediate, LoadStringIndexed, StoreStringImmediate, StoreStringIndexed};
-ghost use Rattle.ppc_core.specs.Tested.{BytesOpen, BytesTested, BytesThere, OpenTested};
+ghost use Rattle.ppc_isa.specs.declared.instruction.InstrPpc.TheVariants.{StringImmediate, StringIndexed};
+ghost use Rattle.ppc_isa.specs.declared.instruction.StringImmediateAccess.TheVariants.{LoadStringImmediate, StoreStringImmediate};
+ghost use Rattle.ppc_isa.specs.declared.instruction.StringIndexedAccess.TheVariants.{LoadStringIndexed, StoreStringIndexed};
+ghost use Rattle.ppc_core.specs.inner.Tested.{BytesOpen, BytesTested, BytesThere, OpenTested};
 
 use big_memory::{Access, Did, Ram, refuse, stop};
 use mix_bits::{Fault, FaultKind, Size, digit, onward, with_digit};
@@ -17,7 +19,7 @@ use ppc_isa::{RegsPpc, a_of, b_of, d_of, is_filled, shift_of, string_length};
 /// lswi.
 #[inline(never)]
 pub fn load_string_immediate(regs: &mut RegsPpc, ram: &Ram, fault: &mut Fault, word: u32) -> Did
-    ensures { let f = fields_of word in Does (runs regs.old ram.now word (LoadStringImmediate f.d f.a f.b)) result fault.new regs.old regs.new ram.now ram.now }
+    ensures { let f = fields_of word in Does (runs regs.old ram.now word (StringImmediate (LoadStringImmediate f.d f.a f.b))) result fault.new regs.old regs.new ram.now ram.now }
 {
     let at = base(regs, a_of(word));
     load_string(
@@ -38,7 +40,7 @@ pub fn store_string_immediate(
     fault: &mut Fault,
     word: u32,
 ) -> Did
-    ensures { let f = fields_of word in Does (runs regs.old ram.old word (StoreStringImmediate f.d f.a f.b)) result fault.new regs.old regs.new ram.old ram.new }
+    ensures { let f = fields_of word in Does (runs regs.old ram.old word (StringImmediate (StoreStringImmediate f.d f.a f.b))) result fault.new regs.old regs.new ram.old ram.new }
 {
     let at = base(regs, a_of(word));
     store_string(
@@ -54,7 +56,7 @@ pub fn store_string_immediate(
 /// lswx.
 #[inline(never)]
 pub fn load_string_indexed(regs: &mut RegsPpc, ram: &Ram, fault: &mut Fault, word: u32) -> Did
-    ensures { let f = fields_of word in Does (runs regs.old ram.now word (LoadStringIndexed f.d f.a f.b)) result fault.new regs.old regs.new ram.now ram.now }
+    ensures { let f = fields_of word in Does (runs regs.old ram.now word (StringIndexed (LoadStringIndexed f.d f.a f.b))) result fault.new regs.old regs.new ram.now ram.now }
 {
     let (first, length) = (d_of(word), xer_string_length(regs.xer));
     if fills(a_of(word), first, length) || fills(b_of(word), first, length) {
@@ -68,7 +70,7 @@ pub fn load_string_indexed(regs: &mut RegsPpc, ram: &Ram, fault: &mut Fault, wor
 /// stswx.
 #[inline(never)]
 pub fn store_string_indexed(regs: &mut RegsPpc, ram: &mut Ram, fault: &mut Fault, word: u32) -> Did
-    ensures { let f = fields_of word in Does (runs regs.old ram.old word (StoreStringIndexed f.d f.a f.b)) result fault.new regs.old regs.new ram.old ram.new }
+    ensures { let f = fields_of word in Does (runs regs.old ram.old word (StringIndexed (StoreStringIndexed f.d f.a f.b))) result fault.new regs.old regs.new ram.old ram.new }
 {
     let at = index_address(regs, word);
     let length = xer_string_length(regs.xer);

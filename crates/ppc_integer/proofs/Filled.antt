@@ -17,11 +17,11 @@ use Rattle.big_memory.specs.Numbers.{AreLongs, number_at}
 use Rattle.big_memory.specs.Steps.{After}
 use Rattle.big_memory.specs.Steps.After.{Goes, Stops}
 use Rattle.ppc_isa.specs.declared.registers.RegsPpc.{RegsPpc}
-use Rattle.ppc_isa.specs.Valid.{string_length}
+use Rattle.ppc_isa.specs.Operands.{string_length}
 use Rattle.ppc_integer.specs.Xer.{string_length_of}
 use Rattle.ppc_integer.specs.File.{base_of, gpr_of, onto_next}
 use Rattle.ppc_integer.specs.Storage.{index_address}
-use Rattle.ppc_integer.specs.StorageLaws.{IndexedStringsFill, IsFilled, StringsFill}
+use Rattle.ppc_integer.specs.laws.StorageLaws.{IndexedStringsFill, IsFilled, StringsFill}
 use Rattle.ppc_integer.specs.Strings.{fills, in_order, load_byte, load_string, with_string_byte}
 use Rattle.ppc_integer.proofs.Reversed.{lies-within, loaded-then, number-of}
 
@@ -159,11 +159,11 @@ byte-more gpr all bytes d at k b holds few fits is =
 abbrev to_register : List ℕ → ℕ → ℕ → ℕ → Result (List ℕ) Access
 to_register all d k byte = Ok (with_string_byte all d k byte)
 
-bound : {A B : Type 0} (x : Result A Access) (f : A → Result B Access) (y : B) → (x >>= f) ≡ Ok y → (v : A) × ((x ≡ Ok v) × (f v ≡ Ok y))
+pub bound : {A B : Type 0} (x : Result A Access) (f : A → Result B Access) (y : B) → (x >>= f) ≡ Ok y → (v : A) × ((x ≡ Ok v) × (f v ≡ Ok y))
 bound (Ok v) f y is = (v, (refl, is))
 bound (Err e) f y is = absurd (cc)
 
-at-byte : (m : Memory) (a b : ℕ) → loaded m a One ≡ Ok b → (a + 1 ≤ length m.bytes) × (get_or m.bytes a 0 ≡ b)
+pub at-byte : (m : Memory) (a b : ℕ) → loaded m a One ≡ Ok b → (a + 1 ≤ length m.bytes) × (get_or m.bytes a 0 ≡ b)
 at-byte m a b is =
     let number = number-of (in_memory m a 1) a (number_at a 1 m.bytes) b is in
     let one : number_at a 1 m.bytes ≡ get_or m.bytes (a + 0) 0 = rw (get_or-drop a m.bytes 0 0) (grind arith) in
@@ -199,7 +199,7 @@ string-fills r q m k d at n ram file fits few is =
       others = λ x other. ap (λ (t : RegsPpc). gpr_of t x) step.1.1 ∙ holds.others x other;
     }
 
-base-fits : (r : RegsPpc) (a : ℕ) → AreLongs 32 r.gpr → base_of r a < 2 ^ 32
+pub base-fits : (r : RegsPpc) (a : ℕ) → AreLongs 32 r.gpr → base_of r a < 2 ^ 32
 base-fits r a file = elim (a == 0) as (λ b. (if b then 0 else gpr_of r a) < 2 ^ 32) [ true ↦ omega arith | false ↦ file.each a ]
 
 length-fits : (nb : ℕ) → nb < 32 → string_length nb ≤ 128

@@ -11,19 +11,29 @@ use Rattle.big_memory.specs.Steps.{After, after_store}
 use Rattle.big_memory.specs.Steps.After.{Goes, Leaves, Stops}
 use Rattle.ppc_isa.specs.declared.registers.RegsPpc.{RegsPpc}
 use Rattle.ppc_isa.specs.declared.instruction.InstrPpc.{InstrPpc}
-use Rattle.ppc_isa.specs.declared.instruction.InstrPpc.TheVariants.{TrapWordImmediate, Load, Store, LoadMultiple, StoreMultiple, TrapWord, LoadIndexed, StoreIndexed, LoadReversed, StoreReversed, LoadStringImmediate, StoreStringImmediate, LoadStringIndexed, StoreStringIndexed}
+use Rattle.ppc_isa.specs.declared.instruction.InstrPpc.TheVariants.{TrapWordImmediate, Load, Store, LoadIndexed, StoreIndexed, Multiple, CompareOrTrap, Reversed, StringImmediate, StringIndexed, Rotate, Multiply, MoveCondition, MoveSpecial}
+use Rattle.ppc_isa.specs.declared.instruction.MultipleAccess.TheVariants.{LoadMultiple, StoreMultiple}
+use Rattle.ppc_isa.specs.declared.instruction.Comparison.TheVariants.{Compare, TrapWord}
+use Rattle.ppc_isa.specs.declared.instruction.ReversedAccess.TheVariants.{LoadReversed, StoreReversed}
+use Rattle.ppc_isa.specs.declared.instruction.StringImmediateAccess.TheVariants.{LoadStringImmediate, StoreStringImmediate}
+use Rattle.ppc_isa.specs.declared.instruction.StringIndexedAccess.TheVariants.{LoadStringIndexed, StoreStringIndexed}
+use Rattle.ppc_isa.specs.declared.instruction.Rotation.TheVariants.{RotateLeftImmediate, RotateLeft}
+use Rattle.ppc_isa.specs.declared.instruction.Multiplication.TheVariants.{MultiplyLow, MultiplyHigh}
+use Rattle.ppc_isa.specs.declared.instruction.ConditionMove.TheVariants.{MoveFromConditionRegister, MoveToConditionFields}
+use Rattle.ppc_isa.specs.declared.instruction.SpecialMove.TheVariants.{MoveFromSpecial, MoveToSpecial}
 use Rattle.ppc_isa.specs.Rows.{decoded}
 use Rattle.ppc_integer.specs.Traps.{traps_on}
 use Rattle.ppc_integer.specs.Xer.{string_length_of}
 use Rattle.ppc_isa.specs.declared.instruction.LoadKind.{LoadKind}
 use Rattle.ppc_isa.specs.declared.instruction.ReversedKind.{ReversedKind}
-use Rattle.ppc_isa.specs.Valid.{string_length}
+use Rattle.ppc_isa.specs.Operands.{string_length}
 use Rattle.ppc_integer.specs.File.{base_of, gpr_of, onto_next, with_gpr}
 use Rattle.ppc_integer.specs.Arithmetic.{immediate_of}
-use Rattle.ppc_integer.specs.Storage.{after_load, index_address, load, load_reversed, load_size, load_value, offset_address, reversed, reversed_size, store_size, updated}
+use Rattle.big_memory.specs.Steps.{after_load}
+use Rattle.ppc_integer.specs.Storage.{index_address, load, load_reversed, load_size, load_value, offset_address, reversed, reversed_size, store_size, updated}
 use Rattle.ppc_integer.specs.Strings.{fills, in_order, load_byte, load_string, load_word, store_byte}
 use Rattle.ppc_integer.specs.Effects.{at_gate_page, goes_on, runs, runs_decoded, stepped, trap_word}
-use Rattle.ppc_integer.specs.Laws.{LeavesAtHostCode}
+use Rattle.ppc_integer.specs.laws.Laws.{LeavesAtHostCode}
 
 abbrev Stays : After RegsPpc → Type 0
 Stays (Goes next m) = Unit {0}
@@ -64,24 +74,33 @@ indexed-stays r m word d at n false = strings-stay r m d at n
 
 runs-stays : (r : RegsPpc) (m : Memory) (word : ℕ) (i : InstrPpc) → Stays (runs r m word i)
 runs-stays r m word (TrapWordImmediate to a i) = trap-stays r m word to (gpr_of r a) (immediate_of i)
-runs-stays r m word (TrapWord to a b) = trap-stays r m word to (gpr_of r a) (gpr_of r b)
+runs-stays r m word (CompareOrTrap (TrapWord to a b)) = trap-stays r m word to (gpr_of r a) (gpr_of r b)
 runs-stays r m word (Load kind update d a offset) = loads-stay r m kind update d a (offset_address r a offset)
 runs-stays r m word (LoadIndexed kind update d a b) = loads-stay r m kind update d a (index_address r a b)
 runs-stays r m word (Store kind update s a offset) =
     store-stays r.pc (onto_next (updated update a (offset_address r a offset) r)) (stored_value m (offset_address r a offset) (store_size kind) (gpr_of r s))
 runs-stays r m word (StoreIndexed kind update s a b) =
     store-stays r.pc (onto_next (updated update a (index_address r a b) r)) (stored_value m (index_address r a b) (store_size kind) (gpr_of r s))
-runs-stays r m word (LoadReversed kind d a b) = reversed-stays r m kind d (index_address r a b)
-runs-stays r m word (StoreReversed kind s a b) =
+runs-stays r m word (Reversed (LoadReversed kind d a b)) = reversed-stays r m kind d (index_address r a b)
+runs-stays r m word (Reversed (StoreReversed kind s a b)) =
     store-stays r.pc (onto_next r) (stored_value m (index_address r a b) (reversed_size kind) (reversed kind (gpr_of r s)))
-runs-stays r m word (LoadMultiple d a offset) = file-stays r m (in_order (load_word m (offset_address r a offset) d) r.gpr (32 - d))
-runs-stays r m word (StoreMultiple s a offset) = store-stays r.pc (onto_next r) (stored_longs m (offset_address r a offset) (drop s r.gpr))
-runs-stays r m word (LoadStringImmediate d a nb) = strings-stay r m d (base_of r a) (string_length nb)
-runs-stays r m word (StoreStringImmediate s a nb) = store-stays r.pc (onto_next r) (in_order (store_byte r.gpr s (base_of r a)) m (string_length nb))
-runs-stays r m word (LoadStringIndexed d a b) =
+runs-stays r m word (Multiple (LoadMultiple d a offset)) = file-stays r m (in_order (load_word m (offset_address r a offset) d) r.gpr (32 - d))
+runs-stays r m word (Multiple (StoreMultiple s a offset)) = store-stays r.pc (onto_next r) (stored_longs m (offset_address r a offset) (drop s r.gpr))
+runs-stays r m word (StringImmediate (LoadStringImmediate d a nb)) = strings-stay r m d (base_of r a) (string_length nb)
+runs-stays r m word (StringImmediate (StoreStringImmediate s a nb)) = store-stays r.pc (onto_next r) (in_order (store_byte r.gpr s (base_of r a)) m (string_length nb))
+runs-stays r m word (StringIndexed (LoadStringIndexed d a b)) =
     let n = string_length_of r.xer in indexed-stays r m word d (index_address r a b) n (fills a d n || fills b d n)
-runs-stays r m word (StoreStringIndexed s a b) =
+runs-stays r m word (StringIndexed (StoreStringIndexed s a b)) =
     store-stays r.pc (onto_next r) (in_order (store_byte r.gpr s (index_address r a b)) m (string_length_of r.xer))
+runs-stays r m word (Rotate (RotateLeftImmediate outside a s sh mb me rc)) = tt
+runs-stays r m word (Rotate (RotateLeft a s b mb me rc)) = tt
+runs-stays r m word (Multiply (MultiplyLow d a b oe rc)) = tt
+runs-stays r m word (Multiply (MultiplyHigh signed d a b rc)) = tt
+runs-stays r m word (CompareOrTrap (Compare signed field a b)) = tt
+runs-stays r m word (MoveCondition (MoveFromConditionRegister d)) = tt
+runs-stays r m word (MoveCondition (MoveToConditionFields mask s)) = tt
+runs-stays r m word (MoveSpecial (MoveFromSpecial d register)) = tt
+runs-stays r m word (MoveSpecial (MoveToSpecial register s)) = tt
 runs-stays r m word _ = tt
 
 decoded-stays : (r : RegsPpc) (m : Memory) (word : ℕ) (found : Option InstrPpc) → Stays (runs_decoded r m word found)

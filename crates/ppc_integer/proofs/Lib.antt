@@ -1,9 +1,8 @@
 pub mod Shifted
 pub mod Leaving
 pub mod Filled
+pub mod Stored
 pub mod Reversed
 pub mod FieldLemmas
 pub mod MaskLemmas
-pub mod ShiftLemmas
-pub mod SignedLemmas
 pub mod Alike

@@ -16,13 +16,15 @@ use Rattle.big_memory.specs.Steps.After.{Goes}
 use Rattle.big_memory.specs.Stores.{stored_value}
 use Rattle.big_memory.proofs.Longs.{stored_loads}
 use Rattle.ppc_isa.specs.declared.registers.RegsPpc.{RegsPpc}
-use Rattle.ppc_isa.specs.declared.instruction.InstrPpc.TheVariants.{LoadReversed}
+use Rattle.ppc_isa.specs.declared.instruction.InstrPpc.TheVariants.{Reversed}
+use Rattle.ppc_isa.specs.declared.instruction.ReversedAccess.TheVariants.{LoadReversed}
 use Rattle.ppc_isa.specs.declared.instruction.ReversedKind.{ReversedKind}
 use Rattle.ppc_isa.specs.declared.instruction.ReversedKind.TheVariants.{Word, Half}
 use Rattle.ppc_integer.specs.Effects.{runs}
 use Rattle.ppc_integer.specs.File.{gpr_of, onto_next, with_gpr}
-use Rattle.ppc_integer.specs.Storage.{after_load, index_address, reversed, reversed_size}
-use Rattle.ppc_integer.specs.StorageLaws.{LoadsLittle, ReversesBack, little_number}
+use Rattle.big_memory.specs.Steps.{after_load}
+use Rattle.ppc_integer.specs.Storage.{index_address, reversed, reversed_size}
+use Rattle.ppc_integer.specs.laws.StorageLaws.{LoadsLittle, ReversesBack, little_number}
 
 -- a step that goes on, by what it loads
 pub loaded-then : {T : Type 0} (found : Result T Access) (pc : ℕ) (next : T → RegsPpc) (m k : Memory) (q : RegsPpc)
@@ -92,7 +94,7 @@ back : (kind : ReversedKind) (v : ℕ) → reversed kind (truncated (reversed ki
 back Half v = half-back v
 back Word v = word-back v
 
-stored-then : (left : Result Memory Access) (pc : ℕ) (next q : RegsPpc) (n : Memory) → after_store pc next left ≡ Goes q n → (left ≡ Ok n) × (q ≡ next)
+pub stored-then : (left : Result Memory Access) (pc : ℕ) (next q : RegsPpc) (n : Memory) → after_store pc next left ≡ Goes q n → (left ≡ Ok n) × (q ≡ next)
 stored-then (Ok m) pc next q n is = (let same : m ≡ n = cc in ap (λ k. Ok k) same, cc)
 stored-then (Err e) pc next q n is = absurd (cc)
 
@@ -103,7 +105,7 @@ reverses_back r q m n word other s d a b kind is =
     let size : Size = reversed_size kind in
     let done = stored-then (stored_value m at size (reversed kind v)) r.pc (onto_next r) q n is in
     let reads : loaded n at size ≡ Ok (truncated (reversed kind v) size) = stored_loads m n at size (reversed kind v) done.0 in
-    let loads : runs (onto_next r) n other (LoadReversed kind d a b) ≡ Goes (onto_next (with_gpr (onto_next r) d (truncated v size))) n =
+    let loads : runs (onto_next r) n other (Reversed (LoadReversed kind d a b)) ≡ Goes (onto_next (with_gpr (onto_next r) d (truncated v size))) n =
     ap (λ (found : Result ℕ Access). after_load (onto_next r).pc (λ x. Goes (onto_next (with_gpr (onto_next r) d (reversed kind x))) n) found) reads
     ∙ ap (λ x. Goes (onto_next (with_gpr (onto_next r) d x)) n) (back kind v) in
-    subst (λ (t : RegsPpc). runs t n other (LoadReversed kind d a b) ≡ Goes (onto_next (with_gpr t d (truncated v size))) n) (sym done.1) loads
+    subst (λ (t : RegsPpc). runs t n other (Reversed (LoadReversed kind d a b)) ≡ Goes (onto_next (with_gpr t d (truncated v size))) n) (sym done.1) loads

@@ -2,16 +2,12 @@
 use Rattle.std.specs.Prelude.{ℕ}
 use Rattle.mix_bits.specs.declared.fault.Fault.{Fault}
 use Rattle.big_memory.specs.Memory.{Memory}
-use Rattle.big_memory.specs.Steps.{Does}
+use Rattle.big_memory.specs.StepsClauses.{Does}
 use Rattle.big_memory.specs.declared.steps.Did.{Did}
 use Rattle.ppc_isa.specs.declared.instruction.InstrPpc.{InstrPpc}
 use Rattle.ppc_isa.specs.declared.registers.RegsPpc.{RegsPpc}
-use Rattle.ppc_integer.specs.Effects.{goes_on, runs}
+use Rattle.ppc_integer.specs.Effects.{runs}
 
 -- a call that does the instruction of a word, from registers r to registers next
 abbrev pub Runs : InstrPpc → ℕ → Did → RegsPpc → RegsPpc → Type 0
 Runs instruction word did r next = (cell : Fault) (m : Memory) → Does (runs r m word instruction) did cell r next m m
-
--- a call that ends a step with these registers: the next instruction follows
-abbrev pub Ends : RegsPpc → Did → RegsPpc → Type 0
-Ends changed did next = (cell : Fault) (start : RegsPpc) (m : Memory) → Does (goes_on m changed) did cell start next m m

@@ -9,8 +9,8 @@ use Rattle.ppc_isa.specs.declared.instruction.CarryUse.{CarryUse}
 use Rattle.ppc_isa.specs.declared.instruction.CarryUse.TheVariants.{Plain, Carrying, Extended}
 use Rattle.ppc_isa.specs.declared.instruction.ExtendedOperand.{ExtendedOperand}
 use Rattle.ppc_isa.specs.declared.instruction.ExtendedOperand.TheVariants.{Zero, MinusOne}
-use Rattle.ppc_integer.specs.declared.arith.Arith.{Arith}
-use Rattle.ppc_integer.specs.Results.{added, divided, high_product, multiplied}
+use Rattle.ppc_alu.specs.declared.arith.Arith.{Arith}
+use Rattle.ppc_alu.specs.Outcomes.{added, divided, high_product, multiplied}
 use Rattle.ppc_integer.specs.Xer.{ca_of, with_ca, with_overflow}
 use Rattle.ppc_integer.specs.File.{base_of, complement, gpr_of, recorded, with_gpr, with_result}
 

@@ -1,8 +1,10 @@
--- The register file, as instructions read and write it.
+-- The register file, as instructions read and write it
+-- (PowerPC 601 RISC Microprocessor User's Manual, chapters 2 and 10).
 use Rattle.std.specs.Prelude.{ℕ, ◌-◌, ◌^◌, ◌==◌, Bool, true, if◌then◌else◌, slice_index, slice_set}
 use Rattle.mix_bits.specs.Addresses.{onward}
 use Rattle.ppc_isa.specs.declared.registers.RegsPpc.{RegsPpc}
-use Rattle.ppc_integer.specs.Condition.{compared, with_field}
+use Rattle.ppc_alu.specs.ConditionBits.{compared}
+use Rattle.ppc_integer.specs.Condition.{with_field}
 use Rattle.ppc_integer.specs.Xer.{so_of}
 
 abbrev pub gpr_of : RegsPpc → ℕ → ℕ

@@ -7,8 +7,7 @@ use Rattle.mix_bits.specs.declared.size.Size.{Size}
 use Rattle.mix_bits.specs.declared.size.Size.TheVariants.{One, Two, Four}
 use Rattle.big_memory.specs.Memory.{Memory, loaded}
 use Rattle.big_memory.specs.Stores.{stored_value}
-use Rattle.big_memory.specs.Steps.{After, after_store}
-pub use Rattle.big_memory.specs.Steps.{after_load}
+use Rattle.big_memory.specs.Steps.{After, after_load, after_store}
 use Rattle.big_memory.specs.Steps.After.{Goes}
 use Rattle.ppc_isa.specs.declared.registers.RegsPpc.{RegsPpc}
 use Rattle.ppc_isa.specs.declared.instruction.LoadKind.{LoadKind}

@@ -15,10 +15,10 @@ use Rattle.mix_bits.specs.Faults.{fault_at}
 use Rattle.big_memory.specs.Steps.{After, after_store}
 use Rattle.big_memory.specs.Steps.After.{Goes, Stops}
 use Rattle.ppc_isa.specs.declared.registers.RegsPpc.{RegsPpc}
-use Rattle.ppc_isa.specs.Valid.{registers_from}
+use Rattle.ppc_isa.specs.Operands.{registers_from}
 use Rattle.ppc_integer.specs.Xer.{string_length_of}
 use Rattle.ppc_integer.specs.File.{onto_next}
-use Rattle.ppc_integer.specs.Storage.{after_load}
+use Rattle.big_memory.specs.Steps.{after_load}
 
 -- the first `n` accesses, in order, or the first refusal; each works on what the accesses before it left
 unfoldable pub in_order : {A : Type 0} → (A → ℕ → Result A Access) → A → ℕ → Result A Access

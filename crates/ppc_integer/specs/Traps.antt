@@ -1,7 +1,7 @@
--- When a trap instruction traps.
+-- When a trap instruction traps (PowerPC 601 RISC Microprocessor User's Manual, chapter 10, tw and twi).
 use Rattle.std.specs.Prelude.{ℕ, ◌==◌, Bool, true, false, ◌&&◌, ◌||◌}
 use Rattle.mix_bits.specs.Digits.{digit_of}
-use Rattle.ppc_integer.specs.Condition.{is_less}
+use Rattle.ppc_alu.specs.ConditionBits.{is_less}
 
 -- one of the conditions that TO picks holds: less or greater as signed numbers, equal, less or greater as
 -- unsigned numbers, from its first bit to its last

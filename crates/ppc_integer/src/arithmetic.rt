@@ -1,19 +1,20 @@
 // Sums, differences, products and quotients.
 ghost use Rattle.std.specs.Prelude.{◌≡◌, ◌/◌, ◌==◌};
 ghost use Rattle.ppc_isa.specs.Fields.{fields_of};
-ghost use Rattle.ppc_integer.specs.Results.{added};
+ghost use Rattle.ppc_alu.specs.Outcomes.{added};
 ghost use Rattle.ppc_integer.specs.File.{gpr_of};
 ghost use Rattle.ppc_integer.specs.Arithmetic.{carry_into as carry_into_of, operand_of, sets_ca as sets_ca_of, with_arith};
-ghost use Rattle.ppc_isa.specs.declared.instruction.InstrPpc.TheVariants.{Add, AddExtended, AddImmediate, AddImmediateCarrying, Divide, MultiplyHigh, MultiplyLow, MultiplyLowImmediate, Negate, SubtractFrom, SubtractFromExtended, SubtractFromImmediateCarrying};
-ghost use Rattle.ppc_integer.specs.Alone.{Ends, Runs};
+ghost use Rattle.ppc_isa.specs.declared.instruction.InstrPpc.TheVariants.{Add, AddExtended, AddImmediate, AddImmediateCarrying, Divide, MultiplyLowImmediate, Negate, SubtractFrom, SubtractFromExtended, SubtractFromImmediateCarrying, Multiply};
+ghost use Rattle.ppc_isa.specs.declared.instruction.Multiplication.TheVariants.{MultiplyHigh, MultiplyLow};
+ghost use Rattle.ppc_integer.specs.inner.Alone.{Ends};
+ghost use Rattle.ppc_integer.specs.Alone.{Runs};
 
 use super::addresses::base;
-use super::arith::{add3, mul_high, mul_low};
 use super::ending::{finish, finish_carrying, finish_overflow, finish_result};
-use super::quotients::divide;
 use super::xer::xer_ca;
 use big_memory::Did;
 use mix_bits::onward;
+use ppc_alu::{add3, divide, mul_high, mul_low};
 use ppc_isa::{
     CarryUse, ExtendedOperand, RegsPpc, a_of, b_of, d_of, is_last, is_overflow, low_of, offset_of,
 };
@@ -89,7 +90,7 @@ pub fn negate(regs: &mut RegsPpc, word: u32) -> Did
 /// mullw.
 #[inline(never)]
 pub fn multiply_low(regs: &mut RegsPpc, word: u32) -> Did
-    ensures { let f = fields_of word in Runs (MultiplyLow f.d f.a f.b ((f.xo / 512) == 1) f.last) word result regs.old regs.new }
+    ensures { let f = fields_of word in Runs (Multiply (MultiplyLow f.d f.a f.b ((f.xo / 512) == 1) f.last)) word result regs.old regs.new }
 {
     let outcome = mul_low(regs.gpr[a_of(word)], regs.gpr[b_of(word)]);
     finish_overflow(regs, word, false, outcome)
@@ -98,7 +99,7 @@ pub fn multiply_low(regs: &mut RegsPpc, word: u32) -> Did
 /// mulhw and mulhwu.
 #[inline(never)]
 pub fn multiply_high(regs: &mut RegsPpc, word: u32, signed: bool) -> Did
-    ensures { let f = fields_of word in Runs (MultiplyHigh signed f.d f.a f.b f.last) word result regs.old regs.new }
+    ensures { let f = fields_of word in Runs (Multiply (MultiplyHigh signed f.d f.a f.b f.last)) word result regs.old regs.new }
 {
     let high = mul_high(signed, regs.gpr[a_of(word)], regs.gpr[b_of(word)]);
     finish_result(regs, d_of(word), is_last(word), high)

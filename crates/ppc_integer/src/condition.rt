@@ -1,53 +1,10 @@
-// Comparisons and the condition register.
+// The condition register's bits and fields, and traps.
 ghost use Rattle.std.specs.Prelude.{◌≡◌, ◌<◌};
 ghost use Rattle.ppc_integer.specs.Traps.{traps_on};
-ghost use Rattle.ppc_integer.specs.Condition.{bit_of, combined, compared, field_of, is_less as is_less_lem, with_bit, with_field};
+ghost use Rattle.ppc_integer.specs.Condition.{bit_of, field_of, with_bit, with_field};
 
 use mix_bits::{digit, power, with_digit};
-use ppc_isa::LogicalOp;
-
-/// The four bits LT, GT, EQ and SO of a comparison, LT most significant.
-#[inline(always)]
-pub fn compare(signed: bool, a: u32, b: u32, so: bool) -> u32
-    ensures is { result ≡ compared signed a b so }
-    ensures below { result < 16 }
-{
-    let order = if is_less(signed, a, b) {
-        8
-    } else if a == b {
-        2
-    } else {
-        4
-    };
-    order + u32::from(so)
-}
-
-/// Whether a word is below another one, as signed or unsigned numbers.
-fn is_less(signed: bool, a: u32, b: u32) -> bool
-    ensures { result ≡ is_less_lem signed a b }
-{
-    if signed {
-        a.cast_signed() < b.cast_signed()
-    } else {
-        a < b
-    }
-}
-
-/// Two bits of the condition register combined.
-pub fn cr_logic(op: LogicalOp, a: bool, b: bool) -> bool
-    ensures { result ≡ combined op a b }
-{
-    match op {
-        LogicalOp::And => a && b,
-        LogicalOp::Or => a || b,
-        LogicalOp::Xor => a != b,
-        LogicalOp::Nand => !(a && b),
-        LogicalOp::Nor => !(a || b),
-        LogicalOp::Equivalent => a == b,
-        LogicalOp::AndComplement => a && !b,
-        LogicalOp::OrComplement => a || !b,
-    }
-}
+use ppc_alu::is_less;
 
 /// A bit of the condition register, bit 0 most significant.
 pub fn cr_bit(cr: u32, bit: u32) -> bool

@@ -3,11 +3,11 @@ ghost use Rattle.std.specs.Prelude.{◌<◌, ◌/◌, ◌==◌, true, false};
 ghost use Rattle.ppc_isa.specs.Fields.{fields_of};
 ghost use Rattle.ppc_integer.specs.Arithmetic.{with_arith};
 ghost use Rattle.ppc_integer.specs.File.{with_result};
-ghost use Rattle.ppc_integer.specs.Alone.{Ends};
+ghost use Rattle.ppc_integer.specs.inner.Alone.{Ends};
 
-use super::arith::Arith;
 use super::results::{Sets, advance, put_arith, put_result};
 use big_memory::Did;
+use ppc_alu::Arith;
 use ppc_isa::{RegsPpc, d_of, is_last, is_overflow};
 
 /// Ends a step that changed registers alone: the next instruction follows.

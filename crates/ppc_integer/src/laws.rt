@@ -1,5 +1,5 @@
-ghost use Rattle.ppc_integer.specs.Laws.{LeavesAtHostCode};
-ghost use Rattle.ppc_integer.specs.StorageLaws.{IndexedStringsFill, LoadsLittle, ReversesBack, StringsFill};
+ghost use Rattle.ppc_integer.specs.laws.Laws.{LeavesAtHostCode};
+ghost use Rattle.ppc_integer.specs.laws.StorageLaws.{IndexedStringsFill, IndexedStringsStore, LoadsLittle, ReversesBack, StringsFill, StringsStore};
 
 /// What holds of every step. It does nothing: the clause is its point.
 ///
@@ -12,6 +12,8 @@ pub fn effect_laws()
 pub fn storage_laws()
     ensures strings { StringsFill }
     ensures indexed { IndexedStringsFill }
+    ensures stored { StringsStore }
+    ensures indexed_stored { IndexedStringsStore }
     ensures little { LoadsLittle }
     ensures reversed { ReversesBack }
 {}

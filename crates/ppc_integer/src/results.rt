@@ -2,10 +2,10 @@ ghost use Rattle.std.specs.Prelude.{◌≡◌, ◌<◌};
 ghost use Rattle.ppc_integer.specs.Arithmetic.{with_arith};
 ghost use Rattle.ppc_integer.specs.File.{onto_next, recorded, with_result};
 
-use super::arith::Arith;
-use super::condition::{compare, with_cr0};
+use super::condition::with_cr0;
 use super::xer::{xer_so, xer_with_ca, xer_with_overflow};
 use mix_bits::onward;
+use ppc_alu::{Arith, compare};
 use ppc_isa::RegsPpc;
 
 /// Puts a result into register `n`, and its comparison with 0 into the first field of the condition

@@ -2,20 +2,22 @@
 ghost use Rattle.std.specs.Prelude.{◌/◌, ◌%◌};
 ghost use Rattle.ppc_isa.specs.Fields.{fields_of};
 ghost use Rattle.ppc_isa.specs.declared.instruction.ShiftOp.TheVariants.{Left, Right, RightAlgebraic};
-ghost use Rattle.ppc_isa.specs.declared.instruction.InstrPpc.TheVariants.{RotateLeft, RotateLeftImmediate, Shift, ShiftRightAlgebraicImmediate};
+ghost use Rattle.ppc_isa.specs.declared.instruction.InstrPpc.TheVariants.{Shift, ShiftRightAlgebraicImmediate, Rotate};
+ghost use Rattle.ppc_isa.specs.declared.instruction.Rotation.TheVariants.{RotateLeft, RotateLeftImmediate};
 ghost use Rattle.ppc_integer.specs.Alone.{Runs};
 
 use super::ending::{finish, finish_carrying, finish_result};
-use super::mask::{insert, rotate_mask};
+use super::mask::insert;
 use super::results::put_result;
-use super::shift::{shift_left, shift_right, shift_right_logical};
+use super::shift::{shift_left, shift_right_logical};
 use big_memory::Did;
+use ppc_alu::{rotate_mask, shift_right};
 use ppc_isa::{MaskUse, RegsPpc, a_of, b_of, d_of, is_last, mask_begin_of, mask_end_of, shift_of};
 
 /// rlwimi and rlwinm.
 #[inline(always)]
 pub fn rotate_left_immediate(regs: &mut RegsPpc, word: u32, outside: MaskUse) -> Did
-    ensures { let f = fields_of word in Runs (RotateLeftImmediate outside f.a f.d f.b (f.xo / 32) (f.xo % 32) f.last) word result regs.old regs.new }
+    ensures { let f = fields_of word in Runs (Rotate (RotateLeftImmediate outside f.a f.d f.b (f.xo / 32) (f.xo % 32) f.last)) word result regs.old regs.new }
 {
     let (rotated, mask) = rotate_mask(
         regs.gpr[d_of(word)],
@@ -33,7 +35,7 @@ pub fn rotate_left_immediate(regs: &mut RegsPpc, word: u32, outside: MaskUse) ->
 /// rlwnm.
 #[inline(never)]
 pub fn rotate_left(regs: &mut RegsPpc, word: u32) -> Did
-    ensures { let f = fields_of word in Runs (RotateLeft f.a f.d f.b (f.xo / 32) (f.xo % 32) f.last) word result regs.old regs.new }
+    ensures { let f = fields_of word in Runs (Rotate (RotateLeft f.a f.d f.b (f.xo / 32) (f.xo % 32) f.last)) word result regs.old regs.new }
 {
     let count = regs.gpr[b_of(word)] % 32;
     let (rotated, mask) = rotate_mask(

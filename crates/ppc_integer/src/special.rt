@@ -1,7 +1,9 @@
 // Moves from and to the special purpose registers, and synchronization.
 ghost use Rattle.ppc_isa.specs.Fields.{fields_of};
-ghost use Rattle.ppc_isa.specs.declared.instruction.InstrPpc.TheVariants.{MoveFromSpecial, MoveToSpecial};
-ghost use Rattle.ppc_integer.specs.Alone.{Ends, Runs};
+ghost use Rattle.ppc_isa.specs.declared.instruction.InstrPpc.TheVariants.{MoveSpecial};
+ghost use Rattle.ppc_isa.specs.declared.instruction.SpecialMove.TheVariants.{MoveFromSpecial, MoveToSpecial};
+ghost use Rattle.ppc_integer.specs.inner.Alone.{Ends};
+ghost use Rattle.ppc_integer.specs.Alone.{Runs};
 
 use super::ending::finish;
 use super::xer::xer_kept;
@@ -11,7 +13,7 @@ use ppc_isa::{RegsPpc, SpecialRegister, d_of};
 /// mfspr.
 #[inline(always)]
 pub fn move_from_special(regs: &mut RegsPpc, word: u32, register: SpecialRegister) -> Did
-    ensures { let f = fields_of word in Runs (MoveFromSpecial f.d register) word result regs.old regs.new }
+    ensures { let f = fields_of word in Runs (MoveSpecial (MoveFromSpecial f.d register)) word result regs.old regs.new }
 {
     regs.gpr[d_of(word)] = match register {
         SpecialRegister::Xer => xer_kept(regs.xer),
@@ -24,7 +26,7 @@ pub fn move_from_special(regs: &mut RegsPpc, word: u32, register: SpecialRegiste
 /// mtspr.
 #[inline(always)]
 pub fn move_to_special(regs: &mut RegsPpc, word: u32, register: SpecialRegister) -> Did
-    ensures { let f = fields_of word in Runs (MoveToSpecial register f.d) word result regs.old regs.new }
+    ensures { let f = fields_of word in Runs (MoveSpecial (MoveToSpecial register f.d)) word result regs.old regs.new }
 {
     let value = regs.gpr[d_of(word)];
     match register {

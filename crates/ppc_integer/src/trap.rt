@@ -1,8 +1,9 @@
 // Traps.
 ghost use Rattle.big_memory.specs.Memory.{Memory};
-ghost use Rattle.big_memory.specs.Steps.{Does};
+ghost use Rattle.big_memory.specs.StepsClauses.{Does};
 ghost use Rattle.ppc_isa.specs.Fields.{fields_of};
-ghost use Rattle.ppc_isa.specs.declared.instruction.InstrPpc.TheVariants.{TrapWord, TrapWordImmediate};
+ghost use Rattle.ppc_isa.specs.declared.instruction.InstrPpc.TheVariants.{TrapWordImmediate, CompareOrTrap};
+ghost use Rattle.ppc_isa.specs.declared.instruction.Comparison.TheVariants.{TrapWord};
 ghost use Rattle.ppc_isa.specs.declared.registers.RegsPpc.{RegsPpc};
 ghost use Rattle.ppc_integer.specs.Effects.{runs, trap_word as trap_word_of};
 
@@ -15,7 +16,7 @@ use ppc_isa::{RegsPpc, a_of, b_of, d_of, offset_of};
 /// tw.
 #[inline(never)]
 pub fn trap_word(regs: &mut RegsPpc, fault: &mut Fault, word: u32) -> Did
-    ensures { (m : Memory) → let f = fields_of word in Does (runs regs.old m word (TrapWord f.d f.a f.b)) result fault.new regs.old regs.new m m }
+    ensures { (m : Memory) → let f = fields_of word in Does (runs regs.old m word (CompareOrTrap (TrapWord f.d f.a f.b))) result fault.new regs.old regs.new m m }
 {
     let (x, y) = (regs.gpr[a_of(word)], regs.gpr[b_of(word)]);
     trap_where(regs, fault, word, x, y)

@@ -6,7 +6,7 @@ use Rattle.std.specs.List.{count_by}
 use Rattle.mix_bits.proofs.Conditions.{both}
 use Rattle.ppc_isa.specs.declared.fields.Fields.{Fields}
 use Rattle.ppc_isa.specs.Fields.{fields_of}
-use Rattle.ppc_isa.specs.Laws.{RowsAreApart}
+use Rattle.ppc_isa.specs.laws.Laws.{RowsAreApart}
 use Rattle.ppc_isa.specs.Rows.{Extended, Key, Marks, Row, Special, Whole, has_key, has_oe, is_in, row, table}
 
 pub apart : (n k : ℕ) → n ≢ k → (n == k) ≡ false

@@ -2,7 +2,7 @@
 use Rattle.std.proofs.Common.{◌≡◌, ℕ, zero, suc, ◌+◌, ◌-◌, ◌%◌, ◌<◌, Bool, ◌==◌, ◌||◌, nat_lt, arith, ap, ◌∙◌}
 use Rattle.std.proofs.lemmas.Bool.Decides.{nat_tests}
 use Rattle.std.specs.List.{list_any}
-use Rattle.ppc_isa.specs.Valid.{registers_from}
+use Rattle.ppc_isa.specs.Operands.{registers_from}
 
 -- the distance from one register to another, going on from register 31 to register 0
 abbrev pub distance : ℕ → ℕ → ℕ

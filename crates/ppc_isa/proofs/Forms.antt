@@ -5,7 +5,8 @@ use Rattle.std.specs.Int.{from_bool}
 use Rattle.mix_bits.specs.Digits.{digit_of}
 use Rattle.ppc_isa.specs.declared.instruction.InstrPpc.{InstrPpc}
 use Rattle.ppc_isa.specs.declared.fields.Fields.{Fields}
-use Rattle.ppc_isa.specs.Fields.{fields_of, word_with}
+use Rattle.ppc_isa.specs.Fields.{fields_of}
+use Rattle.ppc_isa.specs.inner.FieldRanges.{word_with}
 use Rattle.ppc_isa.specs.Words.{immediate_form, extended_form}
 use Rattle.ppc_isa.specs.Valid.{IsDisplacement}
 use Rattle.ppc_isa.specs.Made.{displacement_of, made}

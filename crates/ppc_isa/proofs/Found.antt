@@ -4,13 +4,15 @@ use Rattle.std.proofs.lemmas.Bool.Decides.{nat_tests}
 use Rattle.std.specs.Int.{from_bool}
 use Rattle.mix_bits.specs.Digits.{digit_of}
 use Rattle.ppc_isa.specs.declared.instruction.InstrPpc.{InstrPpc}
-use Rattle.ppc_isa.specs.declared.instruction.InstrPpc.TheVariants.{MoveToConditionFields}
+use Rattle.ppc_isa.specs.declared.instruction.InstrPpc.TheVariants.{MoveCondition}
+use Rattle.ppc_isa.specs.declared.instruction.ConditionMove.TheVariants.{MoveToConditionFields}
 use Rattle.ppc_isa.specs.declared.fields.Fields.{Fields}
 use Rattle.ppc_isa.specs.declared.op.OpPpc.{OpPpc}
 use Rattle.ppc_isa.specs.declared.op.OpPpc.TheVariants.{Invalid, Mtcrf}
-use Rattle.ppc_isa.specs.Fields.{IsFields, fields_of, word_with}
+use Rattle.ppc_isa.specs.inner.FieldRanges.{IsFields, word_with}
+use Rattle.ppc_isa.specs.Fields.{fields_of}
 use Rattle.ppc_isa.specs.Valid.{InRange, Stands}
-use Rattle.ppc_isa.specs.Laws.{DecodedStands}
+use Rattle.ppc_isa.specs.laws.Laws.{DecodedStands}
 use Rattle.ppc_isa.specs.Made.{made}
 use Rattle.ppc_isa.specs.Rows.{Row, decoded, found, is_allowed, is_in, operation, operation_in, rows_19, rows_31, rows_to_18, rows_to_29, rows_to_47, table}
 use Rattle.ppc_isa.proofs.Forms.{read, whole}
@@ -100,4 +102,4 @@ answer_in_range w (Some i) fits is = ((decoded_stands w fits i).0 (sym is)).0.0
 pub mask_fits : (w : ℕ) (op : OpPpc) → w < 2 ^ 32 → decoded w ≡ made op (fields_of w) → op ≡ Mtcrf → (fields_of w).a * 16 + (fields_of w).b / 2 < 256
 mask_fits w op fits is mtcrf =
     let f : Fields = fields_of w in
-    ((decoded_stands w fits (MoveToConditionFields (f.a * 16 + f.b / 2) f.d)).0 (is ∙ ap (λ o. made o f) mtcrf)).0.0.0
+    ((decoded_stands w fits (MoveCondition (MoveToConditionFields (f.a * 16 + f.b / 2) f.d))).0 (is ∙ ap (λ o. made o f) mtcrf)).0.0.0

@@ -15,7 +15,16 @@ use Rattle.ppc_isa.specs.declared.instruction.ReversedKind.TheVariants.{Word as 
 use Rattle.ppc_isa.specs.declared.instruction.BranchRegister.TheVariants.{Link as LinkTarget, Count as CountTarget}
 use Rattle.ppc_isa.specs.declared.instruction.SpecialRegister.TheVariants.{Xer, Link as LinkSpecial, Count as CountSpecial}
 use Rattle.ppc_isa.specs.declared.instruction.InstrPpc.{InstrPpc}
-use Rattle.ppc_isa.specs.declared.instruction.InstrPpc.TheVariants.{TrapWordImmediate, MultiplyLowImmediate, SubtractFromImmediateCarrying, CompareImmediate, AddImmediateCarrying, AddImmediate, BranchConditional, Branch, RotateLeftImmediate, RotateLeft, LogicalImmediate, Load, Store, LoadMultiple, StoreMultiple, MoveConditionField, BranchConditionalToRegister, ConditionLogical, InstructionSynchronize, Add, AddExtended, SubtractFrom, SubtractFromExtended, Negate, MultiplyLow, MultiplyHigh, Divide, Logical, Unary, Shift, ShiftRightAlgebraicImmediate, Compare, TrapWord, LoadIndexed, StoreIndexed, LoadReversed, StoreReversed, LoadStringImmediate, StoreStringImmediate, LoadStringIndexed, StoreStringIndexed, MoveFromConditionRegister, MoveToConditionFields, MoveXerToConditionField, MoveFromSpecial, MoveToSpecial, Synchronize}
+use Rattle.ppc_isa.specs.declared.instruction.InstrPpc.TheVariants.{TrapWordImmediate, MultiplyLowImmediate, SubtractFromImmediateCarrying, CompareImmediate, AddImmediateCarrying, AddImmediate, BranchConditional, Branch, LogicalImmediate, Load, Store, MoveConditionField, BranchConditionalToRegister, ConditionLogical, InstructionSynchronize, Add, AddExtended, SubtractFrom, SubtractFromExtended, Negate, Divide, Logical, Unary, Shift, ShiftRightAlgebraicImmediate, LoadIndexed, StoreIndexed, MoveXerToConditionField, Synchronize, Rotate, Multiple, Multiply, CompareOrTrap, Reversed, StringImmediate, StringIndexed, MoveCondition, MoveSpecial}
+use Rattle.ppc_isa.specs.declared.instruction.Rotation.TheVariants.{RotateLeftImmediate, RotateLeft}
+use Rattle.ppc_isa.specs.declared.instruction.MultipleAccess.TheVariants.{LoadMultiple, StoreMultiple}
+use Rattle.ppc_isa.specs.declared.instruction.Multiplication.TheVariants.{MultiplyLow, MultiplyHigh}
+use Rattle.ppc_isa.specs.declared.instruction.Comparison.TheVariants.{Compare, TrapWord}
+use Rattle.ppc_isa.specs.declared.instruction.ReversedAccess.TheVariants.{LoadReversed, StoreReversed}
+use Rattle.ppc_isa.specs.declared.instruction.StringImmediateAccess.TheVariants.{LoadStringImmediate, StoreStringImmediate}
+use Rattle.ppc_isa.specs.declared.instruction.StringIndexedAccess.TheVariants.{LoadStringIndexed, StoreStringIndexed}
+use Rattle.ppc_isa.specs.declared.instruction.ConditionMove.TheVariants.{MoveFromConditionRegister, MoveToConditionFields}
+use Rattle.ppc_isa.specs.declared.instruction.SpecialMove.TheVariants.{MoveFromSpecial, MoveToSpecial}
 use Rattle.ppc_isa.specs.Fields.{fields_of}
 use Rattle.ppc_isa.specs.Words.{word_of, immediate_form}
 use Rattle.ppc_isa.specs.Valid.{IsDisplacement, InRange, Stands, is_valid}
@@ -87,9 +96,9 @@ read_word (AddImmediate false d a immediate) v _ = at_immediate 14 d a immediate
 read_word (AddImmediate true d a immediate) v _ = at_immediate 15 d a immediate _ (lit< tt) v.0 v.1 v.2 refl
 read_word (BranchConditional bo bi displacement aa lk) v _ = conditional_word bo bi displacement aa lk v.0 v.1 v.2
 read_word (Branch displacement aa lk) v _ = branch_word displacement aa lk v
-read_word (RotateLeftImmediate Insert a s sh mb me rc) v _ = at_extended 20 s a sh (mb * 2 ^ 5 + me) rc _ (lit< tt) v.1 v.0 v.2 (omega (arith, v.3, v.4)) (grind (arith, nat_tests))
-read_word (RotateLeftImmediate Clear a s sh mb me rc) v _ = at_extended 21 s a sh (mb * 2 ^ 5 + me) rc _ (lit< tt) v.1 v.0 v.2 (omega (arith, v.3, v.4)) (grind (arith, nat_tests))
-read_word (RotateLeft a s b mb me rc) v _ = at_extended 23 s a b (mb * 2 ^ 5 + me) rc _ (lit< tt) v.1 v.0 v.2 (omega (arith, v.3, v.4)) (grind (arith, nat_tests))
+read_word (Rotate (RotateLeftImmediate Insert a s sh mb me rc)) v _ = at_extended 20 s a sh (mb * 2 ^ 5 + me) rc _ (lit< tt) v.1 v.0 v.2 (omega (arith, v.3, v.4)) (grind (arith, nat_tests))
+read_word (Rotate (RotateLeftImmediate Clear a s sh mb me rc)) v _ = at_extended 21 s a sh (mb * 2 ^ 5 + me) rc _ (lit< tt) v.1 v.0 v.2 (omega (arith, v.3, v.4)) (grind (arith, nat_tests))
+read_word (Rotate (RotateLeft a s b mb me rc)) v _ = at_extended 23 s a b (mb * 2 ^ 5 + me) rc _ (lit< tt) v.1 v.0 v.2 (omega (arith, v.3, v.4)) (grind (arith, nat_tests))
 read_word (LogicalImmediate ImmediateOr a s immediate) v _ = at_immediate 24 s a immediate _ (lit< tt) v.1 v.0 v.2 refl
 read_word (LogicalImmediate OrShifted a s immediate) v _ = at_immediate 25 s a immediate _ (lit< tt) v.1 v.0 v.2 refl
 read_word (LogicalImmediate ImmediateXor a s immediate) v _ = at_immediate 26 s a immediate _ (lit< tt) v.1 v.0 v.2 refl
@@ -110,8 +119,8 @@ read_word (Store StoreByte false s a offset) v _ = at_immediate 38 s a offset _ 
 read_word (Store StoreByte true s a offset) v valid = at_immediate 39 s a offset _ (lit< tt) v.0 v.1 v.2 (rw valid refl)
 read_word (Store StoreHalf false s a offset) v _ = at_immediate 44 s a offset _ (lit< tt) v.0 v.1 v.2 refl
 read_word (Store StoreHalf true s a offset) v valid = at_immediate 45 s a offset _ (lit< tt) v.0 v.1 v.2 (rw valid refl)
-read_word (LoadMultiple d a offset) v valid = at_immediate 46 d a offset _ (lit< tt) v.0 v.1 v.2 (rw valid refl)
-read_word (StoreMultiple s a offset) v _ = at_immediate 47 s a offset _ (lit< tt) v.0 v.1 v.2 refl
+read_word (Multiple (LoadMultiple d a offset)) v valid = at_immediate 46 d a offset _ (lit< tt) v.0 v.1 v.2 (rw valid refl)
+read_word (Multiple (StoreMultiple s a offset)) v _ = at_immediate 47 s a offset _ (lit< tt) v.0 v.1 v.2 refl
 read_word (MoveConditionField field from) v _ = at_extended 19 (field * 4) (from * 4) 0 0 false _ (lit< tt) (omega (arith, v.0)) (omega (arith, v.1)) (lit< tt) (lit< tt) (rw (fourfold field, fourfold from, quarter field, quarter from) refl)
 read_word (BranchConditionalToRegister LinkTarget bo bi lk) v _ = at_extended 19 bo bi 0 16 lk _ (lit< tt) v.0 v.1 (lit< tt) (lit< tt) refl
 read_word (ConditionLogical Nor d a b) v _ = at_extended 19 d a b 33 false _ (lit< tt) v.0 v.1 v.2 (lit< tt) refl
@@ -146,10 +155,10 @@ read_word (SubtractFromExtended MinusOne d a true rc) v _ = at_extended 31 d a 0
 read_word (SubtractFromExtended MinusOne d a false rc) v _ = at_extended 31 d a 0 232 rc _ (lit< tt) v.0 v.1 (lit< tt) (lit< tt) refl
 read_word (Negate d a true rc) v _ = at_extended 31 d a 0 616 rc _ (lit< tt) v.0 v.1 (lit< tt) (lit< tt) refl
 read_word (Negate d a false rc) v _ = at_extended 31 d a 0 104 rc _ (lit< tt) v.0 v.1 (lit< tt) (lit< tt) refl
-read_word (MultiplyLow d a b true rc) v _ = at_extended 31 d a b 747 rc _ (lit< tt) v.0 v.1 v.2 (lit< tt) refl
-read_word (MultiplyLow d a b false rc) v _ = at_extended 31 d a b 235 rc _ (lit< tt) v.0 v.1 v.2 (lit< tt) refl
-read_word (MultiplyHigh true d a b rc) v _ = at_extended 31 d a b 75 rc _ (lit< tt) v.0 v.1 v.2 (lit< tt) refl
-read_word (MultiplyHigh false d a b rc) v _ = at_extended 31 d a b 11 rc _ (lit< tt) v.0 v.1 v.2 (lit< tt) refl
+read_word (Multiply (MultiplyLow d a b true rc)) v _ = at_extended 31 d a b 747 rc _ (lit< tt) v.0 v.1 v.2 (lit< tt) refl
+read_word (Multiply (MultiplyLow d a b false rc)) v _ = at_extended 31 d a b 235 rc _ (lit< tt) v.0 v.1 v.2 (lit< tt) refl
+read_word (Multiply (MultiplyHigh true d a b rc)) v _ = at_extended 31 d a b 75 rc _ (lit< tt) v.0 v.1 v.2 (lit< tt) refl
+read_word (Multiply (MultiplyHigh false d a b rc)) v _ = at_extended 31 d a b 11 rc _ (lit< tt) v.0 v.1 v.2 (lit< tt) refl
 read_word (Divide true d a b true rc) v _ = at_extended 31 d a b 1003 rc _ (lit< tt) v.0 v.1 v.2 (lit< tt) refl
 read_word (Divide true d a b false rc) v _ = at_extended 31 d a b 491 rc _ (lit< tt) v.0 v.1 v.2 (lit< tt) refl
 read_word (Divide false d a b true rc) v _ = at_extended 31 d a b 971 rc _ (lit< tt) v.0 v.1 v.2 (lit< tt) refl
@@ -169,9 +178,9 @@ read_word (Shift Left a s b rc) v _ = at_extended 31 s a b 24 rc _ (lit< tt) v.1
 read_word (Shift Right a s b rc) v _ = at_extended 31 s a b 536 rc _ (lit< tt) v.1 v.0 v.2 (lit< tt) refl
 read_word (Shift RightAlgebraic a s b rc) v _ = at_extended 31 s a b 792 rc _ (lit< tt) v.1 v.0 v.2 (lit< tt) refl
 read_word (ShiftRightAlgebraicImmediate a s sh rc) v _ = at_extended 31 s a sh 824 rc _ (lit< tt) v.1 v.0 v.2 (lit< tt) refl
-read_word (Compare true field a b) v _ = at_extended 31 (field * 4) a b 0 false _ (lit< tt) (omega (arith, v.0)) v.1 v.2 (lit< tt) (rw (fourfold field, quarter field) refl)
-read_word (Compare false field a b) v _ = at_extended 31 (field * 4) a b 32 false _ (lit< tt) (omega (arith, v.0)) v.1 v.2 (lit< tt) (rw (fourfold field, quarter field) refl)
-read_word (TrapWord to a b) v _ = at_extended 31 to a b 4 false _ (lit< tt) v.0 v.1 v.2 (lit< tt) refl
+read_word (CompareOrTrap (Compare true field a b)) v _ = at_extended 31 (field * 4) a b 0 false _ (lit< tt) (omega (arith, v.0)) v.1 v.2 (lit< tt) (rw (fourfold field, quarter field) refl)
+read_word (CompareOrTrap (Compare false field a b)) v _ = at_extended 31 (field * 4) a b 32 false _ (lit< tt) (omega (arith, v.0)) v.1 v.2 (lit< tt) (rw (fourfold field, quarter field) refl)
+read_word (CompareOrTrap (TrapWord to a b)) v _ = at_extended 31 to a b 4 false _ (lit< tt) v.0 v.1 v.2 (lit< tt) refl
 read_word (LoadIndexed LoadWord false d a b) v _ = at_extended 31 d a b 23 false _ (lit< tt) v.0 v.1 v.2 (lit< tt) refl
 read_word (LoadIndexed LoadWord true d a b) v valid = at_extended 31 d a b 55 false _ (lit< tt) v.0 v.1 v.2 (lit< tt) (rw valid refl)
 read_word (LoadIndexed LoadByte false d a b) v _ = at_extended 31 d a b 87 false _ (lit< tt) v.0 v.1 v.2 (lit< tt) refl
@@ -186,23 +195,23 @@ read_word (StoreIndexed StoreByte false s a b) v _ = at_extended 31 s a b 215 fa
 read_word (StoreIndexed StoreByte true s a b) v valid = at_extended 31 s a b 247 false _ (lit< tt) v.0 v.1 v.2 (lit< tt) (rw valid refl)
 read_word (StoreIndexed StoreHalf false s a b) v _ = at_extended 31 s a b 407 false _ (lit< tt) v.0 v.1 v.2 (lit< tt) refl
 read_word (StoreIndexed StoreHalf true s a b) v valid = at_extended 31 s a b 439 false _ (lit< tt) v.0 v.1 v.2 (lit< tt) (rw valid refl)
-read_word (LoadReversed ReversedWord d a b) v _ = at_extended 31 d a b 534 false _ (lit< tt) v.0 v.1 v.2 (lit< tt) refl
-read_word (LoadReversed ReversedHalf d a b) v _ = at_extended 31 d a b 790 false _ (lit< tt) v.0 v.1 v.2 (lit< tt) refl
-read_word (StoreReversed ReversedWord s a b) v _ = at_extended 31 s a b 662 false _ (lit< tt) v.0 v.1 v.2 (lit< tt) refl
-read_word (StoreReversed ReversedHalf s a b) v _ = at_extended 31 s a b 918 false _ (lit< tt) v.0 v.1 v.2 (lit< tt) refl
-read_word (LoadStringImmediate d a nb) v valid = at_extended 31 d a nb 597 false _ (lit< tt) v.0 v.1 v.2 (lit< tt) (rw valid refl)
-read_word (StoreStringImmediate s a nb) v _ = at_extended 31 s a nb 725 false _ (lit< tt) v.0 v.1 v.2 (lit< tt) refl
-read_word (LoadStringIndexed d a b) v _ = at_extended 31 d a b 533 false _ (lit< tt) v.0 v.1 v.2 (lit< tt) refl
-read_word (StoreStringIndexed s a b) v _ = at_extended 31 s a b 661 false _ (lit< tt) v.0 v.1 v.2 (lit< tt) refl
-read_word (MoveFromConditionRegister d) v _ = at_extended 31 d 0 0 19 false _ (lit< tt) v (lit< tt) (lit< tt) (lit< tt) refl
-read_word (MoveToConditionFields mask s) v _ = at_extended 31 s (mask / 2 ^ 4) (mask % 2 ^ 4 * 2) 144 false _ (lit< tt) v.1 (omega (arith, v.0)) (omega (arith, v.0)) (lit< tt) (rw (mask_top mask v.0, mask_end mask, mask_back mask) refl)
+read_word (Reversed (LoadReversed ReversedWord d a b)) v _ = at_extended 31 d a b 534 false _ (lit< tt) v.0 v.1 v.2 (lit< tt) refl
+read_word (Reversed (LoadReversed ReversedHalf d a b)) v _ = at_extended 31 d a b 790 false _ (lit< tt) v.0 v.1 v.2 (lit< tt) refl
+read_word (Reversed (StoreReversed ReversedWord s a b)) v _ = at_extended 31 s a b 662 false _ (lit< tt) v.0 v.1 v.2 (lit< tt) refl
+read_word (Reversed (StoreReversed ReversedHalf s a b)) v _ = at_extended 31 s a b 918 false _ (lit< tt) v.0 v.1 v.2 (lit< tt) refl
+read_word (StringImmediate (LoadStringImmediate d a nb)) v valid = at_extended 31 d a nb 597 false _ (lit< tt) v.0 v.1 v.2 (lit< tt) (rw valid refl)
+read_word (StringImmediate (StoreStringImmediate s a nb)) v _ = at_extended 31 s a nb 725 false _ (lit< tt) v.0 v.1 v.2 (lit< tt) refl
+read_word (StringIndexed (LoadStringIndexed d a b)) v _ = at_extended 31 d a b 533 false _ (lit< tt) v.0 v.1 v.2 (lit< tt) refl
+read_word (StringIndexed (StoreStringIndexed s a b)) v _ = at_extended 31 s a b 661 false _ (lit< tt) v.0 v.1 v.2 (lit< tt) refl
+read_word (MoveCondition (MoveFromConditionRegister d)) v _ = at_extended 31 d 0 0 19 false _ (lit< tt) v (lit< tt) (lit< tt) (lit< tt) refl
+read_word (MoveCondition (MoveToConditionFields mask s)) v _ = at_extended 31 s (mask / 2 ^ 4) (mask % 2 ^ 4 * 2) 144 false _ (lit< tt) v.1 (omega (arith, v.0)) (omega (arith, v.0)) (lit< tt) (rw (mask_top mask v.0, mask_end mask, mask_back mask) refl)
 read_word (MoveXerToConditionField field) v _ = at_extended 31 (field * 4) 0 0 512 false _ (lit< tt) (omega (arith, v)) (lit< tt) (lit< tt) (lit< tt) (rw (fourfold field, quarter field) refl)
-read_word (MoveFromSpecial d Xer) v _ = at_extended 31 d 1 0 339 false _ (lit< tt) v (lit< tt) (lit< tt) (lit< tt) refl
-read_word (MoveFromSpecial d LinkSpecial) v _ = at_extended 31 d 8 0 339 false _ (lit< tt) v (lit< tt) (lit< tt) (lit< tt) refl
-read_word (MoveFromSpecial d CountSpecial) v _ = at_extended 31 d 9 0 339 false _ (lit< tt) v (lit< tt) (lit< tt) (lit< tt) refl
-read_word (MoveToSpecial Xer s) v _ = at_extended 31 s 1 0 467 false _ (lit< tt) v (lit< tt) (lit< tt) (lit< tt) refl
-read_word (MoveToSpecial LinkSpecial s) v _ = at_extended 31 s 8 0 467 false _ (lit< tt) v (lit< tt) (lit< tt) (lit< tt) refl
-read_word (MoveToSpecial CountSpecial s) v _ = at_extended 31 s 9 0 467 false _ (lit< tt) v (lit< tt) (lit< tt) (lit< tt) refl
+read_word (MoveSpecial (MoveFromSpecial d Xer)) v _ = at_extended 31 d 1 0 339 false _ (lit< tt) v (lit< tt) (lit< tt) (lit< tt) refl
+read_word (MoveSpecial (MoveFromSpecial d LinkSpecial)) v _ = at_extended 31 d 8 0 339 false _ (lit< tt) v (lit< tt) (lit< tt) (lit< tt) refl
+read_word (MoveSpecial (MoveFromSpecial d CountSpecial)) v _ = at_extended 31 d 9 0 339 false _ (lit< tt) v (lit< tt) (lit< tt) (lit< tt) refl
+read_word (MoveSpecial (MoveToSpecial Xer s)) v _ = at_extended 31 s 1 0 467 false _ (lit< tt) v (lit< tt) (lit< tt) (lit< tt) refl
+read_word (MoveSpecial (MoveToSpecial LinkSpecial s)) v _ = at_extended 31 s 8 0 467 false _ (lit< tt) v (lit< tt) (lit< tt) (lit< tt) refl
+read_word (MoveSpecial (MoveToSpecial CountSpecial s)) v _ = at_extended 31 s 9 0 467 false _ (lit< tt) v (lit< tt) (lit< tt) (lit< tt) refl
 read_word Synchronize v _ = at_extended 31 0 0 0 598 false _ (lit< tt) (lit< tt) (lit< tt) (lit< tt) (lit< tt) refl
 
 -- a valid instruction's word is read as that instruction

@@ -1,10 +1,11 @@
-pub mod Registers
-pub mod Longs
 pub mod Fields
-pub mod Words
-pub mod Valid
+pub mod Longs
 pub mod Made
-pub mod Opcodes
+pub mod Operands
+pub mod Registers
 pub mod Rows
-pub mod Laws
 pub mod Targets
+pub mod Valid
+pub mod Words
+pub mod laws
+pub mod inner

@@ -1,5 +1,5 @@
--- A register file as its 37 longs: r0 to r31, CR, LR, CTR, XER and the pc.
-use Rattle.std.specs.Prelude.{ℕ, ◌≡◌, List, [], ◌∷◌, ◌++◌, length, take, slice_index}
+-- A register file as its 37 longs: r0 to r31, CR, LR, CTR, XER and the pc, in an order that is this project's own.
+use Rattle.std.specs.Prelude.{ℕ, List, [], ◌∷◌, ◌++◌, take, slice_index}
 use Rattle.ppc_isa.specs.declared.registers.RegsPpc.{RegsPpc}
 
 abbrev pub longs_of : RegsPpc → List ℕ
@@ -16,9 +16,3 @@ file_of longs =
       xer = slice_index longs 35;
       pc = slice_index longs 36;
     }
-
-pub record LongLaws : Type 0 where
-  pub count : (file : RegsPpc) → length file.gpr ≡ 32 → length (longs_of file) ≡ 37
-  -- the longs give the file back, and the file the longs
-  pub file : (file : RegsPpc) → length file.gpr ≡ 32 → file_of (longs_of file) ≡ file
-  pub longs : (longs : List ℕ) → length longs ≡ 37 → longs_of (file_of longs) ≡ longs

@@ -1,4 +1,4 @@
--- The registers of a PowerPC integer program.
+-- The registers of a PowerPC integer program, cleared (PowerPC 601 RISC Microprocessor User's Manual, chapter 2).
 use Rattle.std.specs.Prelude.{replicate}
 use Rattle.ppc_isa.specs.declared.registers.RegsPpc.{RegsPpc}
 

@@ -1,4 +1,4 @@
--- Where a branch by a distance goes.
+-- Where a branch by a distance goes (PowerPC 601 RISC Microprocessor User's Manual, chapter 10, b and bc).
 use Rattle.std.specs.Prelude.{ℕ, Bool, if◌then◌else◌}
 use Rattle.mix_bits.specs.Addresses.{onward}
 

@@ -1,4 +1,5 @@
--- Instructions as words: each instruction's spelling, after the 601 manual's formats.
+-- Instructions as words: each instruction's spelling
+-- (PowerPC 601 RISC Microprocessor User's Manual, chapter 10 and appendix A).
 use Rattle.std.specs.Prelude.{ℕ, ◌+◌, ◌*◌, ◌/◌, ◌%◌, ◌^◌, Bool, true, false}
 use Rattle.std.specs.Int.{from_bool}
 use Rattle.ppc_isa.specs.declared.instruction.CarryUse.TheVariants.{Plain, Carrying, Extended}
@@ -14,7 +15,16 @@ use Rattle.ppc_isa.specs.declared.instruction.ReversedKind.TheVariants.{Word as 
 use Rattle.ppc_isa.specs.declared.instruction.BranchRegister.TheVariants.{Link as LinkTarget, Count as CountTarget}
 use Rattle.ppc_isa.specs.declared.instruction.SpecialRegister.TheVariants.{Xer, Link as LinkSpecial, Count as CountSpecial}
 use Rattle.ppc_isa.specs.declared.instruction.InstrPpc.{InstrPpc}
-use Rattle.ppc_isa.specs.declared.instruction.InstrPpc.TheVariants.{TrapWordImmediate, MultiplyLowImmediate, SubtractFromImmediateCarrying, CompareImmediate, AddImmediateCarrying, AddImmediate, BranchConditional, Branch, RotateLeftImmediate, RotateLeft, LogicalImmediate, Load, Store, LoadMultiple, StoreMultiple, MoveConditionField, BranchConditionalToRegister, ConditionLogical, InstructionSynchronize, Add, AddExtended, SubtractFrom, SubtractFromExtended, Negate, MultiplyLow, MultiplyHigh, Divide, Logical, Unary, Shift, ShiftRightAlgebraicImmediate, Compare, TrapWord, LoadIndexed, StoreIndexed, LoadReversed, StoreReversed, LoadStringImmediate, StoreStringImmediate, LoadStringIndexed, StoreStringIndexed, MoveFromConditionRegister, MoveToConditionFields, MoveXerToConditionField, MoveFromSpecial, MoveToSpecial, Synchronize}
+use Rattle.ppc_isa.specs.declared.instruction.InstrPpc.TheVariants.{TrapWordImmediate, MultiplyLowImmediate, SubtractFromImmediateCarrying, CompareImmediate, AddImmediateCarrying, AddImmediate, BranchConditional, Branch, LogicalImmediate, Load, Store, MoveConditionField, BranchConditionalToRegister, ConditionLogical, InstructionSynchronize, Add, AddExtended, SubtractFrom, SubtractFromExtended, Negate, Divide, Logical, Unary, Shift, ShiftRightAlgebraicImmediate, LoadIndexed, StoreIndexed, MoveXerToConditionField, Synchronize, Rotate, Multiple, Multiply, CompareOrTrap, Reversed, StringImmediate, StringIndexed, MoveCondition, MoveSpecial}
+use Rattle.ppc_isa.specs.declared.instruction.Rotation.TheVariants.{RotateLeftImmediate, RotateLeft}
+use Rattle.ppc_isa.specs.declared.instruction.MultipleAccess.TheVariants.{LoadMultiple, StoreMultiple}
+use Rattle.ppc_isa.specs.declared.instruction.Multiplication.TheVariants.{MultiplyLow, MultiplyHigh}
+use Rattle.ppc_isa.specs.declared.instruction.Comparison.TheVariants.{Compare, TrapWord}
+use Rattle.ppc_isa.specs.declared.instruction.ReversedAccess.TheVariants.{LoadReversed, StoreReversed}
+use Rattle.ppc_isa.specs.declared.instruction.StringImmediateAccess.TheVariants.{LoadStringImmediate, StoreStringImmediate}
+use Rattle.ppc_isa.specs.declared.instruction.StringIndexedAccess.TheVariants.{LoadStringIndexed, StoreStringIndexed}
+use Rattle.ppc_isa.specs.declared.instruction.ConditionMove.TheVariants.{MoveFromConditionRegister, MoveToConditionFields}
+use Rattle.ppc_isa.specs.declared.instruction.SpecialMove.TheVariants.{MoveFromSpecial, MoveToSpecial}
 
 -- an opcode, two fields of five bits, and sixteen bits
 abbrev pub immediate_form : ℕ → ℕ → ℕ → ℕ → ℕ
@@ -41,9 +51,9 @@ word_of (AddImmediate false d a immediate) = immediate_form 14 d a immediate
 word_of (AddImmediate true d a immediate) = immediate_form 15 d a immediate
 word_of (BranchConditional bo bi displacement aa lk) = immediate_form 16 bo bi (displacement % 2 ^ 16 + from_bool aa * 2 + from_bool lk)
 word_of (Branch displacement aa lk) = 18 * 2 ^ 26 + displacement % 2 ^ 26 + from_bool aa * 2 + from_bool lk
-word_of (RotateLeftImmediate Insert a s sh mb me rc) = extended_form 20 s a sh (mb * 2 ^ 5 + me) rc
-word_of (RotateLeftImmediate Clear a s sh mb me rc) = extended_form 21 s a sh (mb * 2 ^ 5 + me) rc
-word_of (RotateLeft a s b mb me rc) = extended_form 23 s a b (mb * 2 ^ 5 + me) rc
+word_of (Rotate (RotateLeftImmediate Insert a s sh mb me rc)) = extended_form 20 s a sh (mb * 2 ^ 5 + me) rc
+word_of (Rotate (RotateLeftImmediate Clear a s sh mb me rc)) = extended_form 21 s a sh (mb * 2 ^ 5 + me) rc
+word_of (Rotate (RotateLeft a s b mb me rc)) = extended_form 23 s a b (mb * 2 ^ 5 + me) rc
 word_of (LogicalImmediate ImmediateOr a s immediate) = immediate_form 24 s a immediate
 word_of (LogicalImmediate OrShifted a s immediate) = immediate_form 25 s a immediate
 word_of (LogicalImmediate ImmediateXor a s immediate) = immediate_form 26 s a immediate
@@ -64,8 +74,8 @@ word_of (Store StoreByte false s a offset) = immediate_form 38 s a offset
 word_of (Store StoreByte true s a offset) = immediate_form 39 s a offset
 word_of (Store StoreHalf false s a offset) = immediate_form 44 s a offset
 word_of (Store StoreHalf true s a offset) = immediate_form 45 s a offset
-word_of (LoadMultiple d a offset) = immediate_form 46 d a offset
-word_of (StoreMultiple s a offset) = immediate_form 47 s a offset
+word_of (Multiple (LoadMultiple d a offset)) = immediate_form 46 d a offset
+word_of (Multiple (StoreMultiple s a offset)) = immediate_form 47 s a offset
 word_of (MoveConditionField field from) = extended_form 19 (field * 4) (from * 4) 0 0 false
 word_of (BranchConditionalToRegister LinkTarget bo bi lk) = extended_form 19 bo bi 0 16 lk
 word_of (ConditionLogical Nor d a b) = extended_form 19 d a b 33 false
@@ -89,9 +99,9 @@ word_of (SubtractFrom Extended d a b oe rc) = overflow_form d a b 136 oe rc
 word_of (SubtractFromExtended ZeroOperand d a oe rc) = overflow_form d a 0 200 oe rc
 word_of (SubtractFromExtended MinusOne d a oe rc) = overflow_form d a 0 232 oe rc
 word_of (Negate d a oe rc) = overflow_form d a 0 104 oe rc
-word_of (MultiplyLow d a b oe rc) = overflow_form d a b 235 oe rc
-word_of (MultiplyHigh true d a b rc) = extended_form 31 d a b 75 rc
-word_of (MultiplyHigh false d a b rc) = extended_form 31 d a b 11 rc
+word_of (Multiply (MultiplyLow d a b oe rc)) = overflow_form d a b 235 oe rc
+word_of (Multiply (MultiplyHigh true d a b rc)) = extended_form 31 d a b 75 rc
+word_of (Multiply (MultiplyHigh false d a b rc)) = extended_form 31 d a b 11 rc
 word_of (Divide true d a b oe rc) = overflow_form d a b 491 oe rc
 word_of (Divide false d a b oe rc) = overflow_form d a b 459 oe rc
 word_of (Logical And a s b rc) = extended_form 31 s a b 28 rc
@@ -109,9 +119,9 @@ word_of (Shift Left a s b rc) = extended_form 31 s a b 24 rc
 word_of (Shift Right a s b rc) = extended_form 31 s a b 536 rc
 word_of (Shift RightAlgebraic a s b rc) = extended_form 31 s a b 792 rc
 word_of (ShiftRightAlgebraicImmediate a s sh rc) = extended_form 31 s a sh 824 rc
-word_of (Compare true field a b) = extended_form 31 (field * 4) a b 0 false
-word_of (Compare false field a b) = extended_form 31 (field * 4) a b 32 false
-word_of (TrapWord to a b) = extended_form 31 to a b 4 false
+word_of (CompareOrTrap (Compare true field a b)) = extended_form 31 (field * 4) a b 0 false
+word_of (CompareOrTrap (Compare false field a b)) = extended_form 31 (field * 4) a b 32 false
+word_of (CompareOrTrap (TrapWord to a b)) = extended_form 31 to a b 4 false
 word_of (LoadIndexed LoadWord false d a b) = extended_form 31 d a b 23 false
 word_of (LoadIndexed LoadWord true d a b) = extended_form 31 d a b 55 false
 word_of (LoadIndexed LoadByte false d a b) = extended_form 31 d a b 87 false
@@ -126,21 +136,21 @@ word_of (StoreIndexed StoreByte false s a b) = extended_form 31 s a b 215 false
 word_of (StoreIndexed StoreByte true s a b) = extended_form 31 s a b 247 false
 word_of (StoreIndexed StoreHalf false s a b) = extended_form 31 s a b 407 false
 word_of (StoreIndexed StoreHalf true s a b) = extended_form 31 s a b 439 false
-word_of (LoadReversed ReversedWord d a b) = extended_form 31 d a b 534 false
-word_of (LoadReversed ReversedHalf d a b) = extended_form 31 d a b 790 false
-word_of (StoreReversed ReversedWord s a b) = extended_form 31 s a b 662 false
-word_of (StoreReversed ReversedHalf s a b) = extended_form 31 s a b 918 false
-word_of (LoadStringImmediate d a nb) = extended_form 31 d a nb 597 false
-word_of (StoreStringImmediate s a nb) = extended_form 31 s a nb 725 false
-word_of (LoadStringIndexed d a b) = extended_form 31 d a b 533 false
-word_of (StoreStringIndexed s a b) = extended_form 31 s a b 661 false
-word_of (MoveFromConditionRegister d) = extended_form 31 d 0 0 19 false
-word_of (MoveToConditionFields mask s) = extended_form 31 s (mask / 2 ^ 4) (mask % 2 ^ 4 * 2) 144 false
+word_of (Reversed (LoadReversed ReversedWord d a b)) = extended_form 31 d a b 534 false
+word_of (Reversed (LoadReversed ReversedHalf d a b)) = extended_form 31 d a b 790 false
+word_of (Reversed (StoreReversed ReversedWord s a b)) = extended_form 31 s a b 662 false
+word_of (Reversed (StoreReversed ReversedHalf s a b)) = extended_form 31 s a b 918 false
+word_of (StringImmediate (LoadStringImmediate d a nb)) = extended_form 31 d a nb 597 false
+word_of (StringImmediate (StoreStringImmediate s a nb)) = extended_form 31 s a nb 725 false
+word_of (StringIndexed (LoadStringIndexed d a b)) = extended_form 31 d a b 533 false
+word_of (StringIndexed (StoreStringIndexed s a b)) = extended_form 31 s a b 661 false
+word_of (MoveCondition (MoveFromConditionRegister d)) = extended_form 31 d 0 0 19 false
+word_of (MoveCondition (MoveToConditionFields mask s)) = extended_form 31 s (mask / 2 ^ 4) (mask % 2 ^ 4 * 2) 144 false
 word_of (MoveXerToConditionField field) = extended_form 31 (field * 4) 0 0 512 false
-word_of (MoveFromSpecial d Xer) = extended_form 31 d 1 0 339 false
-word_of (MoveFromSpecial d LinkSpecial) = extended_form 31 d 8 0 339 false
-word_of (MoveFromSpecial d CountSpecial) = extended_form 31 d 9 0 339 false
-word_of (MoveToSpecial Xer s) = extended_form 31 s 1 0 467 false
-word_of (MoveToSpecial LinkSpecial s) = extended_form 31 s 8 0 467 false
-word_of (MoveToSpecial CountSpecial s) = extended_form 31 s 9 0 467 false
+word_of (MoveSpecial (MoveFromSpecial d Xer)) = extended_form 31 d 1 0 339 false
+word_of (MoveSpecial (MoveFromSpecial d LinkSpecial)) = extended_form 31 d 8 0 339 false
+word_of (MoveSpecial (MoveFromSpecial d CountSpecial)) = extended_form 31 d 9 0 339 false
+word_of (MoveSpecial (MoveToSpecial Xer s)) = extended_form 31 s 1 0 467 false
+word_of (MoveSpecial (MoveToSpecial LinkSpecial s)) = extended_form 31 s 8 0 467 false
+word_of (MoveSpecial (MoveToSpecial CountSpecial s)) = extended_form 31 s 9 0 467 false
 word_of Synchronize = extended_form 31 0 0 0 598 false

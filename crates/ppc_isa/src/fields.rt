@@ -1,5 +1,6 @@
 ghost use Rattle.std.specs.Prelude.{◌≡◌};
-ghost use Rattle.ppc_isa.specs.Fields.{IsFields, fields_of};
+ghost use Rattle.ppc_isa.specs.inner.FieldRanges.{IsFields};
+ghost use Rattle.ppc_isa.specs.Fields.{fields_of};
 
 use mix_bits::digit;
 

@@ -106,8 +106,136 @@ pub enum SpecialRegister {
     Count,
 }
 
+/// A rotation under a mask.
+#[derive(Clone, Copy)]
+pub enum Rotation {
+    /// rlwimi, rlwinm.
+    RotateLeftImmediate {
+        outside: MaskUse,
+        a: u8,
+        s: u8,
+        sh: u8,
+        mb: u8,
+        me: u8,
+        rc: bool,
+    },
+    /// rlwnm.
+    RotateLeft {
+        a: u8,
+        s: u8,
+        b: u8,
+        mb: u8,
+        me: u8,
+        rc: bool,
+    },
+}
+
+/// A load or a store of the registers from one on to r31.
+#[derive(Clone, Copy)]
+pub enum MultipleAccess {
+    /// lmw.
+    LoadMultiple { d: u8, a: u8, offset: u16 },
+    /// stmw.
+    StoreMultiple { s: u8, a: u8, offset: u16 },
+}
+
+/// A product of two registers.
+#[derive(Clone, Copy)]
+pub enum Multiplication {
+    /// mullw.
+    MultiplyLow {
+        d: u8,
+        a: u8,
+        b: u8,
+        oe: bool,
+        rc: bool,
+    },
+    /// mulhw, and mulhwu where not signed.
+    MultiplyHigh {
+        signed: bool,
+        d: u8,
+        a: u8,
+        b: u8,
+        rc: bool,
+    },
+}
+
+/// A comparison of two registers, or a trap on one.
+#[derive(Clone, Copy)]
+pub enum Comparison {
+    /// cmp, and cmpl where not signed.
+    Compare {
+        signed: bool,
+        field: u8,
+        a: u8,
+        b: u8,
+    },
+    /// tw.
+    TrapWord {
+        to: u8,
+        a: u8,
+        b: u8,
+    },
+}
+
+/// A load or a store with the bytes reversed.
+#[derive(Clone, Copy)]
+pub enum ReversedAccess {
+    /// lwbrx, lhbrx.
+    LoadReversed {
+        kind: ReversedKind,
+        d: u8,
+        a: u8,
+        b: u8,
+    },
+    /// stwbrx, sthbrx.
+    StoreReversed {
+        kind: ReversedKind,
+        s: u8,
+        a: u8,
+        b: u8,
+    },
+}
+
+/// A load or a store of a string whose length is a field.
+#[derive(Clone, Copy)]
+pub enum StringImmediateAccess {
+    /// lswi: `nb` is a count of bytes, where 0 stands for 32.
+    LoadStringImmediate { d: u8, a: u8, nb: u8 },
+    /// stswi: `nb` is a count of bytes, where 0 stands for 32.
+    StoreStringImmediate { s: u8, a: u8, nb: u8 },
+}
+
+/// A load or a store of a string whose length is in XER.
+#[derive(Clone, Copy)]
+pub enum StringIndexedAccess {
+    /// lswx.
+    LoadStringIndexed { d: u8, a: u8, b: u8 },
+    /// stswx.
+    StoreStringIndexed { s: u8, a: u8, b: u8 },
+}
+
+/// A move from or to the condition register.
+#[derive(Clone, Copy)]
+pub enum ConditionMove {
+    /// mfcr.
+    MoveFromConditionRegister { d: u8 },
+    /// mtcrf: the top bit of `mask` asks for field 0.
+    MoveToConditionFields { mask: u8, s: u8 },
+}
+
+/// A move from or to a special purpose register.
+#[derive(Clone, Copy)]
+pub enum SpecialMove {
+    /// mfspr.
+    MoveFromSpecial { d: u8, register: SpecialRegister },
+    /// mtspr.
+    MoveToSpecial { register: SpecialRegister, s: u8 },
+}
+
 /// An instruction of the PowerPC 601, for integer programs in user mode (PowerPC 601 RISC
-/// Microprocessor User's Manual, chapter 10).
+/// Microprocessor User's Manual, chapter 10): one variant for each row of the table of instructions. Where a row has names
+/// of different operands, its variant holds an enum of them.
 ///
 /// Fields have the manual's names. `d`, `s`, `a` and `b` are numbers of registers, below 32. `oe`,
 /// `rc`, `lk` and `aa` are the bits that ask for OV, for CR0, for LR and for an absolute target.
@@ -161,25 +289,8 @@ pub enum InstrPpc {
         s: u8,
         immediate: u16,
     },
-    /// rlwimi, rlwinm.
-    RotateLeftImmediate {
-        outside: MaskUse,
-        a: u8,
-        s: u8,
-        sh: u8,
-        mb: u8,
-        me: u8,
-        rc: bool,
-    },
-    /// rlwnm.
-    RotateLeft {
-        a: u8,
-        s: u8,
-        b: u8,
-        mb: u8,
-        me: u8,
-        rc: bool,
-    },
+    /// rlwimi, rlwinm; rlwnm.
+    Rotate(Rotation),
     /// bc.
     BranchConditional {
         bo: u8,
@@ -210,18 +321,8 @@ pub enum InstrPpc {
         a: u8,
         offset: u16,
     },
-    /// lmw.
-    LoadMultiple {
-        d: u8,
-        a: u8,
-        offset: u16,
-    },
-    /// stmw.
-    StoreMultiple {
-        s: u8,
-        a: u8,
-        offset: u16,
-    },
+    /// lmw; stmw.
+    Multiple(MultipleAccess),
     /// mcrf: `from` is the field that is read.
     MoveConditionField {
         field: u8,
@@ -284,22 +385,8 @@ pub enum InstrPpc {
         oe: bool,
         rc: bool,
     },
-    /// mullw.
-    MultiplyLow {
-        d: u8,
-        a: u8,
-        b: u8,
-        oe: bool,
-        rc: bool,
-    },
-    /// mulhw, and mulhwu where not signed.
-    MultiplyHigh {
-        signed: bool,
-        d: u8,
-        a: u8,
-        b: u8,
-        rc: bool,
-    },
+    /// mullw; mulhw, mulhwu.
+    Multiply(Multiplication),
     /// divw, and divwu where not signed.
     Divide {
         signed: bool,
@@ -339,19 +426,8 @@ pub enum InstrPpc {
         sh: u8,
         rc: bool,
     },
-    /// cmp, and cmpl where not signed.
-    Compare {
-        signed: bool,
-        field: u8,
-        a: u8,
-        b: u8,
-    },
-    /// tw.
-    TrapWord {
-        to: u8,
-        a: u8,
-        b: u8,
-    },
+    /// cmp, cmpl; tw.
+    CompareOrTrap(Comparison),
     /// lwzx, lbzx, lhzx, lhax, and their update forms.
     LoadIndexed {
         kind: LoadKind,
@@ -368,67 +444,20 @@ pub enum InstrPpc {
         a: u8,
         b: u8,
     },
-    /// lwbrx, lhbrx.
-    LoadReversed {
-        kind: ReversedKind,
-        d: u8,
-        a: u8,
-        b: u8,
-    },
-    /// stwbrx, sthbrx.
-    StoreReversed {
-        kind: ReversedKind,
-        s: u8,
-        a: u8,
-        b: u8,
-    },
-    /// lswi: `nb` is a count of bytes, where 0 stands for 32.
-    LoadStringImmediate {
-        d: u8,
-        a: u8,
-        nb: u8,
-    },
-    /// stswi: `nb` is a count of bytes, where 0 stands for 32.
-    StoreStringImmediate {
-        s: u8,
-        a: u8,
-        nb: u8,
-    },
-    /// lswx.
-    LoadStringIndexed {
-        d: u8,
-        a: u8,
-        b: u8,
-    },
-    /// stswx.
-    StoreStringIndexed {
-        s: u8,
-        a: u8,
-        b: u8,
-    },
-    /// mfcr.
-    MoveFromConditionRegister {
-        d: u8,
-    },
-    /// mtcrf: the top bit of `mask` asks for field 0.
-    MoveToConditionFields {
-        mask: u8,
-        s: u8,
-    },
+    /// lwbrx, lhbrx; stwbrx, sthbrx.
+    Reversed(ReversedAccess),
+    /// lswi; stswi.
+    StringImmediate(StringImmediateAccess),
+    /// lswx; stswx.
+    StringIndexed(StringIndexedAccess),
+    /// mfcr; mtcrf.
+    MoveCondition(ConditionMove),
     /// mcrxr.
     MoveXerToConditionField {
         field: u8,
     },
-    /// mfspr.
-    MoveFromSpecial {
-        d: u8,
-        register: SpecialRegister,
-    },
-    /// mtspr.
-    MoveToSpecial {
-        register: SpecialRegister,
-        s: u8,
-    },
+    /// mfspr; mtspr.
+    MoveSpecial(SpecialMove),
     /// sync.
     Synchronize,
 }

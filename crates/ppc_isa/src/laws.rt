@@ -1,5 +1,5 @@
-ghost use Rattle.ppc_isa.specs.Laws.{DecodedStands, RowsAreApart};
-ghost use Rattle.ppc_isa.specs.Longs.{LongLaws};
+ghost use Rattle.ppc_isa.specs.laws.Laws.{DecodedStands, RowsAreApart};
+ghost use Rattle.ppc_isa.specs.laws.Laws.{LongLaws};
 
 /// What holds of the words of instructions. It does nothing: the clauses are its point.
 pub fn word_laws()

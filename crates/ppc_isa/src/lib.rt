@@ -18,8 +18,10 @@ mod word;
 
 pub use decode::decode_ppc;
 pub use instruction::{
-    BranchRegister, CarryUse, ExtendedOperand, ImmediateOp, InstrPpc, LoadKind, LogicalOp, MaskUse,
-    ReversedKind, ShiftOp, SpecialRegister, StoreKind, UnaryOp,
+    BranchRegister, CarryUse, Comparison, ConditionMove, ExtendedOperand, ImmediateOp, InstrPpc,
+    LoadKind, LogicalOp, MaskUse, MultipleAccess, Multiplication, ReversedAccess, ReversedKind,
+    Rotation, ShiftOp, SpecialMove, SpecialRegister, StoreKind, StringImmediateAccess,
+    StringIndexedAccess, UnaryOp,
 };
 pub use laws::{long_laws, word_laws};
 pub use op::OpPpc;
@@ -28,7 +30,7 @@ pub use registers::RegsPpc;
 pub use strings::{is_filled, string_length};
 pub use target::branch_target;
 pub use word::{
-    a_of, b_of, d_of, far_displacement_of, field_of, from_field_of, is_absolute, is_last,
-    is_overflow, low_of, mask_begin_of, mask_end_of, mask_of, near_displacement_of, offset_of,
-    shift_of,
+    a_of, b_of, d_of, far_displacement_of, from_field_of, is_absolute, is_last, is_overflow,
+    low_of, mask_begin_of, mask_end_of, named_fields_of, near_displacement_of, offset_of, shift_of,
+    to_field_of,
 };

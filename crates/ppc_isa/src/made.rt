@@ -1,22 +1,26 @@
 ghost use Rattle.std.specs.Prelude.{◌≡◌};
 ghost use Rattle.ppc_isa.specs.Fields.{fields_of};
 ghost use Rattle.ppc_isa.specs.Made.{made};
-ghost use Rattle.ppc_isa.specs.Opcodes.{IsFrom256, IsFromOpcode19, IsFromOpcode31};
 ghost use Rattle.ppc_isa.specs.Rows.{decoded};
 
 use super::fields::{Fields, fields_of};
 use super::instruction::{
-    BranchRegister, CarryUse, ExtendedOperand, ImmediateOp, InstrPpc, LoadKind, LogicalOp, MaskUse,
-    ReversedKind, ShiftOp, SpecialRegister, StoreKind, UnaryOp,
+    BranchRegister, CarryUse, Comparison, ConditionMove, ExtendedOperand, ImmediateOp, InstrPpc,
+    LoadKind, LogicalOp, MaskUse, MultipleAccess, Multiplication, ReversedAccess, ReversedKind,
+    Rotation, ShiftOp, SpecialMove, SpecialRegister, StoreKind, StringImmediateAccess,
+    StringIndexedAccess, UnaryOp,
 };
 use super::op::OpPpc;
 use super::word::{
-    far_displacement_of, is_absolute, is_overflow, mask_begin_of, mask_end_of, mask_of,
+    far_displacement_of, is_absolute, is_overflow, mask_begin_of, mask_end_of, named_fields_of,
     near_displacement_of,
 };
 
 // An instruction of these fields.
 macro_rules! made {
+    ($row:ident($names:ident::$name:ident) => $($fields:tt)*) => {
+        Some(InstrPpc::$row($names::$name { $($fields)* }))
+    };
     ($name:ident => $($fields:tt)*) => {
         Some(InstrPpc::$name { $($fields)* })
     };
@@ -35,8 +39,8 @@ pub fn instruction_of(op: OpPpc, word: u32) -> Option<InstrPpc>
         last,
         ..
     } = fields_of(word);
-    let aa = is_absolute(word);
-    let field = d / 4;
+    let (aa, oe) = (is_absolute(word), is_overflow(word));
+    let (field, from) = (d / 4, a / 4);
     let (mb, me) = (mask_begin_of(word) as u8, mask_end_of(word) as u8);
     match op {
         OpPpc::Twi => made!(TrapWordImmediate => to: d, a, immediate: low),
@@ -52,10 +56,10 @@ pub fn instruction_of(op: OpPpc, word: u32) -> Option<InstrPpc>
             made!(BranchConditional => bo: d, bi: a, displacement: near_displacement_of(word), aa, lk: last),
         OpPpc::B => made!(Branch => displacement: far_displacement_of(word), aa, lk: last),
         OpPpc::Rlwimi =>
-            made!(RotateLeftImmediate => outside: MaskUse::Insert, a, s: d, sh: b, mb, me, rc: last),
+            made!(Rotate(Rotation::RotateLeftImmediate) => outside: MaskUse::Insert, a, s: d, sh: b, mb, me, rc: last),
         OpPpc::Rlwinm =>
-            made!(RotateLeftImmediate => outside: MaskUse::Clear, a, s: d, sh: b, mb, me, rc: last),
-        OpPpc::Rlwnm => made!(RotateLeft => a, s: d, b, mb, me, rc: last),
+            made!(Rotate(Rotation::RotateLeftImmediate) => outside: MaskUse::Clear, a, s: d, sh: b, mb, me, rc: last),
+        OpPpc::Rlwnm => made!(Rotate(Rotation::RotateLeft) => a, s: d, b, mb, me, rc: last),
         OpPpc::Ori => made!(LogicalImmediate => op: ImmediateOp::Or, a, s: d, immediate: low),
         OpPpc::Oris =>
             made!(LogicalImmediate => op: ImmediateOp::OrShifted, a, s: d, immediate: low),
@@ -81,22 +85,8 @@ pub fn instruction_of(op: OpPpc, word: u32) -> Option<InstrPpc>
             made!(Load => kind: LoadKind::HalfAlgebraic, update: true, d, a, offset: low),
         OpPpc::Sth => made!(Store => kind: StoreKind::Half, update: false, s: d, a, offset: low),
         OpPpc::Sthu => made!(Store => kind: StoreKind::Half, update: true, s: d, a, offset: low),
-        OpPpc::Lmw => made!(LoadMultiple => d, a, offset: low),
-        OpPpc::Stmw => made!(StoreMultiple => s: d, a, offset: low),
-        _ => of_opcode_19(op, word),
-    }
-}
-
-/// The same of opcode 19, or of 31.
-fn of_opcode_19(op: OpPpc, word: u32) -> Option<InstrPpc>
-    requires meaning { decoded word ≡ made op (fields_of word) }
-    requires opcode { IsFromOpcode19 op }
-    ensures { result ≡ made op (fields_of word) }
-{
-    let Fields { d, a, b, last, .. } = fields_of(word);
-    let field = d / 4;
-    let from = a / 4;
-    match op {
+        OpPpc::Lmw => made!(Multiple(MultipleAccess::LoadMultiple) => d, a, offset: low),
+        OpPpc::Stmw => made!(Multiple(MultipleAccess::StoreMultiple) => s: d, a, offset: low),
         OpPpc::Mcrf => made!(MoveConditionField => field, from),
         OpPpc::Bclr =>
             made!(BranchConditionalToRegister => register: BranchRegister::Link, bo: d, bi: a, lk: last),
@@ -111,42 +101,31 @@ fn of_opcode_19(op: OpPpc, word: u32) -> Option<InstrPpc>
         OpPpc::Cror => made!(ConditionLogical => op: LogicalOp::Or, d, a, b),
         OpPpc::Bcctr =>
             made!(BranchConditionalToRegister => register: BranchRegister::Count, bo: d, bi: a, lk: last),
-        _ => of_opcode_31(op, word),
-    }
-}
-
-/// The same of opcode 31.
-fn of_opcode_31(op: OpPpc, word: u32) -> Option<InstrPpc>
-    requires meaning { decoded word ≡ made op (fields_of word) }
-    requires opcode { IsFromOpcode31 op }
-    ensures { result ≡ made op (fields_of word) }
-{
-    let Fields { d, a, b, last, .. } = fields_of(word);
-    let oe = is_overflow(word);
-    let field = d / 4;
-    match op {
-        OpPpc::Cmp => made!(Compare => signed: true, field, a, b),
-        OpPpc::Tw => made!(TrapWord => to: d, a, b),
+        OpPpc::Cmp => made!(CompareOrTrap(Comparison::Compare) => signed: true, field, a, b),
+        OpPpc::Tw => made!(CompareOrTrap(Comparison::TrapWord) => to: d, a, b),
         OpPpc::Subfc => made!(SubtractFrom => carry: CarryUse::Carrying, d, a, b, oe, rc: last),
         OpPpc::Addc => made!(Add => carry: CarryUse::Carrying, d, a, b, oe, rc: last),
-        OpPpc::Mulhwu => made!(MultiplyHigh => signed: false, d, a, b, rc: last),
-        OpPpc::Mfcr => made!(MoveFromConditionRegister => d),
+        OpPpc::Mulhwu =>
+            made!(Multiply(Multiplication::MultiplyHigh) => signed: false, d, a, b, rc: last),
+        OpPpc::Mfcr => made!(MoveCondition(ConditionMove::MoveFromConditionRegister) => d),
         OpPpc::Lwzx => made!(LoadIndexed => kind: LoadKind::Word, update: false, d, a, b),
         OpPpc::Slw => made!(Shift => op: ShiftOp::Left, a, s: d, b, rc: last),
         OpPpc::Cntlzw => made!(Unary => op: UnaryOp::CountLeadingZeros, a, s: d, rc: last),
         OpPpc::And => made!(Logical => op: LogicalOp::And, a, s: d, b, rc: last),
-        OpPpc::Cmpl => made!(Compare => signed: false, field, a, b),
+        OpPpc::Cmpl => made!(CompareOrTrap(Comparison::Compare) => signed: false, field, a, b),
         OpPpc::Subf => made!(SubtractFrom => carry: CarryUse::Plain, d, a, b, oe, rc: last),
         OpPpc::Lwzux => made!(LoadIndexed => kind: LoadKind::Word, update: true, d, a, b),
         OpPpc::Andc => made!(Logical => op: LogicalOp::AndComplement, a, s: d, b, rc: last),
-        OpPpc::Mulhw => made!(MultiplyHigh => signed: true, d, a, b, rc: last),
+        OpPpc::Mulhw =>
+            made!(Multiply(Multiplication::MultiplyHigh) => signed: true, d, a, b, rc: last),
         OpPpc::Lbzx => made!(LoadIndexed => kind: LoadKind::Byte, update: false, d, a, b),
         OpPpc::Neg => made!(Negate => d, a, oe, rc: last),
         OpPpc::Lbzux => made!(LoadIndexed => kind: LoadKind::Byte, update: true, d, a, b),
         OpPpc::Nor => made!(Logical => op: LogicalOp::Nor, a, s: d, b, rc: last),
         OpPpc::Subfe => made!(SubtractFrom => carry: CarryUse::Extended, d, a, b, oe, rc: last),
         OpPpc::Adde => made!(Add => carry: CarryUse::Extended, d, a, b, oe, rc: last),
-        OpPpc::Mtcrf => made!(MoveToConditionFields => mask: mask_of(word) as u8, s: d),
+        OpPpc::Mtcrf =>
+            made!(MoveCondition(ConditionMove::MoveToConditionFields) => mask: named_fields_of(word) as u8, s: d),
         OpPpc::Stwx => made!(StoreIndexed => kind: StoreKind::Word, update: false, s: d, a, b),
         OpPpc::Stwux => made!(StoreIndexed => kind: StoreKind::Word, update: true, s: d, a, b),
         OpPpc::Subfze =>
@@ -157,30 +136,19 @@ fn of_opcode_31(op: OpPpc, word: u32) -> Option<InstrPpc>
             made!(SubtractFromExtended => operand: ExtendedOperand::MinusOne, d, a, oe, rc: last),
         OpPpc::Addme =>
             made!(AddExtended => operand: ExtendedOperand::MinusOne, d, a, oe, rc: last),
-        OpPpc::Mullw => made!(MultiplyLow => d, a, b, oe, rc: last),
+        OpPpc::Mullw => made!(Multiply(Multiplication::MultiplyLow) => d, a, b, oe, rc: last),
         OpPpc::Stbux => made!(StoreIndexed => kind: StoreKind::Byte, update: true, s: d, a, b),
-        _ => of_extended_from_256(op, word),
-    }
-}
-
-/// The same of opcode 31 with an extended opcode of 256 or more.
-fn of_extended_from_256(op: OpPpc, word: u32) -> Option<InstrPpc>
-    requires meaning { decoded word ≡ made op (fields_of word) }
-    requires opcode { IsFrom256 op }
-    ensures { result ≡ made op (fields_of word) }
-{
-    let Fields { d, a, b, last, .. } = fields_of(word);
-    let oe = is_overflow(word);
-    let field = d / 4;
-    match op {
         OpPpc::Add => made!(Add => carry: CarryUse::Plain, d, a, b, oe, rc: last),
         OpPpc::Lhzx => made!(LoadIndexed => kind: LoadKind::Half, update: false, d, a, b),
         OpPpc::Eqv => made!(Logical => op: LogicalOp::Equivalent, a, s: d, b, rc: last),
         OpPpc::Lhzux => made!(LoadIndexed => kind: LoadKind::Half, update: true, d, a, b),
         OpPpc::Xor => made!(Logical => op: LogicalOp::Xor, a, s: d, b, rc: last),
-        OpPpc::Mfxer => made!(MoveFromSpecial => register: SpecialRegister::Xer, d),
-        OpPpc::Mflr => made!(MoveFromSpecial => register: SpecialRegister::Link, d),
-        OpPpc::Mfctr => made!(MoveFromSpecial => register: SpecialRegister::Count, d),
+        OpPpc::Mfxer =>
+            made!(MoveSpecial(SpecialMove::MoveFromSpecial) => register: SpecialRegister::Xer, d),
+        OpPpc::Mflr =>
+            made!(MoveSpecial(SpecialMove::MoveFromSpecial) => register: SpecialRegister::Link, d),
+        OpPpc::Mfctr =>
+            made!(MoveSpecial(SpecialMove::MoveFromSpecial) => register: SpecialRegister::Count, d),
         OpPpc::Lhax => made!(LoadIndexed => kind: LoadKind::HalfAlgebraic, update: false, d, a, b),
         OpPpc::Lhaux => made!(LoadIndexed => kind: LoadKind::HalfAlgebraic, update: true, d, a, b),
         OpPpc::Sthx => made!(StoreIndexed => kind: StoreKind::Half, update: false, s: d, a, b),
@@ -188,26 +156,35 @@ fn of_extended_from_256(op: OpPpc, word: u32) -> Option<InstrPpc>
         OpPpc::Sthux => made!(StoreIndexed => kind: StoreKind::Half, update: true, s: d, a, b),
         OpPpc::Or => made!(Logical => op: LogicalOp::Or, a, s: d, b, rc: last),
         OpPpc::Divwu => made!(Divide => signed: false, d, a, b, oe, rc: last),
-        OpPpc::Mtxer => made!(MoveToSpecial => register: SpecialRegister::Xer, s: d),
-        OpPpc::Mtlr => made!(MoveToSpecial => register: SpecialRegister::Link, s: d),
-        OpPpc::Mtctr => made!(MoveToSpecial => register: SpecialRegister::Count, s: d),
+        OpPpc::Mtxer =>
+            made!(MoveSpecial(SpecialMove::MoveToSpecial) => register: SpecialRegister::Xer, s: d),
+        OpPpc::Mtlr =>
+            made!(MoveSpecial(SpecialMove::MoveToSpecial) => register: SpecialRegister::Link, s: d),
+        OpPpc::Mtctr =>
+            made!(MoveSpecial(SpecialMove::MoveToSpecial) => register: SpecialRegister::Count, s: d),
         OpPpc::Nand => made!(Logical => op: LogicalOp::Nand, a, s: d, b, rc: last),
         OpPpc::Divw => made!(Divide => signed: true, d, a, b, oe, rc: last),
         OpPpc::Mcrxr => made!(MoveXerToConditionField => field),
-        OpPpc::Lswx => made!(LoadStringIndexed => d, a, b),
-        OpPpc::Lwbrx => made!(LoadReversed => kind: ReversedKind::Word, d, a, b),
+        OpPpc::Lswx => made!(StringIndexed(StringIndexedAccess::LoadStringIndexed) => d, a, b),
+        OpPpc::Lwbrx =>
+            made!(Reversed(ReversedAccess::LoadReversed) => kind: ReversedKind::Word, d, a, b),
         OpPpc::Srw => made!(Shift => op: ShiftOp::Right, a, s: d, b, rc: last),
-        OpPpc::Lswi => made!(LoadStringImmediate => d, a, nb: b),
+        OpPpc::Lswi =>
+            made!(StringImmediate(StringImmediateAccess::LoadStringImmediate) => d, a, nb: b),
         OpPpc::Sync => Some(InstrPpc::Synchronize),
-        OpPpc::Stswx => made!(StoreStringIndexed => s: d, a, b),
-        OpPpc::Stwbrx => made!(StoreReversed => kind: ReversedKind::Word, s: d, a, b),
-        OpPpc::Stswi => made!(StoreStringImmediate => s: d, a, nb: b),
-        OpPpc::Lhbrx => made!(LoadReversed => kind: ReversedKind::Half, d, a, b),
+        OpPpc::Stswx => made!(StringIndexed(StringIndexedAccess::StoreStringIndexed) => s: d, a, b),
+        OpPpc::Stwbrx =>
+            made!(Reversed(ReversedAccess::StoreReversed) => kind: ReversedKind::Word, s: d, a, b),
+        OpPpc::Stswi =>
+            made!(StringImmediate(StringImmediateAccess::StoreStringImmediate) => s: d, a, nb: b),
+        OpPpc::Lhbrx =>
+            made!(Reversed(ReversedAccess::LoadReversed) => kind: ReversedKind::Half, d, a, b),
         OpPpc::Sraw => made!(Shift => op: ShiftOp::RightAlgebraic, a, s: d, b, rc: last),
         OpPpc::Srawi => made!(ShiftRightAlgebraicImmediate => a, s: d, sh: b, rc: last),
-        OpPpc::Sthbrx => made!(StoreReversed => kind: ReversedKind::Half, s: d, a, b),
+        OpPpc::Sthbrx =>
+            made!(Reversed(ReversedAccess::StoreReversed) => kind: ReversedKind::Half, s: d, a, b),
         OpPpc::Extsh => made!(Unary => op: UnaryOp::ExtendSignHalf, a, s: d, rc: last),
         OpPpc::Extsb => made!(Unary => op: UnaryOp::ExtendSignByte, a, s: d, rc: last),
-        _ => None,
+        OpPpc::Invalid => None,
     }
 }

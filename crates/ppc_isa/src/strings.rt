@@ -1,6 +1,6 @@
 ghost use Rattle.std.specs.Prelude.{◌≡◌, ◌<◌, ◌≤◌, ◌==◌};
 ghost use Rattle.std.specs.List.{list_any};
-ghost use Rattle.ppc_isa.specs.Valid.{registers_from, string_length as string_length_of, string_registers as string_registers_of};
+ghost use Rattle.ppc_isa.specs.Operands.{registers_from, string_length as string_length_of, string_registers as string_registers_of};
 
 /// Whether a register is among the `count` registers that a string fills from register `first` on,
 /// where register 0 follows on register 31.

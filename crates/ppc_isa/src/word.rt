@@ -125,7 +125,7 @@ pub fn is_absolute(word: u32) -> bool
 
 /// The field of the condition register in the place of D.
 #[inline(always)]
-pub fn field_of(word: u32) -> u32
+pub fn to_field_of(word: u32) -> u32
     ensures is { result ≡ (fields_of word).d / 4 }
     ensures below { result < 8 }
 {
@@ -141,9 +141,9 @@ pub fn from_field_of(word: u32) -> u32
     word / 0x4_0000 % 8
 }
 
-/// The mask of mtcrf in its low eight bits, whose first bit is that of field 0.
+/// The fields that mtcrf names, as eight bits of which the first is that of field 0.
 #[inline(always)]
-pub fn mask_of(word: u32) -> u32
+pub fn named_fields_of(word: u32) -> u32
     ensures { result ≡ (fields_of word).a * 16 + (fields_of word).b / 2 }
 {
     word / 0x1000 % 0x200

@@ -1,5 +1,5 @@
 -- Each instruction's name is in the finite list.
-use Rattle.std.proofs.Common.{◌≡◌, Bool, true, false, refl}
+use Rattle.std.proofs.Common.{◌≡◌, length, Bool, true, false, refl}
 use Rattle.ppc_isa.specs.declared.instruction.CarryUse.TheVariants.{Plain, Carrying, Extended}
 use Rattle.ppc_isa.specs.declared.instruction.ExtendedOperand.TheVariants.{Zero as ZeroOperand, MinusOne}
 use Rattle.ppc_isa.specs.declared.instruction.ImmediateOp.TheVariants.{Or as ImmediateOr, OrShifted, Xor as ImmediateXor, XorShifted, And as ImmediateAnd, AndShifted}
@@ -13,9 +13,22 @@ use Rattle.ppc_isa.specs.declared.instruction.ReversedKind.TheVariants.{Word as 
 use Rattle.ppc_isa.specs.declared.instruction.BranchRegister.TheVariants.{Link as LinkTarget, Count as CountTarget}
 use Rattle.ppc_isa.specs.declared.instruction.SpecialRegister.TheVariants.{Xer, Link as LinkSpecial, Count as CountSpecial}
 use Rattle.ppc_isa.specs.declared.instruction.InstrPpc.{InstrPpc}
-use Rattle.ppc_isa.specs.declared.instruction.InstrPpc.TheVariants.{TrapWordImmediate, MultiplyLowImmediate, SubtractFromImmediateCarrying, CompareImmediate, AddImmediateCarrying, AddImmediate, BranchConditional, Branch, RotateLeftImmediate, RotateLeft, LogicalImmediate, Load, Store, LoadMultiple, StoreMultiple, MoveConditionField, BranchConditionalToRegister, ConditionLogical, InstructionSynchronize, Add, AddExtended, SubtractFrom, SubtractFromExtended, Negate, MultiplyLow, MultiplyHigh, Divide, Logical, Unary, Shift, ShiftRightAlgebraicImmediate, Compare, TrapWord, LoadIndexed, StoreIndexed, LoadReversed, StoreReversed, LoadStringImmediate, StoreStringImmediate, LoadStringIndexed, StoreStringIndexed, MoveFromConditionRegister, MoveToConditionFields, MoveXerToConditionField, MoveFromSpecial, MoveToSpecial, Synchronize}
+use Rattle.ppc_isa.specs.declared.instruction.InstrPpc.TheVariants.{TrapWordImmediate, MultiplyLowImmediate, SubtractFromImmediateCarrying, CompareImmediate, AddImmediateCarrying, AddImmediate, BranchConditional, Branch, LogicalImmediate, Load, Store, MoveConditionField, BranchConditionalToRegister, ConditionLogical, InstructionSynchronize, Add, AddExtended, SubtractFrom, SubtractFromExtended, Negate, Divide, Logical, Unary, Shift, ShiftRightAlgebraicImmediate, LoadIndexed, StoreIndexed, MoveXerToConditionField, Synchronize, Rotate, Multiple, Multiply, CompareOrTrap, Reversed, StringImmediate, StringIndexed, MoveCondition, MoveSpecial}
+use Rattle.ppc_isa.specs.declared.instruction.Rotation.TheVariants.{RotateLeftImmediate, RotateLeft}
+use Rattle.ppc_isa.specs.declared.instruction.MultipleAccess.TheVariants.{LoadMultiple, StoreMultiple}
+use Rattle.ppc_isa.specs.declared.instruction.Multiplication.TheVariants.{MultiplyLow, MultiplyHigh}
+use Rattle.ppc_isa.specs.declared.instruction.Comparison.TheVariants.{Compare, TrapWord}
+use Rattle.ppc_isa.specs.declared.instruction.ReversedAccess.TheVariants.{LoadReversed, StoreReversed}
+use Rattle.ppc_isa.specs.declared.instruction.StringImmediateAccess.TheVariants.{LoadStringImmediate, StoreStringImmediate}
+use Rattle.ppc_isa.specs.declared.instruction.StringIndexedAccess.TheVariants.{LoadStringIndexed, StoreStringIndexed}
+use Rattle.ppc_isa.specs.declared.instruction.ConditionMove.TheVariants.{MoveFromConditionRegister, MoveToConditionFields}
+use Rattle.ppc_isa.specs.declared.instruction.SpecialMove.TheVariants.{MoveFromSpecial, MoveToSpecial}
 use Rattle.ppc_text.specs.Names.{name}
 use Rattle.ppc_text.specs.Listed.{is_name, names, shapes}
+
+pub all_names : length names ≡ 181
+unfolding names shapes
+all_names = refl
 
 pub names_listed : (i : InstrPpc) → is_name (name i) ≡ true
 unfolding names shapes
@@ -34,12 +47,12 @@ names_listed (LogicalImmediate ImmediateXor a s immediate) = refl
 names_listed (LogicalImmediate XorShifted a s immediate) = refl
 names_listed (LogicalImmediate ImmediateAnd a s immediate) = refl
 names_listed (LogicalImmediate AndShifted a s immediate) = refl
-names_listed (RotateLeftImmediate Insert a s sh mb me false) = refl
-names_listed (RotateLeftImmediate Insert a s sh mb me true) = refl
-names_listed (RotateLeftImmediate Clear a s sh mb me false) = refl
-names_listed (RotateLeftImmediate Clear a s sh mb me true) = refl
-names_listed (RotateLeft a s b mb me false) = refl
-names_listed (RotateLeft a s b mb me true) = refl
+names_listed (Rotate (RotateLeftImmediate Insert a s sh mb me false)) = refl
+names_listed (Rotate (RotateLeftImmediate Insert a s sh mb me true)) = refl
+names_listed (Rotate (RotateLeftImmediate Clear a s sh mb me false)) = refl
+names_listed (Rotate (RotateLeftImmediate Clear a s sh mb me true)) = refl
+names_listed (Rotate (RotateLeft a s b mb me false)) = refl
+names_listed (Rotate (RotateLeft a s b mb me true)) = refl
 names_listed (BranchConditional bo bi displacement false false) = refl
 names_listed (BranchConditional bo bi displacement true false) = refl
 names_listed (BranchConditional bo bi displacement false true) = refl
@@ -62,8 +75,8 @@ names_listed (Store StoreByte false s a offset) = refl
 names_listed (Store StoreByte true s a offset) = refl
 names_listed (Store StoreHalf false s a offset) = refl
 names_listed (Store StoreHalf true s a offset) = refl
-names_listed (LoadMultiple d a offset) = refl
-names_listed (StoreMultiple s a offset) = refl
+names_listed (Multiple (LoadMultiple d a offset)) = refl
+names_listed (Multiple (StoreMultiple s a offset)) = refl
 names_listed (MoveConditionField field from) = refl
 names_listed (BranchConditionalToRegister LinkTarget bo bi false) = refl
 names_listed (BranchConditionalToRegister LinkTarget bo bi true) = refl
@@ -122,14 +135,14 @@ names_listed (Negate d a false false) = refl
 names_listed (Negate d a false true) = refl
 names_listed (Negate d a true false) = refl
 names_listed (Negate d a true true) = refl
-names_listed (MultiplyLow d a b false false) = refl
-names_listed (MultiplyLow d a b false true) = refl
-names_listed (MultiplyLow d a b true false) = refl
-names_listed (MultiplyLow d a b true true) = refl
-names_listed (MultiplyHigh true d a b false) = refl
-names_listed (MultiplyHigh true d a b true) = refl
-names_listed (MultiplyHigh false d a b false) = refl
-names_listed (MultiplyHigh false d a b true) = refl
+names_listed (Multiply (MultiplyLow d a b false false)) = refl
+names_listed (Multiply (MultiplyLow d a b false true)) = refl
+names_listed (Multiply (MultiplyLow d a b true false)) = refl
+names_listed (Multiply (MultiplyLow d a b true true)) = refl
+names_listed (Multiply (MultiplyHigh true d a b false)) = refl
+names_listed (Multiply (MultiplyHigh true d a b true)) = refl
+names_listed (Multiply (MultiplyHigh false d a b false)) = refl
+names_listed (Multiply (MultiplyHigh false d a b true)) = refl
 names_listed (Divide true d a b false false) = refl
 names_listed (Divide true d a b false true) = refl
 names_listed (Divide true d a b true false) = refl
@@ -168,9 +181,9 @@ names_listed (Shift RightAlgebraic a s b false) = refl
 names_listed (Shift RightAlgebraic a s b true) = refl
 names_listed (ShiftRightAlgebraicImmediate a s sh false) = refl
 names_listed (ShiftRightAlgebraicImmediate a s sh true) = refl
-names_listed (Compare true field a b) = refl
-names_listed (Compare false field a b) = refl
-names_listed (TrapWord to a b) = refl
+names_listed (CompareOrTrap (Compare true field a b)) = refl
+names_listed (CompareOrTrap (Compare false field a b)) = refl
+names_listed (CompareOrTrap (TrapWord to a b)) = refl
 names_listed (LoadIndexed LoadWord false d a b) = refl
 names_listed (LoadIndexed LoadWord true d a b) = refl
 names_listed (LoadIndexed LoadByte false d a b) = refl
@@ -185,21 +198,21 @@ names_listed (StoreIndexed StoreByte false s a b) = refl
 names_listed (StoreIndexed StoreByte true s a b) = refl
 names_listed (StoreIndexed StoreHalf false s a b) = refl
 names_listed (StoreIndexed StoreHalf true s a b) = refl
-names_listed (LoadReversed ReversedWord d a b) = refl
-names_listed (LoadReversed ReversedHalf d a b) = refl
-names_listed (StoreReversed ReversedWord s a b) = refl
-names_listed (StoreReversed ReversedHalf s a b) = refl
-names_listed (LoadStringImmediate d a nb) = refl
-names_listed (StoreStringImmediate s a nb) = refl
-names_listed (LoadStringIndexed d a b) = refl
-names_listed (StoreStringIndexed s a b) = refl
-names_listed (MoveFromConditionRegister d) = refl
-names_listed (MoveToConditionFields mask s) = refl
+names_listed (Reversed (LoadReversed ReversedWord d a b)) = refl
+names_listed (Reversed (LoadReversed ReversedHalf d a b)) = refl
+names_listed (Reversed (StoreReversed ReversedWord s a b)) = refl
+names_listed (Reversed (StoreReversed ReversedHalf s a b)) = refl
+names_listed (StringImmediate (LoadStringImmediate d a nb)) = refl
+names_listed (StringImmediate (StoreStringImmediate s a nb)) = refl
+names_listed (StringIndexed (LoadStringIndexed d a b)) = refl
+names_listed (StringIndexed (StoreStringIndexed s a b)) = refl
+names_listed (MoveCondition (MoveFromConditionRegister d)) = refl
+names_listed (MoveCondition (MoveToConditionFields mask s)) = refl
 names_listed (MoveXerToConditionField field) = refl
-names_listed (MoveFromSpecial d Xer) = refl
-names_listed (MoveFromSpecial d LinkSpecial) = refl
-names_listed (MoveFromSpecial d CountSpecial) = refl
-names_listed (MoveToSpecial Xer s) = refl
-names_listed (MoveToSpecial LinkSpecial s) = refl
-names_listed (MoveToSpecial CountSpecial s) = refl
+names_listed (MoveSpecial (MoveFromSpecial d Xer)) = refl
+names_listed (MoveSpecial (MoveFromSpecial d LinkSpecial)) = refl
+names_listed (MoveSpecial (MoveFromSpecial d CountSpecial)) = refl
+names_listed (MoveSpecial (MoveToSpecial Xer s)) = refl
+names_listed (MoveSpecial (MoveToSpecial LinkSpecial s)) = refl
+names_listed (MoveSpecial (MoveToSpecial CountSpecial s)) = refl
 names_listed Synchronize = refl

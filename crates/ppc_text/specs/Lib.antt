@@ -1,11 +1,6 @@
+pub mod Listed
 pub mod Names
 pub mod Operands
-pub mod Listed
 pub mod Text
-pub mod Laws
-pub mod Reading
-pub mod Spelling
-pub mod Table
-pub mod Assembly
-pub mod AssemblyLaws
-pub mod Opcodes
+pub mod laws
+pub mod inner

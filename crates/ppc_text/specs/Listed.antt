@@ -1,4 +1,4 @@
--- The names of instructions as a finite list.
+-- The names of instructions as a finite list (PowerPC 601 RISC Microprocessor User's Manual, chapter 10).
 use Rattle.std.specs.Prelude.{ℕ, List, [], ◌∷◌, Bool, true, false, codes, map}
 use Rattle.std.specs.List.{list_any}
 use Rattle.std.specs.Str.{bytes_eq}
@@ -15,7 +15,16 @@ use Rattle.ppc_isa.specs.declared.instruction.ReversedKind.TheVariants.{Word as 
 use Rattle.ppc_isa.specs.declared.instruction.BranchRegister.TheVariants.{Link as LinkTarget, Count as CountTarget}
 use Rattle.ppc_isa.specs.declared.instruction.SpecialRegister.TheVariants.{Xer}
 use Rattle.ppc_isa.specs.declared.instruction.InstrPpc.{InstrPpc}
-use Rattle.ppc_isa.specs.declared.instruction.InstrPpc.TheVariants.{TrapWordImmediate, MultiplyLowImmediate, SubtractFromImmediateCarrying, CompareImmediate, AddImmediateCarrying, AddImmediate, BranchConditional, Branch, RotateLeftImmediate, RotateLeft, LogicalImmediate, Load, Store, LoadMultiple, StoreMultiple, MoveConditionField, BranchConditionalToRegister, ConditionLogical, InstructionSynchronize, Add, AddExtended, SubtractFrom, SubtractFromExtended, Negate, MultiplyLow, MultiplyHigh, Divide, Logical, Unary, Shift, ShiftRightAlgebraicImmediate, Compare, TrapWord, LoadIndexed, StoreIndexed, LoadReversed, StoreReversed, LoadStringImmediate, StoreStringImmediate, LoadStringIndexed, StoreStringIndexed, MoveFromConditionRegister, MoveToConditionFields, MoveXerToConditionField, MoveFromSpecial, MoveToSpecial, Synchronize}
+use Rattle.ppc_isa.specs.declared.instruction.InstrPpc.TheVariants.{TrapWordImmediate, MultiplyLowImmediate, SubtractFromImmediateCarrying, CompareImmediate, AddImmediateCarrying, AddImmediate, BranchConditional, Branch, LogicalImmediate, Load, Store, MoveConditionField, BranchConditionalToRegister, ConditionLogical, InstructionSynchronize, Add, AddExtended, SubtractFrom, SubtractFromExtended, Negate, Divide, Logical, Unary, Shift, ShiftRightAlgebraicImmediate, LoadIndexed, StoreIndexed, MoveXerToConditionField, Synchronize, Rotate, Multiple, Multiply, CompareOrTrap, Reversed, StringImmediate, StringIndexed, MoveCondition, MoveSpecial}
+use Rattle.ppc_isa.specs.declared.instruction.Rotation.TheVariants.{RotateLeftImmediate, RotateLeft}
+use Rattle.ppc_isa.specs.declared.instruction.MultipleAccess.TheVariants.{LoadMultiple, StoreMultiple}
+use Rattle.ppc_isa.specs.declared.instruction.Multiplication.TheVariants.{MultiplyLow, MultiplyHigh}
+use Rattle.ppc_isa.specs.declared.instruction.Comparison.TheVariants.{Compare, TrapWord}
+use Rattle.ppc_isa.specs.declared.instruction.ReversedAccess.TheVariants.{LoadReversed, StoreReversed}
+use Rattle.ppc_isa.specs.declared.instruction.StringImmediateAccess.TheVariants.{LoadStringImmediate, StoreStringImmediate}
+use Rattle.ppc_isa.specs.declared.instruction.StringIndexedAccess.TheVariants.{LoadStringIndexed, StoreStringIndexed}
+use Rattle.ppc_isa.specs.declared.instruction.ConditionMove.TheVariants.{MoveFromConditionRegister, MoveToConditionFields}
+use Rattle.ppc_isa.specs.declared.instruction.SpecialMove.TheVariants.{MoveFromSpecial, MoveToSpecial}
 use Rattle.ppc_text.specs.Names.{name}
 
 -- one instruction of each name, each of them valid
@@ -36,12 +45,12 @@ shapes =
     ∷ LogicalImmediate XorShifted 0 0 0
     ∷ LogicalImmediate ImmediateAnd 0 0 0
     ∷ LogicalImmediate AndShifted 0 0 0
-    ∷ RotateLeftImmediate Insert 0 0 0 0 0 false
-    ∷ RotateLeftImmediate Insert 0 0 0 0 0 true
-    ∷ RotateLeftImmediate Clear 0 0 0 0 0 false
-    ∷ RotateLeftImmediate Clear 0 0 0 0 0 true
-    ∷ RotateLeft 0 0 0 0 0 false
-    ∷ RotateLeft 0 0 0 0 0 true
+    ∷ Rotate (RotateLeftImmediate Insert 0 0 0 0 0 false)
+    ∷ Rotate (RotateLeftImmediate Insert 0 0 0 0 0 true)
+    ∷ Rotate (RotateLeftImmediate Clear 0 0 0 0 0 false)
+    ∷ Rotate (RotateLeftImmediate Clear 0 0 0 0 0 true)
+    ∷ Rotate (RotateLeft 0 0 0 0 0 false)
+    ∷ Rotate (RotateLeft 0 0 0 0 0 true)
     ∷ BranchConditional 0 0 0 false false
     ∷ BranchConditional 0 0 0 true false
     ∷ BranchConditional 0 0 0 false true
@@ -64,8 +73,8 @@ shapes =
     ∷ Store StoreByte true 0 1 0
     ∷ Store StoreHalf false 0 0 0
     ∷ Store StoreHalf true 0 1 0
-    ∷ LoadMultiple 1 0 0
-    ∷ StoreMultiple 0 0 0
+    ∷ Multiple (LoadMultiple 1 0 0)
+    ∷ Multiple (StoreMultiple 0 0 0)
     ∷ MoveConditionField 0 0
     ∷ BranchConditionalToRegister LinkTarget 4 0 false
     ∷ BranchConditionalToRegister LinkTarget 4 0 true
@@ -124,14 +133,14 @@ shapes =
     ∷ Negate 0 0 false true
     ∷ Negate 0 0 true false
     ∷ Negate 0 0 true true
-    ∷ MultiplyLow 0 0 0 false false
-    ∷ MultiplyLow 0 0 0 false true
-    ∷ MultiplyLow 0 0 0 true false
-    ∷ MultiplyLow 0 0 0 true true
-    ∷ MultiplyHigh true 0 0 0 false
-    ∷ MultiplyHigh true 0 0 0 true
-    ∷ MultiplyHigh false 0 0 0 false
-    ∷ MultiplyHigh false 0 0 0 true
+    ∷ Multiply (MultiplyLow 0 0 0 false false)
+    ∷ Multiply (MultiplyLow 0 0 0 false true)
+    ∷ Multiply (MultiplyLow 0 0 0 true false)
+    ∷ Multiply (MultiplyLow 0 0 0 true true)
+    ∷ Multiply (MultiplyHigh true 0 0 0 false)
+    ∷ Multiply (MultiplyHigh true 0 0 0 true)
+    ∷ Multiply (MultiplyHigh false 0 0 0 false)
+    ∷ Multiply (MultiplyHigh false 0 0 0 true)
     ∷ Divide true 0 0 0 false false
     ∷ Divide true 0 0 0 false true
     ∷ Divide true 0 0 0 true false
@@ -170,9 +179,9 @@ shapes =
     ∷ Shift RightAlgebraic 0 0 0 true
     ∷ ShiftRightAlgebraicImmediate 0 0 0 false
     ∷ ShiftRightAlgebraicImmediate 0 0 0 true
-    ∷ Compare true 0 0 0
-    ∷ Compare false 0 0 0
-    ∷ TrapWord 0 0 0
+    ∷ CompareOrTrap (Compare true 0 0 0)
+    ∷ CompareOrTrap (Compare false 0 0 0)
+    ∷ CompareOrTrap (TrapWord 0 0 0)
     ∷ LoadIndexed LoadWord false 0 0 0
     ∷ LoadIndexed LoadWord true 0 1 0
     ∷ LoadIndexed LoadByte false 0 0 0
@@ -187,19 +196,19 @@ shapes =
     ∷ StoreIndexed StoreByte true 0 1 0
     ∷ StoreIndexed StoreHalf false 0 0 0
     ∷ StoreIndexed StoreHalf true 0 1 0
-    ∷ LoadReversed ReversedWord 0 0 0
-    ∷ LoadReversed ReversedHalf 0 0 0
-    ∷ StoreReversed ReversedWord 0 0 0
-    ∷ StoreReversed ReversedHalf 0 0 0
-    ∷ LoadStringImmediate 1 0 4
-    ∷ StoreStringImmediate 0 0 0
-    ∷ LoadStringIndexed 0 0 0
-    ∷ StoreStringIndexed 0 0 0
-    ∷ MoveFromConditionRegister 0
-    ∷ MoveToConditionFields 0 0
+    ∷ Reversed (LoadReversed ReversedWord 0 0 0)
+    ∷ Reversed (LoadReversed ReversedHalf 0 0 0)
+    ∷ Reversed (StoreReversed ReversedWord 0 0 0)
+    ∷ Reversed (StoreReversed ReversedHalf 0 0 0)
+    ∷ StringImmediate (LoadStringImmediate 1 0 4)
+    ∷ StringImmediate (StoreStringImmediate 0 0 0)
+    ∷ StringIndexed (LoadStringIndexed 0 0 0)
+    ∷ StringIndexed (StoreStringIndexed 0 0 0)
+    ∷ MoveCondition (MoveFromConditionRegister 0)
+    ∷ MoveCondition (MoveToConditionFields 0 0)
     ∷ MoveXerToConditionField 0
-    ∷ MoveFromSpecial 0 Xer
-    ∷ MoveToSpecial Xer 0
+    ∷ MoveSpecial (MoveFromSpecial 0 Xer)
+    ∷ MoveSpecial (MoveToSpecial Xer 0)
     ∷ Synchronize
     ∷ []
 

@@ -1,4 +1,4 @@
--- The text of a word at an address.
+-- The text of a word at an address (this project's own).
 use Rattle.std.specs.Prelude.{ℕ, List, ◌++◌, codes, Option, None, Some}
 use Rattle.mix_bits.specs.Text.{hexadecimal}
 use Rattle.ppc_isa.specs.declared.instruction.InstrPpc.{InstrPpc}

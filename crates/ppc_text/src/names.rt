@@ -1,10 +1,10 @@
 ghost use Rattle.std.specs.Prelude.{◌≡◌, ◌+◌, ◌≤◌, ◌++◌, codes, length};
 ghost use Rattle.ppc_text.specs.Names.{branch_marks as branch_marks_of, branch_name as branch_name_of, carry_name, extended_name, immediate_name as immediate_name_of, letter as letter_of, load_name as load_name_of, load_reversed_name as load_reversed_name_of, logical_name as logical_name_of, name, overflow_marks as overflow_marks_of, rotate_name as rotate_name_of, shift_name as shift_name_of, store_name as store_name_of, store_reversed_name as store_reversed_name_of, unary_name as unary_name_of, update};
-ghost use Rattle.ppc_text.specs.Opcodes.{IsOfOpcode31};
 
 use ppc_isa::{
-    BranchRegister, CarryUse, ExtendedOperand, ImmediateOp, InstrPpc, LoadKind, LogicalOp, MaskUse,
-    ReversedKind, ShiftOp, StoreKind, UnaryOp,
+    BranchRegister, CarryUse, Comparison, ConditionMove, ExtendedOperand, ImmediateOp, InstrPpc,
+    LoadKind, LogicalOp, MaskUse, MultipleAccess, Multiplication, ReversedAccess, ReversedKind,
+    Rotation, ShiftOp, SpecialMove, StoreKind, StringImmediateAccess, StringIndexedAccess, UnaryOp,
 };
 
 /// The name of an instruction: its stem, and the letters that its word asks for.
@@ -242,17 +242,17 @@ pub fn name_of(i: InstrPpc) -> Name
         InstrPpc::CompareImmediate { signed, .. } => whole(if signed { "cmpi" } else { "cmpli" }),
         InstrPpc::TrapWordImmediate { .. } => whole("twi"),
         InstrPpc::LogicalImmediate { op, .. } => whole(immediate_name(op)),
-        InstrPpc::RotateLeftImmediate { outside, rc, .. } => named(
+        InstrPpc::Rotate(Rotation::RotateLeftImmediate { outside, rc, .. }) => named(
             rotate_name(outside),
             letter(rc, "."),
         ),
-        InstrPpc::RotateLeft { rc, .. } => named("rlwnm", letter(rc, ".")),
+        InstrPpc::Rotate(Rotation::RotateLeft { rc, .. }) => named("rlwnm", letter(rc, ".")),
         InstrPpc::BranchConditional { aa, lk, .. } => named("bc", branch_marks(lk, aa)),
         InstrPpc::Branch { aa, lk, .. } => named("b", branch_marks(lk, aa)),
         InstrPpc::Load { kind, update, .. } => named(load_name(kind), letter(update, "u")),
         InstrPpc::Store { kind, update, .. } => named(store_name(kind), letter(update, "u")),
-        InstrPpc::LoadMultiple { .. } => whole("lmw"),
-        InstrPpc::StoreMultiple { .. } => whole("stmw"),
+        InstrPpc::Multiple(MultipleAccess::LoadMultiple { .. }) => whole("lmw"),
+        InstrPpc::Multiple(MultipleAccess::StoreMultiple { .. }) => whole("stmw"),
         InstrPpc::MoveConditionField { .. } => whole("mcrf"),
         InstrPpc::BranchConditionalToRegister { register, lk, .. } => named(
             branch_name(register),
@@ -260,17 +260,6 @@ pub fn name_of(i: InstrPpc) -> Name
         ),
         InstrPpc::ConditionLogical { op, .. } => named("cr", logical_name(op)),
         InstrPpc::InstructionSynchronize => whole("isync"),
-        _ => name_of_opcode_31(i),
-    }
-}
-
-/// The same of an instruction of opcode 31.
-fn name_of_opcode_31(i: InstrPpc) -> Name
-    requires { IsOfOpcode31 i }
-    ensures text { result.stem.now ++ result.ending.now ≡ name i }
-    ensures short { length result.stem.now + length result.ending.now ≤ 8 }
-{
-    match i {
         InstrPpc::Add { carry, oe, rc, .. } => named(sum_name(carry), overflow_marks(oe, rc)),
         InstrPpc::AddExtended {
             operand,
@@ -289,8 +278,11 @@ fn name_of_opcode_31(i: InstrPpc) -> Name
             ..
         } => named(extended_difference_name(operand), overflow_marks(oe, rc)),
         InstrPpc::Negate { oe, rc, .. } => named("neg", overflow_marks(oe, rc)),
-        InstrPpc::MultiplyLow { oe, rc, .. } => named("mullw", overflow_marks(oe, rc)),
-        InstrPpc::MultiplyHigh { signed, rc, .. } => named(
+        InstrPpc::Multiply(Multiplication::MultiplyLow { oe, rc, .. }) => named(
+            "mullw",
+            overflow_marks(oe, rc),
+        ),
+        InstrPpc::Multiply(Multiplication::MultiplyHigh { signed, rc, .. }) => named(
             if signed { "mulhw" } else { "mulhwu" },
             letter(rc, "."),
         ),
@@ -302,22 +294,33 @@ fn name_of_opcode_31(i: InstrPpc) -> Name
         InstrPpc::Unary { op, rc, .. } => named(unary_name(op), letter(rc, ".")),
         InstrPpc::Shift { op, rc, .. } => named(shift_name(op), letter(rc, ".")),
         InstrPpc::ShiftRightAlgebraicImmediate { rc, .. } => named("srawi", letter(rc, ".")),
-        InstrPpc::Compare { signed, .. } => whole(if signed { "cmp" } else { "cmpl" }),
-        InstrPpc::TrapWord { .. } => whole("tw"),
+        InstrPpc::CompareOrTrap(Comparison::Compare { signed, .. }) => whole(if signed {
+            "cmp"
+        } else {
+            "cmpl"
+        }),
+        InstrPpc::CompareOrTrap(Comparison::TrapWord { .. }) => whole("tw"),
         InstrPpc::LoadIndexed { kind, update, .. } => named(load_name(kind), indexed(update)),
         InstrPpc::StoreIndexed { kind, update, .. } => named(store_name(kind), indexed(update)),
-        InstrPpc::LoadReversed { kind, .. } => whole(load_reversed_name(kind)),
-        InstrPpc::StoreReversed { kind, .. } => whole(store_reversed_name(kind)),
-        InstrPpc::LoadStringImmediate { .. } => whole("lswi"),
-        InstrPpc::StoreStringImmediate { .. } => whole("stswi"),
-        InstrPpc::LoadStringIndexed { .. } => whole("lswx"),
-        InstrPpc::StoreStringIndexed { .. } => whole("stswx"),
-        InstrPpc::MoveFromConditionRegister { .. } => whole("mfcr"),
-        InstrPpc::MoveToConditionFields { .. } => whole("mtcrf"),
+        InstrPpc::Reversed(ReversedAccess::LoadReversed { kind, .. }) => whole(load_reversed_name(
+            kind,
+        )),
+        InstrPpc::Reversed(ReversedAccess::StoreReversed { kind, .. }) => whole(store_reversed_name(
+            kind,
+        )),
+        InstrPpc::StringImmediate(StringImmediateAccess::LoadStringImmediate { .. }) => whole(
+            "lswi",
+        ),
+        InstrPpc::StringImmediate(StringImmediateAccess::StoreStringImmediate { .. }) => whole(
+            "stswi",
+        ),
+        InstrPpc::StringIndexed(StringIndexedAccess::LoadStringIndexed { .. }) => whole("lswx"),
+        InstrPpc::StringIndexed(StringIndexedAccess::StoreStringIndexed { .. }) => whole("stswx"),
+        InstrPpc::MoveCondition(ConditionMove::MoveFromConditionRegister { .. }) => whole("mfcr"),
+        InstrPpc::MoveCondition(ConditionMove::MoveToConditionFields { .. }) => whole("mtcrf"),
         InstrPpc::MoveXerToConditionField { .. } => whole("mcrxr"),
-        InstrPpc::MoveFromSpecial { .. } => whole("mfspr"),
-        InstrPpc::MoveToSpecial { .. } => whole("mtspr"),
+        InstrPpc::MoveSpecial(SpecialMove::MoveFromSpecial { .. }) => whole("mfspr"),
+        InstrPpc::MoveSpecial(SpecialMove::MoveToSpecial { .. }) => whole("mtspr"),
         InstrPpc::Synchronize => whole("sync"),
-        _ => unreachable!(),
     }
 }

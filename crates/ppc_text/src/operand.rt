@@ -1,5 +1,6 @@
 ghost use Rattle.std.specs.Prelude.{◌≡◌, ◌+◌, ◌*◌, ◌<◌, ◌≤◌, ◌++◌, length};
-ghost use Rattle.ppc_text.specs.Operands.{joined, listed, operand_text, operands_text, register_text, signed_text};
+ghost use Rattle.ppc_text.specs.Operands.{joined, operand_text, operands_text, register_text, signed_text};
+ghost use Rattle.ppc_text.specs.inner.Operands.{listed};
 
 use super::append::{add_long, add_number};
 use mix_bits::Line;

@@ -1,12 +1,15 @@
 ghost use Rattle.std.specs.Prelude.{◌≡◌, [], ◌∷◌, if◌then◌else◌};
 ghost use Rattle.ppc_isa.specs.Targets.{branch_target as branch_target_of};
-ghost use Rattle.ppc_text.specs.Operands.{listed, operands, special_number};
+ghost use Rattle.ppc_text.specs.inner.Operands.{listed};
+ghost use Rattle.ppc_text.specs.Operands.{operands, special_number};
 ghost use Rattle.ppc_text.specs.declared.operand.Operand.TheVariants.{Displaced as DisplacedOf, Number as NumberOf, Register as RegisterOf, Signed as SignedOf, Target as TargetOf};
-ghost use Rattle.ppc_text.specs.Opcodes.{IsOfOpcode31};
 
 use super::operand::Operand::{self, Displaced, Number, Register, Signed, Target};
 use super::operand::Operands;
-use ppc_isa::{InstrPpc, SpecialRegister, branch_target};
+use ppc_isa::{
+    Comparison, ConditionMove, InstrPpc, MultipleAccess, Multiplication, ReversedAccess, Rotation,
+    SpecialMove, SpecialRegister, StringImmediateAccess, StringIndexedAccess, branch_target,
+};
 
 /// Where a branch at an address goes.
 fn target(aa: bool, at: u32, displacement: u32) -> Operand
@@ -117,22 +120,26 @@ pub fn operands_ppc(i: InstrPpc, at: u32) -> Operands
             immediate,
             ..
         } => Operands::Three(Register(a), Register(s), Number(immediate)),
-        InstrPpc::RotateLeftImmediate {
-            a,
-            s,
-            sh,
-            mb,
-            me,
-            ..
-        } => Operands::Five(Register(a), Register(s), number(sh), number(mb), number(me)),
-        InstrPpc::RotateLeft {
-            a,
-            s,
-            b,
-            mb,
-            me,
-            ..
-        } => Operands::Five(
+        InstrPpc::Rotate(
+            Rotation::RotateLeftImmediate {
+                a,
+                s,
+                sh,
+                mb,
+                me,
+                ..
+            },
+        ) => Operands::Five(Register(a), Register(s), number(sh), number(mb), number(me)),
+        InstrPpc::Rotate(
+            Rotation::RotateLeft {
+                a,
+                s,
+                b,
+                mb,
+                me,
+                ..
+            },
+        ) => Operands::Five(
             Register(a),
             Register(s),
             Register(b),
@@ -153,8 +160,8 @@ pub fn operands_ppc(i: InstrPpc, at: u32) -> Operands
         } => Operands::One(target(aa, at, displacement)),
         InstrPpc::Load { d, a, offset, .. } => access(d, offset, a),
         InstrPpc::Store { s, a, offset, .. } => access(s, offset, a),
-        InstrPpc::LoadMultiple { d, a, offset } => access(d, offset, a),
-        InstrPpc::StoreMultiple { s, a, offset } => access(s, offset, a),
+        InstrPpc::Multiple(MultipleAccess::LoadMultiple { d, a, offset }) => access(d, offset, a),
+        InstrPpc::Multiple(MultipleAccess::StoreMultiple { s, a, offset }) => access(s, offset, a),
         InstrPpc::MoveConditionField { field, from } => Operands::Two(number(field), number(from)),
         InstrPpc::BranchConditionalToRegister { bo, bi, .. } => Operands::Two(
             number(bo),
@@ -166,23 +173,15 @@ pub fn operands_ppc(i: InstrPpc, at: u32) -> Operands
             number(b),
         ),
         InstrPpc::InstructionSynchronize => Operands::None,
-        _ => operands_of_opcode_31(i, at),
-    }
-}
-
-/// The same of an instruction of opcode 31.
-fn operands_of_opcode_31(i: InstrPpc, at: u32) -> Operands
-    requires { IsOfOpcode31 i }
-    ensures { listed result ≡ operands i at }
-{
-    match i {
         InstrPpc::Add { d, a, b, .. } => three_registers(d, a, b),
         InstrPpc::AddExtended { d, a, .. } => two_registers(d, a),
         InstrPpc::SubtractFrom { d, a, b, .. } => three_registers(d, a, b),
         InstrPpc::SubtractFromExtended { d, a, .. } => two_registers(d, a),
         InstrPpc::Negate { d, a, .. } => two_registers(d, a),
-        InstrPpc::MultiplyLow { d, a, b, .. } => three_registers(d, a, b),
-        InstrPpc::MultiplyHigh { d, a, b, .. } => three_registers(d, a, b),
+        InstrPpc::Multiply(Multiplication::MultiplyLow { d, a, b, .. }) => three_registers(d, a, b),
+        InstrPpc::Multiply(Multiplication::MultiplyHigh { d, a, b, .. }) => three_registers(
+            d, a, b,
+        ),
         InstrPpc::Divide { d, a, b, .. } => three_registers(d, a, b),
         InstrPpc::Logical { a, s, b, .. } => three_registers(a, s, b),
         InstrPpc::Unary { a, s, .. } => two_registers(a, s),
@@ -192,30 +191,48 @@ fn operands_of_opcode_31(i: InstrPpc, at: u32) -> Operands
             Register(s),
             number(sh),
         ),
-        InstrPpc::Compare { field, a, b, .. } => comparison(field, a, Register(b)),
-        InstrPpc::TrapWord { to, a, b } => Operands::Three(number(to), Register(a), Register(b)),
+        InstrPpc::CompareOrTrap(Comparison::Compare { field, a, b, .. }) => comparison(
+            field,
+            a,
+            Register(b),
+        ),
+        InstrPpc::CompareOrTrap(Comparison::TrapWord { to, a, b }) => Operands::Three(
+            number(to),
+            Register(a),
+            Register(b),
+        ),
         InstrPpc::LoadIndexed { d, a, b, .. } => three_registers(d, a, b),
         InstrPpc::StoreIndexed { s, a, b, .. } => three_registers(s, a, b),
-        InstrPpc::LoadReversed { d, a, b, .. } => three_registers(d, a, b),
-        InstrPpc::StoreReversed { s, a, b, .. } => three_registers(s, a, b),
-        InstrPpc::LoadStringImmediate { d, a, nb } => Operands::Three(
+        InstrPpc::Reversed(ReversedAccess::LoadReversed { d, a, b, .. }) => three_registers(
+            d, a, b,
+        ),
+        InstrPpc::Reversed(ReversedAccess::StoreReversed { s, a, b, .. }) => three_registers(
+            s, a, b,
+        ),
+        InstrPpc::StringImmediate(StringImmediateAccess::LoadStringImmediate { d, a, nb }) =>
+            Operands::Three(Register(d), Register(a), number(nb)),
+        InstrPpc::StringImmediate(StringImmediateAccess::StoreStringImmediate { s, a, nb }) =>
+            Operands::Three(Register(s), Register(a), number(nb)),
+        InstrPpc::StringIndexed(StringIndexedAccess::LoadStringIndexed { d, a, b }) =>
+            three_registers(d, a, b),
+        InstrPpc::StringIndexed(StringIndexedAccess::StoreStringIndexed { s, a, b }) =>
+            three_registers(s, a, b),
+        InstrPpc::MoveCondition(ConditionMove::MoveFromConditionRegister { d }) => Operands::One(
             Register(d),
-            Register(a),
-            number(nb),
         ),
-        InstrPpc::StoreStringImmediate { s, a, nb } => Operands::Three(
+        InstrPpc::MoveCondition(ConditionMove::MoveToConditionFields { mask, s }) => Operands::Two(
+            number(mask),
             Register(s),
-            Register(a),
-            number(nb),
         ),
-        InstrPpc::LoadStringIndexed { d, a, b } => three_registers(d, a, b),
-        InstrPpc::StoreStringIndexed { s, a, b } => three_registers(s, a, b),
-        InstrPpc::MoveFromConditionRegister { d } => Operands::One(Register(d)),
-        InstrPpc::MoveToConditionFields { mask, s } => Operands::Two(number(mask), Register(s)),
         InstrPpc::MoveXerToConditionField { field } => Operands::One(number(field)),
-        InstrPpc::MoveFromSpecial { d, register } => Operands::Two(Register(d), special(register)),
-        InstrPpc::MoveToSpecial { register, s } => Operands::Two(special(register), Register(s)),
+        InstrPpc::MoveSpecial(SpecialMove::MoveFromSpecial { d, register }) => Operands::Two(
+            Register(d),
+            special(register),
+        ),
+        InstrPpc::MoveSpecial(SpecialMove::MoveToSpecial { register, s }) => Operands::Two(
+            special(register),
+            Register(s),
+        ),
         InstrPpc::Synchronize => Operands::None,
-        _ => unreachable!(),
     }
 }

@@ -1,7 +1,7 @@
 -- Values appended one by one.
 use Rattle.std.proofs.Common.{◌∷◌, [], Ok, Err, refl, sym, ap, append_assoc}
 use Rattle.std.proofs.lemmas.List.{append-nil}
-use Rattle.proc_info.specs.Arguments.{BehindFront, BehindNone}
+use Rattle.proc_info.specs.laws.Arguments.{BehindFront, BehindNone}
 
 pub behind_front : {E : Type 0} → BehindFront E
 behind_front xs v (Ok ys) = ap Ok (sym (append_assoc xs (v ∷ []) ys))

@@ -5,12 +5,3 @@ pub mod Fields
 pub mod Rules
 pub mod Exact
 pub mod Chains
-pub mod ChoiceLemmas
-pub mod RecordLemmas
-pub mod Built
-pub mod RecordChains
-pub mod Signed
-pub mod Held
-pub mod Takes
-pub mod Bytes
-pub mod Bits

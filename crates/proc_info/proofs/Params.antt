@@ -7,9 +7,9 @@ use Rattle.proc_info.specs.declared.bad_info.BadInfo.{BadInfo}
 use Rattle.proc_info.specs.declared.bad_info.BadInfo.TheVariants.{Gap}
 use Rattle.proc_info.specs.declared.conv.Shape.{Shape}
 use Rattle.proc_info.specs.declared.param.Param.{Param}
-use Rattle.proc_info.specs.Nothing.{nothing}
+use Rattle.proc_info.specs.inner.Nothing.{nothing}
 use Rattle.proc_info.specs.Signature.{base, param_at, params_at}
-use Rattle.proc_info.specs.Filling.{Begins}
+use Rattle.proc_info.specs.inner.Filling.{Begins}
 
 -- the number 0 says no parameters
 pub params_zero : (shape : Shape) (most : ℕ) → params_at shape most 0 ≡ Ok []

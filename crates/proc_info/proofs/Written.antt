@@ -9,9 +9,12 @@ use Rattle.proc_info.specs.declared.conv.Conv.{Conv}
 use Rattle.proc_info.specs.declared.conv.Shape.{Shape}
 use Rattle.proc_info.specs.declared.conv.Shape.TheVariants.{Stack, Dispatched, Registers}
 use Rattle.proc_info.specs.declared.param.Param.{Param}
-use Rattle.proc_info.specs.Codes.{conv_at, conv_code, shape_of, size_at, size_code, is_place}
+use Rattle.proc_info.specs.Codes.{conv_at, shape_of, size_at, size_code, is_place}
+use Rattle.proc_info.specs.CodesClauses.{conv_code}
 use Rattle.proc_info.proofs.Makes.{made, made_once, tested}
-use Rattle.proc_info.specs.Signature.{Signature, base, no_parameters, param_at, params_at, digit_of_param, params_word, on_stack, with_selector, in_registers, signature_by, signature_of, word_by, word_of, IsSignature}
+use Rattle.proc_info.specs.Signature.{Signature, base, no_parameters, param_at, params_at, on_stack, with_selector, in_registers, signature_by, signature_of}
+use Rattle.proc_info.specs.SignatureClauses.{digit_of_param, params_word, word_by, word_of}
+use Rattle.proc_info.specs.inner.Signature.{IsSignature}
 
 -- a size's number is the number that it was read from
 pub size_back : (code : ℕ) → code < 4 → size_code (size_at code) ≡ code

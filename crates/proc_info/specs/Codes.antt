@@ -10,15 +10,6 @@ use Rattle.proc_info.specs.declared.conv.Conv.TheVariants.{Pascal, C, Register, 
 use Rattle.proc_info.specs.declared.conv.Shape.{Shape}
 use Rattle.proc_info.specs.declared.conv.Shape.TheVariants.{Stack, Dispatched, Registers}
 
-abbrev pub conv_code : Conv → ℕ
-conv_code Pascal = 0
-conv_code C = 1
-conv_code Register = 2
-conv_code D0Pascal = 8
-conv_code D0C = 9
-conv_code D1Pascal = 12
-conv_code StackPascal = 14
-
 -- the convention of that number
 abbrev pub conv_at : ℕ → Result Conv BadInfo
 conv_at code =

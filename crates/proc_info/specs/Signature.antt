@@ -1,6 +1,6 @@
 -- A procInfo word, a number below 2 ^ 32, and the signature that it stands for
 -- (Inside Macintosh: PowerPC System Software, chapter 2).
-use Rattle.std.specs.Prelude.{ℕ, zero, suc, ◌≡◌, ◌+◌, ◌*◌, ◌/◌, ◌%◌, ◌^◌, ◌<◌, Bool, false, not, Result, Ok, Err, is_ok, if◌then◌else◌, ◌==◌, ◌||◌, List, [], ◌∷◌}
+use Rattle.std.specs.Prelude.{ℕ, zero, suc, ◌/◌, ◌%◌, ◌^◌, Bool, false, not, Result, Ok, Err, is_ok, if◌then◌else◌, ◌==◌, ◌||◌, List, [], ◌∷◌}
 use Rattle.std.specs.List.{list_any}
 use Rattle.mix_bits.specs.Results.{◌>>=◌}
 use Rattle.mix_bits.specs.declared.size.Size.{Size}
@@ -12,7 +12,7 @@ use Rattle.proc_info.specs.declared.conv.Conv.TheVariants.{Pascal}
 use Rattle.proc_info.specs.declared.conv.Shape.{Shape}
 use Rattle.proc_info.specs.declared.conv.Shape.TheVariants.{Stack, Dispatched, Registers}
 use Rattle.proc_info.specs.declared.param.Param.{Param}
-use Rattle.proc_info.specs.Codes.{conv_at, conv_code, shape_of, size_at, size_code, is_place}
+use Rattle.proc_info.specs.Codes.{conv_at, shape_of, size_at, is_place}
 
 -- how a procedure is called; a field that its convention does not use is 0 or no size
 pub record Signature : Type 0 where
@@ -99,29 +99,3 @@ signed_or other (Err e) = other
 -- the signature of a word that has one
 abbrev pub signature_in : ℕ → Signature
 signature_in w = signed_or no_parameters (signature_of w)
-
--- the digit of a parameter
-abbrev pub digit_of_param : Shape → Param → ℕ
-digit_of_param Stack p = size_code p.size
-digit_of_param Dispatched p = size_code p.size
-digit_of_param Registers p = size_code p.size + 4 * p.reg
-
--- the number whose digits are these parameters
-abbrev pub params_word : Shape → List Param → ℕ
-params_word shape [] = 0
-params_word shape (p ∷ ps) = digit_of_param shape p + base shape * params_word shape ps
-
--- the word of a signature whose convention has this shape
-abbrev pub word_by : Shape → Signature → ℕ
-word_by Stack s = conv_code s.conv + 16 * size_code s.result + 64 * params_word Stack s.params
-word_by Dispatched s = conv_code s.conv + 16 * size_code s.result + 64 * size_code s.selector + 256 * params_word Dispatched s.params
-word_by Registers s = conv_code s.conv + 16 * size_code s.result + 64 * s.place + 2048 * params_word Registers s.params
-
--- the word of a signature
-abbrev pub word_of : Signature → ℕ
-word_of s = word_by (shape_of s.conv) s
-
--- that a signature is some word's: its own word's
-pub record IsSignature (s : Signature) : Type 0 where
-  pub fits : word_of s < 2 ^ 32
-  pub back : signature_of (word_of s) ≡ Ok s

@@ -1,5 +1,6 @@
 ghost use Rattle.std.specs.Prelude.{◌≡◌, ◌<◌};
-ghost use Rattle.proc_info.specs.Codes.{conv_code, conv_at, shape_of, is_dispatched};
+ghost use Rattle.proc_info.specs.CodesClauses.{conv_code};
+ghost use Rattle.proc_info.specs.Codes.{conv_at, shape_of, is_dispatched};
 
 use super::bad_info::BadInfo;
 
@@ -35,7 +36,7 @@ pub(crate) enum Shape {
 
 impl Conv {
     /// The convention with this number in bits 0 to 3.
-    pub(crate) fn at(code: u32) -> Result<Conv, BadInfo>
+    pub fn at(code: u32) -> Result<Conv, BadInfo>
         ensures { result ≡ conv_at code }
     {
         match code {

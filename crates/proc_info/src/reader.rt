@@ -2,10 +2,11 @@ ghost use Rattle.std.specs.Prelude.{◌≡◌, ◌≢◌, ◌+◌, ◌/◌, ◌%
 ghost use Rattle.std.specs.List.{list_any};
 ghost use Rattle.mix_bits.specs.Digits.{digit_of};
 ghost use Rattle.proc_info.specs.Codes.{size_at, is_place};
-ghost use Rattle.proc_info.specs.Filling.{Fills};
-ghost use Rattle.proc_info.specs.Nothing.{nothing};
+ghost use Rattle.proc_info.specs.inner.Filling.{Fills};
+ghost use Rattle.proc_info.specs.inner.Nothing.{nothing};
 ghost use Rattle.proc_info.specs.Rules.{KeepsRules};
-ghost use Rattle.proc_info.specs.Signature.{Signature, base, has_signature, param_at, params_at, is_twice, signature_by, signature_in, signature_of, word_of};
+ghost use Rattle.proc_info.specs.Signature.{Signature, base, has_signature, param_at, params_at, is_twice, signature_by, signature_in, signature_of};
+ghost use Rattle.proc_info.specs.SignatureClauses.{word_of};
 ghost use Rattle.proc_info.specs.Views.{answered, signature};
 
 use super::bad_info::BadInfo;

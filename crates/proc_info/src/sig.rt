@@ -1,6 +1,6 @@
 ghost use Rattle.std.specs.Prelude.{◌≡◌, ◌≤◌, ◌-◌, take, drop, replicate};
-ghost use Rattle.proc_info.specs.Signature.{IsSignature};
-ghost use Rattle.proc_info.specs.Nothing.{nothing};
+ghost use Rattle.proc_info.specs.inner.Signature.{IsSignature};
+ghost use Rattle.proc_info.specs.inner.Nothing.{nothing};
 
 use super::conv::Conv;
 use super::param::Param;

@@ -1,5 +1,6 @@
 ghost use Rattle.std.specs.Prelude.{◌≡◌, ◌+◌, ◌*◌, ◌%◌, ◌^◌, Ok};
-ghost use Rattle.proc_info.specs.Signature.{params_word, signature_of, word_of};
+ghost use Rattle.proc_info.specs.SignatureClauses.{params_word, word_of};
+ghost use Rattle.proc_info.specs.Signature.{signature_of};
 ghost use Rattle.proc_info.specs.Views.{signature};
 
 use super::conv::Shape;

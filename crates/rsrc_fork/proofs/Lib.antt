@@ -5,4 +5,3 @@ pub mod Listing
 pub mod Small
 mod Walk
 pub mod Counts
-pub mod Fronts

@@ -3,8 +3,9 @@ use Rattle.std.proofs.Common.{◌≡◌, refl, ℕ, zero, suc, ℤ, pos, ◌+ℤ
 use Rattle.std.specs.Prelude.{Contains}
 use Rattle.std.proofs.lemmas.List.Elements.{All-nil, All-cons}
 use Rattle.std.proofs.lemmas.Int.{ints}
-use Rattle.rsrc_fork.specs.Resources.{Resource, AreSmall, named, next_id, IsNextId}
-use Rattle.rsrc_fork.specs.Walk.{AreAllIds, AreIds, ComesToEnd, FindsAll, HasId}
+use Rattle.rsrc_fork.specs.Resources.{Resource, named}
+use Rattle.rsrc_fork.specs.ResourcesClauses.{AreSmall, next_id, IsNextId}
+use Rattle.rsrc_fork.specs.laws.Walk.{AreAllIds, AreIds, ComesToEnd, FindsAll, HasId}
 use Rattle.rsrc_fork.proofs.NextId.{next_id_is, none_above, none_there}
 
 module _ (resources : List Resource) (kind : ℕ) where

@@ -4,7 +4,7 @@
 -- The header is four longs: the place of the data, the place of the map, the length of the data and the
 -- length of the map. The map's last two words before its lists are the places of the type list and of
 -- the name list, both counted from the map's start.
-use Rattle.std.specs.Prelude.{ℕ, ◌+◌, ◌^◌, ◌≤◌, ◌||◌, nat_lt, min, max, if◌then◌else◌, List, length, Result, Ok, Err}
+use Rattle.std.specs.Prelude.{ℕ, ◌+◌, ◌||◌, nat_lt, min, max, if◌then◌else◌, List, length, Result, Ok, Err}
 use Rattle.rsrc_fork.specs.declared.error.RsrcError.{RsrcError}
 use Rattle.rsrc_fork.specs.declared.error.RsrcError.TheVariants.{Short, Overlap, BadOffset}
 use Rattle.rsrc_fork.specs.declared.header.Areas.{Areas}
@@ -12,12 +12,13 @@ use Rattle.mix_bits.specs.Fields.{word_at, long_at}
 
 -- the areas as the header names them
 abbrev pub areas_at : List ℕ → Areas
-areas_at bytes = record {
-  data_start = long_at bytes 0;
-  data_end = long_at bytes 0 + long_at bytes 8;
-  map_start = long_at bytes 4;
-  map_end = long_at bytes 4 + long_at bytes 12;
-}
+areas_at bytes =
+    record {
+      data_start = long_at bytes 0;
+      data_end = long_at bytes 0 + long_at bytes 8;
+      map_start = long_at bytes 4;
+      map_end = long_at bytes 4 + long_at bytes 12;
+    }
 
 -- the areas, where they lie in the file, the map has its 28 bytes, and they share no byte
 abbrev pub areas_of : List ℕ → Result Areas RsrcError
@@ -34,11 +35,3 @@ abbrev pub list_of : List ℕ → Areas → Result ℕ RsrcError
 list_of bytes areas =
     let list = areas.map_start + word_at bytes (areas.map_start + 24) in
     if nat_lt areas.map_end (list + 2) then Err (BadOffset (areas.map_start + 24)) else Ok list
-
--- both areas lie in a file of this length, which is at most 16 MiB, and the map has its 28 bytes
-pub record IsWithin (areas : Areas) (len : ℕ) : Type 0 where
-  pub data_order : areas.data_start ≤ areas.data_end
-  pub data_fits : areas.data_end ≤ len
-  pub map_order : areas.map_start + 28 ≤ areas.map_end
-  pub map_fits : areas.map_end ≤ len
-  pub small : len ≤ 2 ^ 24

@@ -1,8 +1,10 @@
-pub mod Outcome
 pub mod Header
-pub mod Resources
-pub mod References
 pub mod Listing
-pub mod Walk
-pub mod Checksum
-pub mod Forks
+pub mod Outcome
+pub mod OutcomeClauses
+pub mod References
+pub mod ReferencesClauses
+pub mod Resources
+pub mod ResourcesClauses
+pub mod laws
+pub mod inner

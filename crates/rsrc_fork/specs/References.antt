@@ -8,7 +8,7 @@
 -- the data's start, and four bytes that the file leaves unused. At its place in the data a resource has
 -- a long, its length, and then its bytes. In the attributes the bit of value 1 says that the bytes are
 -- compressed.
-use Rattle.std.specs.Prelude.{ℕ, ℤ, zero, suc, ◌+◌, ◌*◌, ◌%◌, Bool, ◌||◌, ◌==◌, nat_lt, if◌then◌else◌, List, [], slice_index, slice_range, Result, Ok, Err}
+use Rattle.std.specs.Prelude.{ℕ, ℤ, ◌+◌, ◌*◌, ◌%◌, Bool, ◌||◌, ◌==◌, nat_lt, if◌then◌else◌, List, [], slice_index, slice_range, Result, Ok, Err}
 use Rattle.rsrc_fork.specs.declared.error.RsrcError.{RsrcError}
 use Rattle.rsrc_fork.specs.declared.error.RsrcError.TheVariants.{BadOffset, Compressed}
 use Rattle.rsrc_fork.specs.declared.header.Areas.{Areas}
@@ -45,11 +45,12 @@ with_reference bytes areas kind before place =
 
 -- the type's entry at a place, with its first reference's place in the file
 abbrev pub entry_at : List ℕ → ℕ → ℕ → TypeEntry
-entry_at bytes list place = record {
-  kind = long_at bytes place;
-  count = word_at bytes (place + 4) + 1;
-  first = list + word_at bytes (place + 6);
-}
+entry_at bytes list place =
+    record {
+      kind = long_at bytes place;
+      count = word_at bytes (place + 4) + 1;
+      first = list + word_at bytes (place + 6);
+    }
 
 -- the same for the reference of a type with this number
 abbrev pub with_numbered : List ℕ → Areas → TypeEntry → List Resource → ℕ → Result (List Resource) RsrcError
@@ -77,24 +78,3 @@ with_types bytes areas list count = each_below (with_type bytes areas list) [] c
 abbrev pub resources_of : List ℕ → Result (List Resource) RsrcError
 resources_of bytes =
     areas_of bytes >>= λ areas. list_of bytes areas >>= λ list. with_types bytes areas list (type_count bytes list)
-
--- how many references a fork may have: as many as fill the largest file, with 12 bytes for each
-abbrev pub reference_limit : ℕ
-reference_limit = 1398101
-
--- how many references a type has, as its entry says; an entry that leaves the map says nothing
-abbrev pub count_in : List ℕ → Areas → ℕ → ℕ → ℕ
-count_in bytes areas list k =
-    let place = list + 2 + 8 * k in
-    let entry = entry_at bytes list place in
-    if nat_lt areas.map_end (place + 8) then 0 else entry.count
-
--- how many the first types have together
-abbrev pub count_below : List ℕ → Areas → ℕ → ℕ → ℕ
-count_below bytes areas list zero = 0
-count_below bytes areas list (suc k) = count_below bytes areas list k + count_in bytes areas list k
-
--- how many references a fork has, as its type list says; types may share them
-abbrev pub reference_count : List ℕ → Result ℕ RsrcError
-reference_count bytes =
-    areas_of bytes >>= λ areas. list_of bytes areas >>= λ list. Ok (count_below bytes areas list (type_count bytes list))

@@ -14,7 +14,8 @@ pub struct Fork<'a> {
 
 impl<'a> Model for Fork<'a> {
     ghost use Rattle.std.specs.Prelude.{List};
-    ghost use Rattle.rsrc_fork.specs.Resources.{AreSmall, Resource, seen};
+    ghost use Rattle.rsrc_fork.specs.ResourcesClauses.{AreSmall, seen};
+    ghost use Rattle.rsrc_fork.specs.Resources.{Resource};
 
     ghost Value = { List Resource };
 
@@ -25,11 +26,13 @@ impl<'a> Model for Fork<'a> {
 
 impl<'a> Fork<'a> {
     ghost use Rattle.std.specs.Prelude.{◌≡◌, ◌≢◌, ◌^◌, ◌≤◌, ◌<◌, List, length, option_map, IfOk, IfErr, IfSome};
-    ghost use Rattle.rsrc_fork.specs.Outcome.{Gives};
+    ghost use Rattle.rsrc_fork.specs.OutcomeClauses.{Gives};
     ghost use Rattle.rsrc_fork.specs.Listing.{IsFork};
-    ghost use Rattle.rsrc_fork.specs.References.{reference_count, reference_limit, resources_of};
-    ghost use Rattle.rsrc_fork.specs.Resources.{Resource, bytes_of, named, next_id, IsNextId};
-    ghost use Rattle.rsrc_fork.specs.Walk.{ComesToEnd, FindsAll};
+    ghost use Rattle.rsrc_fork.specs.ReferencesClauses.{reference_count, reference_limit};
+    ghost use Rattle.rsrc_fork.specs.References.{resources_of};
+    ghost use Rattle.rsrc_fork.specs.Resources.{Resource, bytes_of, named};
+    ghost use Rattle.rsrc_fork.specs.ResourcesClauses.{next_id, IsNextId};
+    ghost use Rattle.rsrc_fork.specs.laws.Walk.{ComesToEnd, FindsAll};
 
     /// Reads the fork in a file's bytes. A refusal is the first in this order: the header, the place
     /// of the type list, and then each type and its references in turn, as they are listed. It keeps an entry for

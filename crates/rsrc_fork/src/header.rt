@@ -1,5 +1,6 @@
 ghost use Rattle.std.specs.Prelude.{◌≡◌, ◌+◌, ◌^◌, ◌≤◌, length, IfOk};
-ghost use Rattle.rsrc_fork.specs.Header.{areas_of, list_of, IsWithin};
+ghost use Rattle.rsrc_fork.specs.Header.{areas_of, list_of};
+ghost use Rattle.rsrc_fork.specs.inner.Header.{IsWithin};
 
 use crate::error::RsrcError;
 use mix_bits::{long_at, word_at};

@@ -1,5 +1,6 @@
 ghost use Rattle.std.specs.Prelude.{◌≡◌, option_map};
-ghost use Rattle.rsrc_fork.specs.Resources.{AreSmall, IsNextId, bytes_of, seen};
+ghost use Rattle.rsrc_fork.specs.ResourcesClauses.{AreSmall, IsNextId, seen};
+ghost use Rattle.rsrc_fork.specs.Resources.{bytes_of};
 
 use crate::name::Name;
 use crate::references::Resources;

@@ -1,9 +1,11 @@
 ghost use Rattle.std.specs.Prelude.{◌≡◌, ◌+◌, ◌^◌, ◌≤◌, ◌<◌, [], length, IfOk};
 ghost use Rattle.std.specs.Result.{result_map_both};
-ghost use Rattle.rsrc_fork.specs.Header.{IsWithin};
-ghost use Rattle.rsrc_fork.specs.Outcome.{Gives};
-ghost use Rattle.rsrc_fork.specs.Resources.{seen, with_resource};
-ghost use Rattle.rsrc_fork.specs.References.{count_below as count_below_lem, count_in as count_in_lem, data_at, entry_at, id_at, reference_count, reference_limit, resources_of, with_reference, with_references, with_type, with_types};
+ghost use Rattle.rsrc_fork.specs.inner.Header.{IsWithin};
+ghost use Rattle.rsrc_fork.specs.OutcomeClauses.{Gives};
+ghost use Rattle.rsrc_fork.specs.ResourcesClauses.{seen};
+ghost use Rattle.rsrc_fork.specs.Resources.{with_resource};
+ghost use Rattle.rsrc_fork.specs.ReferencesClauses.{count_below as count_below_lem, count_in as count_in_lem, reference_count, reference_limit};
+ghost use Rattle.rsrc_fork.specs.References.{data_at, entry_at, id_at, resources_of, with_reference, with_references, with_type, with_types};
 
 use crate::error::RsrcError;
 use crate::header::{Areas, areas_of, list_of};

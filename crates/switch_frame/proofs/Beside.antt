@@ -3,8 +3,10 @@ use Rattle.std.proofs.Common.{◌≡◌, ◌⊎◌, inl, inr, ℕ, suc, ◌+◌,
 use Rattle.big_memory.specs.Lists.{put}
 use Rattle.big_memory.proofs.Lists.{length-put, put-part, put-put_same, put-put_apart}
 use Rattle.switch_frame.specs.Records.{Record, image}
-use Rattle.switch_frame.specs.Chain.{Above, Apart, Frames, outer_of, cleared, zeros, view}
-use Rattle.switch_frame.specs.Laws.{ViewIsMemory}
+use Rattle.switch_frame.specs.laws.Chain.{Above, Apart}
+use Rattle.switch_frame.specs.Chain.{Frames, outer_of, cleared, view}
+use Rattle.big_memory.specs.Lists.{zeros}
+use Rattle.switch_frame.specs.laws.Laws.{ViewIsMemory}
 use Rattle.switch_frame.proofs.Pieces.{length-zeros}
 use Rattle.switch_frame.proofs.Linked.{IsLen, IsRange, apart-above, frames_above, len-ram, length-cleared, length-image_fits, range-fits}
 

@@ -14,8 +14,9 @@ use Rattle.switch_frame.specs.Records.{Record, head_of, image, isa_of, record_at
 use Rattle.switch_frame.specs.Chain.{Fits, Frames, Links, most_frames, outer_of, records}
 use Rattle.switch_frame.specs.Calls.{IsOutermost}
 use Rattle.mix_bits.specs.Isas.{is_isa}
-use Rattle.switch_frame.specs.Checks.{IsWholeChain, caller_at, checked, fits_outer, is_below, is_good, walk}
-use Rattle.switch_frame.specs.Laws.{WholeChainsPass}
+use Rattle.switch_frame.specs.ChecksClauses.{IsWholeChain}
+use Rattle.switch_frame.specs.Checks.{caller_at, checked, fits_outer, is_below, is_good, walk}
+use Rattle.switch_frame.specs.laws.Laws.{WholeChainsPass}
 use Rattle.switch_frame.proofs.Images.{IsReadAt, kind-back}
 use Rattle.switch_frame.proofs.Linked.{IsLen, IsRange, first-back, len-ram, range-fits, reads_back}
 use Rattle.switch_frame.proofs.Walks.{IsGood, good-is, good-tells, same-set, set-same, walk-bad, walk-ends, walk-last, walk-on}

@@ -9,8 +9,9 @@ use Rattle.big_memory.specs.Map.{host_vector_at, host_code_at}
 use Rattle.big_memory.proofs.Lists.{get_or-put_inside, get_or-put_outside, length-put, part-put_apart}
 use Rattle.big_memory.specs.Numbers.{AreBytes, bytes_of_longs, long_at, longs_at}
 use Rattle.switch_frame.specs.Pieces.{puts}
-use Rattle.switch_frame.specs.Program.{Stands, blank, gate_long, gate_longs, page_bytes, told, vector_long, vectors}
-use Rattle.switch_frame.specs.GateLaws.{LengthOfBlank, LongsArePage, PageByBytes, PageHasLongs}
+use Rattle.switch_frame.specs.Program.{Stands, blank, gate_long, gate_longs, told, vector_long, vectors}
+use Rattle.switch_frame.specs.laws.Program.{page_bytes}
+use Rattle.switch_frame.specs.laws.GateLaws.{LengthOfBlank, LongsArePage, PageByBytes, PageHasLongs}
 use Rattle.big_memory.proofs.Numbers.{length_of_longs, long_in_part, long_of_longs, long_reads_back, longs_again, longs_fit}
 
 -- a long put at an address, read there

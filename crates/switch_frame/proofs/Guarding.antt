@@ -1,9 +1,11 @@
 -- The frames of a chain are guarded one after the other.
 use Rattle.std.proofs.Common.{◌≡◌, ℕ, suc, ◌+◌, ◌-◌, ◌/◌, ◌<◌, Bool, true, false, ◌||◌, List, [], ◌∷◌, length, drop, get_or, replicate, arith, ap, sym, subst, ◌∙◌, refl}
-use Rattle.big_memory.specs.Memory.{Memory, IsRam, with_marks}
+use Rattle.big_memory.specs.Memory.{Memory, IsRam}
+use Rattle.big_memory.specs.MemoryClauses.{with_marks}
 use Rattle.big_memory.specs.Numbers.{long_at}
 use Rattle.switch_frame.specs.Records.{Record}
-use Rattle.switch_frame.specs.Chain.{Chain, Frames, IsFrameRange, Links, covered, in_range, outer_of, records}
+use Rattle.switch_frame.specs.Chain.{Chain, Frames, Links, covered, in_range, outer_of, records}
+use Rattle.switch_frame.specs.laws.Chain.{IsFrameRange}
 use Rattle.switch_frame.proofs.Images.{IsReadAt}
 use Rattle.switch_frame.proofs.Linked.{first-back, len-ram}
 use Rattle.switch_frame.proofs.Marked.{fits_is_range, mark_at, marks_kept}

@@ -3,16 +3,18 @@ use Rattle.std.proofs.Common.{◌≡◌, ◌⊎◌, inl, inr, ℕ, zero, suc, �
 use Rattle.std.proofs.lemmas.Bool.{cases_Bool, cases_lt}
 use Rattle.std.proofs.lemmas.Bool.Decides.{nat_tests}
 use Rattle.big_memory.specs.Lists.{put}
-use Rattle.big_memory.specs.Memory.{Memory, IsFree, meets_guard, with_bytes}
+use Rattle.big_memory.specs.Memory.{Memory, meets_guard, with_bytes}
+use Rattle.big_memory.specs.laws.Memory.{IsFree}
 use Rattle.big_memory.proofs.Lists.{length-put, put-nil}
-use Rattle.big_memory.specs.Laws.{Passes}
+use Rattle.big_memory.specs.laws.Laws.{Passes}
 use Rattle.big_memory.proofs.Guarded.{passes, free_from_test, test_from_free}
 use Rattle.mix_bits.specs.declared.isa.Isa.{Isa}
 use Rattle.mix_bits.specs.declared.isa.Isa.TheVariants.{M68, Ppc}
 use Rattle.switch_frame.specs.Sets.{frame_size}
 use Rattle.switch_frame.specs.Records.{Record, isa_of}
-use Rattle.switch_frame.specs.Chain.{Apart, Fits, Frames, Chain, covered, in_range, cleared}
-use Rattle.switch_frame.specs.Laws.{IsStored, StoresBeside, GuardIsFrames, meets_frames}
+use Rattle.switch_frame.specs.laws.Chain.{Apart}
+use Rattle.switch_frame.specs.Chain.{Fits, Frames, Chain, covered, in_range, cleared}
+use Rattle.switch_frame.specs.laws.Laws.{IsStored, StoresBeside, GuardIsFrames, meets_frames}
 use Rattle.big_memory.proofs.Rams.{bytes_keep_ram}
 use Rattle.switch_frame.proofs.Linked.{IsLen, IsRange, frames-kept, len-ram, range-fits}
 use Rattle.switch_frame.proofs.Beside.{cleared-put}

@@ -11,5 +11,6 @@ pub mod Turns
 pub mod Walks
 pub mod Again
 pub mod Found
+pub mod FirstBad
 pub mod Guarding
 pub mod Gates

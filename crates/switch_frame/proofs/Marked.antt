@@ -9,8 +9,9 @@ use Rattle.big_memory.specs.Memory.{Memory, floor_of}
 use Rattle.big_memory.proofs.Lists.{length-put, get_or-put_replicate}
 use Rattle.switch_frame.specs.Sets.{frame_size}
 use Rattle.switch_frame.specs.Records.{isa_of}
-use Rattle.switch_frame.specs.Chain.{IsFrameRange, in_range}
-use Rattle.switch_frame.specs.RangeLaws.{FitsIsRange, MarkAt, MarksKept, MarksSame, RangeMoves, TopTells}
+use Rattle.switch_frame.specs.laws.Chain.{IsFrameRange}
+use Rattle.switch_frame.specs.Chain.{in_range}
+use Rattle.switch_frame.specs.laws.RangeLaws.{FitsIsRange, MarkAt, MarksKept, MarksSame, RangeMoves, TopTells}
 use Rattle.switch_frame.proofs.Linked.{IsRange, len-ram, range-fits}
 
 pub top_tells : TopTells

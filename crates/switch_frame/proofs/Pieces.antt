@@ -5,7 +5,7 @@ use Rattle.big_memory.specs.Lists.{part}
 use Rattle.big_memory.specs.Memory.{Memory, with_bytes}
 use Rattle.big_memory.specs.Numbers.{long_at, longs_at, bytes_of_longs}
 use Rattle.big_memory.proofs.Numbers.{long_of_longs, long_of_part, writes_join}
-use Rattle.switch_frame.specs.Chain.{zeros}
+use Rattle.big_memory.specs.Lists.{zeros}
 
 -- one of the longs that were read from an address on
 pub long-read : (n a b k : ℕ) (bytes xs : List ℕ) → xs ≡ longs_at n a bytes → k < n → b ≡ a + 4 * k → get_or xs k 0 ≡ long_at b bytes

@@ -6,8 +6,9 @@ use Rattle.switch_frame.specs.declared.full.Full.{Full}
 use Rattle.switch_frame.specs.declared.full.Full.TheVariants.{Frames, Outside, Crossed, Stack}
 use Rattle.switch_frame.specs.Records.{Record}
 use Rattle.switch_frame.specs.Chain.{Fits, IsInside, most_frames, outer_of}
-use Rattle.switch_frame.specs.Calls.{IsCalled, IsPlace, hi_of, is_crossed, lo_of}
-use Rattle.switch_frame.specs.FrameLaws.{FirstIsHeld, PlaceByLength, RoomByLength, RoomIsPlace, TopIsZero}
+use Rattle.switch_frame.specs.CallsClauses.{IsCalled, IsPlace}
+use Rattle.switch_frame.specs.Calls.{hi_of, is_crossed, lo_of}
+use Rattle.switch_frame.specs.laws.FrameLaws.{FirstIsHeld, PlaceByLength, RoomByLength, RoomIsPlace, TopIsZero}
 use Rattle.switch_frame.proofs.Linked.{IsRange, len-ram, range-fits}
 
 pub top_is_zero : TopIsZero

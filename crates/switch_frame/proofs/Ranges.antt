@@ -5,13 +5,14 @@ use Rattle.std.proofs.lemmas.Bool.Decides.{nat_tests}
 use Rattle.big_memory.specs.Lists.{part}
 use Rattle.big_memory.specs.Memory.{Memory, meets_gate, meets_guard, refusal}
 use Rattle.big_memory.proofs.Free.{free_ram, same_part}
-use Rattle.big_memory.specs.Laws.{Passes}
+use Rattle.big_memory.specs.laws.Laws.{Passes}
 use Rattle.big_memory.proofs.Guarded.{passes, refusal-none, test_from_free}
 use Rattle.switch_frame.specs.Records.{Record}
-use Rattle.switch_frame.specs.Chain.{Above, Apart, Chain, Frames}
+use Rattle.switch_frame.specs.laws.Chain.{Above, Apart}
+use Rattle.switch_frame.specs.Chain.{Chain, Frames}
 use Rattle.switch_frame.specs.Calls.{is_crossed}
-use Rattle.switch_frame.specs.Laws.{FreeKeepsChain, PlacesAreFree, RefusalsAreRanges, meets_frames}
-use Rattle.switch_frame.specs.FrameLaws.{BelowInnermost, MeetsNone}
+use Rattle.switch_frame.specs.laws.Laws.{FreeKeepsChain, PlacesAreFree, RefusalsAreRanges, meets_frames}
+use Rattle.switch_frame.specs.laws.FrameLaws.{BelowInnermost, MeetsNone}
 use Rattle.switch_frame.proofs.Linked.{IsLen, IsRange, above-less, apart-above, frames_above, len-ram, range-fits}
 use Rattle.switch_frame.proofs.Guards.{apart-free, apart-meets, guard_is_frames, meets-apart}
 

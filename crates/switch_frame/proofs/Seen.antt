@@ -5,10 +5,12 @@ use Rattle.std.proofs.lemmas.List.{length-append, get_or_append_left, get_or-app
 use Rattle.big_memory.specs.Lists.{part, put}
 use Rattle.big_memory.proofs.Lists.{part-put_apart, part-put_same}
 use Rattle.switch_frame.specs.Records.{Record}
-use Rattle.switch_frame.specs.Chain.{Above, Frames, covered, cleared, zeros}
+use Rattle.switch_frame.specs.laws.Chain.{Above}
+use Rattle.switch_frame.specs.Chain.{Frames, covered, cleared}
+use Rattle.big_memory.specs.Lists.{zeros}
 use Rattle.switch_frame.specs.Seen.{marks_over, seen_by}
-use Rattle.switch_frame.specs.Laws.{LowIsMemory, SeenIsMemory}
-use Rattle.switch_frame.specs.FrameLaws.{AreZeros, ZerosBeside}
+use Rattle.switch_frame.specs.laws.Laws.{LowIsMemory, SeenIsMemory}
+use Rattle.switch_frame.specs.laws.FrameLaws.{AreZeros, ZerosBeside}
 use Rattle.switch_frame.proofs.Pieces.{length-zeros}
 use Rattle.switch_frame.proofs.Linked.{IsLen, IsRange, frames_above, keeps_length, len-ram, length-cleared, range-fits}
 use Rattle.switch_frame.proofs.Beside.{view_is_memory}

@@ -4,16 +4,22 @@ use Rattle.std.proofs.lemmas.Bool.Decides.{nat_tests}
 use Rattle.mix_bits.specs.declared.isa.Isa.{Isa}
 use Rattle.mix_bits.specs.declared.isa.Isa.TheVariants.{M68, Ppc}
 use Rattle.big_memory.specs.Lists.{put}
-use Rattle.big_memory.specs.Memory.{Memory, IsRam, floor_of, with_bytes, with_marks}
+use Rattle.big_memory.specs.Memory.{Memory, IsRam, floor_of, with_bytes}
+use Rattle.big_memory.specs.MemoryClauses.{with_marks}
 use Rattle.big_memory.proofs.Lists.{length-put, part-put_same, put-put_same}
 use Rattle.proc_info.specs.Signature.{has_signature}
 use Rattle.switch_frame.specs.declared.held.Held.{Held}
 use Rattle.switch_frame.specs.declared.kind.Kind.{Kind}
 use Rattle.big_memory.specs.Numbers.{long_at}
 use Rattle.switch_frame.specs.Sets.{caller_isa, frame_size, kind_code, kind_at, kind_told}
-use Rattle.switch_frame.specs.Records.{Record, isa_of, image, record_at, record_of, held_of}
-use Rattle.switch_frame.specs.Chain.{Above, Apart, Fits, Frames, IsFrameRange, IsHeld, IsInside, Links, Chain, outer_of, records, covered, in_range, cleared, zeros, most_frames}
-use Rattle.switch_frame.specs.Calls.{IsPlace, IsCalled, IsInnermost, innermost, is_crossed}
+use Rattle.switch_frame.specs.Records.{Record, isa_of, image, record_at}
+use Rattle.switch_frame.specs.RecordsClauses.{record_of, held_of}
+use Rattle.switch_frame.specs.laws.Chain.{Above, Apart, IsFrameRange}
+use Rattle.switch_frame.specs.Chain.{Fits, Frames, IsHeld, IsInside, Links, Chain, outer_of, records, covered, in_range, cleared, most_frames}
+use Rattle.big_memory.specs.Lists.{zeros}
+use Rattle.switch_frame.specs.CallsClauses.{IsPlace, IsCalled, innermost}
+use Rattle.switch_frame.specs.inner.Calls.{IsInnermost}
+use Rattle.switch_frame.specs.Calls.{is_crossed}
 use Rattle.big_memory.proofs.Rams.{bytes_keep_ram}
 use Rattle.switch_frame.proofs.Pieces.{length-zeros}
 use Rattle.switch_frame.proofs.Images.{IsReadAt, kind-back}

@@ -1,25 +1,13 @@
 -- What the calls on a chain answer.
-use Rattle.std.specs.Prelude.{◌≡◌, ℕ, suc, ◌+◌, ◌-◌, ◌/◌, ◌%◌, ◌<◌, ◌≤◌, ◌==◌, nat_lt, Bool, false, ◌||◌, if◌then◌else◌, List, [], ◌∷◌, length, replicate, Option, Some, None, Result, Ok, Err}
+use Rattle.std.specs.Prelude.{◌≡◌, ℕ, ◌-◌, ◌%◌, ◌==◌, nat_lt, Bool, false, ◌||◌, if◌then◌else◌, List, [], ◌∷◌, length, Result, Ok, Err}
 use Rattle.mix_bits.specs.declared.isa.Isa.{Isa}
-use Rattle.big_memory.specs.Memory.{Memory, floor_of, with_bytes, with_marks}
-use Rattle.switch_frame.specs.declared.active.Active.{Active}
+use Rattle.big_memory.specs.Memory.{Memory, floor_of}
 use Rattle.switch_frame.specs.declared.kind.Kind.{Kind}
 use Rattle.switch_frame.specs.declared.full.Full.{Full}
 use Rattle.switch_frame.specs.declared.full.Full.TheVariants.{Frames, Outside, Crossed, Stack}
-use Rattle.switch_frame.specs.declared.held.Held.{Held}
 use Rattle.switch_frame.specs.Sets.{caller_isa, callee_isa, frame_size}
-use Rattle.switch_frame.specs.Records.{Record, isa_of, held_of}
+use Rattle.switch_frame.specs.Records.{Record}
 use Rattle.switch_frame.specs.Chain.{outer_of, most_frames}
-
--- the innermost caller, with its depth
-abbrev pub innermost : List Record → Option Held
-innermost [] = None
-innermost (r ∷ rs) = Some (held_of r (suc (length rs)))
-
--- the innermost frame has this range
-abbrev pub IsInnermost : ℕ → ℕ → List Record → Type 0
-IsInnermost lo hi [] = ⊥
-IsInnermost lo hi (r ∷ rs) = (r.lo ≡ lo) × (r.hi ≡ hi)
 
 -- whether a stack pointer stands above the innermost frame's lo
 abbrev pub is_crossed : List Record → ℕ → Bool
@@ -44,20 +32,6 @@ room_of m rs sp kind below =
     else (if nat_lt (lo_of kind sp - below) (floor_of m) then Err (Stack (lo_of kind sp - below))
     else Ok (lo_of kind sp, hi_of sp))))
 
--- a range that such a call gives for a kind
-pub record IsPlace (m : Memory) (rs : List Record) (kind : Kind) (lo hi : ℕ) : Type 0 where
-  pub few : length rs < most_frames
-  pub aligned : hi % 16 ≡ 0
-  pub size : hi ≡ lo + frame_size (caller_isa kind)
-  pub stack : floor_of m ≤ lo
-  pub within : hi ≤ length m.bytes
-  pub below : is_crossed rs hi ≡ false
-
--- the caller is of the set that the innermost frame's caller called, where a frame is live
-abbrev pub IsCalled : Active → List Record → Type 0
-IsCalled caller [] = Unit {0}
-IsCalled caller (r ∷ rs) = callee_isa r.kind ≡ isa_of caller
-
 -- the set of the innermost caller's callee, or that of the main program
 abbrev pub active_set : Isa → List Record → Isa
 active_set main [] = main
@@ -68,7 +42,3 @@ abbrev pub IsOutermost : Isa → List Record → Type 0
 IsOutermost main [] = Unit {0}
 IsOutermost main (r ∷ []) = caller_isa r.kind ≡ main
 IsOutermost main (r ∷ s ∷ rs) = IsOutermost main (s ∷ rs)
-
--- the memory with a frame's bytes, and its guard, replaced
-abbrev pub with_frame : ℕ → ℕ → List ℕ → Bool → Memory → Memory
-with_frame lo hi bytes on m = with_marks (lo / 16) (replicate ((hi - lo) / 16) on) (with_bytes lo bytes m)

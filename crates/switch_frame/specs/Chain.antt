@@ -1,8 +1,8 @@
 -- The chain of frames in memory, from the innermost outward: read as a function of the bytes, and as a relation.
-use Rattle.std.specs.Prelude.{◌≡◌, ℕ, zero, suc, ◌+◌, ◌-◌, ◌*◌, ◌/◌, ◌%◌, ◌^◌, ◌<◌, ◌≤◌, ◌==◌, nat_le, nat_lt, ◌⊎◌, Bool, true, false, ◌&&◌, ◌||◌, if◌then◌else◌, List, [], ◌∷◌, length, slice_index_or}
+use Rattle.std.specs.Prelude.{◌≡◌, ℕ, zero, suc, ◌+◌, ◌-◌, ◌*◌, ◌/◌, ◌%◌, ◌^◌, ◌<◌, ◌≤◌, ◌==◌, nat_le, nat_lt, Bool, true, false, ◌&&◌, ◌||◌, if◌then◌else◌, List, [], ◌∷◌, length, slice_index_or}
 use Rattle.big_memory.specs.Lists.{part, put}
-pub use Rattle.big_memory.specs.Lists.{zeros}
-use Rattle.big_memory.specs.Memory.{Memory, IsRam, floor_of}
+use Rattle.big_memory.specs.Lists.{zeros}
+use Rattle.big_memory.specs.Memory.{Memory, IsRam}
 use Rattle.big_memory.specs.Numbers.{AreLongs, long_at}
 use Rattle.proc_info.specs.Signature.{has_signature}
 use Rattle.switch_frame.specs.declared.active.Active.{Active}
@@ -99,29 +99,10 @@ abbrev pub covered : ℕ → List Record → Bool
 covered unit [] = false
 covered unit (r ∷ rs) = in_range r.lo r.hi unit || covered unit rs
 
--- each record's range lies apart from the n bytes at a
-abbrev pub Apart : ℕ → ℕ → List Record → Type 0
-Apart a n [] = Unit {0}
-Apart a n (r ∷ rs) = ((r.hi ≤ a) ⊎ (a + n ≤ r.lo)) × Apart a n rs
-
--- each record's range begins at or above an address
-abbrev pub Above : ℕ → List Record → Type 0
-Above a [] = Unit {0}
-Above a (r ∷ rs) = (a ≤ r.lo) × Above a rs
-
 -- a whole chain: its frames stand in memory, and exactly their units are guarded
 pub record Chain (m : Memory) (top : ℕ) (rs : List Record) : Type 0 where
   pub links : Links m top rs
   pub guarded : (unit : ℕ) → slice_index_or m.marks unit false ≡ covered unit rs
-
--- a range that a frame may have
-pub record IsFrameRange (m : Memory) (lo hi : ℕ) : Type 0 where
-  pub first : lo % 16 ≡ 0
-  pub last : hi % 16 ≡ 0
-  pub stack : floor_of m ≤ lo
-  pub order : lo < hi
-  pub small : hi ≤ lo + 192
-  pub within : hi ≤ length m.bytes
 
 -- the memory beside the frames: 0 in their ranges
 abbrev pub cleared : List ℕ → List Record → List ℕ

@@ -9,16 +9,8 @@ use Rattle.big_memory.specs.Numbers.{long_at}
 use Rattle.proc_info.specs.Signature.{has_signature}
 use Rattle.switch_frame.specs.declared.kind.Kind.{Kind}
 use Rattle.switch_frame.specs.Sets.{callee_isa, caller_isa, frame_size, kind_at, kind_told}
-use Rattle.switch_frame.specs.Records.{Record}
-use Rattle.switch_frame.specs.Chain.{Links, most_frames}
-use Rattle.switch_frame.specs.Calls.{IsOutermost, active_set}
+use Rattle.switch_frame.specs.Chain.{most_frames}
 use Rattle.switch_frame.specs.Program.{Stands, gate_long}
-
--- a whole chain but for the guard, with the set of the code that runs and of the main program
-pub record IsWholeChain (m : Memory) (top : ℕ) (active main : Isa) (rs : List Record) : Type 0 where
-  pub links : Links m top rs
-  pub called : active ≡ active_set main rs
-  pub outermost : IsOutermost main rs
 
 -- whether a frame's head, and the smaller of the two frames, can lie at an address
 abbrev pub is_there : Memory → ℕ → Bool

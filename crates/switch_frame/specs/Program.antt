@@ -1,14 +1,11 @@
 -- What every loaded program meets.
-use Rattle.std.specs.Prelude.{◌≡◌, ℕ, zero, suc, ◌+◌, ◌-◌, ◌*◌, ◌/◌, ◌%◌, ◌<◌, ◌≤◌, ◌==◌, nat_le, nat_lt, false, ◌&&◌, if◌then◌else◌, List, [], ◌∷◌, length, replicate, slice_index_or, Option, Some, None}
+use Rattle.std.specs.Prelude.{◌≡◌, ℕ, zero, suc, ◌+◌, ◌-◌, ◌*◌, ◌/◌, ◌%◌, ◌<◌, ◌≤◌, ◌==◌, nat_le, nat_lt, ◌&&◌, if◌then◌else◌, List, [], ◌∷◌, length, replicate, Option, Some, None}
 use Rattle.mix_bits.specs.declared.isa.Isa.{Isa}
 use Rattle.mix_bits.specs.declared.isa.Isa.TheVariants.{M68, Ppc}
-use Rattle.big_memory.specs.Lists.{part}
 use Rattle.big_memory.specs.Map.{host_vector_at, host_code_at, host_functions}
-use Rattle.big_memory.specs.Memory.{IsRam, Memory, floor_of}
-use Rattle.switch_frame.specs.declared.program.Program.{Program}
+use Rattle.big_memory.specs.Memory.{Memory, floor_of}
 use Rattle.big_memory.specs.Numbers.{long_at}
-use Rattle.switch_frame.specs.Records.{isa_of}
-use Rattle.switch_frame.specs.Pieces.{Piece, long_piece, puts}
+use Rattle.switch_frame.specs.Pieces.{Piece, long_piece}
 
 -- where the loaded program begins
 abbrev pub program_start : ℕ
@@ -31,10 +28,6 @@ gate_longs entry vector a5 len = told entry vector a5 len (vectors host_function
 -- memory in which nothing was put
 unfoldable pub blank : ℕ → List ℕ
 blank n = replicate n 0
-
--- the gate page's bytes
-unfoldable pub page_bytes : ℕ → ℕ → ℕ → ℕ → List ℕ
-page_bytes entry vector a5 len = part 0x1000 0x1000 (puts (gate_longs entry vector a5 len) (blank 0x2000))
 
 -- the long at an address of the transition vectors of the first n host functions, 0 outside them
 unfoldable pub vector_long : ℕ → ℕ → ℕ
@@ -67,11 +60,3 @@ pub record HasHeap (low high : ℕ) (memory : Memory) : Type 0 where
   pub behind : program_start ≤ low
   pub ordered : low ≤ high
   pub whole : high ≡ floor_of memory
-
-pub record IsProgram (p : Program) : Type 0 where
-  pub ram : IsRam p.ram
-  pub unguarded : (unit : ℕ) → slice_index_or p.ram.marks unit false ≡ false
-  pub page : HasGatePage p.a5 p.ram.bytes
-  pub set : isa_of p.active ≡ p.main
-  pub start : p.start_sp ≡ start_sp_of p.main (length p.ram.bytes)
-  pub heap : HasHeap p.heap_lo p.heap_hi p.ram

@@ -11,7 +11,6 @@ use Rattle.big_memory.specs.Numbers.{long_at, longs_at, bytes_of_longs}
 use Rattle.switch_frame.specs.declared.active.Active.{Active}
 use Rattle.switch_frame.specs.declared.active.Active.TheVariants.{M68, Ppc}
 use Rattle.switch_frame.specs.declared.kind.Kind.{Kind}
-use Rattle.switch_frame.specs.declared.held.Held.{Held}
 use Rattle.switch_frame.specs.Sets.{caller_isa, kind_code, kind_told}
 
 -- a suspended caller: its registers, what it called, where its frame lies, and the stack pointer at which the
@@ -25,15 +24,6 @@ pub record Record : Type 0 where
   pub lo : ℕ
   pub hi : ℕ
   pub want : ℕ
-
--- a held caller is a record and its depth, which counts the frames up to it from the outermost
-abbrev pub record_of : Held → Record
-record_of held =
-    record { kind = held.kind; caller = held.caller; info = held.info; selector = held.selector; target = held.target; lo = held.lo; hi = held.hi; want = held.want_sp }
-
-abbrev pub held_of : Record → ℕ → Held
-held_of r depth =
-    record { kind = r.kind; caller = r.caller; info = r.info; selector = r.selector; target = r.target; lo = r.lo; hi = r.hi; want_sp = r.want; depth = depth }
 
 -- the instruction set of a register file
 abbrev pub isa_of : Active → Isa

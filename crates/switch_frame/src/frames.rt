@@ -3,10 +3,14 @@ ghost use Rattle.std.specs.Prelude.{◌≡◌, ◌+◌, ◌-◌, ◌<◌, ◌≤
 ghost use Rattle.big_memory.specs.Lists.{put};
 ghost use Rattle.big_memory.specs.Memory.{IsRam, with_bytes};
 ghost use Rattle.proc_info.specs.Signature.{has_signature};
-ghost use Rattle.switch_frame.specs.Calls.{IsCalled, IsInnermost, IsPlace, innermost, with_frame};
-ghost use Rattle.switch_frame.specs.Chain.{Chain, IsFrameRange, IsHeld, Links, cleared, outer_of, records, zeros};
+ghost use Rattle.switch_frame.specs.CallsClauses.{IsCalled, IsPlace, innermost, with_frame};
+ghost use Rattle.switch_frame.specs.inner.Calls.{IsInnermost};
+ghost use Rattle.switch_frame.specs.Chain.{Chain, IsHeld, Links, cleared, outer_of, records};
+ghost use Rattle.switch_frame.specs.laws.Chain.{IsFrameRange};
+ghost use Rattle.big_memory.specs.Lists.{zeros};
 ghost use Rattle.big_memory.specs.Numbers.{long_at};
-ghost use Rattle.switch_frame.specs.Records.{held_of, image, isa_of, record_at, record_of};
+ghost use Rattle.switch_frame.specs.RecordsClauses.{held_of, record_of};
+ghost use Rattle.switch_frame.specs.Records.{image, isa_of, record_at};
 ghost use Rattle.switch_frame.specs.Sets.{caller_isa, frame_size, kind_at, kind_told};
 
 use crate::files::{read_file, write_file};

@@ -1,7 +1,11 @@
-ghost use Rattle.switch_frame.specs.FrameLaws.{BelowInnermost, FirstIsHeld, FramesAbove, LengthBytes, LengthZeros, MeetsNone, PlaceByLength, RoomByLength, RoomIsPlace, StoredApart, TopIsZero, ZerosBeside};
-ghost use Rattle.switch_frame.specs.GateLaws.{LengthOfBlank, LongsArePage, PageByBytes, PageHasLongs};
-ghost use Rattle.switch_frame.specs.RangeLaws.{FitsIsRange, MarkAt, MarksKept, MarksSame, RangeMoves, TopTells};
-ghost use Rattle.switch_frame.specs.Laws.{BeginsEmpty, FreeKeepsChain, GuardIsFrames, KeepsLength, LowIsMemory, PlacesAreFree, PlacesAreGiven, ReadsBack, ReadsOuter, RefusalsAreRanges, SeenIsMemory, StoresBeside, TopIsLong, ViewIsMemory, WholeChainsPass};
+ghost use Rattle.std.specs.Prelude.{◌≡◌};
+ghost use Rattle.switch_frame.specs.laws.FrameLaws.{BelowInnermost, FirstIsHeld, FramesAbove, LengthBytes, LengthZeros, MeetsNone, PlaceByLength, RoomByLength, RoomIsPlace, StoredApart, TopIsZero, ZerosBeside};
+ghost use Rattle.switch_frame.specs.laws.GateLaws.{LengthOfBlank, LongsArePage, PageByBytes, PageHasLongs};
+ghost use Rattle.switch_frame.specs.laws.RangeLaws.{FitsIsRange, MarkAt, MarksKept, MarksSame, RangeMoves, TopTells};
+ghost use Rattle.switch_frame.specs.laws.Laws.{BeginsEmpty, FreeKeepsChain, GuardIsFrames, KeepsLength, LowIsMemory, PlacesAreFree, PlacesAreGiven, ReadsBack, ReadsOuter, RefusalsAreRanges, SeenIsMemory, StoresBeside, TopIsLong, ViewIsMemory, WholeChainsPass};
+
+use crate::gate::{A5_PLACE, ENTRY_PLACE, MAIN_VECTOR_PLACE, RAM_SIZE_PLACE};
+use crate::program::PROGRAM_START;
 
 /// What follows from the definitions of a chain. It does nothing: the clauses are its point.
 pub fn chain_laws()
@@ -48,10 +52,15 @@ pub fn range_laws()
     ensures marks_same { MarksSame }
 {}
 
-/// What follows for the gate page. It does nothing, either.
+/// What follows for the gate page, and where its longs and a program stand. It does nothing, either.
 pub fn gate_laws()
     ensures longs { PageHasLongs }
     ensures page { LongsArePage }
     ensures bytes { PageByBytes }
     ensures blank { LengthOfBlank }
+    ensures entry { ENTRY_PLACE ≡ 0x1020 }
+    ensures main_vector { MAIN_VECTOR_PLACE ≡ 0x1024 }
+    ensures a5 { A5_PLACE ≡ 0x1028 }
+    ensures ram_size { RAM_SIZE_PLACE ≡ 0x102C }
+    ensures start { PROGRAM_START ≡ 0x10000 }
 {}

@@ -1,6 +1,7 @@
 // Whether there is room for a frame.
 ghost use Rattle.std.specs.Prelude.{◌≡◌, ◌≤◌, IfOk};
-ghost use Rattle.switch_frame.specs.Calls.{IsPlace, room_of};
+ghost use Rattle.switch_frame.specs.CallsClauses.{IsPlace};
+ghost use Rattle.switch_frame.specs.Calls.{room_of};
 ghost use Rattle.switch_frame.specs.Chain.{Chain, records};
 
 use crate::frames::depth;

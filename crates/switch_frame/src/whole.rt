@@ -1,10 +1,11 @@
 // Whether memory that came from outside holds a whole chain, and the guard of its frames.
-ghost use Rattle.std.specs.Prelude.{◌≡◌, ◌+◌, ◌≤◌, ℕ, List, length, false, Ok, IfOk, slice_index_or};
+ghost use Rattle.std.specs.Prelude.{◌≡◌, ◌+◌, ◌≤◌, ℕ, List, length, false, Ok, IfErr, IfOk, slice_index_or};
 ghost use Rattle.big_memory.specs.Memory.{IsRam};
 ghost use Rattle.big_memory.specs.Numbers.{long_at};
 ghost use Rattle.proc_info.specs.Signature.{has_signature};
 ghost use Rattle.switch_frame.specs.Chain.{Chain, Links, records};
-ghost use Rattle.switch_frame.specs.Checks.{IsWholeChain, caller_at, checked, ends_right, fits_outer, holds_file, is_below, is_good, is_image, is_there, walk as walk_of};
+ghost use Rattle.switch_frame.specs.ChecksClauses.{IsWholeChain, IsWrongAt};
+ghost use Rattle.switch_frame.specs.Checks.{caller_at, checked, ends_right, fits_outer, holds_file, is_below, is_good, is_image, is_there, walk as walk_of};
 ghost use Rattle.switch_frame.specs.Records.{Record};
 ghost use Rattle.switch_frame.specs.Sets.{frame_size as frame_size_of, kind_at};
 
@@ -21,6 +22,7 @@ pub fn check(ram: &Ram, top: u32, active: Isa, main: Isa) -> Result<u32, u32>
     ensures exact { result ≡ checked ram.now top active main }
     ensures whole { IfOk result (λ count. IsWholeChain ram.now top active main (records ram.now.bytes top) × (count ≡ length (records ram.now.bytes top))) }
     ensures only { (rs : List Record) → IsWholeChain ram.now top active main rs → result ≡ Ok (length rs) }
+    ensures wrong { IfErr result (λ lo. IsWrongAt ram.now top active main lo) }
 {
     let _ = ram.bytes();
     if top != 0 {

@@ -1,10 +1,11 @@
 // Lines of the documents, read; and texts that are no lines.
 use crate::equal::equal;
-use call_trace::{Crossing, End, Event, read_event};
+use call_trace::End;
+use dev_rack::Answer;
 use mix_bits::{Fault, FaultKind, Isa, Size};
-use mix_io::Answer;
 use std::process::Abort;
 use switch_frame::Kind;
+use trace_lines::{Crossing, Event, read_event};
 
 /// The call that a line tells.
 fn call(rt: &impl Abort, text: &str) -> Crossing {

@@ -13,4 +13,4 @@ mod lines;
 #[cfg(test)]
 mod listings;
 #[cfg(test)]
-mod trace_lines;
+mod put_lines;

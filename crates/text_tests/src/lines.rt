@@ -1,6 +1,6 @@
 // Lines that are no rows of a text, and the calls that assemble a text at once.
-use mix_text::reassembled68;
-use ppc_text::{AsmError, assemble_ppc, reassembled};
+use asm_m68::reassembled68;
+use asm_ppc::{AsmError, assemble_ppc, reassembled};
 use std::test::Fail;
 
 #[test]
@@ -16,8 +16,8 @@ fn long_lines(rt: HostRuntime) -> Result<(), Fail> {
 
 #[test]
 fn texts_are_taken_back(rt: HostRuntime) {
-    mix_text::asm_laws();
-    ppc_text::asm_laws();
+    asm_m68::asm_laws();
+    asm_ppc::asm_laws();
     match reassembled68(&[0xAA80], 0x10000) {
         Ok(code) => assert_eq!(rt; code.words, [0xAA80, 0, 0, 0, 0]),
         Err(_) => assert!(rt; false),

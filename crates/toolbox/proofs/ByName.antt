@@ -1,12 +1,16 @@
 -- A host function is found by its library and name.
-use Rattle.std.proofs.Common.{◌≡◌, ◌≢◌, refl, sym, ap, ◌∙◌, lit<, ℕ, ◌<◌, Bool, true, false, ◌&&◌, if◌then◌else◌, List, [], ◌∷◌, bytes_eq, Option, Some, None, IfSome}
+use Rattle.std.proofs.Common.{◌≡◌, ◌≢◌, refl, sym, ap, ◌∙◌, subst, lit<, ℕ, ◌<◌, Bool, true, false, ◌&&◌, suc, ◌+◌, List, [], ◌∷◌, length, bytes_eq, get_or, cond, zero-add, arith, Option, Some, None, IfSome}
 use Rattle.std.proofs.lemmas.Bool.{and_parts}
+use Rattle.std.specs.List.{position_from}
 use Rattle.std.proofs.lemmas.Slice.Eq.{bytes_eq-Decides}
 use Rattle.toolbox.specs.declared.function.Function.{Function}
 use Rattle.toolbox.specs.declared.function.Function.TheVariants.{NewRoutineDescriptor, NewFatRoutineDescriptor, DisposeRoutineDescriptor, CallUniversalProc, NewPtr, NewPtrClear, DisposePtr, BlockMove, ExitToShell, PutByte, GetByte, PutBlock, AskDevice, EjectDevice, ExitWith, UnloadSeg}
-use Rattle.toolbox.specs.Table.{functions}
-use Rattle.toolbox.specs.Functions.{number_of}
-use Rattle.toolbox.specs.Names.{ImportsHaveOneNumber, ImportsAreNumbered, IsImportIndex, import_among, import_index, import_of, is_named}
+use Rattle.toolbox.specs.Table.{imports, number_of}
+use Rattle.toolbox.specs.Functions.{function_at}
+use Rattle.toolbox.specs.laws.Names.{ImportsHaveOneNumber, ImportsAreNumbered}
+use Rattle.toolbox.specs.NamesClauses.{IsImportIndex, import_of}
+use Rattle.toolbox.specs.Names.{import_index, is_named}
+use Rattle.toolbox.proofs.OneNumber.{own-number}
 
 unnamed : (library name : List ℕ) (o : Option (List ℕ × List ℕ)) → o ≢ Some (library, name) → is_named library name o ≡ false
 unnamed library name None other = refl
@@ -23,31 +27,13 @@ is-named library name (Some both) is =
     let parts = and_parts (bytes_eq both.0 library) (bytes_eq both.1 name) is in
     ap (λ l. Some (l, both.1)) ((bytes_eq-Decides both.0 library).0 parts.0) ∙ ap (λ n. Some (library, n)) ((bytes_eq-Decides both.1 name).0 parts.1)
 
--- no function passes
-among-none : (fs : List Function) (library name : List ℕ) → ((f : Function) → is_named library name (import_of f) ≡ false) → import_among fs library name ≡ None
-unfolding import_among
-among-none [] library name fails = refl
-among-none (f ∷ fs) library name fails = rw (fails f) (among-none fs library name fails)
-
--- the first that passes
-among-some : (fs : List Function) (library name : List ℕ) (k : ℕ) → import_among fs library name ≡ Some k → (f : Function) × (import_of f ≡ Some (library, name)) × (k ≡ number_of f)
-unfolding import_among
-among-some [] library name k is = cc
-among-some (f ∷ fs) library name k is = by (is_named library name (import_of f)) refl is (among-some fs library name k)
-  where
-    by : (here : Bool) → is_named library name (import_of f) ≡ here → (if here then Some (number_of f) else import_among fs library name) ≡ Some k
-        → (import_among fs library name ≡ Some k → (g : Function) × (import_of g ≡ Some (library, name)) × (k ≡ number_of g))
-        → (g : Function) × (import_of g ≡ Some (library, name)) × (k ≡ number_of g)
-    by true has is later = let same : k ≡ number_of f = cc in (f, is-named library name (import_of f) has, same)
-    by false has is later = later is
-
 abbrev index_of : Option (List ℕ × List ℕ) → Option ℕ
 index_of None = None
 index_of (Some both) = import_index both.0 both.1
 
 -- each function that is imported has its number by its own library and name, below 15
 numbers : (f : Function) → import_of f ≢ None → (Some (number_of f) ≡ index_of (import_of f)) × (number_of f < 15)
-unfolding import_index import_among
+unfolding import_index
 numbers NewRoutineDescriptor is = (refl, lit< tt)
 numbers NewFatRoutineDescriptor is = (refl, lit< tt)
 numbers DisposeRoutineDescriptor is = (refl, lit< tt)
@@ -68,24 +54,59 @@ numbers UnloadSeg is = absurd (is refl)
 is_some_from : (o : Option (List ℕ × List ℕ)) (both : List ℕ × List ℕ) → o ≡ Some both → o ≢ None
 is_some_from o both is none = let never = sym is ∙ none in cc
 
--- a number that a function has by its name is the one that is found
-pub index_is : (library name : List ℕ) (r : Option ℕ) → IsImportIndex library name r → r ≡ import_index library name
+-- what a number below 16 is imported by is what its function is
+its-import : (k : ℕ) → k < 16 → get_or imports k None ≡ import_of (function_at k)
+its-import k lt = ap (λ n. get_or imports n None) (sym (own-number k lt))
+
+-- what is found from a number on
+found-from : {X : Type 0} (p : X → Bool) (xs : List X) (i k : ℕ) (d : X) → position_from p i xs ≡ Some k
+    → (j : ℕ) × (i + j ≡ k) × (j < length xs) × (p (get_or xs j d) ≡ true)
+found-from p [] i k d is = cc
+found-from p (x ∷ xs) i k d is = by (p x) refl is (found-from p xs (i + 1) k d)
+  where
+    by : (b : Bool) → p x ≡ b → cond b (Some i) (position_from p (i + 1) xs) ≡ Some k
+        → (position_from p (i + 1) xs ≡ Some k → (j : ℕ) × (i + 1 + j ≡ k) × (j < length xs) × (p (get_or xs j d) ≡ true))
+        → (j : ℕ) × (i + j ≡ k) × (j < suc (length xs)) × (p (get_or (x ∷ xs) j d) ≡ true)
+    by true has is later = let same : i ≡ k = cc in (0, omega (arith, same), omega arith, has)
+    by false has is later = let f = later is in (suc f.0, omega (arith, f.1), omega (arith, f.2), f.3)
+
+import-at : (library name : List ℕ) → import_index library name ≡ position_from (is_named library name) 0 imports
 unfolding import_index
-index_is library name None none = sym (among-none functions library name (λ f. unnamed library name (import_of f) (none f)))
+import-at library name = refl
+
+index-by : (library name : List ℕ) (o : Option ℕ) → import_index library name ≡ o → IsImportIndex library name o
+index-by library name None is = λ f has.
+    let found : Some (number_of f) ≡ import_index library name = (numbers f (is_some_from _ _ has)).0 ∙ ap index_of has in
+    let no = found ∙ is in
+    cc
+index-by library name (Some k) is =
+    let found = found-from (is_named library name) imports 0 k None (sym (import-at library name) ∙ is) in
+    let same : found.0 ≡ k = sym (zero-add found.0) ∙ found.1 in (
+      function_at found.0,
+      sym (its-import found.0 found.2) ∙ is-named library name (get_or imports found.0 None) found.3,
+      sym same ∙ sym (own-number found.0 found.2),
+    )
+
+pub index_from : (library name : List ℕ) → IsImportIndex library name (import_index library name)
+index_from library name = index-by library name (import_index library name) refl
+
+-- a number that a function has by its name is the one that is found
+none-found : (library name : List ℕ) (o : Option ℕ) → IsImportIndex library name o → ((f : Function) → import_of f ≡ Some (library, name) → ⊥) → None ≡ o
+none-found library name None found none = refl
+none-found library name (Some k) found none = absurd (none found.0 found.1)
+
+index_is : (library name : List ℕ) (r : Option ℕ) → IsImportIndex library name r → r ≡ import_index library name
+index_is library name None none = none-found library name (import_index library name) (index_from library name) none
 index_is library name (Some k) found =
     ap (λ n. Some n) found.2 ∙ ((numbers found.0 (is_some_from _ _ found.1)).0 ∙ ap index_of found.1)
 
-index_from : (library name : List ℕ) (r : Option ℕ) → r ≡ import_index library name → IsImportIndex library name r
-unfolding import_index
-index_from library name None is = λ f has. let found = index_is library name (Some (number_of f)) (f, has, refl) in cc
-index_from library name (Some k) is = among-some functions library name k (sym is)
-
-pub index_below : (library name : List ℕ) (r : Option ℕ) → IsImportIndex library name r → IfSome r (λ k. k < 15)
+index_below : (library name : List ℕ) (r : Option ℕ) → IsImportIndex library name r → IfSome r (λ k. k < 15)
 index_below library name None none = tt
 index_below library name (Some k) found = rw found.2 (numbers found.0 (is_some_from _ _ found.1)).1
 
 pub imports-have_one : ImportsHaveOneNumber
-imports-have_one library name r = (index_from library name r, index_is library name r)
+imports-have_one library name r =
+    (λ is. subst (IsImportIndex library name) (sym is) (index_from library name), index_is library name r)
 
-pub imports-numbered : ImportsAreNumbered
-imports-numbered library name = index_below library name (import_index library name) (index_from library name (import_index library name) refl)
+pub imports_numbered : ImportsAreNumbered
+imports_numbered library name = index_below library name (import_index library name) (index_from library name)

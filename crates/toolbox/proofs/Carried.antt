@@ -5,11 +5,12 @@ use Rattle.std.proofs.lemmas.Bool.{eqb-true}
 use Rattle.std.specs.Io.KnownBytes.{Consumes, IsAtEnd}
 use Rattle.std.proofs.KnownBytes.{Appends-nil}
 use Rattle.mix_io.specs.Streams.{Output, Grows}
-use Rattle.big_memory.specs.Memory.{Memory, IsRam, IsDoneUnless, copied, copy_refusal}
+use Rattle.big_memory.specs.Memory.{Memory, IsRam, copied, copy_refusal}
+use Rattle.big_memory.specs.MemoryClauses.{IsDoneUnless}
 use Rattle.big_memory.specs.declared.refusals.Access.{Access}
-use Rattle.big_memory.specs.Stores.{OnlyFree}
-use Rattle.toolbox.specs.Space.{Space}
-use Rattle.mix_io.specs.Rack.{State}
+use Rattle.big_memory.specs.StoresClauses.{OnlyFree}
+use Rattle.host_heap.specs.Space.{Space}
+use Rattle.dev_rack.specs.Rack.{State}
 use Rattle.toolbox.specs.declared.values.Operands.{Operands}
 use Rattle.toolbox.specs.declared.values.Results.{Results}
 use Rattle.toolbox.specs.declared.function.Function.{Function}
@@ -17,9 +18,12 @@ use Rattle.toolbox.specs.declared.function.Function.TheVariants.{BlockMove, GetB
 use Rattle.toolbox.specs.declared.outcome.Outcome.TheVariants.{Given}
 use Rattle.toolbox.specs.Effects.{Around, Effects, effect, quiet, moved_unless, results, says, error}
 use Rattle.toolbox.specs.Effects.Effect.{Gives}
-use Rattle.toolbox.specs.Calls.{Input, KeepsBounds, Outside, place, with_input, answers_since, resources_at, IsLeft, Told}
+use Rattle.toolbox.specs.Calls.{Input, Outside, answers_since, IsLeft}
+use Rattle.toolbox.specs.CallsClauses.{KeepsBounds, place, resources_at, Told}
+use Rattle.toolbox.specs.inner.Calls.{with_input}
 use Rattle.toolbox.specs.Calls.Taken.{Nothing, Byte, TheEnd}
-use Rattle.toolbox.specs.Performs.{AreLaws, Performs, Quietly, resources}
+use Rattle.toolbox.specs.inner.Performs.{AreLaws, Performs, Quietly}
+use Rattle.toolbox.specs.Performs.{resources}
 
 -- a journal that stays has no new entries
 pub since-none : (s : State) → answers_since s s ≡ []

@@ -8,12 +8,13 @@ use Rattle.std.proofs.lemmas.Bool.{ne_eqb, eq-eqb}
 use Rattle.mix_io.specs.Streams.{Output}
 use Rattle.mix_io.specs.declared.errors.Failed.{Failed as DeviceFailed}
 use Rattle.big_memory.specs.Memory.{Memory}
-use Rattle.toolbox.specs.Space.{Space}
-use Rattle.mix_io.specs.declared.answers.Answer.{Answer}
-use Rattle.mix_io.specs.declared.answers.Answer.TheVariants.{Word, Failed, Empty, Full}
-use Rattle.mix_io.specs.declared.answers.Asked.{Asked}
-use Rattle.mix_io.specs.Slots.{device_at}
-use Rattle.mix_io.specs.Rack.{State, Answered, Asks, Ejects, journal_limit}
+use Rattle.host_heap.specs.Space.{Space}
+use Rattle.dev_rack.specs.declared.answers.Answer.{Answer}
+use Rattle.dev_rack.specs.declared.answers.Answer.TheVariants.{Word, Failed, Empty, Full}
+use Rattle.dev_rack.specs.declared.answers.Asked.{Asked}
+use Rattle.dev_rack.specs.Slots.{device_at}
+use Rattle.dev_rack.specs.Rack.{State, journal_limit}
+use Rattle.dev_rack.specs.RackClauses.{Answered, Asks, Ejects}
 use Rattle.toolbox.specs.declared.values.Operands.{Operands}
 use Rattle.toolbox.specs.declared.values.Results.{Results}
 use Rattle.toolbox.specs.declared.function.Function.{Function}
@@ -21,9 +22,12 @@ use Rattle.toolbox.specs.declared.function.Function.TheVariants.{AskDevice, Ejec
 use Rattle.toolbox.specs.declared.outcome.Outcome.TheVariants.{Given, Asked as AskedFor}
 use Rattle.toolbox.specs.Effects.{Around, quiet, results, results_of, answer_in, after_ask, first_answer, noted, holds_device, emptied, no_slot}
 use Rattle.toolbox.specs.Effects.Effect.{Gives}
-use Rattle.toolbox.specs.Calls.{Input, place, with_rack, answers_since, around_of, ask_of}
+use Rattle.toolbox.specs.Calls.{Input, answers_since, around_of}
+use Rattle.toolbox.specs.CallsClauses.{place, ask_of}
+use Rattle.toolbox.specs.inner.Calls.{with_rack}
 use Rattle.toolbox.specs.Calls.Taken.{Nothing}
-use Rattle.toolbox.specs.Performs.{AreLaws, Performs, resources}
+use Rattle.toolbox.specs.inner.Performs.{AreLaws, Performs}
+use Rattle.toolbox.specs.Performs.{resources}
 use Rattle.toolbox.proofs.Carried.{since-none, told-nothing, grows-none}
 
 holds : (rack : State) (slot : ℕ) (input : List ℕ) (answers : List (Option ℕ)) → holds_device (around_of rack input answers) slot ≡ is_some (device_at rack.slots slot)

@@ -1,12 +1,12 @@
 -- What holds of each end of a call, from the parts that it leaves.
 use Rattle.std.proofs.Common.{◌≡◌, ℕ, List, Option, None, Some, refl, sym, ap, subst}
-use Rattle.big_memory.specs.Stores.{OnlyFree}
-use Rattle.mix_io.specs.Accounts.{Accounts}
+use Rattle.big_memory.specs.StoresClauses.{OnlyFree}
+use Rattle.dev_rack.specs.Accounts.{Accounts}
 use Rattle.mix_io.specs.Streams.{Output}
 use Rattle.toolbox.specs.Blames.{BlamesOnly}
 use Rattle.toolbox.specs.Effects.{Ask, Effects, Resources}
-use Rattle.toolbox.specs.Calls.{GoesOn, KeepsBounds, Place, PutBreaks, ReadBreaks, Stays, counts_beside}
-use Rattle.toolbox.specs.Performs.{AreLaws}
+use Rattle.toolbox.specs.CallsClauses.{GoesOn, KeepsBounds, Place, PutBreaks, ReadBreaks, Stays, counts_beside}
+use Rattle.toolbox.specs.inner.Performs.{AreLaws}
 use Rattle.toolbox.specs.declared.broken.Broken.TheVariants.{Input as BrokenInput, Output as BrokenOutput}
 
 -- the rack, the heap's bounds and memory

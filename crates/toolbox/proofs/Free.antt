@@ -4,10 +4,11 @@ use Rattle.std.specs.List.{list_any}
 use Rattle.std.proofs.lemmas.Bool.Decides.{nat_tests}
 use Rattle.std.proofs.lemmas.List.{get_or-drop}
 use Rattle.big_memory.specs.declared.refusals.Access.{Access}
-use Rattle.big_memory.specs.Memory.{Memory, IsRam, IsDoneUnless, floor_of, meets_gate, meets_guard, refusal}
-use Rattle.toolbox.specs.Space.{Space}
-use Rattle.toolbox.specs.Place.{IsPlace}
-use Rattle.toolbox.specs.Calls.{HeapLies}
+use Rattle.big_memory.specs.Memory.{Memory, IsRam, floor_of, meets_gate, meets_guard, refusal}
+use Rattle.big_memory.specs.MemoryClauses.{IsDoneUnless}
+use Rattle.host_heap.specs.Space.{Space}
+use Rattle.host_heap.specs.PlaceClauses.{IsPlace}
+use Rattle.toolbox.specs.CallsClauses.{HeapLies}
 
 front_clear : (xs : List Bool) (n : ℕ) → ((k : ℕ) → k < n → get_or xs k false ≡ false) → list_any (λ mark. mark) (take n xs) ≡ false
 front_clear xs zero clear = refl

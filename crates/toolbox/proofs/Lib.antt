@@ -1,4 +1,3 @@
-pub mod Named
 pub mod Free
 pub mod Carried
 pub mod Devices
@@ -7,14 +6,4 @@ pub mod Puts
 pub mod OneNumber
 pub mod ByName
 pub mod Blaming
-pub mod Fits
-pub mod Lowest
-pub mod Leaving
-pub mod Order
-pub mod Keeps
-pub mod Walk
-pub mod Undo
-pub mod Placing
-pub mod Appending
-pub mod InUse
 pub mod Ends

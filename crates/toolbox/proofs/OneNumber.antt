@@ -1,10 +1,20 @@
 -- A function has its own number, and a trap word has one.
-use Rattle.std.proofs.Common.{◌≡◌, ℕ, zero, suc, ◌==◌, false, Option, Some, None, refl, sym, ap, ◌∙◌, subst, arith}
-use Rattle.std.proofs.lemmas.Bool.Decides.{nat_tests}
+use Rattle.std.proofs.Common.{◌≡◌, ℕ, ◌<◌, ◌≤◌, true, map, get_or, Option, Some, None, refl, sym, ap, ◌∙◌, subst, zero-add}
+use Rattle.std.specs.List.{position, range_with_len}
+use Rattle.std.proofs.lemmas.Bool.{eqb-true}
+use Rattle.std.proofs.lemmas.List.{get_or-map, get_or_past}
+use Rattle.std.proofs.lemmas.List.FromFn.{get_or-range_with_len}
+use Rattle.std.proofs.lemmas.List.Quantifiers.{position-Some}
 use Rattle.toolbox.specs.declared.function.Function.{Function}
 use Rattle.toolbox.specs.declared.function.Function.TheVariants.{NewRoutineDescriptor, NewFatRoutineDescriptor, DisposeRoutineDescriptor, CallUniversalProc, NewPtr, NewPtrClear, DisposePtr, BlockMove, ExitToShell, PutByte, GetByte, PutBlock, AskDevice, EjectDevice, ExitWith, UnloadSeg}
-use Rattle.toolbox.specs.Functions.{NumbersAreOwn, function_at, has_trap, number_of, trap_below, trap_number, trap_of}
-use Rattle.toolbox.specs.Names.{TrapsHaveOneNumber}
+use Rattle.toolbox.specs.declared.table.Row.{Row}
+use Rattle.toolbox.specs.declared.table.TheConstants.{NOWHERE}
+use Rattle.toolbox.specs.Table.{number_of, row, rows}
+use Rattle.toolbox.specs.laws.Functions.{NumbersAreOwn}
+use Rattle.toolbox.specs.Functions.{function_at, has_trap, trap_number}
+use Rattle.toolbox.specs.FunctionsClauses.{trap_of}
+use Rattle.toolbox.specs.NamesClauses.{IsTrapIndex}
+use Rattle.toolbox.specs.laws.Names.{TrapsAreNumbered, TrapsHaveOneNumber}
 
 pub numbers-own : NumbersAreOwn
 numbers-own NewRoutineDescriptor = refl
@@ -24,27 +34,26 @@ numbers-own EjectDevice = refl
 numbers-own ExitWith = refl
 numbers-own UnloadSeg = refl
 
-other-word : (trap word : ℕ) → (trap ≡ word → ⊥) → (trap == word) ≡ false
-other-word trap word differ = grind (arith, nat_tests, differ)
+-- a number below 16 is that of its function
+numbers : map (λ (r : Row). number_of r.function) rows ≡ range_with_len 0 16
+numbers = refl
 
-has-none : (trap : Option ℕ) (word : ℕ) → (trap ≡ Some word → ⊥) → has_trap trap word ≡ false
-has-none None word none = refl
-has-none (Some trap) word none = other-word trap word (λ same. none (ap Some same))
-
-none-below : (n word : ℕ) → ((f : Function) → trap_of f ≡ Some word → ⊥) → trap_below n word ≡ None
-unfolding trap_below
-none-below zero word none = refl
-none-below (suc k) word none = rw (has-none (trap_of (function_at k)) word (none (function_at k))) (none-below k word none)
+pub own-number : (k : ℕ) → k < 16 → number_of (function_at k) ≡ k
+own-number k lt =
+    sym (get_or-map (λ (r : Row). number_of r.function) rows k NOWHERE 0 lt) ∙ ap (λ ns. get_or ns k 0) numbers ∙ get_or-range_with_len 0 16 k 0 lt ∙ zero-add k
 
 word-is : (trap word : ℕ) → Some trap ≡ Some word → trap ≡ word
 word-is trap word is = cc
 
+no-word : (trap : Option ℕ) (word : ℕ) → trap ≡ None → trap ≡ Some word → ⊥
+no-word trap word none is = let no = sym none ∙ is in cc
+
 at-word : (f : Function) (word : ℕ) → trap_of f ≡ Some word → trap_number word ≡ Some (number_of f)
-unfolding trap_below
+unfolding trap_number
 at-word NewRoutineDescriptor word is = subst (λ w. trap_number w ≡ Some 0) (word-is _ word is) refl
 at-word NewFatRoutineDescriptor word is = subst (λ w. trap_number w ≡ Some 1) (word-is _ word is) refl
 at-word DisposeRoutineDescriptor word is = subst (λ w. trap_number w ≡ Some 2) (word-is _ word is) refl
-at-word CallUniversalProc word is = cc
+at-word CallUniversalProc word is = absurd (no-word (trap_of CallUniversalProc) word refl is)
 at-word NewPtr word is = subst (λ w. trap_number w ≡ Some 4) (word-is _ word is) refl
 at-word NewPtrClear word is = subst (λ w. trap_number w ≡ Some 5) (word-is _ word is) refl
 at-word DisposePtr word is = subst (λ w. trap_number w ≡ Some 6) (word-is _ word is) refl
@@ -58,6 +67,36 @@ at-word EjectDevice word is = subst (λ w. trap_number w ≡ Some 13) (word-is _
 at-word ExitWith word is = subst (λ w. trap_number w ≡ Some 14) (word-is _ word is) refl
 at-word UnloadSeg word is = subst (λ w. trap_number w ≡ Some 15) (word-is _ word is) refl
 
+-- the row of a number is that of its function
+its-row : (k : ℕ) → k < 16 → get_or rows k NOWHERE ≡ row (function_at k)
+its-row k lt = ap (λ n. get_or rows n NOWHERE) (sym (own-number k lt))
+
+has-it : (trap : Option ℕ) (word : ℕ) → has_trap trap word ≡ true → trap ≡ Some word
+has-it None word is = cc
+has-it (Some trap) word is = ap Some (eqb-true trap word is)
+
+trap-at : (word : ℕ) → trap_number word ≡ position (λ (r : Row). has_trap r.trap word) rows
+unfolding trap_number
+trap-at word = refl
+
+index-by : (word : ℕ) (o : Option ℕ) → trap_number word ≡ o → IsTrapIndex word o
+index-by word None is = λ f has. let no = sym is ∙ at-word f word has in cc
+index-by word (Some k) is =
+    let some = position-Some (λ (r : Row). has_trap r.trap word) rows k NOWHERE (sym (trap-at word) ∙ is) in
+    (function_at k, ap (λ (r : Row). r.trap) (sym (its-row k some.0)) ∙ has-it (get_or rows k NOWHERE).trap word some.1, sym (own-number k some.0))
+
+-- each number is that of the function with the word
+pub index_from : TrapsAreNumbered
+index_from word = index-by word (trap_number word) refl
+
+none-found : (word : ℕ) (o : Option ℕ) → o ≡ trap_number word → IsTrapIndex word o → ((f : Function) → trap_of f ≡ Some word → ⊥) → o ≡ None
+none-found word None is found none = refl
+none-found word (Some k) is found none = absurd (none found.0 found.1)
+
 pub one_number : TrapsHaveOneNumber
-one_number word None none = none-below 16 word none
+one_number word None none = none-found word (trap_number word) refl (index_from word) none
 one_number word (Some k) found = at-word found.0 word found.1 ∙ ap Some (sym found.2)
+
+-- no function has a number past the table
+pub past_table : (k : ℕ) → 16 ≤ k → function_at k ≡ UnloadSeg
+past_table k past = ap (λ (r : Row). r.function) (get_or_past rows k NOWHERE past)

@@ -4,8 +4,8 @@ use Rattle.big_memory.specs.declared.refusals.Access.{Access}
 use Rattle.big_memory.specs.declared.refusals.Access.TheVariants.{Outside}
 use Rattle.big_memory.specs.Lists.{part}
 use Rattle.big_memory.specs.Memory.{Memory, with_bytes, in_memory, filled, copied, copy_refusal}
-use Rattle.proc_info.specs.Build.{image}
-use Rattle.toolbox.specs.Place.{place_for}
+use Rattle.routine_desc.specs.Build.{image}
+use Rattle.host_heap.specs.Place.{place_for}
 use Rattle.switch_frame.specs.declared.active.Active.{Active}
 use Rattle.toolbox.specs.declared.values.Operands.{Operands}
 use Rattle.toolbox.specs.declared.function.Function.{Function}
@@ -13,8 +13,9 @@ use Rattle.toolbox.specs.declared.function.Function.TheVariants.{NewRoutineDescr
 use Rattle.toolbox.specs.Effects.{Resources, Effect, effect, made_at, moved_unless, says, takes_from}
 use Rattle.toolbox.specs.Effects.Effect.{Gives, Crosses, Leaves, Refuses}
 use Rattle.toolbox.specs.Host.{settled}
-use Rattle.toolbox.specs.Calls.{host_at}
-use Rattle.toolbox.specs.Puts.{piece_of, puts_of, said_by, said_in}
+use Rattle.toolbox.specs.CallsClauses.{host_at}
+use Rattle.toolbox.specs.inner.Puts.{piece_of, said_by}
+use Rattle.toolbox.specs.Puts.{puts_of, said_in}
 use Rattle.toolbox.proofs.Settled.{IsCall, call-is}
 
 made-says : (r : Resources) (size : ℕ) (memory : ℕ → Memory) (at : Option ℕ) → said_by (made_at r size memory at) ≡ []

@@ -9,8 +9,8 @@ use Rattle.toolbox.specs.Effects.{Resources, Ask, Effect, effect}
 use Rattle.toolbox.specs.Effects.Effect.{Gives, Crosses as CrossesInto, Leaves as LeavesWith, Refuses}
 use Rattle.toolbox.specs.Registers.{operands_of, answered}
 use Rattle.toolbox.specs.Host.{Hosted, host, settled}
-use Rattle.toolbox.specs.Calls.{Place, GoesOn, Stays, ReadBreaks, PutBreaks, Reads, Says, host_at, goes_at}
-use Rattle.toolbox.specs.Performs.{gives, ReadsInput, SaysPiece}
+use Rattle.toolbox.specs.CallsClauses.{Place, GoesOn, Stays, ReadBreaks, PutBreaks, Reads, Says, host_at, goes_at}
+use Rattle.toolbox.specs.inner.Performs.{gives, ReadsInput, SaysPiece}
 
 -- a call's step is its function's effect, settled
 host-is : (index : ℕ) (regs : Active) (r : Resources) → host_at index regs r ≡ settled (function_at index) regs (effect (function_at index) (operands_of (function_at index) regs) r)

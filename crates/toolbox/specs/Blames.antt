@@ -30,10 +30,3 @@ BlamesOnly (Some Trace) old new = Moved Stays Stays Rose old new
 -- no count rose
 abbrev pub Calm : Counts → Counts → Type 0
 Calm old new = BlamesOnly None old new
-
--- laws of these
-abbrev pub CalmAtFirst : Type 0
-CalmAtFirst = (x : Counts) → Calm x x
-
-abbrev pub BlamedAfterCalm : Type 0
-BlamedAfterCalm = (broken : Option Broken) (x y z : Counts) → Calm x y → BlamesOnly broken y z → BlamesOnly broken x z

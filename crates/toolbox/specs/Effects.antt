@@ -6,13 +6,13 @@ use Rattle.big_memory.specs.declared.refusals.Access.{Access}
 use Rattle.big_memory.specs.declared.refusals.Access.TheVariants.{Outside}
 use Rattle.big_memory.specs.Lists.{part}
 use Rattle.big_memory.specs.Memory.{Memory, with_bytes, in_memory, filled, copied, copy_refusal}
-use Rattle.proc_info.specs.Build.{image}
-use Rattle.toolbox.specs.Space.{Space}
-use Rattle.toolbox.specs.Place.{place_for, taken, freed, begins_at}
-use Rattle.mix_io.specs.declared.answers.Answer.{Answer}
-use Rattle.mix_io.specs.declared.answers.Answer.TheVariants.{Word, Failed, Empty, Full}
-use Rattle.mix_io.specs.declared.answers.Asked.{Asked}
-use Rattle.mix_io.specs.Rack.{journal_limit}
+use Rattle.routine_desc.specs.Build.{image}
+use Rattle.host_heap.specs.Space.{Space}
+use Rattle.host_heap.specs.Place.{place_for, taken, freed, begins_at}
+use Rattle.dev_rack.specs.declared.answers.Answer.{Answer}
+use Rattle.dev_rack.specs.declared.answers.Answer.TheVariants.{Word, Failed, Empty, Full}
+use Rattle.dev_rack.specs.declared.answers.Asked.{Asked}
+use Rattle.dev_rack.specs.Rack.{journal_limit}
 use Rattle.toolbox.specs.declared.values.Operands.{Operands}
 use Rattle.toolbox.specs.declared.values.Results.{Results}
 use Rattle.toolbox.specs.declared.function.Function.{Function}

@@ -2,18 +2,19 @@
 // new block is never refused.
 ghost use Rattle.std.specs.Prelude.{◌≡◌, ℕ, Option, length};
 ghost use Rattle.big_memory.specs.Memory.{Memory, filled};
-ghost use Rattle.big_memory.specs.Stores.{OnlyFree};
-ghost use Rattle.proc_info.specs.Build.{image};
-ghost use Rattle.toolbox.specs.Calls.{HeapLies, KeepsBounds};
+ghost use Rattle.big_memory.specs.StoresClauses.{OnlyFree};
+ghost use Rattle.routine_desc.specs.Build.{image};
+ghost use Rattle.toolbox.specs.CallsClauses.{HeapLies, KeepsBounds};
 ghost use Rattle.toolbox.specs.Effects.{Around, disposes, makes, makes_of};
-ghost use Rattle.toolbox.specs.Performs.{Quietly, resources};
+ghost use Rattle.toolbox.specs.inner.Performs.{Quietly};
+ghost use Rattle.toolbox.specs.Performs.{resources};
 
-use super::Heap;
 use crate::laws::laws;
 use crate::results::{no_address, of_dispose, one};
 use crate::values::Results;
 use big_memory::Ram;
-use proc_info::build;
+use host_heap::Heap;
+use routine_desc::build;
 
 /// A block of `size` bytes: its address.
 pub fn new_block(heap: &mut Heap, size: u32) -> Results

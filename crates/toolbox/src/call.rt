@@ -1,13 +1,13 @@
 ghost use Rattle.std.specs.Prelude.{◌≡◌, ◌<◌, IsTrue, false};
 ghost use Rattle.big_memory.specs.Memory.{Memory};
-ghost use Rattle.big_memory.specs.Stores.{OnlyFree};
-ghost use Rattle.mix_io.specs.Accounts.{Accounts};
-ghost use Rattle.toolbox.specs.Calls.{Blames, HeapLies, Hosts, KeepsBounds, Outside, host_at, outside, place};
+ghost use Rattle.big_memory.specs.StoresClauses.{OnlyFree};
+ghost use Rattle.dev_rack.specs.Accounts.{Accounts};
+ghost use Rattle.toolbox.specs.CallsClauses.{Blames, HeapLies, Hosts, KeepsBounds, host_at, outside, place};
+ghost use Rattle.toolbox.specs.Calls.{Outside};
 ghost use Rattle.toolbox.specs.Effects.{Around};
 ghost use Rattle.toolbox.specs.Performs.{resources};
 ghost use Rattle.toolbox.specs.Puts.{puts_of, said_in};
 
-use super::Heap;
 use crate::HostOut;
 use crate::blocks::{dispose, new_block};
 use crate::function::Function;
@@ -17,7 +17,9 @@ use crate::perform::perform;
 use crate::registers::{operands_of, settle};
 use crate::results::of_ask;
 use big_memory::Ram;
-use mix_io::{Devices, Sink, Source};
+use dev_rack::Devices;
+use host_heap::Heap;
+use mix_io::{Sink, Source};
 use switch_frame::Active;
 
 /// Calls NewPtr or DisposePtr, by their numbers: programs call these again and again, and they need no more than the

@@ -1,6 +1,8 @@
-ghost use Rattle.std.specs.Prelude.{◌≡◌};
+ghost use Rattle.std.specs.Prelude.{◌≡◌, ◌<◌};
 ghost use Rattle.toolbox.specs.Functions.{function_at};
-ghost use Rattle.toolbox.specs.Table.{row};
+ghost use Rattle.toolbox.specs.Table.{number_of, row};
+
+use crate::table::{NOWHERE, ROWS, Row};
 
 /// A function of the host table.
 #[derive(Clone, Copy)]
@@ -25,39 +27,32 @@ pub enum Function {
 
 impl Function {
     /// The function with this number.
+    #[inline(always)]
+    #[tactic(auto, using(crate::proofs::OneNumber::past_table))]
     pub fn at(index: u32) -> Function
         ensures { result ≡ function_at index }
     {
-        match index {
-            0 => Function::NewRoutineDescriptor,
-            1 => Function::NewFatRoutineDescriptor,
-            2 => Function::DisposeRoutineDescriptor,
-            3 => Function::CallUniversalProc,
-            4 => Function::NewPtr,
-            5 => Function::NewPtrClear,
-            6 => Function::DisposePtr,
-            7 => Function::BlockMove,
-            8 => Function::ExitToShell,
-            9 => Function::PutByte,
-            10 => Function::GetByte,
-            11 => Function::PutBlock,
-            12 => Function::AskDevice,
-            13 => Function::EjectDevice,
-            14 => Function::ExitWith,
-            _ => Function::UnloadSeg,
+        if index < 16 {
+            ROWS[index as usize].function
+        } else {
+            NOWHERE.function
         }
     }
 
-    /// Whether its trap sets the condition codes.
-    pub fn sets_codes(self) -> bool
-        ensures { result ≡ (row self).sets_codes }
+    /// Its number.
+    #[inline(always)]
+    fn number(self) -> u8
+        ensures is { result ≡ number_of self }
+        ensures below { result < 16 }
     {
-        match self {
-            Function::NewPtr => true,
-            Function::NewPtrClear => true,
-            Function::DisposePtr => true,
-            Function::BlockMove => true,
-            _ => false,
-        }
+        self as u8
+    }
+
+    /// Its row.
+    #[inline(always)]
+    pub fn row(self) -> Row
+        ensures { result ≡ row self }
+    {
+        ROWS[self.number() as usize]
     }
 }

@@ -1,78 +1,52 @@
-ghost use Rattle.std.specs.Prelude.{◌≡◌, ◌<◌, ◌↔◌, IsTrue, IfSome};
-ghost use Rattle.toolbox.specs.Table.{host_lib, interface_lib};
-ghost use Rattle.toolbox.specs.Names.{IsImportIndex, import_index};
+ghost use Rattle.std.specs.Prelude.{◌≡◌, ◌^◌, ◌<◌, ◌≤◌, ◌+◌, IfSome, length, map};
+ghost use Rattle.std.specs.List.{position_from};
+ghost use Rattle.std.specs.Option.{option_map};
+ghost use Rattle.toolbox.specs.NamesClauses.{IsImportIndex};
+ghost use Rattle.toolbox.specs.Names.{import_index, is_named as is_named_so};
+
+use crate::table::{IMPORTS, Import};
 
 /// The number of the function that a PEF container imports by the name of its library and its own.
-#[tactic(auto, using(crate::proofs::ByName::index_is, crate::proofs::ByName::index_below))]
 pub fn import_index(library: &[u8], name: &[u8]) -> Option<u32>
     ensures is { IsImportIndex library.now name.now result }
     ensures value { result ≡ import_index library.now name.now }
     ensures below { IfSome result (λ k. k < 15) }
 {
-    library_index(library, name)
+    import_number(library, name)
 }
 
-fn library_index(library: &[u8], name: &[u8]) -> Option<u32>
-    ensures { IsImportIndex library.now name.now result }
+/// The number of the first function that is imported so.
+fn import_number(library: &[u8], name: &[u8]) -> Option<u32>
+    ensures { result ≡ import_index library.now name.now }
 {
-    if is(library, "InterfaceLib") {
-        interface_index(name)
-    } else if is(library, "HostLib") {
-        host_index(name)
-    } else {
-        None
+    import_from(&IMPORTS, 0, library, name)
+}
+
+/// The same among imports, of which the first has the number `at`.
+fn import_from(imports: &[Import], at: u32, library: &[u8], name: &[u8]) -> Option<u32>
+    requires { at + length imports.now ≤ 2 ^ 16 }
+    ensures { result ≡ position_from (is_named_so library.now name.now) at (map (λ i. option_map (λ b. (b.0.now, b.1.now)) i) imports.now) }
+{
+    match imports {
+        [] => None,
+        [first, rest @ ..] => {
+            if is_named(first, library, name) {
+                Some(at)
+            } else {
+                import_from(rest, at + 1, library, name)
+            }
+        }
     }
 }
 
-/// Whether bytes are this text.
-fn is(bytes: &[u8], text: &str) -> bool
-    ensures { IsTrue result ↔ (bytes.now ≡ text.now) }
+/// Whether what a function is imported by is this library and name.
+fn is_named(import: &Import, library: &[u8], name: &[u8]) -> bool
+    ensures { result ≡ is_named_so library.now name.now (option_map (λ b. (b.0.now, b.1.now)) import.now) }
 {
-    bytes == text.as_bytes()
-}
-
-fn interface_index(name: &[u8]) -> Option<u32>
-    ensures { IsImportIndex interface_lib name.now result }
-{
-    if is(name, "NewRoutineDescriptor") {
-        Some(0)
-    } else if is(name, "NewFatRoutineDescriptor") {
-        Some(1)
-    } else if is(name, "DisposeRoutineDescriptor") {
-        Some(2)
-    } else if is(name, "CallUniversalProc") {
-        Some(3)
-    } else if is(name, "NewPtr") {
-        Some(4)
-    } else if is(name, "NewPtrClear") {
-        Some(5)
-    } else if is(name, "DisposePtr") {
-        Some(6)
-    } else if is(name, "BlockMove") {
-        Some(7)
-    } else if is(name, "ExitToShell") {
-        Some(8)
-    } else {
-        None
-    }
-}
-
-fn host_index(name: &[u8]) -> Option<u32>
-    ensures { IsImportIndex host_lib name.now result }
-{
-    if is(name, "PutByte") {
-        Some(9)
-    } else if is(name, "GetByte") {
-        Some(10)
-    } else if is(name, "PutBlock") {
-        Some(11)
-    } else if is(name, "AskDevice") {
-        Some(12)
-    } else if is(name, "EjectDevice") {
-        Some(13)
-    } else if is(name, "ExitWith") {
-        Some(14)
-    } else {
-        None
+    match import {
+        None => false,
+        Some((its_library, its_name)) => {
+            its_library.as_bytes() == library && its_name.as_bytes() == name
+        }
     }
 }

@@ -1,5 +1,5 @@
+use dev_rack::Answer;
 use mix_bits::Fault;
-use mix_io::Answer;
 
 /// How a host call went.
 #[derive(Clone, Copy, Debug, PartialEq, Eq)]

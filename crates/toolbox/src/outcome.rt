@@ -1,6 +1,6 @@
 use crate::values::Results;
 use big_memory::Access;
-use mix_io::Answer;
+use dev_rack::Answer;
 
 /// What a function did, beside the registers.
 #[derive(Clone, Copy)]

@@ -1,13 +1,15 @@
 // What each function does beside the registers.
 ghost use Rattle.std.specs.Prelude.{◌≡◌};
 ghost use Rattle.big_memory.specs.Memory.{Memory};
-ghost use Rattle.toolbox.specs.Space.{Space};
+ghost use Rattle.host_heap.specs.Space.{Space};
 ghost use Rattle.mix_io.specs.Streams.{Output};
-ghost use Rattle.toolbox.specs.Calls.{HeapLies, Input, Outside, outside, place, with_rack};
-ghost use Rattle.toolbox.specs.Performs.{Performs};
-ghost use Rattle.toolbox.specs.Puts.{piece_of, puts_of};
+ghost use Rattle.toolbox.specs.CallsClauses.{HeapLies, outside, place};
+ghost use Rattle.toolbox.specs.Calls.{Input, Outside};
+ghost use Rattle.toolbox.specs.inner.Calls.{with_rack};
+ghost use Rattle.toolbox.specs.inner.Performs.{Performs};
+ghost use Rattle.toolbox.specs.inner.Puts.{piece_of};
+ghost use Rattle.toolbox.specs.Puts.{puts_of};
 
-use super::Heap;
 use crate::blocks::{dispose, new_block, new_cleared_block, new_descriptor};
 use crate::function::Function;
 use crate::laws::laws;
@@ -16,7 +18,9 @@ use crate::results::{of_eject, one};
 use crate::streams::{get_byte, put_block, put_byte};
 use crate::values::Operands;
 use big_memory::Ram;
-use mix_io::{Devices, Sink, Source};
+use dev_rack::Devices;
+use host_heap::Heap;
+use mix_io::{Sink, Source};
 
 #[inline(always)]
 pub fn perform<I: Source, O: Sink, D: Devices>(

@@ -1,9 +1,9 @@
 // Operands from registers, and results into them.
-ghost use Rattle.std.specs.Prelude.{◌≡◌, ◌∷◌, []};
-ghost use Rattle.toolbox.specs.Table.{row};
-ghost use Rattle.toolbox.specs.Registers.{answered, at_link, codes_of_word, operands_of as operands_in, with_registers, with_results, with_stack};
+ghost use Rattle.std.specs.Prelude.{◌≡◌};
+ghost use Rattle.toolbox.specs.Registers.{answered, at_link, codes_of_word, operands_of as operands_in, value_in, with_codes, with_gprs, with_register, with_registers, with_results, with_stack};
 
 use crate::function::Function;
+use crate::table::{PpcResults, Register};
 use crate::values::{Operands, Results};
 use m68_isa::{Ccr, Regs68};
 use mix_bits::{aligned, onward};
@@ -25,25 +25,21 @@ pub fn operands_of(function: Function, active: &Active) -> Operands
 fn operands_68k(function: Function, regs: &Regs68) -> Operands
     ensures { result ≡ operands_in function (Active.M68 regs.now) }
 {
-    let (d0, d1) = (regs.d[0], regs.d[1]);
-    let (a0, a1) = (regs.a[0], regs.a[1]);
-    match function {
-        Function::NewRoutineDescriptor => three(a0, d0, d1),
-        Function::NewFatRoutineDescriptor => three(a0, a1, d0),
-        Function::DisposeRoutineDescriptor => three(a0, 0, 0),
-        Function::CallUniversalProc => three(0, 0, 0),
-        Function::NewPtr => three(d0, 0, 0),
-        Function::NewPtrClear => three(d0, 0, 0),
-        Function::DisposePtr => three(a0, 0, 0),
-        Function::BlockMove => three(a0, a1, d0),
-        Function::ExitToShell => three(0, 0, 0),
-        Function::PutByte => three(d0, 0, 0),
-        Function::GetByte => three(0, 0, 0),
-        Function::PutBlock => three(a0, d0, 0),
-        Function::AskDevice => three(d0, d1, 0),
-        Function::EjectDevice => three(d0, 0, 0),
-        Function::ExitWith => three(d0, 0, 0),
-        Function::UnloadSeg => three(0, 0, 0),
+    let (first, second, third) = function.row().operands;
+    three(value(regs, first), value(regs, second), value(regs, third))
+}
+
+/// The value of a register, 0 where there is none.
+#[inline(always)]
+fn value(regs: &Regs68, register: Option<Register>) -> u32
+    ensures { result ≡ value_in regs.now register }
+{
+    match register {
+        None => 0,
+        Some(Register::D0) => regs.d[0],
+        Some(Register::D1) => regs.d[1],
+        Some(Register::A0) => regs.a[0],
+        Some(Register::A1) => regs.a[1],
     }
 }
 
@@ -72,51 +68,52 @@ pub fn settle(function: Function, active: &mut Active, results: Results)
 fn settle_68k(function: Function, regs: &mut Regs68, results: Results)
     ensures { Active.M68 regs.new ≡ answered function results (Active.M68 regs.old) }
 {
-    give_68k(function, regs, results);
-    if function.sets_codes() {
-        regs.ccr = codes_of(regs.d[0] % 0x1_0000, regs.ccr);
-    }
+    give_registers(function, regs, results);
+    pop_operand(function, regs);
+    set_codes(function, regs);
     regs.pc = onward(regs.pc, 2);
 }
 
 #[inline(always)]
-fn give_68k(function: Function, regs: &mut Regs68, results: Results)
-    ensures { regs.new ≡ with_stack function (with_registers (row function).results (results.first ∷ results.second ∷ []) regs.old) }
+fn give_registers(function: Function, regs: &mut Regs68, results: Results)
+    ensures { regs.new ≡ with_registers function results regs.old }
 {
-    match function {
-        Function::NewRoutineDescriptor => regs.a[0] = results.first,
-        Function::NewFatRoutineDescriptor => regs.a[0] = results.first,
-        Function::DisposeRoutineDescriptor => regs.d[0] = results.first,
-        Function::CallUniversalProc => {}
-        Function::NewPtr => give_address(regs, results),
-        Function::NewPtrClear => give_address(regs, results),
-        Function::DisposePtr => regs.d[0] = results.first,
-        Function::BlockMove => regs.d[0] = results.first,
-        Function::ExitToShell => {}
-        Function::PutByte => {}
-        Function::GetByte => regs.d[0] = results.first,
-        Function::PutBlock => {}
-        Function::AskDevice => give_two(regs, results),
-        Function::EjectDevice => regs.d[0] = results.first,
-        Function::ExitWith => {}
-        Function::UnloadSeg => regs.a[7] = onward(regs.a[7], 4),
+    let (first, second) = function.row().results;
+    give(regs, first, results.first);
+    give(regs, second, results.second);
+}
+
+/// An operand on the stack is a long, which the trap removes.
+#[inline(always)]
+fn pop_operand(function: Function, regs: &mut Regs68)
+    ensures { regs.new ≡ with_stack function regs.old }
+{
+    if function.row().pops {
+        regs.a[7] = onward(regs.a[7], 4);
     }
 }
 
-/// An address and an error.
-fn give_address(regs: &mut Regs68, results: Results)
-    ensures { regs.new ≡ with_registers (row Function.NewPtr).results (results.first ∷ results.second ∷ []) regs.old }
+#[inline(always)]
+fn set_codes(function: Function, regs: &mut Regs68)
+    ensures { regs.new ≡ with_codes function regs.old }
 {
-    regs.a[0] = results.first;
-    regs.d[0] = results.second;
+    if function.row().sets_codes {
+        regs.ccr = codes_of(regs.d[0] % 0x1_0000, regs.ccr);
+    }
 }
 
-/// An error and an answer.
-fn give_two(regs: &mut Regs68, results: Results)
-    ensures { regs.new ≡ with_registers (row Function.AskDevice).results (results.first ∷ results.second ∷ []) regs.old }
+/// Puts a result into its register, where it has one.
+#[inline(always)]
+fn give(regs: &mut Regs68, register: Option<Register>, value: u32)
+    ensures { regs.new ≡ with_register register value regs.old }
 {
-    regs.d[0] = results.first;
-    regs.d[1] = results.second;
+    match register {
+        None => {}
+        Some(Register::D0) => regs.d[0] = value,
+        Some(Register::D1) => regs.d[1] = value,
+        Some(Register::A0) => regs.a[0] = value,
+        Some(Register::A1) => regs.a[1] = value,
+    }
 }
 
 /// The condition codes of a word: N and Z by its value, V and C cleared.
@@ -136,9 +133,26 @@ fn codes_of(word: u32, ccr: Ccr) -> Ccr
 fn settle_ppc(function: Function, regs: &mut RegsPpc, results: Results)
     ensures { regs.new ≡ at_link (with_results function results regs.old) }
 {
-    regs.gpr[3] = results.first;
-    if let Function::AskDevice = function {
-        regs.gpr[4] = results.second;
-    }
+    give_gprs(function.row().ppc_results, regs, results);
     regs.pc = aligned(regs.lr);
+}
+
+#[inline(always)]
+fn give_gprs(which: PpcResults, regs: &mut RegsPpc, results: Results)
+    ensures { regs.new ≡ with_gprs which results regs.old }
+{
+    match which {
+        PpcResults::Nothing => {}
+        PpcResults::R3 => regs.gpr[3] = results.first,
+        PpcResults::R3AndR4 => give_two(regs, results),
+    }
+}
+
+/// An error and an answer.
+#[inline(always)]
+fn give_two(regs: &mut RegsPpc, results: Results)
+    ensures { regs.new ≡ with_gprs PpcResults.R3AndR4 results regs.old }
+{
+    regs.gpr[3] = results.first;
+    regs.gpr[4] = results.second;
 }

@@ -3,7 +3,7 @@ ghost use Rattle.std.specs.Prelude.{◌≡◌, if◌then◌else◌};
 ghost use Rattle.toolbox.specs.Effects.{error, no_block, no_room, no_slot, results, results_of};
 
 use crate::values::Results;
-use mix_io::Answer;
+use dev_rack::Answer;
 
 /// -21: the slot holds no device.
 const NO_SLOT: u32 = 0xFFFF_FFEB;

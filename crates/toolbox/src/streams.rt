@@ -1,14 +1,18 @@
 // Bytes to the output and from the input.
 ghost use Rattle.std.specs.Prelude.{◌≡◌};
 ghost use Rattle.big_memory.specs.Memory.{Memory};
-ghost use Rattle.mix_io.specs.Rack.{State};
-ghost use Rattle.toolbox.specs.Space.{Space};
+ghost use Rattle.dev_rack.specs.Rack.{State};
+ghost use Rattle.host_heap.specs.Space.{Space};
 ghost use Rattle.mix_io.specs.Calls.{one_more};
 ghost use Rattle.mix_io.specs.Streams.{Output};
-ghost use Rattle.toolbox.specs.Calls.{Input, place, with_input, with_output};
+ghost use Rattle.toolbox.specs.Calls.{Input};
+ghost use Rattle.toolbox.specs.CallsClauses.{place};
+ghost use Rattle.toolbox.specs.inner.Calls.{with_input, with_output};
 ghost use Rattle.toolbox.specs.Effects.{Around, effect, says};
-ghost use Rattle.toolbox.specs.Performs.{Performs, resources};
-ghost use Rattle.toolbox.specs.Puts.{piece_of, puts_of};
+ghost use Rattle.toolbox.specs.inner.Performs.{Performs};
+ghost use Rattle.toolbox.specs.Performs.{resources};
+ghost use Rattle.toolbox.specs.inner.Puts.{piece_of};
+ghost use Rattle.toolbox.specs.Puts.{puts_of};
 ghost use Rattle.toolbox.specs.declared.function.Function.{Function};
 ghost use Rattle.toolbox.specs.declared.function.Function.TheVariants.{GetByte, PutBlock, PutByte};
 ghost use Rattle.toolbox.specs.declared.values.Operands.{Operands as AllOperands};

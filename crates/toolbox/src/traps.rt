@@ -1,26 +1,54 @@
-ghost use Rattle.toolbox.specs.Names.{IsTrapIndex, TrapsHaveOneNumber};
+ghost use Rattle.std.specs.Prelude.{◌≡◌, ◌^◌, ◌<◌, ◌≤◌, IfSome, length};
+ghost use Rattle.std.specs.List.{position};
+ghost use Rattle.toolbox.specs.Functions.{has_trap as has_this_trap, trap_number};
+ghost use Rattle.toolbox.specs.NamesClauses.{IsTrapIndex};
+ghost use Rattle.toolbox.specs.laws.Names.{TrapsHaveOneNumber};
+
+use crate::table::{ROWS, Row};
 
 /// The number of the function that a trap word reaches.
+#[inline(always)]
 pub fn trap_index(word: u16) -> Option<u32>
     ensures { IsTrapIndex word result }
 {
-    match word {
-        0xA01F => Some(6),
-        0xA02E => Some(7),
-        0xA11E => Some(4),
-        0xA31E => Some(5),
-        0xA9F1 => Some(15),
-        0xA9F4 => Some(8),
-        0xAA80 => Some(9),
-        0xAA81 => Some(10),
-        0xAA82 => Some(11),
-        0xAA83 => Some(12),
-        0xAA84 => Some(13),
-        0xAA85 => Some(14),
-        0xAA86 => Some(0),
-        0xAA87 => Some(1),
-        0xAA88 => Some(2),
-        _ => None,
+    trap_number(word)
+}
+
+/// The number of the first row with this trap.
+#[inline(always)]
+fn trap_number(word: u16) -> Option<u32>
+    ensures { result ≡ trap_number word }
+{
+    trap_among(&ROWS, word)
+}
+
+#[inline(always)]
+fn trap_among(rows: &[Row], word: u16) -> Option<u32>
+    requires { length rows.now ≤ 2 ^ 16 }
+    ensures { result ≡ position (λ r. has_this_trap r.trap word) rows.now }
+{
+    match place_among(rows, word) {
+        Some(place) => Some(place as u32),
+        None => None,
+    }
+}
+
+#[inline(always)]
+fn place_among(rows: &[Row], word: u16) -> Option<usize>
+    ensures place { result ≡ position (λ r. has_this_trap r.trap word) rows.now }
+    ensures inside { IfSome result (λ k. k < length rows.now) }
+{
+    rows.iter().position(|row| has_trap(row.trap, word))
+}
+
+/// Whether a row's trap is this word.
+#[inline(always)]
+fn has_trap(trap: Option<u16>, word: u16) -> bool
+    ensures { result ≡ has_this_trap trap word }
+{
+    match trap {
+        None => false,
+        Some(trap) => trap == word,
     }
 }
 

@@ -4,10 +4,8 @@ use crate::images::Images;
 use crate::outside::{keeper, scripted, sink};
 use crate::tell::{self, Telling};
 use crate::words::{no_memory, numbers, value_of};
-use mix_io::{
-    Asked, Counter, Device, Devices, MemKeep, MemShelf, MemSink, MemSource, Rack, Tape,
-    have_distinct_names,
-};
+use dev_rack::{Asked, Devices, Rack};
+use mix_io::{Counter, Device, MemKeep, MemShelf, MemSink, MemSource, Tape, have_distinct_names};
 use mix_top::mixed_main;
 use std::alloc::{AllocError, Global};
 use std::io::{self, ErrorKind};

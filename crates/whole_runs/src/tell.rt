@@ -1,7 +1,8 @@
 // What runs gave, as text.
 use crate::images::Images;
 use crate::run::Run;
-use mix_io::{Asked, MemSource, Source};
+use dev_rack::Asked;
+use mix_io::{MemSource, Source};
 use std::alloc::{AllocError, Global};
 use std::io;
 use std::str::from_utf8;

@@ -4,7 +4,8 @@ use crate::case::Case;
 use crate::images::Images;
 use crate::run::{shelf, split};
 use crate::words::no_memory;
-use mix_io::{FileKeep, MemShelf, Rack, StdSink, StdSource};
+use dev_rack::Rack;
+use mix_io::{FileKeep, MemShelf, StdSink, StdSource};
 use mix_top::mixed_main;
 use std::io;
 

@@ -1,7 +1,7 @@
+use asm_m68::{AsmError, assemble68};
 use m68_isa::{Decoded68, decode68};
 use m68_text::text68;
 use mix_bits::Line;
-use mix_text::{AsmError, assemble68};
 use std::alloc::{AllocError, Global};
 use std::str::from_utf8;
 

@@ -1,6 +1,7 @@
+use asm_ppc::{AsmError, assemble_ppc};
 use mix_bits::Line;
 use ppc_isa::decode_ppc;
-use ppc_text::{AsmError, assemble_ppc, text_ppc};
+use ppc_text::text_ppc;
 use std::alloc::{AllocError, Global};
 use std::str::from_utf8;
 

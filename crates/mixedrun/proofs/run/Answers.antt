@@ -1,6 +1,6 @@
 -- The outside that a run begins with.
 use Rattle.std.proofs.Common.{ap, None, refl}
-use Rattle.mix_io.specs.Streams.{output}
+use Rattle.mix_io.specs.StreamsClauses.{output}
 use Rattle.mixedrun.proofs.run.Goals as goal
 
 pub returns : goal.returns

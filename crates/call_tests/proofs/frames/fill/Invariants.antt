@@ -1,7 +1,7 @@
 use Rattle.std.proofs.Common.{◌≡◌}
 use Rattle.switch_frame.specs.declared.active.Active.{Active}
 use Rattle.switch_frame.specs.declared.kind.Kind.TheVariants.{PpcToPpc}
-use Rattle.switch_frame.specs.Calls.{IsCalled}
+use Rattle.switch_frame.specs.CallsClauses.{IsCalled}
 use Rattle.switch_frame.specs.Chain.{Chain, records}
 use Rattle.switch_frame.specs.Records.{isa_of}
 use Rattle.switch_frame.specs.Sets.{callee_isa}

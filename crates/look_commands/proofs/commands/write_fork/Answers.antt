@@ -1,9 +1,9 @@
 -- The fork that was found is put.
 use Rattle.std.proofs.Common.{◌≡◌, ◌+◌, ℕ, List, Option, Result, Ok, subst}
 use Rattle.std.specs.Prelude.{slice_range}
-use Rattle.rsrc_fork.specs.declared.wrapping.ForkError.{ForkError}
-use Rattle.rsrc_fork.specs.declared.wrapping.ForkPlace.{ForkPlace}
-use Rattle.look_commands.specs.Told.{Prints, PutsFork}
+use Rattle.wrapped_forks.specs.declared.wrapping.ForkError.{ForkError}
+use Rattle.wrapped_forks.specs.declared.wrapping.ForkPlace.{ForkPlace}
+use Rattle.look_commands.specs.inner.Told.{Prints, PutsFork}
 use Rattle.look_commands.proofs.commands.write_fork.Goals as goal
 
 put : (bytes : List ℕ) (fork : ForkPlace) (found : Result ForkPlace ForkError) (old new : Option (List ℕ)) (status : ℕ) → Ok fork ≡ found

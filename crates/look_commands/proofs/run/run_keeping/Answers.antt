@@ -1,5 +1,5 @@
 -- A step more, or the one at which the run stopped.
-use Rattle.mix_io.proofs.Steps.{accounts-join}
+use Rattle.dev_rack.proofs.Steps.{accounts-join}
 use Rattle.look_commands.proofs.Cuts.{cut-begins, stopped, went-on}
 use Rattle.look_commands.proofs.run.run_keeping.Goals as goal
 

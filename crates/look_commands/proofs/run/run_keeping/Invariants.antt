@@ -1,7 +1,7 @@
 -- The single steps so far are one run from the machine at the start.
-use Rattle.toolbox.specs.Calls.{outside as outside_of}
-use Rattle.mixed_machine.specs.Outside.{at}
-use Rattle.mix_io.specs.Streams.{output}
+use Rattle.toolbox.specs.CallsClauses.{outside as outside_of}
+use Rattle.mixed_machine.specs.OutsideClauses.{at}
+use Rattle.mix_io.specs.StreamsClauses.{output}
 use Rattle.look_commands.proofs.Cuts.{Cut}
 use Rattle.look_commands.proofs.run.run_keeping.Given as goal
 

@@ -3,12 +3,12 @@ use Rattle.std.proofs.Common.{◌≡◌, ℕ, List, [], ◌∷◌, ◌++◌, Res
 use Rattle.std.specs.Prelude.{OnOk}
 use Rattle.mix_bits.specs.declared.size.Size.{Size}
 use Rattle.mix_bits.specs.declared.size.Size.TheVariants.{Zero, One, Two, Four}
-use Rattle.mode_switch.specs.Places68.{result_place, route_of}
-use Rattle.mode_switch.specs.declared.m68_places.Place.{Place}
-use Rattle.look_text.specs.Info.{sized_result}
-use Rattle.look_text.specs.Pieces.{joined}
-use Rattle.look_text.specs.Places.{place_text}
-use Rattle.look_text.specs.Words.{size_name}
+use Rattle.args_m68.specs.Places.{result_place, route_of}
+use Rattle.args_m68.specs.declared.places.Place.{Place}
+use Rattle.look_text.specs.inner.Info.{sized_result}
+use Rattle.look_text.specs.inner.Pieces.{joined}
+use Rattle.look_text.specs.inner.Places.{place_text}
+use Rattle.look_text.specs.inner.Words.{size_name}
 use Rattle.look_text.proofs.info.add_result.Goals as goal
 
 -- the name of the size and the place are those of the line

@@ -1,8 +1,9 @@
 -- An import below their number is told by its names.
 use Rattle.std.proofs.Common.{◌≡◌, Bool, true, IfOk, IfSome, if◌then◌else◌, sym, subst, arith, nat_lt, Some, None}
 use Rattle.std.proofs.lemmas.Bool.Decides.{nat_tests}
-use Rattle.pef_head.specs.Parts.{ImportParts, cut, import_count, import_of}
-use Rattle.look_words.specs.Refusals.{lacking_text}
+use Rattle.pef_head.specs.Parts.{ImportParts, import_count, import_of}
+use Rattle.pef_head.specs.inner.Parts.{cut}
+use Rattle.look_words.specs.inner.Refusals.{lacking_text}
 use Rattle.look_words.proofs.load_error.unresolved_in.Goals as goal
 
 pub returns : goal.returns

@@ -3,7 +3,7 @@ use Rattle.std.proofs.Common.{◌≡◌, ◌∙◌, ap, arith}
 use Rattle.std.specs.Prelude.{is_some}
 use Rattle.pef_head.specs.Parts.{SectionParts}
 use Rattle.mix_load.specs.Sections.{pattern_refusal}
-use Rattle.look_words.specs.Unmade.{is_badly_packed}
+use Rattle.look_words.specs.inner.Unmade.{is_badly_packed}
 use Rattle.look_words.proofs.Firsts.{first_at, none_more, none_to}
 use Rattle.look_words.proofs.unmade.badly_packed.Goals as goal
 

@@ -3,7 +3,7 @@ use Rattle.std.proofs.Common.{◌∙◌, ap, ℕ, Option, Result}
 use Rattle.std.specs.Result.{IfOk, IsErrAnd}
 use Rattle.std.proofs.lemmas.Result.{err_from_is_err_and}
 use Rattle.mix_bits.specs.Search.{least}
-use Rattle.look_words.specs.Unmade.{IsBadlyRelocated, is_badly_relocated}
+use Rattle.look_words.specs.inner.Unmade.{IsBadlyRelocated, is_badly_relocated}
 use Rattle.look_words.proofs.unmade.badly_relocated.Goals as goal
 
 -- a refusal tells of no section

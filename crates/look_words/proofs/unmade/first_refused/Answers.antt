@@ -1,7 +1,7 @@
 -- The first section that is refused is the least one.
 use Rattle.std.proofs.Common.{◌≡◌, refl, ◌<◌, arith}
 use Rattle.pef_head.specs.Container.{instantiated_count}
-use Rattle.look_words.specs.Unmade.{is_badly_relocated}
+use Rattle.look_words.specs.inner.Unmade.{is_badly_relocated}
 use Rattle.look_words.proofs.Firsts.{first_at, none_more, none_to}
 use Rattle.look_words.proofs.unmade.first_refused.Goals as goal
 

@@ -1,7 +1,7 @@
 -- No section so far is refused, and memory is as large as it was.
 use Rattle.std.proofs.Common.{◌≡◌, ℕ, None, length}
 use Rattle.mix_bits.specs.Search.{least}
-use Rattle.look_words.specs.Unmade.{is_badly_relocated}
+use Rattle.look_words.specs.inner.Unmade.{is_badly_relocated}
 use Rattle.look_words.proofs.unmade.first_refused.Given as goal
 
 abbrev pub invariant-loop-k : goal.invariant-loop-k

@@ -1,6 +1,6 @@
 -- The size of each section so far.
 use Rattle.std.proofs.Common.{◌≡◌, ℕ, ◌<◌, length, slice_index}
-use Rattle.mix_load.specs.Sections.{total_at}
+use Rattle.mix_load.specs.laws.Sections.{total_at}
 use Rattle.look_words.proofs.unmade.totals.Given as goal
 
 abbrev pub invariant-loop-k : goal.invariant-loop-k

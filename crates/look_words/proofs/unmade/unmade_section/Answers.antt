@@ -4,7 +4,7 @@ use Rattle.std.specs.Prelude.{IfOk, IfSome}
 use Rattle.mix_bits.specs.Search.{least}
 use Rattle.pef_reloc.specs.declared.error.RelocError.{RelocError}
 use Rattle.pef_reloc.specs.declared.error.RelocError.TheVariants.{Pattern, Short, Unsupported, OutsideSection, ImportIndex, SectionIndex, RepeatFront, Work}
-use Rattle.look_words.specs.Unmade.{IsBadlyRelocated, IsUnmade, is_badly_packed}
+use Rattle.look_words.specs.inner.Unmade.{IsBadlyRelocated, IsUnmade, is_badly_packed}
 use Rattle.look_words.proofs.unmade.unmade_section.Goals as goal
 
 told : {E : Type 0} (bytes : List ℕ) (kind error : RelocError) (r : Result (Option ℕ) E) → error ≡ kind

@@ -3,8 +3,8 @@ use Rattle.std.proofs.Common.{◌≡◌, ◌∙◌, refl, sym, ap, subst, ℕ, z
 use Rattle.std.proofs.lemmas.List.{length-replicate}
 use Rattle.pef_head.specs.Container.{instantiated_count}
 use Rattle.pef_head.specs.Parts.{import_count}
-use Rattle.mix_load.specs.Sections.{total_at}
-use Rattle.look_words.specs.Unmade.{HasSizes}
+use Rattle.mix_load.specs.laws.Sections.{total_at}
+use Rattle.look_words.specs.inner.Unmade.{HasSizes}
 use Rattle.look_words.proofs.unmade.zeroed.Goals as goal
 
 zero_in : (n k : ℕ) → slice_index (replicate n 0) k ≡ 0

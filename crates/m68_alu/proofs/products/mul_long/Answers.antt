@@ -9,7 +9,7 @@ use Rattle.std.proofs.lemmas.Int.{ints, to_z-of_z}
 use Rattle.mix_bits.specs.Sizes.{signed_of}
 use Rattle.mix_bits.specs.declared.size.Size.TheVariants.{Four}
 use Rattle.m68_alu.specs.Products.{leaves_bits, long_multiplied, long_product, low_bits, product, residue}
-use Rattle.m68_alu.specs.Sizes.{leaves}
+use Rattle.mix_bits.specs.Signs.{leaves}
 use Rattle.m68_alu.proofs.products.mul_long.Goals as goal
 
 -- the bits of a number
@@ -17,8 +17,8 @@ bits-are : (z : ℤ) → FitsSigned w64 z → of_z w64 z ≡ residue z (2 ^ 64)
 bits-are (pos n) fits = omega (arith, ints)
 bits-are (negsuc n) fits = omega (arith, ints)
 
-pub returns-then-is_signed : goal.returns-then-is_signed
-returns-then-is_signed c =
+pub returns-then-signed : goal.returns-then-signed
+returns-then-signed c =
     let found = c.signed_product-product.result in
     let exact = signed_of c.args.a Four *ℤ signed_of c.args.b Four in
     let is : to_z w64 (of_z w64 found) ≡ exact = to_z-of_z w64 found c.signed_product-product.ensures.fits ∙ c.signed_product-product.ensures.value in
@@ -27,7 +27,7 @@ returns-then-is_signed c =
     let far : c.leaves.result ≡ leaves_bits true 32 exact = c.leaves.ensures ∙ ap (leaves Four) is in
     c.halves.ensures ∙ ap (λ l. long_product c.args.wide l c.cast_unsigned.result c.args.old) far
     ∙ ap (λ v. long_product c.args.wide (leaves_bits true 32 exact) v c.args.old) bits
-    ∙ sym (ap (λ s. long_multiplied s c.args.wide c.args.a c.args.b c.args.old) c.if-is_signed.true)
+    ∙ sym (ap (λ s. long_multiplied s c.args.wide c.args.a c.args.b c.args.old) c.if-signed.true)
 
 none : (n : ℕ) → nat_lt n 0 ≡ false
 none n = grind (arith, nat_tests)
@@ -48,12 +48,12 @@ unsigned a b m n wide old low high first second =
 
 pub overflow_mul-product : goal.overflow_mul-product
 overflow_mul-product c =
-    let below : c.from.result * c.from-else-is_signed.result < 2 ^ 64 =
-    small c.args.a c.args.b c.from.result c.from-else-is_signed.result c.ranges.a.fits c.ranges.b.fits c.from.ensures c.from-else-is_signed.ensures in
+    let below : c.from.result * c.from-else-signed.result < 2 ^ 64 =
+    small c.args.a c.args.b c.from.result c.from-else-signed.result c.ranges.a.fits c.ranges.b.fits c.from.ensures c.from-else-signed.ensures in
     omega (arith, below)
 
-pub returns-else-is_signed : goal.returns-else-is_signed
-returns-else-is_signed c =
-    c.halves-else-is_signed.ensures
-    ∙ unsigned c.args.a c.args.b c.from.result c.from-else-is_signed.result c.args.wide c.args.old c.ranges.a.fits c.ranges.b.fits c.from.ensures c.from-else-is_signed.ensures
-    ∙ sym (ap (λ s. long_multiplied s c.args.wide c.args.a c.args.b c.args.old) c.if-is_signed.false)
+pub returns-else-signed : goal.returns-else-signed
+returns-else-signed c =
+    c.halves-else-signed.ensures
+    ∙ unsigned c.args.a c.args.b c.from.result c.from-else-signed.result c.args.wide c.args.old c.ranges.a.fits c.ranges.b.fits c.from.ensures c.from-else-signed.ensures
+    ∙ sym (ap (λ s. long_multiplied s c.args.wide c.args.a c.args.b c.args.old) c.if-signed.false)

@@ -1,7 +1,7 @@
 use Rattle.std.proofs.Common.{◌≡◌, ◌-◌, ◌*◌, ◌^◌, ◌∙◌, true, false, ap, sym}
 use Rattle.mix_bits.specs.Sizes.{modulus, truncated}
 use Rattle.std.specs.Prelude.{nat_le, nat_lt}
-use Rattle.m68_alu.specs.Sizes.{half, is_negative}
+use Rattle.mix_bits.specs.Signs.{half, is_negative}
 use Rattle.m68_alu.specs.Shifts.{ended}
 use Rattle.m68_alu.proofs.Overflows.{at-half, from-half, negative_all, plain_all}
 use Rattle.m68_alu.proofs.Signs.{below-half}

@@ -1,6 +1,6 @@
 use Rattle.std.proofs.Common.{◌≡◌, ◌<◌, ◌∙◌, false, ap, sym}
 use Rattle.mix_bits.specs.Sizes.{truncated}
-use Rattle.m68_alu.specs.Sizes.{half, is_negative}
+use Rattle.mix_bits.specs.Signs.{half, is_negative}
 use Rattle.m68_alu.specs.Shifts.{ended}
 use Rattle.m68_alu.proofs.Signs.{below-half, plain_all}
 use Rattle.m68_alu.proofs.Zeros.{right_all}

@@ -3,7 +3,7 @@ use Rattle.std.specs.Prelude.{int_lt}
 use Rattle.std.specs.Int.{w64, cast_signed, cast_unsigned}
 use Rattle.std.proofs.lemmas.Int.{to_z-of_z}
 use Rattle.mix_bits.specs.Sizes.{signed_of}
-use Rattle.m68_alu.specs.Sizes.{leaves}
+use Rattle.mix_bits.specs.Signs.{leaves}
 use Rattle.m68_alu.specs.Sums.{signed_total}
 use Rattle.m68_alu.proofs.Lows.{low_leaves}
 use Rattle.m68_alu.proofs.sums.plain_overflows.Goals as goal

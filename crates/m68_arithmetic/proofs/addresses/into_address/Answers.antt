@@ -4,10 +4,10 @@ use Rattle.mix_bits.specs.Sizes.{sign_extended}
 use Rattle.m68_isa.specs.declared.registers.Regs68.{Regs68}
 use Rattle.m68_isa.specs.First.{first_of}
 use Rattle.m68_isa.specs.Operands.{operand_at}
-use Rattle.m68_effects.specs.Places.{with_address}
+use Rattle.m68_ea.specs.Places.{with_address}
 use Rattle.m68_effects.specs.Parts.{Effect, goes_on}
-use Rattle.m68_effects.specs.Words.{words_at}
-use Rattle.m68_arithmetic.specs.Parts.{away, with_away}
+use Rattle.m68_ea.specs.Words.{words_at}
+use Rattle.m68_arithmetic.specs.inner.Parts.{away, with_away}
 use Rattle.m68_effects.proofs.Steps.{goes, operand_is, refused, taken}
 use Rattle.m68_arithmetic.proofs.addresses.into_address.Goals as goal
 

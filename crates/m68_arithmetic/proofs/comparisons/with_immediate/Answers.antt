@@ -5,7 +5,7 @@ use Rattle.m68_isa.specs.First.{first_of}
 use Rattle.m68_isa.specs.Operands.{immediate_at, immediate_words, operand_at}
 use Rattle.m68_effects.specs.Arithmetic.{comparison}
 use Rattle.m68_effects.specs.Parts.{Effect, goes_on, with_ccr}
-use Rattle.m68_effects.specs.Words.{words_at}
+use Rattle.m68_ea.specs.Words.{words_at}
 use Rattle.m68_effects.proofs.Steps.{goes, operand_is, refused, taken}
 use Rattle.m68_arithmetic.proofs.comparisons.with_immediate.Goals as goal
 

@@ -5,13 +5,13 @@ use Rattle.m68_isa.specs.declared.registers.Regs68.{Regs68}
 use Rattle.m68_isa.specs.First.{first_of}
 use Rattle.m68_isa.specs.Operands.{operand_at}
 use Rattle.m68_isa.specs.Products.{high_of, is_signed, is_wide, low_of}
-use Rattle.big_memory.specs.Steps.{Does}
+use Rattle.big_memory.specs.StepsClauses.{Does}
 use Rattle.big_memory.specs.Steps.After.{Stops}
 use Rattle.m68_alu.specs.Products.{long_divided}
 use Rattle.m68_effects.specs.Arithmetic.{dividend_high, long_quotient_into}
-use Rattle.m68_effects.specs.Places.{with_address}
+use Rattle.m68_ea.specs.Places.{with_address}
 use Rattle.m68_effects.specs.Parts.{Effect, after, vector}
-use Rattle.m68_effects.specs.Words.{words_at}
+use Rattle.m68_ea.specs.Words.{words_at}
 use Rattle.m68_arithmetic.proofs.Quotients.{by_divisor}
 use Rattle.m68_effects.proofs.Steps.{operand_is, refused, taken}
 use Rattle.m68_arithmetic.proofs.long_products.divide_by_operand.Goals as goal

@@ -3,7 +3,7 @@ use Rattle.mix_bits.specs.declared.size.Size.TheVariants.{Four}
 use Rattle.mix_bits.specs.Sizes.{truncated}
 use Rattle.m68_isa.specs.First.{first_of}
 use Rattle.m68_isa.specs.Operands.{operand_at}
-use Rattle.m68_effects.specs.Words.{words_at}
+use Rattle.m68_ea.specs.Words.{words_at}
 use Rattle.m68_arithmetic.proofs.Quotients.{by_register, by_registers, no_registers}
 use Rattle.m68_arithmetic.proofs.long_products.do_div_long.Goals as goal
 

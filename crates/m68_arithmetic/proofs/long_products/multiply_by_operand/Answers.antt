@@ -8,7 +8,7 @@ use Rattle.m68_isa.specs.Products.{high_of, is_signed, is_wide, low_of}
 use Rattle.m68_alu.specs.Products.{long_multiplied}
 use Rattle.m68_effects.specs.Arithmetic.{product_into}
 use Rattle.m68_effects.specs.Parts.{Effect, goes_on}
-use Rattle.m68_effects.specs.Words.{words_at}
+use Rattle.m68_ea.specs.Words.{words_at}
 use Rattle.m68_effects.proofs.Steps.{goes, operand_is, refused, taken}
 use Rattle.m68_arithmetic.proofs.long_products.multiply_by_operand.Goals as goal
 

@@ -1,18 +1,15 @@
-use Rattle.std.proofs.Common.{◌≡◌, ℕ, ◌*◌, slice_index, refl, ap, sym, subst, ◌∙◌}
+use Rattle.std.proofs.Common.{◌≡◌, ℕ, ◌*◌, slice_index, ap, sym, ◌∙◌}
 use Rattle.mix_bits.specs.Addresses.{onward}
 use Rattle.mix_bits.specs.declared.size.Size.TheVariants.{Two}
 use Rattle.m68_isa.specs.declared.registers.Regs68.{Regs68}
 use Rattle.m68_isa.specs.First.{first_of}
-use Rattle.m68_isa.specs.Operands.{operand_at}
-use Rattle.big_memory.specs.Steps.{Does}
-use Rattle.big_memory.specs.Steps.After.{Stops}
 use Rattle.m68_alu.specs.declared.quotients.Quotient.TheVariants.{ByZero}
 use Rattle.m68_alu.specs.Products.{divided}
 use Rattle.m68_effects.specs.Arithmetic.{quotient_into, with_long}
-use Rattle.m68_effects.specs.Places.{with_address}
+use Rattle.m68_ea.specs.Places.{with_address}
 use Rattle.m68_effects.specs.Parts.{Effect, after, vector, with_ccr}
-use Rattle.m68_effects.specs.Words.{words_at}
-use Rattle.m68_effects.proofs.Steps.{goes, operand_is, refused, taken}
+use Rattle.m68_effects.proofs.Steps.{goes}
+use Rattle.m68_arithmetic.proofs.Sources.{read, stops_back, unread}
 use Rattle.m68_arithmetic.proofs.products.divide.Goals as goal
 use Rattle.m68_arithmetic.proofs.products.divide.Goals.{in-Overflow, in-Done}
 
@@ -21,9 +18,8 @@ returns-in_default c =
     let r = c.args.regs.now in
     let m = c.args.ram.now in
     let f = first_of c.args.word in
-    let same = operand_is (words_at m r.pc) Two 1 1 c.mode_of-mode.result f.mode c.lower_of-lower.result f.lower refl c.mode_of-mode.ensures.is c.lower_of-lower.ensures.is in
     let row : ℕ → Regs68 × ℕ → Effect = λ next. λ (q, s). quotient_into q m next f.upper (divided c.args.is_signed (slice_index q.d f.upper) s r.ccr) in
-    (refused r m c.args.word Two (operand_at (words_at m r.pc) 1 Two c.mode_of-mode.result c.lower_of-lower.result) (operand_at (words_at m r.pc) 1 Two f.mode f.lower) row c.source.new.fault same c.in_default.ensures.is.0, c.in_default.ensures.is.1, refl)
+    unread r c.source.new.regs m c.args.word Two c.mode_of-mode.result c.lower_of-lower.result c.source.new.next row c.source.new.fault c.mode_of-mode.ensures.is c.lower_of-lower.ensures.is c.in_default.ensures.is
 
 pub returns-in-ByZero : goal.returns-in-ByZero
 returns-in-ByZero c =
@@ -36,14 +32,12 @@ returns-in-ByZero c =
     let took = c.in-Some.ensures.is in
     let lower = c.lower_of-lower.result in
     let restored = with_address q lower (slice_index r.a lower) in
-    let same = operand_is (words_at m r.pc) Two 1 1 c.mode_of-mode.result f.mode c.lower_of-lower.result f.lower refl c.mode_of-mode.ensures.is c.lower_of-lower.ensures.is in
     let row : ℕ → Regs68 × ℕ → Effect = λ next. λ (q, s). quotient_into q m next f.upper (divided c.args.is_signed (slice_index q.d f.upper) s r.ccr) in
     let none : divided c.args.is_signed (slice_index q.d f.upper) v r.ccr ≡ ByZero = sym (c.in-ByZero.ensures ∙ (λ i. divided c.args.is_signed (slice_index q.d (c.upper_of-upper.ensures.is i)) v (took.3.ccr i))) in
     let step =
-    taken r q m c.args.word Two (operand_at (words_at m r.pc) 1 Two c.mode_of-mode.result c.lower_of-lower.result) (operand_at (words_at m r.pc) 1 Two f.mode f.lower) v next row same took.0 took.1 took.2
+    read r q m c.args.word Two c.mode_of-mode.result c.lower_of-lower.result v next row c.source.new.fault c.mode_of-mode.ensures.is c.lower_of-lower.ensures.is took
     ∙ ap (λ x. after (quotient_into q m (onward r.pc (2 * next)) f.upper x)) none in
-    subst (λ s. Does s c.stop.result c.stop.new.fault r restored m m) (sym step)
-    (subst (λ x. Does (Stops (vector q 5)) c.stop.result c.stop.new.fault x restored m m) c.in-Some.ensures.back (c.stop.ensures restored m))
+    stops_back r restored m _ c.stop.result (vector q 5) c.stop.new.fault step c.in-Some.ensures.back (c.stop.ensures restored m)
 
 pub returns : goal.returns
 returns c =
@@ -55,10 +49,9 @@ returns c =
     let next = c.source.new.next in
     let took = c.in-Some.ensures.is in
     let upper = c.upper_of-upper.ensures.is in
-    let same = operand_is (words_at m r.pc) Two 1 1 c.mode_of-mode.result f.mode c.lower_of-lower.result f.lower refl c.mode_of-mode.ensures.is c.lower_of-lower.ensures.is in
     let row : ℕ → Regs68 × ℕ → Effect = λ next. λ (q, s). quotient_into q m next f.upper (divided c.args.is_signed (slice_index q.d f.upper) s r.ccr) in
     let step =
-    taken r q m c.args.word Two (operand_at (words_at m r.pc) 1 Two c.mode_of-mode.result c.lower_of-lower.result) (operand_at (words_at m r.pc) 1 Two f.mode f.lower) v next row same took.0 took.1 took.2
+    read r q m c.args.word Two c.mode_of-mode.result c.lower_of-lower.result v next row c.source.new.fault c.mode_of-mode.ensures.is c.lower_of-lower.ensures.is took
     ∙ ap (λ x. after (quotient_into q m (onward r.pc (2 * next)) f.upper x)) (sym (c.div.ensures ∙ (λ i. divided c.args.is_signed (slice_index q.d (upper i)) v (took.3.ccr i)))) in
     elim c.match-div.branch [
       | in-Overflow w ↦

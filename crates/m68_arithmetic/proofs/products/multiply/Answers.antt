@@ -7,7 +7,7 @@ use Rattle.m68_isa.specs.Operands.{operand_at}
 use Rattle.m68_alu.specs.Products.{multiplied}
 use Rattle.m68_effects.specs.Arithmetic.{with_long}
 use Rattle.m68_effects.specs.Parts.{Effect, goes_on}
-use Rattle.m68_effects.specs.Words.{words_at}
+use Rattle.m68_ea.specs.Words.{words_at}
 use Rattle.m68_effects.proofs.Steps.{goes, operand_is, refused, taken}
 use Rattle.m68_arithmetic.proofs.products.multiply.Goals as goal
 

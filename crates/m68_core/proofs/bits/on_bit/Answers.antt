@@ -1,6 +1,6 @@
 use Rattle.std.proofs.Common.{arith}
 use Rattle.m68_isa.specs.First.{first_of}
-use Rattle.m68_effects.specs.Words.{words_at}
+use Rattle.m68_ea.specs.Words.{words_at}
 use Rattle.m68_core.proofs.Operands.{bit_of_byte}
 use Rattle.m68_core.proofs.bits.on_bit.Goals as goal
 

@@ -1,6 +1,6 @@
 use Rattle.std.proofs.Common.{◌≡◌, ◌≤◌, length, drop, arith, inl, sym, ap, ◌∙◌}
 use Rattle.byteorder.specs.Endian.{big_number}
-use Rattle.m68_effects.specs.Words.{words_at}
+use Rattle.m68_ea.specs.Words.{words_at}
 use Rattle.m68_core.proofs.Fetching.{rest-is}
 use Rattle.m68_core.proofs.fetch.plain_word.Goals as goal
 

@@ -1,6 +1,6 @@
 use Rattle.std.proofs.Common.{◌≡◌, ◌%◌, ◌≤◌, ◌∙◌, length, ap, subst, sym, arith}
 use Rattle.mix_bits.specs.declared.fault.FaultKind.TheVariants.{Outside}
-use Rattle.big_memory.specs.Steps.{Does}
+use Rattle.big_memory.specs.StepsClauses.{Does}
 use Rattle.m68_effects.specs.Step.{stops}
 use Rattle.m68_core.proofs.ByOp.{step_odd, step_short}
 use Rattle.m68_core.proofs.Leaving.{stop_stays}

@@ -1,5 +1,5 @@
 use Rattle.std.proofs.Common.{subst, sym}
-use Rattle.big_memory.specs.Steps.{Does}
+use Rattle.big_memory.specs.StepsClauses.{Does}
 use Rattle.m68_core.proofs.Leaving.{line_below}
 use Rattle.m68_core.proofs.step.run_word.Goals as goal
 

@@ -1,5 +1,5 @@
 use Rattle.m68_effects.proofs.Tried.{then_by_others}
-use Rattle.m68_movement.specs.Moves.{moves}
+use Rattle.m68_movement.specs.inner.Moves.{moves}
 use Rattle.m68_movement.proofs.moves.move_in_memory.Goals as goal
 
 pub returns-else-move_usual : goal.returns-else-move_usual

@@ -2,8 +2,8 @@ use Rattle.std.proofs.Common.{true, refl}
 use Rattle.mix_bits.specs.declared.fault.FaultKind.TheVariants.{Illegal}
 use Rattle.m68_isa.specs.Operands.{operand_at}
 use Rattle.mix_bits.specs.Faults.{fault_at}
-use Rattle.m68_effects.specs.Operands.{sourced}
-use Rattle.m68_effects.specs.Words.{words_at}
+use Rattle.m68_ea.specs.Operands.{sourced}
+use Rattle.m68_ea.specs.Words.{words_at}
 use Rattle.m68_movement.proofs.Pairs.{first_refused}
 use Rattle.m68_movement.proofs.moves.move_to_register.Goals as goal
 

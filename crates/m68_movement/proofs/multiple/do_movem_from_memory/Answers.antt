@@ -7,12 +7,13 @@ use Rattle.m68_isa.specs.declared.instructions.Instr68.TheVariants.{MovemFromMem
 use Rattle.m68_isa.specs.First.{first_of, long_or_word}
 use Rattle.m68_isa.specs.Operands.{operand_at}
 use Rattle.m68_isa.specs.Rows.{taken}
-use Rattle.big_memory.specs.Steps.{After, Does}
+use Rattle.big_memory.specs.Steps.{After}
+use Rattle.big_memory.specs.StepsClauses.{Does}
 use Rattle.m68_effects.specs.Multiple.{movem_out_of, span_of}
-use Rattle.m68_effects.specs.Ops.{runs_made}
+use Rattle.m68_effects.specs.laws.Ops.{runs_made}
 use Rattle.m68_effects.specs.Parts.{Effect, after, goes_on}
-use Rattle.m68_effects.specs.Places.{with_address}
-use Rattle.m68_effects.specs.Words.{words_at}
+use Rattle.m68_ea.specs.Places.{with_address}
+use Rattle.m68_ea.specs.Words.{words_at}
 use Rattle.m68_effects.proofs.Steps.{goes}
 use Rattle.m68_movement.proofs.Bases.{out_of_found}
 use Rattle.m68_movement.proofs.multiple.do_movem_from_memory.Goals as goal

@@ -1,6 +1,6 @@
 use Rattle.std.proofs.Common.{◌%◌, arith}
 use Rattle.m68_isa.specs.First.{first_of}
-use Rattle.m68_effects.specs.Words.{words_at}
+use Rattle.m68_ea.specs.Words.{words_at}
 use Rattle.m68_movement.proofs.Bases.{onto_found}
 use Rattle.m68_movement.proofs.multiple.do_movem_to_memory.Goals as goal
 

@@ -5,7 +5,7 @@ use Rattle.mix_bits.specs.Sizes.{bytes_of}
 use Rattle.mix_bits.specs.Faults.{fault_at}
 use Rattle.mix_bits.proofs.Sizes.{bytes-few}
 use Rattle.m68_effects.specs.Multiple.{listed, register_of, stored_down}
-use Rattle.m68_movement.specs.Along.{CanStore}
+use Rattle.m68_movement.specs.inner.Along.{CanStore}
 use Rattle.m68_movement.proofs.Down.{last_place, may_below, none_down, one_down, one_less, place_below}
 use Rattle.m68_movement.proofs.Masks.{all_listed, has, has_bit, lacks_bit, left_has, left_lacks}
 use Rattle.m68_movement.proofs.Stores.{can_store}

@@ -2,7 +2,7 @@
 use Rattle.std.proofs.Common.{◌≡◌, ◌+◌, ◌-◌, ◌*◌, ◌≤◌, length, map, filter}
 use Rattle.std.specs.List.{range_with_len}
 use Rattle.mix_bits.specs.Sizes.{bytes_of}
-use Rattle.big_memory.specs.Stores.{OnlyFree}
+use Rattle.big_memory.specs.StoresClauses.{OnlyFree}
 use Rattle.m68_effects.specs.Multiple.{listed, register_of, stored_down}
 use Rattle.m68_movement.proofs.Masks.{has}
 use Rattle.m68_movement.proofs.multiple.put_down.Given as goal

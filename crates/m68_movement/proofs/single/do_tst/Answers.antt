@@ -1,5 +1,5 @@
 use Rattle.m68_isa.specs.declared.op.Op68.TheVariants.{Tst}
-use Rattle.m68_effects.specs.Ops.{by_op}
+use Rattle.m68_effects.specs.laws.Ops.{by_op}
 use Rattle.m68_effects.proofs.Tried.{then_by_others}
 use Rattle.m68_movement.proofs.single.do_tst.Goals as goal
 

@@ -5,7 +5,7 @@ use Rattle.m68_isa.specs.declared.registers.Regs68.{Regs68}
 use Rattle.m68_isa.specs.declared.operand.Operand.{Operand}
 use Rattle.m68_isa.specs.First.{first_of}
 use Rattle.m68_isa.specs.Operands.{operand_at}
-use Rattle.m68_effects.specs.Words.{words_at}
+use Rattle.m68_ea.specs.Words.{words_at}
 use Rattle.m68_movement.proofs.Writings.{unwritten, written}
 use Rattle.m68_movement.proofs.status.do_move_from_sr.Goals as goal
 

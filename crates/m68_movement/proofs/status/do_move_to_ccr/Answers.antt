@@ -6,7 +6,7 @@ use Rattle.m68_isa.specs.First.{first_of}
 use Rattle.m68_isa.specs.Operands.{operand_at}
 use Rattle.m68_isa.specs.Registers.{ccr_of}
 use Rattle.m68_effects.specs.Parts.{Effect, goes_on, with_ccr}
-use Rattle.m68_effects.specs.Words.{words_at}
+use Rattle.m68_ea.specs.Words.{words_at}
 use Rattle.m68_effects.proofs.Steps.{goes, operand_is, refused, taken}
 use Rattle.m68_movement.proofs.status.do_move_to_ccr.Goals as goal
 

@@ -1,5 +1,5 @@
 use Rattle.std.proofs.Common.{◌∙◌, sym, arith}
-use Rattle.toolbox.specs.declared.block.Block.{Block}
+use Rattle.host_heap.specs.declared.block.Block.{Block}
 use Rattle.mix_debug.proofs.Blocks.{first-apart, first-end, first-none, first-step}
 use Rattle.mix_debug.proofs.compare.first_other.Goals as goal
 

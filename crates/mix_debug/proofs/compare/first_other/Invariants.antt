@@ -1,5 +1,5 @@
 use Rattle.std.proofs.Common.{◌≡◌, ◌≤◌, ◌-◌, length, drop}
-use Rattle.mix_debug.specs.Entries.{first_other}
+use Rattle.mix_debug.specs.inner.Entries.{first_other}
 use Rattle.mix_debug.proofs.compare.first_other.Given as goal
 
 abbrev pub decreases-same : goal.decreases-same

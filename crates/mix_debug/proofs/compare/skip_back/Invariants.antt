@@ -1,4 +1,4 @@
-use Rattle.mix_debug.specs.Runs.{Covers}
+use Rattle.mix_debug.specs.inner.WrittenBack.{Covers}
 use Rattle.mix_debug.proofs.compare.skip_back.Given as goal
 
 abbrev pub decreases-back : goal.decreases-back

@@ -1,5 +1,5 @@
 use Rattle.std.proofs.Common.{◌-◌}
-use Rattle.mix_debug.specs.Runs.{Covers}
+use Rattle.mix_debug.specs.inner.WrittenBack.{Covers}
 use Rattle.mix_debug.proofs.compare.skip_front.Given as goal
 
 abbrev pub decreases-front : goal.decreases-front

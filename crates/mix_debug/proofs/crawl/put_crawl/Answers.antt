@@ -2,7 +2,8 @@ use Rattle.std.proofs.Common.{◌≡◌, ◌+◌, ◌≤◌, ap, sym, subst, ◌
 use Rattle.std.specs.Io.KnownBytes.{Appends}
 use Rattle.switch_frame.specs.Chain.{records}
 use Rattle.mixed_machine.specs.Machine.{callers_of}
-use Rattle.mix_debug.specs.Crawl.{caller_lines, crawl_of, here_line}
+use Rattle.mix_debug.specs.Crawl.{caller_lines, here_line}
+use Rattle.mix_debug.specs.CrawlClauses.{crawl_of}
 use Rattle.mix_debug.proofs.Telling.{puts-more, puts-some}
 use Rattle.mix_debug.proofs.crawl.put_crawl.Goals as goal
 

@@ -1,6 +1,7 @@
 use Rattle.std.proofs.Common.{◌≡◌, take, drop, length}
-use Rattle.mix_debug.specs.Runs.{undone}
-use Rattle.mix_debug.specs.Entries.{count_of, runs_of}
+use Rattle.mix_debug.specs.WrittenBack.{undone}
+use Rattle.mix_debug.specs.inner.Entries.{count_of}
+use Rattle.mix_debug.specs.Entries.{runs_of}
 use Rattle.mix_debug.proofs.Undoing.{Undoing}
 use Rattle.mix_debug.proofs.undo.undo_runs.Given as goal
 

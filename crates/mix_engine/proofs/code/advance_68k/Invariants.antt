@@ -4,7 +4,7 @@ use Rattle.mix_bits.specs.declared.isa.Isa.TheVariants.{M68 as set_m68}
 use Rattle.switch_frame.specs.declared.active.Active.TheVariants.{M68}
 use Rattle.mixed_machine.specs.Machine.{IsWhole}
 use Rattle.m68_core.specs.Fetch.{places_of}
-use Rattle.mix_engine.specs.Cores.{AreOwn}
+use Rattle.mix_engine.specs.inner.Cores.{AreOwn}
 use Rattle.mix_engine.proofs.code.advance_68k.Given as goal
 
 abbrev pub decreases-codes : goal.decreases-codes

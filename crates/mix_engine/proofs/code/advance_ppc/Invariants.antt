@@ -4,7 +4,7 @@ use Rattle.mix_bits.specs.declared.isa.Isa.TheVariants.{Ppc as set_ppc}
 use Rattle.switch_frame.specs.declared.active.Active.TheVariants.{Ppc}
 use Rattle.mixed_machine.specs.Machine.{IsWhole}
 use Rattle.ppc_core.specs.Fetch.{places_of}
-use Rattle.mix_engine.specs.Cores.{AreOwn}
+use Rattle.mix_engine.specs.inner.Cores.{AreOwn}
 use Rattle.mix_engine.proofs.code.advance_ppc.Given as goal
 
 abbrev pub decreases-codes : goal.decreases-codes

@@ -2,8 +2,8 @@ use Rattle.std.proofs.Common.{◌≡◌, refl, sym, ap, ◌∙◌, subst}
 use Rattle.big_memory.specs.declared.steps.Did.TheVariants.{Next, Leave}
 use Rattle.big_memory.specs.Map.{is_gate}
 use Rattle.switch_frame.specs.declared.active.Active.TheVariants.{Ppc}
-use Rattle.mixed_machine.specs.Machine.{seen_of}
-use Rattle.mix_engine.specs.Cores.{Codes, stopped_at}
+use Rattle.mixed_machine.specs.inner.Machine.{seen_of}
+use Rattle.mix_engine.specs.inner.Cores.{Codes, stopped_at}
 use Rattle.mix_engine.proofs.Codes.{code-ppc, no-gate-goes, no-gate-leaves, stopped-ppc}
 use Rattle.mix_engine.proofs.code.code_ppc.Goals as goal
 

@@ -1,6 +1,6 @@
 use Rattle.std.proofs.Common.{subst}
 use Rattle.mix_bits.specs.declared.isa.Isa.TheVariants.{Ppc}
-use Rattle.big_memory.specs.Steps.{Does}
+use Rattle.big_memory.specs.StepsClauses.{Does}
 use Rattle.ppc_integer.specs.Effects.{stepped}
 use Rattle.mix_engine.proofs.Codes.{host-number}
 use Rattle.mix_engine.proofs.Instructions.{core-steps}

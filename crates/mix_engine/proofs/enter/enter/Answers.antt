@@ -1,15 +1,15 @@
 use Rattle.std.proofs.Common.{Ok, Err, ap, sym, subst, ◌∙◌}
 use Rattle.big_memory.specs.Faults.{fault_of}
 use Rattle.switch_frame.specs.Records.{isa_of}
-use Rattle.switch_frame.specs.Calls.{IsPlace}
-use Rattle.mode_switch.specs.Views.{crossing, passage}
-use Rattle.mode_switch.specs.Wanted.{IsMeant}
+use Rattle.switch_frame.specs.CallsClauses.{IsPlace}
+use Rattle.mode_switch.specs.inner.Views.{crossing, passage}
+use Rattle.mode_switch.specs.laws.Wanted.{IsMeant}
 use Rattle.mixed_machine.specs.Enter.{enters, enters_with}
 use Rattle.mixed_machine.specs.Machine.{IsWhole}
 use Rattle.mixed_machine.specs.Next.Next.{Faults}
 use Rattle.switch_frame.specs.Files.{pc_of}
-use Rattle.mix_io.specs.Streams.{output}
-use Rattle.mix_engine.specs.Does.{Does}
+use Rattle.mix_io.specs.StreamsClauses.{output}
+use Rattle.mix_engine.specs.inner.Does.{Does}
 use Rattle.mix_engine.proofs.Doing.{does-refused, does-same}
 use Rattle.mix_engine.proofs.Entering.{bytes-are, enters-by, passes-by}
 use Rattle.mix_engine.proofs.Framing.{callers-are}

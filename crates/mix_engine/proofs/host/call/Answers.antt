@@ -1,5 +1,5 @@
 use Rattle.std.proofs.Common.{Some, None}
-use Rattle.toolbox.specs.Calls.{ask_of}
+use Rattle.toolbox.specs.CallsClauses.{ask_of}
 use Rattle.mix_io.proofs.Streams.{grows-none}
 use Rattle.mix_engine.proofs.Hosts.{ask-tells, broke-ask, crossed, exited, put-ask, put-broke, read-broke, refused, went-on, went-untold}
 use Rattle.mix_engine.proofs.host.call.Goals as goal

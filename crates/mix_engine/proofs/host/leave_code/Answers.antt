@@ -1,11 +1,11 @@
 use Rattle.std.proofs.Common.{refl, sym, ap, subst}
 use Rattle.switch_frame.specs.Records.{isa_of}
-use Rattle.mode_switch.specs.Views.{wanted_of}
+use Rattle.mode_switch.specs.inner.Views.{wanted_of}
 use Rattle.toolbox.specs.Functions.{trap_number}
 use Rattle.mixed_machine.specs.Enter.{crosses}
 use Rattle.mixed_machine.specs.Host.{hosts, traps_to}
 use Rattle.mixed_machine.specs.Machine.{IsWhole, flat}
-use Rattle.mix_engine.specs.Cores.{leaves_code}
+use Rattle.mix_engine.specs.inner.Cores.{leaves_code}
 use Rattle.mix_engine.proofs.Amid.{acts-from, amid}
 use Rattle.mix_engine.proofs.Leavings.{does-from, m68-crosses, m68-traps, same-at}
 use Rattle.mix_engine.proofs.host.leave_code.Goals as goal

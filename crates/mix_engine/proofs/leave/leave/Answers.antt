@@ -1,7 +1,7 @@
 use Rattle.std.proofs.Common.{◌∙◌, ap, sym}
-use Rattle.switch_frame.specs.Calls.{innermost}
+use Rattle.switch_frame.specs.CallsClauses.{innermost}
 use Rattle.mixed_machine.specs.Machine.{callers_of}
-use Rattle.mix_io.specs.Streams.{output}
+use Rattle.mix_io.specs.StreamsClauses.{output}
 use Rattle.mix_engine.proofs.Framing.{callers-are, links-are}
 use Rattle.mix_engine.proofs.Returning.{first-is}
 use Rattle.mix_engine.proofs.leave.leave.Goals as goal

@@ -1,9 +1,9 @@
 use Rattle.std.proofs.Common.{◌∙◌, ap, sym, drop}
-use Rattle.switch_frame.specs.Records.{record_of}
+use Rattle.switch_frame.specs.RecordsClauses.{record_of}
 use Rattle.mixed_machine.specs.Leave.{at_gate, leaves}
 use Rattle.mixed_machine.specs.Machine.{callers_of, flat}
 use Rattle.mixed_machine.specs.Next.Next.{Faults}
-use Rattle.mix_io.specs.Streams.{output}
+use Rattle.mix_io.specs.StreamsClauses.{output}
 use Rattle.mix_engine.proofs.Doing.{does-refused, does-same}
 use Rattle.mix_engine.proofs.Returning.{gate-returns, gate-waits}
 use Rattle.mix_engine.proofs.leave.leave_callee.Goals as goal

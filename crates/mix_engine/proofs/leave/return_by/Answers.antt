@@ -7,7 +7,7 @@ use Rattle.mixed_machine.specs.Leave.{leaves_with}
 use Rattle.mixed_machine.specs.Machine.{callers_of}
 use Rattle.mixed_machine.specs.Next.Next.{Faults}
 use Rattle.mixed_machine.specs.State.{seen, with_seen}
-use Rattle.mix_io.specs.Streams.{output}
+use Rattle.mix_io.specs.StreamsClauses.{output}
 use Rattle.mix_engine.proofs.Doing.{does-cut, does-return, line-cut, line-taken, return-some}
 use Rattle.mix_engine.proofs.Returning.{IsBack, given-innermost, given-whole, gives-by, goes-back, refused-back}
 use Rattle.mix_engine.proofs.leave.return_by.Goals as goal

@@ -3,7 +3,8 @@ use Rattle.mix_bits.specs.declared.fault.FaultKind.TheVariants.{StackFull, Stack
 use Rattle.big_memory.specs.Memory.{floor_of}
 use Rattle.switch_frame.specs.Records.{isa_of}
 use Rattle.mixed_machine.specs.Enter.{full_fault}
-use Rattle.mixed_machine.specs.Machine.{flat, seen_of}
+use Rattle.mixed_machine.specs.Machine.{flat}
+use Rattle.mixed_machine.specs.inner.Machine.{seen_of}
 use Rattle.switch_frame.specs.Files.{pc_of}
 use Rattle.mix_engine.proofs.Doing.{cell-is}
 use Rattle.mix_engine.proofs.Framing.{floor-seen}

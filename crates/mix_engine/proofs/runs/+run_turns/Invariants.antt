@@ -1,6 +1,6 @@
 -- The callers are those at entry, and the steps done so far lead from the machine at entry to the machine now. Each call
 -- of a callee is made with fewer steps left.
-use Rattle.mix_engine.specs.Beside.{AreSame, machine_beside}
+use Rattle.mix_engine.specs.inner.Beside.{AreSame, machine_beside}
 use Rattle.mix_engine.proofs.Looping.{Turning}
 use Rattle.mix_engine.proofs.runs.+run_turns.Given as goal
 

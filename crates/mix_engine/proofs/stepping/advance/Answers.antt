@@ -1,5 +1,5 @@
 use Rattle.std.proofs.Common.{sym, subst}
-use Rattle.mix_engine.specs.Cores.{IsNumber}
+use Rattle.mix_engine.specs.inner.Cores.{IsNumber}
 use Rattle.mix_engine.proofs.Advancing.{advances-gate, advances-leave, advances-next, advances-stop}
 use Rattle.mix_engine.proofs.stepping.advance.Goals as goal
 

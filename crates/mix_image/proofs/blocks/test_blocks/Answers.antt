@@ -1,6 +1,6 @@
 use Rattle.std.proofs.Common.{◌<◌, arith, ap, sym}
 use Rattle.std.proofs.lemmas.Result.{err_from_is_err_and}
-use Rattle.mix_image.specs.Testing.{outcome}
+use Rattle.mix_image.specs.inner.Testing.{outcome}
 use Rattle.mix_image.proofs.Testing.{blocks-refused, tested-more, tested-none}
 use Rattle.mix_image.proofs.blocks.test_blocks.Goals as goal
 

@@ -1,7 +1,8 @@
 use Rattle.std.proofs.Common.{◌/◌, ◌++◌, length, Err, sym, subst}
 use Rattle.std.proofs.lemmas.Result.{err_from_is_err_and}
 use Rattle.big_memory.specs.Numbers.{bytes_of_longs}
-use Rattle.mix_io.specs.Kept.{KeepsMore, Saves}
+use Rattle.mix_io.specs.Kept.{KeepsMore}
+use Rattle.mix_io.specs.KeptClauses.{Saves}
 use Rattle.mix_io.proofs.Keeps.{saves-front, saves-join}
 use Rattle.mix_image.specs.Spelling.{block_longs, head_longs, pages, tail_longs}
 use Rattle.mix_image.proofs.Saving.{spell-parts}

@@ -2,7 +2,7 @@ use Rattle.std.proofs.Common.{◌≡◌, ◌+◌, ◌<◌, [], ◌∷◌, length
 use Rattle.std.proofs.lemmas.List.{get_or_default}
 use Rattle.std.proofs.lemmas.Result.{err_from_is_err_and}
 use Rattle.big_memory.specs.Numbers.{bytes_of_longs}
-use Rattle.toolbox.specs.declared.block.Block.{Block}
+use Rattle.host_heap.specs.declared.block.Block.{Block}
 use Rattle.mix_image.specs.Spelling.{block_longs}
 use Rattle.mix_image.proofs.Saving.{IsSaving, blocks-piece, blocks-rest, no-longs-bytes, saved-front, saving-more, saving-none}
 use Rattle.mix_image.proofs.saved.save_blocks.Goals as goal

@@ -16,8 +16,8 @@ returns-in_err-keep-clause-bytes g c =
     let i = c.each.long-index in
     let less : c.each.long-index < length c.args.longs.now = omega arith in
     rw p.1 (saved-front (g.K.Keeper.kept c.args.keep.now) (g.K.Keeper.kept c.each.keep) (g.K.Keeper.kept c.keep.new.self) (g.K.Keeper.faults c.args.keep.now) (g.K.Keeper.faults c.each.keep) c.args.name.now
-    (bytes_of_longs (take i xs)) c.bytes_of.result (bytes_of_longs (drop (i + 1) xs)) (bytes_of_longs xs) p.0 c.each.invariant c.in_err-keep.ensures.bytes
-    (longs-rest xs i less ∙ ap (λ l. (bytes_of_longs (take i xs) ++ l) ++ bytes_of_longs (drop (i + 1) xs)) (sym c.bytes_of.ensures)))
+    (bytes_of_longs (take i xs)) c.to_be_bytes.result (bytes_of_longs (drop (i + 1) xs)) (bytes_of_longs xs) p.0 c.each.invariant c.in_err-keep.ensures.bytes
+    (longs-rest xs i less ∙ ap (λ l. (bytes_of_longs (take i xs) ++ l) ++ bytes_of_longs (drop (i + 1) xs)) (sym c.to_be_bytes.ensures)))
 
 pub each-preserved : goal.each-preserved
 each-preserved g c =
@@ -25,6 +25,6 @@ each-preserved g c =
     let i = c.each.long-index in
     let less : c.each.long-index < length c.args.longs.now = omega arith in
     subst (λ l. IsSaving (g.K.Keeper.kept c.args.keep.now) (g.K.Keeper.kept c.keep.new.self) (g.K.Keeper.faults c.args.keep.now) (g.K.Keeper.faults c.keep.new.self) c.args.name.now l)
-    (ap (λ l. bytes_of_longs (take i xs) ++ l) c.bytes_of.ensures ∙ longs-more xs i less)
+    (ap (λ l. bytes_of_longs (take i xs) ++ l) c.to_be_bytes.ensures ∙ longs-more xs i less)
     (saving-more (g.K.Keeper.kept c.args.keep.now) (g.K.Keeper.kept c.each.keep) (g.K.Keeper.kept c.keep.new.self) (g.K.Keeper.faults c.args.keep.now) (g.K.Keeper.faults c.each.keep) (g.K.Keeper.faults c.keep.new.self) c.args.name.now
-    (bytes_of_longs (take i xs)) c.bytes_of.result c.each.invariant c.in_ok-keep.ensures.bytes c.in_ok-keep.ensures.cause)
+    (bytes_of_longs (take i xs)) c.to_be_bytes.result c.each.invariant c.in_ok-keep.ensures.bytes c.in_ok-keep.ensures.cause)

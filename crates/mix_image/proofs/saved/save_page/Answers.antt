@@ -1,5 +1,5 @@
 use Rattle.std.proofs.Common.{[], ◌∷◌, sym, subst, ◌∙◌}
-use Rattle.mix_io.specs.Kept.{Saves}
+use Rattle.mix_io.specs.KeptClauses.{Saves}
 use Rattle.mix_io.proofs.Keeps.{saves-join}
 use Rattle.mix_image.proofs.Saving.{full-piece}
 use Rattle.mix_image.proofs.saved.save_page.Goals as goal

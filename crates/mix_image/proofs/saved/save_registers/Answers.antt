@@ -2,7 +2,7 @@ use Rattle.std.proofs.Common.{[], ◌∷◌, Err, ap, sym, subst, ◌∙◌}
 use Rattle.std.proofs.lemmas.Result.{err_from_is_err_and}
 use Rattle.big_memory.specs.Numbers.{bytes_of_longs}
 use Rattle.switch_frame.specs.Records.{longs_of_file}
-use Rattle.mix_io.specs.Kept.{Saves}
+use Rattle.mix_io.specs.KeptClauses.{Saves}
 use Rattle.mix_io.proofs.Keeps.{saves-front, saves-join}
 use Rattle.mix_image.specs.Spelling.{set_number}
 use Rattle.mix_image.proofs.Saving.{tail-parts}

@@ -2,7 +2,7 @@ use Rattle.std.proofs.Common.{◌+◌, ◌≤◌, Option, None, List, ℕ, IfSom
 use Rattle.std.proofs.lemmas.Result.{err_from_is_err_and}
 use Rattle.big_memory.specs.Memory.{Memory}
 use Rattle.pef_head.specs.Container.{instantiated_count}
-use Rattle.mix_bits.specs.Search.{◌or◌}
+use Rattle.mix_bits.specs.SearchOperator.{◌or◌}
 use Rattle.mix_load.specs.declared.error.LoadError.{LoadError}
 use Rattle.mix_load.specs.ContainerImage.{imports_refusal, relocations_refusal}
 use Rattle.mix_load.specs.Sections.{main_vector, sections_end}

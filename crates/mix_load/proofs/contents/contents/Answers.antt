@@ -1,7 +1,7 @@
 use Rattle.std.proofs.Common.{◌≡◌, ℕ, ◌-◌, ◌≤◌, List, ◌++◌, length, take, drop, replicate, option_map, sym, ap, ◌∙◌, arith}
 use Rattle.std.proofs.lemmas.List.{take_all, take-append-le}
 use Rattle.std.proofs.lemmas.Result.{err_from_is_err_and}
-use Rattle.pef_head.specs.Parts.{parts}
+use Rattle.pef_head.specs.PartsClauses.{parts}
 use Rattle.mix_load.specs.declared.error.LoadError.TheVariants.{Reloc}
 use Rattle.mix_load.specs.Sections.{unpacked_bytes}
 use Rattle.mix_load.proofs.contents.contents.Goals as goal

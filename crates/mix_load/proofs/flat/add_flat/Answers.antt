@@ -1,5 +1,5 @@
 use Rattle.std.proofs.Common.{◌+◌, ◌≤◌, ℕ, refl, subst, sym, length}
-use Rattle.mix_load.specs.Loaded.{IsImage}
+use Rattle.mix_load.specs.inner.Loaded.{IsImage}
 use Rattle.mix_load.proofs.Wholes.{flat-image-is, flat_whole, not_too_large}
 use Rattle.mix_bits.specs.Multiples.{rounded_up}
 use Rattle.mix_load.proofs.flat.add_flat.Goals as goal

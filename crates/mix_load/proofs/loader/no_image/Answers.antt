@@ -1,6 +1,6 @@
 use Rattle.std.proofs.Common.{subst, sym}
 use Rattle.big_memory.specs.Memory.{Memory}
-use Rattle.mix_load.specs.Loaded.{IsImage}
+use Rattle.mix_load.specs.inner.Loaded.{IsImage}
 use Rattle.mix_load.proofs.Starts.{none_whole}
 use Rattle.mix_load.proofs.loader.no_image.Goals as goal
 

@@ -1,8 +1,10 @@
 use Rattle.std.proofs.Common.{ap, ◌∙◌, sym, ℕ, List, get_or, arith}
 use Rattle.big_memory.specs.Memory.{with_bytes}
 use Rattle.pef_head.specs.Container.{instantiated_count}
-use Rattle.pef_reloc.specs.Program.{Relocated, relocated_in}
-use Rattle.mix_load.specs.Sections.{section_base, total_at}
+use Rattle.pef_reloc.specs.Program.{Relocated}
+use Rattle.pef_reloc.specs.ProgramClauses.{relocated_in}
+use Rattle.mix_load.specs.Sections.{section_base}
+use Rattle.mix_load.specs.laws.Sections.{total_at}
 use Rattle.mix_load.proofs.Ends.{section_within}
 use Rattle.mix_load.proofs.Relocated.{base-at, bases-length, inside-at, relocated-in-is, total-at, totals-length}
 use Rattle.mix_load.proofs.relocations.relocate_section.Goals as goal

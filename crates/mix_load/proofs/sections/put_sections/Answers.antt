@@ -1,9 +1,11 @@
 use Rattle.std.proofs.Common.{◌≡◌, ℕ, ◌<◌, ◌≤◌, length, option_map, sym, subst, arith}
 use Rattle.std.specs.Prelude.{OnOk}
 use Rattle.mix_load.specs.declared.error.LoadError.TheVariants.{Reloc}
-use Rattle.mix_load.specs.Outcome.{Finds}
+use Rattle.mix_load.specs.inner.Outcome.{Finds}
 use Rattle.mix_load.specs.Pieces.{with_pieces}
-use Rattle.mix_load.specs.Sections.{contents_at, first_refusal, patterns_refusal, section_pieces, sections_end, total_at}
+use Rattle.mix_load.specs.Sections.{contents_at, first_refusal, patterns_refusal, sections_end}
+use Rattle.mix_load.specs.inner.Sections.{section_pieces}
+use Rattle.mix_load.specs.laws.Sections.{total_at}
 use Rattle.mix_load.proofs.sections.put_sections.Goals as goal
 
 pub put_first-requires : goal.put_first-requires

@@ -1,6 +1,7 @@
 use Rattle.std.proofs.Common.{◌≡◌, ◌+◌, ◌<◌, Some, ℕ, List, get_or, sym, ap, ◌∙◌, arith}
 use Rattle.pef_head.specs.Container.{instantiated_count}
-use Rattle.mix_load.specs.Sections.{section_base, total_at}
+use Rattle.mix_load.specs.Sections.{section_base}
+use Rattle.mix_load.specs.laws.Sections.{total_at}
 use Rattle.mix_load.proofs.Ends.{section_within}
 use Rattle.mix_load.proofs.Relocated.{base-at, bases-length, total-at, totals-length}
 use Rattle.mix_load.proofs.Vectors.{vector-cut, vector-there}

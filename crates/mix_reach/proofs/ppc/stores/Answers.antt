@@ -2,8 +2,8 @@ use Rattle.std.proofs.Common.{ap, sym, ◌∙◌}
 use Rattle.ppc_isa.specs.declared.op.OpPpc.{OpPpc}
 use Rattle.ppc_isa.specs.Fields.{fields_of}
 use Rattle.ppc_isa.specs.Made.{made}
-use Rattle.mix_reach.specs.Ranges.{plain}
-use Rattle.mix_reach.specs.Steps.{word_decoded}
+use Rattle.mix_reach.specs.laws.Ranges.{plain}
+use Rattle.mix_reach.specs.laws.Steps.{word_decoded}
 use Rattle.mix_reach.proofs.QuickPpc.{none_told, others_keep}
 use Rattle.mix_reach.proofs.ppc.stores.Goals as goal
 

@@ -1,5 +1,5 @@
 use Rattle.std.proofs.Common.{◌+◌, ◌<◌, ◌≤◌, arith}
-use Rattle.m68_effects.specs.Words.{words_at}
+use Rattle.m68_ea.specs.Words.{words_at}
 use Rattle.mix_reach.proofs.Quick68.{found_into}
 use Rattle.mix_reach.proofs.quick.at_operand.Goals as goal
 

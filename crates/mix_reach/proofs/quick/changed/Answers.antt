@@ -1,5 +1,5 @@
 use Rattle.m68_isa.specs.First.{first_of, size_of}
-use Rattle.m68_effects.specs.Words.{words_at}
+use Rattle.m68_ea.specs.Words.{words_at}
 use Rattle.mix_reach.proofs.Quick68.{into_same}
 use Rattle.mix_reach.proofs.quick.changed.Goals as goal
 

@@ -2,8 +2,8 @@ use Rattle.std.proofs.Common.{◌≡◌, ◌+◌, ap, subst, ◌∙◌}
 use Rattle.std.specs.Prelude.{ℕ, IfSome}
 use Rattle.m68_isa.specs.First.{first_of, size_of}
 use Rattle.m68_isa.specs.Operands.{immediate_words}
-use Rattle.m68_effects.specs.Words.{words_at}
-use Rattle.mix_reach.specs.Quick.{IsInto}
+use Rattle.m68_ea.specs.Words.{words_at}
+use Rattle.mix_reach.specs.inner.Quick.{IsInto}
 use Rattle.mix_reach.proofs.Quick68.{into_same}
 use Rattle.mix_reach.proofs.quick.changed_by.Goals as goal
 

@@ -2,7 +2,7 @@ use Rattle.std.proofs.Common.{◌≡◌, true, refl}
 use Rattle.m68_isa.specs.declared.op.Op68.{Op68}
 use Rattle.m68_isa.specs.declared.op.Op68.TheVariants.{Ori, Andi, Subi, Addi, Eori, Cmpi, LogicToCcr, BitByNumber, BitByRegister, Movep, MoveByte, MoveWord, MoveLong, MoveaWord, MoveaLong, Negx, Clr, Neg, Not, MoveFromSr, MoveToCcr, Nbcd, Swap, Pea, Ext, ExtByte, MovemToMemory, MovemFromMemory, MulLong, DivLong, Tst, Tas, Trap, Link, LinkLong, Unlk, Nop, Rtd, Rts, Trapv, Rtr, Jsr, Jmp, Chk, Lea, Addq, Subq, Scc, Dbcc, BraByte, BraWord, BraLong, BsrByte, BsrWord, BsrLong, BccByte, BccWord, BccLong, Moveq, OrToRegister, OrToMemory, Divu, Divs, Sbcd, SubToRegister, SubToMemory, Suba, Subx, Cmp, Cmpa, Eor, Cmpm, AndToRegister, AndToMemory, Mulu, Muls, Abcd, Exg, AddToRegister, AddToMemory, Adda, Addx, Shift, ShiftMemory, Illegal, Privileged, LineA, LineF}
 use Rattle.m68_isa.specs.First.{first_of}
-use Rattle.mix_reach.specs.Quick.{keeps_memory}
+use Rattle.mix_reach.specs.inner.Quick.{keeps_memory}
 use Rattle.mix_reach.proofs.quick.keeps_memory.Goals as goal
 
 -- every other operation keeps memory

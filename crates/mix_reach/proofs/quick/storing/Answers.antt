@@ -1,4 +1,4 @@
-use Rattle.m68_effects.specs.Words.{words_at}
+use Rattle.m68_ea.specs.Words.{words_at}
 use Rattle.mix_reach.proofs.Quick68.{changes_Ori, changes_Andi, changes_Subi, changes_Addi, changes_Eori, changes_Cmpi, linked_by, changes_AddToMemory, changes_Addq, changes_AndToMemory, changes_Clr, changes_Eor, changes_Neg, changes_Negx, changes_Not, changes_OrToMemory, changes_SubToMemory, changes_Subq, moves_MoveByte, moves_MoveLong, moves_MoveWord, saves_by}
 use Rattle.mix_reach.proofs.quick.storing.Goals as goal
 

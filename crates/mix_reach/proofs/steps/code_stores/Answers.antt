@@ -1,5 +1,5 @@
 use Rattle.std.proofs.Common.{◌∙◌}
-use Rattle.m68_effects.specs.Words.{words_at}
+use Rattle.m68_ea.specs.Words.{words_at}
 use Rattle.mix_reach.proofs.Quick68.{told_is}
 use Rattle.mix_reach.proofs.steps.code_stores.Goals as goal
 

@@ -7,7 +7,7 @@ returns-in-Ok-clause-bytes c = rw c.in-M68.is (words-68k c.args.line.now c.args.
 
 pub returns-in-Err-clause-refused : goal.returns-in-Err-clause-refused
 returns-in-Err-clause-refused c =
-    rw c.in-M68.is (refused-68k c.args.line.now c.args.at c.in-Err.error _ c.in-Err.ensures.name c.in-Err.ensures.operands c.reason_68k.ensures)
+    rw c.in-M68.is (refused-68k c.args.line.now c.args.at c.in-Err.error _ c.in-Err.ensures.name c.in-Err.ensures.operands c.reason_m68.ensures)
 
 pub returns-in-Ok-assemble_ppc-clause-bytes : goal.returns-in-Ok-assemble_ppc-clause-bytes
 returns-in-Ok-assemble_ppc-clause-bytes c =

@@ -1,6 +1,6 @@
 -- No line feed stands before.
 use Rattle.std.proofs.Common.{◌≡◌, ◌+◌, drop}
-use Rattle.mix_text.specs.Parts.{line_length}
+use Rattle.mix_text.specs.inner.Parts.{line_length}
 use Rattle.mix_text.proofs.lines.line_length.Given as goal
 
 abbrev pub invariant-loop-i : goal.invariant-loop-i

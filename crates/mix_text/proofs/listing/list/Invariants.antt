@@ -1,5 +1,5 @@
 use Rattle.std.proofs.Common.{◌-◌}
-use Rattle.mix_io.specs.Streams.{output}
+use Rattle.mix_io.specs.StreamsClauses.{output}
 use Rattle.mix_text.proofs.ListedLines.{Way}
 use Rattle.mix_text.proofs.listing.list.Given as goal
 

@@ -1,8 +1,9 @@
 -- One line after the other.
 use Rattle.std.proofs.Common.{◌≡◌, ◌<◌, [], length, rules, ap, ◌∙◌, subst}
 use Rattle.mix_bits.specs.Addresses.{onward}
-use Rattle.mix_io.specs.Streams.{Breaks, Grows, output}
-use Rattle.mix_text.specs.Parts.{Adds}
+use Rattle.mix_io.specs.Streams.{Breaks, Grows}
+use Rattle.mix_io.specs.StreamsClauses.{output}
+use Rattle.mix_text.specs.inner.Parts.{Adds}
 use Rattle.mix_text.proofs.Walks.{Takes, err-from, err-of, ok-of, putting-ends, putting-begins, putting-breaks, putting-known, putting-on}
 use Rattle.mix_text.proofs.text.put_text.Goals as goal
 

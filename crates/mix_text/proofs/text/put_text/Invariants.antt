@@ -1,6 +1,6 @@
 -- The bytes of the lines before were put, or are held.
 use Rattle.std.proofs.Common.{length}
-use Rattle.mix_io.specs.Streams.{output}
+use Rattle.mix_io.specs.StreamsClauses.{output}
 use Rattle.mix_text.proofs.Walks.{Putting}
 use Rattle.mix_text.proofs.text.put_text.Given as goal
 

@@ -4,21 +4,21 @@ use Rattle.std.specs.Option.{IsSomeAnd, option_map}
 use Rattle.std.specs.Str.{bytes_eq}
 use Rattle.mix_bits.specs.Numbers.{hexadecimal_number}
 use Rattle.mix_top.specs.Commands.{command_of, count_in}
-use Rattle.mix_top.specs.declared.command.Command.{Command}
-use Rattle.mix_top.specs.declared.command.Command.TheVariants.{Step, Over, Go, Back, Break, Clear}
+use Rattle.mix_top.specs.declared.command.ScriptCommand.{ScriptCommand}
+use Rattle.mix_top.specs.declared.command.ScriptCommand.TheVariants.{Step, Over, Go, Back, Break, Clear}
 use Rattle.mix_top.proofs.command.read_command.Goals as goal
 
 -- a test that holds, and one that does not
-here : (b : Bool) (m x y : Option Command) → b ≡ true → m ≡ x → m ≡ (if b then x else y)
+here : (b : Bool) (m x y : Option ScriptCommand) → b ≡ true → m ≡ x → m ≡ (if b then x else y)
 here true m x y is same = same
 here false m x y is same = cc
 
-past : (b : Bool) (m x y : Option Command) → b ≡ false → m ≡ y → m ≡ (if b then x else y)
+past : (b : Bool) (m x y : Option ScriptCommand) → b ≡ false → m ≡ y → m ≡ (if b then x else y)
 past true m x y is same = cc
 past false m x y is same = same
 
 -- what a number that may be there makes
-mapped : (make : ℕ → Command) (r : Option ℕ) (m : Option Command) → MatchOption r (m ≡ None) (λ x. IsSomeAnd m (λ y. y ≡ make x)) → m ≡ option_map make r
+mapped : (make : ℕ → ScriptCommand) (r : Option ℕ) (m : Option ScriptCommand) → MatchOption r (m ≡ None) (λ x. IsSomeAnd m (λ y. y ≡ make x)) → m ≡ option_map make r
 mapped make None m is = is
 mapped make (Some n) None is = absurd is
 mapped make (Some n) (Some y) is = ap Some is
@@ -27,10 +27,10 @@ mapped make (Some n) (Some y) is = ap Some is
 behind : (n : ℕ) (text : List ℕ) → take (length text - n) (drop n text) ≡ drop n text
 behind n text = take_all (length text - n) (drop n text) (omega (arith, length-drop n text))
 
-counts : (make : ℕ → Command) (n : ℕ) (text : List ℕ) (m : Option Command) (r : Option ℕ) → m ≡ option_map make r → r ≡ count_in (take (length text - n) (drop n text)) → m ≡ option_map make (count_in (drop n text))
+counts : (make : ℕ → ScriptCommand) (n : ℕ) (text : List ℕ) (m : Option ScriptCommand) (r : Option ℕ) → m ≡ option_map make r → r ≡ count_in (take (length text - n) (drop n text)) → m ≡ option_map make (count_in (drop n text))
 counts make n text m r made read = made ∙ ap (option_map make) (read ∙ ap count_in (behind n text))
 
-places : (make : ℕ → Command) (n : ℕ) (text : List ℕ) (m : Option Command) (r : Option ℕ) → m ≡ option_map make r → r ≡ hexadecimal_number 8 (take (length text - n) (drop n text)) → m ≡ option_map make (hexadecimal_number 8 (drop n text))
+places : (make : ℕ → ScriptCommand) (n : ℕ) (text : List ℕ) (m : Option ScriptCommand) (r : Option ℕ) → m ≡ option_map make r → r ≡ hexadecimal_number 8 (take (length text - n) (drop n text)) → m ≡ option_map make (hexadecimal_number 8 (drop n text))
 places make n text m r made read = made ∙ ap (option_map make) (read ∙ ap (hexadecimal_number 8) (behind n text))
 
 pub returns-then-eq : goal.returns-then-eq

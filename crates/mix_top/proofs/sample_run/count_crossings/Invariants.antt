@@ -1,6 +1,6 @@
 -- So many steps are left, and so many crossings were counted.
 use Rattle.switch_frame.specs.Records.{isa_of}
-use Rattle.mixed_machine.specs.Crossings.{Counting}
+use Rattle.mixed_machine.specs.laws.Crossings.{Counting}
 use Rattle.mixed_machine.specs.Machine.{IsWhole, flat}
 use Rattle.mix_top.specs.Samples.{nothing}
 use Rattle.mix_top.proofs.sample_run.count_crossings.Given as goal

@@ -1,7 +1,8 @@
 use Rattle.std.proofs.Common.{◌≡◌, ◌∙◌, ap, sym, subst, ℕ, ◌≤◌, ◌==◌, Bool, true, false, not, nat_lt, List, length, Option, eq-eqb, ne_eqb, lt-ltb, le-ltb}
 use Rattle.std.proofs.lemmas.Bool.{and_from, and_left, and_right}
 use Rattle.mix_bits.specs.Fields.{long_at}
-use Rattle.mix_bits.specs.Search.{◌or◌, refused}
+use Rattle.mix_bits.specs.SearchOperator.{◌or◌}
+use Rattle.mix_bits.specs.Search.{refused}
 use Rattle.pef_head.specs.declared.error.PefError.{PefError}
 use Rattle.pef_head.specs.declared.error.PefError.TheVariants.{Short, Magic, Architecture, Version}
 use Rattle.pef_head.specs.Container.{section_count, section_header}

@@ -1,4 +1,4 @@
-use Rattle.pef_head.specs.Owners.{AllOwned}
+use Rattle.pef_head.specs.inner.Owners.{AllOwned}
 use Rattle.pef_head.proofs.owners.first_lost.Given as goal
 
 abbrev pub invariant-loop-i : goal.invariant-loop-i

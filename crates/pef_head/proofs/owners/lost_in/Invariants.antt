@@ -1,5 +1,6 @@
 use Rattle.std.proofs.Common.{◌<◌, ◌≤◌}
-use Rattle.pef_head.specs.Owners.{Marked, owners}
+use Rattle.pef_head.specs.inner.Owners.{Marked}
+use Rattle.pef_head.specs.Owners.{owners}
 use Rattle.pef_head.proofs.owners.lost_in.Given as goal
 
 abbrev pub invariant-loop-j : goal.invariant-loop-j

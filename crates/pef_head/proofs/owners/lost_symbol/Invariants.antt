@@ -1,5 +1,5 @@
 use Rattle.std.proofs.Common.{◌-◌}
-use Rattle.pef_head.specs.Owners.{AllOwned}
+use Rattle.pef_head.specs.inner.Owners.{AllOwned}
 use Rattle.pef_head.proofs.owners.lost_symbol.Given as goal
 
 abbrev pub invariant-loop-from : goal.invariant-loop-from

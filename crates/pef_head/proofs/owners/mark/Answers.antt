@@ -1,5 +1,5 @@
 use Rattle.std.proofs.Common.{◌≡◌, ◌∙◌, ◌-◌, ◌<◌, ◌≤◌, sym, subst, ℕ, true, false, arith}
-use Rattle.pef_head.specs.Marks.{is_marked}
+use Rattle.pef_head.specs.inner.Marks.{is_marked}
 use Rattle.pef_head.specs.Owners.{owners}
 use Rattle.pef_head.specs.Places.{holds, symbols_end, symbols_start}
 use Rattle.pef_head.proofs.Marking.{held_below, holds_at, in_two, marked_next, none_yet, with_library}

@@ -1,6 +1,6 @@
 use Rattle.std.proofs.Common.{◌≡◌, ℕ, ◌+◌, ◌-◌, ◌<◌, ◌≤◌, ◌&&◌, nat_lt}
 use Rattle.std.specs.Int.{from_bool}
-use Rattle.pef_head.specs.Marks.{is_marked}
+use Rattle.pef_head.specs.inner.Marks.{is_marked}
 use Rattle.pef_head.specs.Owners.{owners}
 use Rattle.pef_head.specs.Places.{holds}
 use Rattle.pef_head.proofs.owners.mark.Given as goal

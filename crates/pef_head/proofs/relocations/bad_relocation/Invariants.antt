@@ -1,6 +1,6 @@
 use Rattle.std.proofs.Common.{◌≡◌, None}
 use Rattle.pef_head.specs.Refusals.{is_bad_relocation}
-use Rattle.pef_head.specs.Relocations.{Seen}
+use Rattle.pef_head.specs.inner.Relocations.{Seen}
 use Rattle.mix_bits.specs.Search.{least}
 use Rattle.pef_head.proofs.relocations.bad_relocation.Given as goal
 

@@ -1,6 +1,6 @@
 use Rattle.std.proofs.Common.{◌≡◌, ◌∙◌, ◌+◌, ap, sym, subst, ℕ, length, le_antisymm}
 use Rattle.std.proofs.lemmas.List.{with_items_is}
-use Rattle.pef_head.specs.Relocations.{HasHeadersFor}
+use Rattle.pef_head.specs.inner.Relocations.{HasHeadersFor}
 use Rattle.pef_head.proofs.relocations.header_table.Goals as goal
 
 pub note_header-requires-clause-noted : goal.note_header-requires-clause-noted

@@ -1,5 +1,5 @@
 use Rattle.std.proofs.Common.{◌≡◌, length}
-use Rattle.pef_head.specs.Relocations.{HasHeadersFor}
+use Rattle.pef_head.specs.inner.Relocations.{HasHeadersFor}
 use Rattle.pef_head.proofs.relocations.header_table.Given as goal
 
 abbrev pub invariant-loop-h : goal.invariant-loop-h

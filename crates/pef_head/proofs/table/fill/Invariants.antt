@@ -1,6 +1,7 @@
 use Rattle.std.proofs.Common.{◌≡◌, ℕ, ◌<◌, ◌&&◌, nat_lt, length, slice_index, unwrap_or}
 use Rattle.pef_head.specs.Places.{holds}
-use Rattle.mix_bits.specs.Search.{◌or◌, refused, least}
+use Rattle.mix_bits.specs.SearchOperator.{◌or◌}
+use Rattle.mix_bits.specs.Search.{refused, least}
 use Rattle.pef_head.proofs.table.fill.Given as goal
 
 -- the symbols of this library before i have it too

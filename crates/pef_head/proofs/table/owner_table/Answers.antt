@@ -1,6 +1,6 @@
 use Rattle.std.proofs.Common.{◌∙◌, ◌+◌, ap, sym, subst, ℕ, length, le_antisymm}
 use Rattle.std.proofs.lemmas.List.{with_items_is}
-use Rattle.pef_head.specs.Owners.{HasOwners}
+use Rattle.pef_head.specs.inner.Owners.{HasOwners}
 use Rattle.pef_head.proofs.table.owner_table.Goals as goal
 
 pub fill-requires-clause-room : goal.fill-requires-clause-room

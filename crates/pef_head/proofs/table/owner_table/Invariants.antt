@@ -1,5 +1,5 @@
 use Rattle.std.proofs.Common.{◌≡◌, length}
-use Rattle.pef_head.specs.Owners.{HasOwners}
+use Rattle.pef_head.specs.inner.Owners.{HasOwners}
 use Rattle.pef_head.proofs.table.owner_table.Given as goal
 
 abbrev pub invariant-loop-j : goal.invariant-loop-j

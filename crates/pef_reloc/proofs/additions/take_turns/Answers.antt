@@ -1,7 +1,7 @@
 use Rattle.std.proofs.Common.{◌∙◌, arith}
 use Rattle.std.proofs.lemmas.Result.{err_from_is_err_and}
 use Rattle.pef_reloc.specs.Additions.{turn_of}
-use Rattle.pef_reloc.specs.Held.{sources_of, state_of}
+use Rattle.pef_reloc.specs.inner.Held.{sources_of, state_of}
 use Rattle.pef_reloc.proofs.Sequences.{turn_ok, turn_err}
 use Rattle.pef_reloc.proofs.additions.take_turns.Goals as goal
 

@@ -1,6 +1,6 @@
 use Rattle.std.proofs.Common.{◌≡◌, ◌+◌, ◌-◌, ◌*◌, ◌≤◌, length}
 use Rattle.pef_reloc.specs.Additions.{runs, turn_of}
-use Rattle.pef_reloc.specs.Held.{outside_of, sources_of, state_of}
+use Rattle.pef_reloc.specs.inner.Held.{outside_of, sources_of, state_of}
 use Rattle.pef_reloc.specs.Lists.{times}
 use Rattle.pef_reloc.proofs.additions.take_turns.Given as goal
 

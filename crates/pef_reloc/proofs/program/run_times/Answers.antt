@@ -1,6 +1,6 @@
 use Rattle.std.proofs.Common.{◌∙◌, arith}
 use Rattle.std.proofs.lemmas.Result.{err_from_is_err_and}
-use Rattle.pef_reloc.specs.Held.{sources_of, state_of}
+use Rattle.pef_reloc.specs.inner.Held.{sources_of, state_of}
 use Rattle.pef_reloc.proofs.Repeats.{times_ok, times_err}
 use Rattle.pef_reloc.proofs.program.run_times.Goals as goal
 

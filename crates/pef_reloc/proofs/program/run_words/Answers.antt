@@ -1,6 +1,6 @@
 use Rattle.std.proofs.Common.{◌+◌, ◌∙◌, ap, arith, sym}
 use Rattle.std.proofs.lemmas.Result.{err_from_is_err_and}
-use Rattle.pef_reloc.specs.Held.{sources_of, state_of}
+use Rattle.pef_reloc.specs.inner.Held.{sources_of, state_of}
 use Rattle.pef_reloc.specs.Program.{each, run_at}
 use Rattle.pef_reloc.proofs.Each.{each_next, each_err, each_end}
 use Rattle.pef_reloc.proofs.program.run_words.Goals as goal

@@ -4,7 +4,7 @@ use Rattle.big_memory.specs.Lists.{part, put}
 use Rattle.big_memory.specs.Memory.{with_bytes}
 use Rattle.big_memory.specs.Numbers.{long_at}
 use Rattle.big_memory.proofs.Numbers.{long_in_part}
-use Rattle.pef_reloc.specs.Held.{Outside, section_of, outside_of}
+use Rattle.pef_reloc.specs.inner.Held.{Outside, section_of, outside_of}
 use Rattle.pef_reloc.proofs.Placed.{part_put, take_put_inside, drop_put_inside}
 use Rattle.pef_reloc.proofs.section.add_long.Goals as goal
 

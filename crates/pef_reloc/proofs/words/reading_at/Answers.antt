@@ -5,7 +5,8 @@ use Rattle.pef_reloc.specs.declared.error.RelocError.TheVariants.{Short, Unsuppo
 use Rattle.pef_reloc.specs.declared.instruction.First.TheVariants.{Two}
 use Rattle.pef_reloc.specs.declared.instruction.Reading.{Reading}
 use Rattle.pef_reloc.specs.declared.instruction.Reading.TheVariants.{Whole}
-use Rattle.pef_reloc.specs.Program.{reading_by, word_at}
+use Rattle.pef_reloc.specs.Program.{reading_by}
+use Rattle.mix_bits.specs.Fields.{word_at}
 use Rattle.pef_reloc.specs.Rows.{first_of, whole_of}
 use Rattle.pef_reloc.proofs.Highs.{is_low}
 use Rattle.pef_reloc.proofs.words.reading_at.Goals as goal

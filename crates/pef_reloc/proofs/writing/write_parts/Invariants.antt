@@ -1,6 +1,6 @@
 use Rattle.std.proofs.Common.{◌≡◌, ◌+◌, ◌-◌, ◌*◌, ◌≤◌, ◌++◌, length, take}
 use Rattle.pef_reloc.specs.Pattern.{followed}
-use Rattle.pef_reloc.specs.Pieces.{mixed}
+use Rattle.pef_reloc.specs.inner.Pieces.{mixed}
 use Rattle.pef_reloc.proofs.writing.write_parts.Given as goal
 
 abbrev pub invariant-loop-part : goal.invariant-loop-part

@@ -1,4 +1,4 @@
-use Rattle.ppc_core.specs.Tested.{WordsThere}
+use Rattle.ppc_core.specs.inner.Tested.{WordsThere}
 use Rattle.ppc_core.proofs.multiple.test_words.Given as goal
 
 abbrev pub invariant-loop-k : goal.invariant-loop-k

@@ -1,6 +1,6 @@
 use Rattle.std.proofs.Common.{refl, sym, subst}
 use Rattle.big_memory.specs.declared.steps.Did.TheVariants.{Next}
-use Rattle.ppc_core.specs.Fetch.{Fetches, IsOfWord}
+use Rattle.ppc_core.specs.inner.Fetch.{Fetches, IsOfWord}
 use Rattle.ppc_core.proofs.Fetching.{done, of-word}
 use Rattle.ppc_core.proofs.step.run.Goals as goal
 use Rattle.ppc_core.proofs.step.run.Goals.{then-is_plain, else-is_plain+in-Next}

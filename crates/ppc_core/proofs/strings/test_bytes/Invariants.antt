@@ -1,4 +1,4 @@
-use Rattle.ppc_core.specs.Tested.{BytesThere}
+use Rattle.ppc_core.specs.inner.Tested.{BytesThere}
 use Rattle.ppc_core.proofs.strings.test_bytes.Given as goal
 
 abbrev pub invariant-loop-k : goal.invariant-loop-k

@@ -2,7 +2,7 @@ use Rattle.std.proofs.Common.{◌≡◌, ◌/◌, ◌==◌, true, ap, ◌∙◌}
 use Rattle.ppc_isa.specs.Fields.{fields_of}
 use Rattle.ppc_integer.specs.Arithmetic.{operand_of, with_arith}
 use Rattle.ppc_integer.specs.File.{gpr_of}
-use Rattle.ppc_integer.specs.Results.{added}
+use Rattle.ppc_alu.specs.Outcomes.{added}
 use Rattle.ppc_integer.specs.Xer.{ca_of}
 use Rattle.ppc_integer.proofs.Alike.{added_is, ends_with, outcome_is}
 use Rattle.ppc_integer.proofs.arithmetic.add_extended.Goals as goal

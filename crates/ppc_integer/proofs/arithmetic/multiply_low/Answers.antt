@@ -2,7 +2,7 @@ use Rattle.std.proofs.Common.{◌≡◌, ◌/◌, ◌==◌, false, ap, ◌∙◌
 use Rattle.ppc_isa.specs.Fields.{fields_of}
 use Rattle.ppc_integer.specs.Arithmetic.{with_arith}
 use Rattle.ppc_integer.specs.File.{gpr_of}
-use Rattle.ppc_integer.specs.Results.{multiplied}
+use Rattle.ppc_alu.specs.Outcomes.{multiplied}
 use Rattle.ppc_integer.proofs.Alike.{ends_with, outcome_is}
 use Rattle.ppc_integer.proofs.arithmetic.multiply_low.Goals as goal
 

@@ -2,7 +2,7 @@ use Rattle.std.proofs.Common.{ℕ, ◌/◌, ◌==◌, true, ap}
 use Rattle.ppc_isa.specs.Fields.{fields_of}
 use Rattle.ppc_integer.specs.Arithmetic.{carry_into, sets_ca, with_arith}
 use Rattle.ppc_integer.specs.File.{complement, gpr_of}
-use Rattle.ppc_integer.specs.Results.{added}
+use Rattle.ppc_alu.specs.Outcomes.{added}
 use Rattle.ppc_integer.proofs.Alike.{ends_with}
 use Rattle.ppc_integer.proofs.arithmetic.subtract_from.Goals as goal
 

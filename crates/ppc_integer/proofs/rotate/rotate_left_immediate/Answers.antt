@@ -2,7 +2,8 @@ use Rattle.std.proofs.Common.{◌≡◌, ◌/◌, ◌%◌, ap, sym, ◌∙◌}
 use Rattle.std.specs.Int.{rotate_left, w32}
 use Rattle.ppc_isa.specs.Fields.{fields_of}
 use Rattle.ppc_integer.specs.File.{gpr_of, with_result}
-use Rattle.ppc_integer.specs.Masks.{inserted, mask_of}
+use Rattle.ppc_alu.specs.Masks.{mask_of}
+use Rattle.ppc_integer.specs.Rotate.{inserted}
 use Rattle.ppc_integer.specs.Rotate.{masked}
 use Rattle.ppc_integer.proofs.Alike.{both_are, ends_with, result_is}
 use Rattle.ppc_integer.proofs.rotate.rotate_left_immediate.Goals as goal

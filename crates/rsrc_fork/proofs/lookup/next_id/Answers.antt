@@ -1,6 +1,7 @@
 use Rattle.std.proofs.Common.{◌≡◌, ◌∙◌, sym, subst, ℤ, pos, ◌+ℤ◌, ◌<ℤ◌, to_z, of_z, w16, arith}
 use Rattle.std.proofs.lemmas.Int.{ints, to_z-of_z}
-use Rattle.rsrc_fork.specs.Resources.{bytes_of, named, seen}
+use Rattle.rsrc_fork.specs.Resources.{bytes_of, named}
+use Rattle.rsrc_fork.specs.ResourcesClauses.{seen}
 use Rattle.rsrc_fork.proofs.NextId.{none_from, some_seen}
 use Rattle.rsrc_fork.proofs.lookup.next_id.Goals as goal
 

@@ -1,5 +1,6 @@
 use Rattle.std.proofs.Common.{◌≡◌, ℤ, ◌<ℤ◌, ◌≤ℤ◌, None}
-use Rattle.rsrc_fork.specs.Resources.{bytes_of, named, seen}
+use Rattle.rsrc_fork.specs.Resources.{bytes_of, named}
+use Rattle.rsrc_fork.specs.ResourcesClauses.{seen}
 use Rattle.rsrc_fork.proofs.lookup.next_id.Given as goal
 
 -- no id up to here is one of the type

@@ -1,6 +1,6 @@
 use Rattle.std.proofs.Common.{◌≡◌, Ok}
 use Rattle.rsrc_fork.specs.References.{with_references}
-use Rattle.rsrc_fork.specs.Resources.{seen}
+use Rattle.rsrc_fork.specs.ResourcesClauses.{seen}
 use Rattle.rsrc_fork.proofs.references.add_references.Given as goal
 
 abbrev pub invariant-loop-j : goal.invariant-loop-j

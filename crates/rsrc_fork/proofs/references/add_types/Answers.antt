@@ -1,7 +1,7 @@
 use Rattle.std.proofs.Common.{[]}
 use Rattle.std.proofs.lemmas.Result.{err_from_is_err_and}
 use Rattle.rsrc_fork.specs.References.{with_type}
-use Rattle.rsrc_fork.specs.Resources.{seen}
+use Rattle.rsrc_fork.specs.ResourcesClauses.{seen}
 use Rattle.rsrc_fork.proofs.Steps.{failed_below}
 use Rattle.rsrc_fork.proofs.references.add_types.Goals as goal
 

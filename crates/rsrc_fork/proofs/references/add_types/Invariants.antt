@@ -1,6 +1,6 @@
 use Rattle.std.proofs.Common.{◌≡◌, Ok}
 use Rattle.rsrc_fork.specs.References.{with_types}
-use Rattle.rsrc_fork.specs.Resources.{seen}
+use Rattle.rsrc_fork.specs.ResourcesClauses.{seen}
 use Rattle.rsrc_fork.proofs.references.add_types.Given as goal
 
 abbrev pub invariant-loop-k : goal.invariant-loop-k

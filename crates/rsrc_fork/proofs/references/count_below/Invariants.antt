@@ -1,5 +1,5 @@
 use Rattle.std.proofs.Common.{◌≡◌, ◌≤◌, ◌*◌}
-use Rattle.rsrc_fork.specs.References.{count_below}
+use Rattle.rsrc_fork.specs.ReferencesClauses.{count_below}
 use Rattle.rsrc_fork.proofs.references.count_below.Given as goal
 
 abbrev pub invariant-loop-k : goal.invariant-loop-k

@@ -1,6 +1,6 @@
 use Rattle.std.proofs.Common.{◌∙◌, ap, Ok, rules, sym}
 use Rattle.indexmap.proofs.CallerLemmas.{insert_entry-new}
-use Rattle.rsrc_fork.specs.Resources.{seen}
+use Rattle.rsrc_fork.specs.ResourcesClauses.{seen}
 use Rattle.rsrc_fork.proofs.Lookups.{found_new, found_twice}
 use Rattle.rsrc_fork.proofs.references.put.Goals as goal
 

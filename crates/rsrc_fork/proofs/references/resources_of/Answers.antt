@@ -1,6 +1,7 @@
 use Rattle.std.proofs.Common.{◌+◌, ◌%◌, arith}
 use Rattle.std.proofs.lemmas.List.{length-map}
-use Rattle.rsrc_fork.specs.Resources.{Resource, seen}
+use Rattle.rsrc_fork.specs.Resources.{Resource}
+use Rattle.rsrc_fork.specs.ResourcesClauses.{seen}
 use Rattle.rsrc_fork.proofs.Counts.{all_types}
 use Rattle.rsrc_fork.proofs.references.resources_of.Goals as goal
 

@@ -1,5 +1,5 @@
 use Rattle.std.proofs.Common.{◌-◌, ◌/◌, replicate, false, ap, ◌∙◌}
-use Rattle.big_memory.specs.Memory.{with_marks}
+use Rattle.big_memory.specs.MemoryClauses.{with_marks}
 use Rattle.switch_frame.proofs.frames.clear.Goals as goal
 
 pub returns : goal.returns

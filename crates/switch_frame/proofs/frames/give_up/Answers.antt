@@ -1,5 +1,6 @@
 use Rattle.std.proofs.Common.{arith}
-use Rattle.switch_frame.specs.Chain.{IsFrameRange, records}
+use Rattle.switch_frame.specs.laws.Chain.{IsFrameRange}
+use Rattle.switch_frame.specs.Chain.{records}
 use Rattle.switch_frame.proofs.Turns.{IsGivenUp, given-up, innermost-range}
 use Rattle.switch_frame.proofs.frames.give_up.Goals as goal
 

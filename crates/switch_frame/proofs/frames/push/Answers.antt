@@ -1,7 +1,7 @@
 use Rattle.std.proofs.Common.{◌-◌, ◌/◌, length, replicate, true, refl, ap, ◌∙◌}
-use Rattle.big_memory.specs.Memory.{with_marks}
+use Rattle.big_memory.specs.MemoryClauses.{with_marks}
 use Rattle.switch_frame.specs.Chain.{Fits, records}
-use Rattle.switch_frame.specs.Records.{record_of}
+use Rattle.switch_frame.specs.RecordsClauses.{record_of}
 use Rattle.switch_frame.proofs.Turns.{IsPushed, fits-place, push-is}
 use Rattle.switch_frame.proofs.frames.push.Goals as goal
 

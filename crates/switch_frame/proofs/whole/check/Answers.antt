@@ -1,6 +1,7 @@
 use Rattle.std.proofs.Common.{◌≡◌, ◌==◌, false, cond, Ok, Err, sym, ◌∙◌, ap, arith}
 use Rattle.std.proofs.lemmas.Bool.Decides.{nat_tests}
 use Rattle.switch_frame.proofs.Found.{checked-none, checked-walks, if-whole, none-whole, whole_chains_pass}
+use Rattle.switch_frame.proofs.FirstBad.{if-wrong}
 use Rattle.switch_frame.proofs.whole.check.Goals as goal
 
 pub returns-then-top-ne0-clause-exact : goal.returns-then-top-ne0-clause-exact
@@ -30,3 +31,12 @@ returns-then-is_isa-clause-whole c =
 pub returns-else-is_isa-clause-exact : goal.returns-else-is_isa-clause-exact
 returns-else-is_isa-clause-exact c =
     sym (checked-none c.args.ram.now c.args.top c.args.active c.args.main c.if-top-ne0.false ∙ ap (λ b. cond b (Ok 0) (Err 0)) (sym c.is_isa.ensures ∙ c.if-is_isa.false))
+
+pub returns-then-top-ne0-clause-wrong : goal.returns-then-top-ne0-clause-wrong
+returns-then-top-ne0-clause-wrong c =
+    let live : (c.args.top == 0) ≡ false = grind (arith, nat_tests) in
+    if-wrong c.args.ram.now c.args.top c.args.active c.args.main c.walk.result (c.walk.ensures ∙ sym (checked-walks c.args.ram.now c.args.top c.args.active c.args.main live))
+
+pub returns-else-is_isa-clause-wrong : goal.returns-else-is_isa-clause-wrong
+returns-else-is_isa-clause-wrong c =
+    if-wrong c.args.ram.now c.args.top c.args.active c.args.main (Err 0) (sym (checked-none c.args.ram.now c.args.top c.args.active c.args.main c.if-top-ne0.false ∙ ap (λ b. cond b (Ok 0) (Err 0)) (sym c.is_isa.ensures ∙ c.if-is_isa.false)))

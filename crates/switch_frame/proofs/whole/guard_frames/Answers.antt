@@ -1,6 +1,7 @@
 use Rattle.std.proofs.Common.{◌<◌, ap, arith}
 use Rattle.big_memory.specs.Memory.{Memory}
-use Rattle.switch_frame.specs.Chain.{IsFrameRange, records}
+use Rattle.switch_frame.specs.laws.Chain.{IsFrameRange}
+use Rattle.switch_frame.specs.Chain.{records}
 use Rattle.switch_frame.proofs.Guarding.{fewer-left, guards-all, guards-more, guards-none, told-range}
 use Rattle.switch_frame.proofs.whole.guard_frames.Goals as goal
 

@@ -1,7 +1,7 @@
 -- A new block may be written.
 use Rattle.std.proofs.Common.{rules, ◌≡◌, None, length, refl, subst}
 use Rattle.big_memory.specs.Memory.{refusal, with_bytes}
-use Rattle.proc_info.specs.Build.{image}
+use Rattle.routine_desc.specs.Build.{image}
 use Rattle.toolbox.proofs.Free.{block_free, done}
 use Rattle.toolbox.proofs.blocks.new_descriptor.Goals as goal
 

@@ -1,7 +1,7 @@
 -- Each function does what the table says.
 use Rattle.std.proofs.Common.{refl, ap}
 use Rattle.toolbox.specs.declared.function.Function.TheVariants.{NewRoutineDescriptor, NewFatRoutineDescriptor, DisposeRoutineDescriptor, NewPtr, NewPtrClear, DisposePtr, UnloadSeg}
-use Rattle.toolbox.specs.Puts.{piece_of}
+use Rattle.toolbox.specs.inner.Puts.{piece_of}
 use Rattle.toolbox.proofs.Carried.{quietly_as}
 use Rattle.toolbox.proofs.Devices.{ejected_as}
 use Rattle.toolbox.proofs.Puts.{says_none}

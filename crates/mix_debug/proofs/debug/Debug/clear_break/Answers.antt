@@ -3,7 +3,7 @@ use Rattle.std.specs.Prelude.{◌==◌, filter}
 use Rattle.arrayvec.proofs.ArrayVecLemmas.{filter-from_retain}
 use Rattle.mix_debug.specs.Machines.{earlier}
 use Rattle.mix_debug.specs.Pasts.{entries_in}
-use Rattle.mix_debug.specs.Trails.{Trail}
+use Rattle.mix_debug.specs.TrailsClauses.{Trail}
 use Rattle.mix_debug.proofs.debug.Debug.clear_break.Goals as goal
 
 pub returns-clause-after : goal.returns-clause-after

@@ -1,7 +1,7 @@
 use Rattle.std.proofs.Common.{subst}
 use Rattle.mix_io.specs.Told.{Puts}
-use Rattle.mix_debug.specs.Crawl.{crawl_of}
-use Rattle.mix_debug.specs.Trails.{Trail}
+use Rattle.mix_debug.specs.CrawlClauses.{crawl_of}
+use Rattle.mix_debug.specs.TrailsClauses.{Trail}
 use Rattle.mix_debug.proofs.debug.Debug.crawl.Goals as goal
 
 pub returns-clause-text : goal.returns-clause-text

@@ -1,7 +1,7 @@
 use Rattle.std.proofs.Common.{subst, rules}
 use Rattle.mix_debug.specs.Machines.{earlier}
 use Rattle.mix_debug.specs.Pasts.{entries_in}
-use Rattle.mix_debug.specs.Trails.{Keeps, Trail, is_done}
+use Rattle.mix_debug.specs.TrailsClauses.{Keeps, Trail, is_done}
 use Rattle.mix_debug.proofs.Keeping.{keeps-view}
 use Rattle.mix_debug.proofs.debug.Debug.forward_beside.Goals as goal
 

@@ -1,6 +1,6 @@
 use Rattle.std.proofs.Common.{◌∙◌, sym, ap, length}
 use Rattle.mix_debug.specs.Pasts.{entries_in}
-use Rattle.mix_debug.specs.Trails.{Trail}
+use Rattle.mix_debug.specs.TrailsClauses.{Trail}
 use Rattle.mix_debug.proofs.Keeping.{length-earlier}
 use Rattle.mix_debug.proofs.debug.Debug.kept.Goals as goal
 

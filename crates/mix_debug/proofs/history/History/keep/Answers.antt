@@ -1,7 +1,7 @@
 use Rattle.std.proofs.Common.{◌≡◌, ◌==◌, ◌&&◌, Bool, true, false, length, ap, sym, subst, refl, ◌∙◌}
 use Rattle.std.proofs.lemmas.Bool.{eqb-true}
 use Rattle.mix_reach.specs.declared.reach.Reach.{Reach}
-use Rattle.mix_reach.specs.Ranges.{Beside}
+use Rattle.mix_reach.specs.laws.Ranges.{Beside}
 use Rattle.mix_debug.proofs.Still.{stored_still}
 use Rattle.mix_debug.proofs.history.History.keep.Goals as goal
 

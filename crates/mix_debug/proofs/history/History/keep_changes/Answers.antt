@@ -1,8 +1,8 @@
 use Rattle.std.proofs.Common.{◌∷◌, length, ap, sym, ◌∙◌}
 use Rattle.mix_debug.specs.Entries.{within}
-use Rattle.mix_debug.specs.Rows.{ready_in}
 use Rattle.mix_debug.specs.Pasts.{entries_in}
-use Rattle.mix_debug.specs.Runs.{olds_of}
+use Rattle.mix_debug.specs.inner.Pasts.{ready_in}
+use Rattle.mix_debug.specs.WrittenBack.{olds_of}
 use Rattle.mix_debug.proofs.Keeping.{copy-kept, entry-is}
 use Rattle.mix_debug.proofs.Narrowing.{runs-found}
 use Rattle.mix_debug.proofs.history.History.keep_changes.Goals as goal
@@ -20,7 +20,7 @@ returns-clause-entries c =
     let kept = runs-found low high c.args.self.now.copy.items c.deref-2.result.now c.deref-4.result.now c.bytes-bytes.result.now ram c.deref-2.ensures.value c.deref-4.ensures.value c.bytes-bytes.ensures.is c.requires.copied c.narrowed-range.ensures in
     c.keep.ensures.entries
     ∙ ap (λ e. within 1048576 (e ∷ entries_in c.args.self.now.past))
-    (entry-is (ready_in c.args.self.now.past.heads) c.args.top c.args.self.now.copy.items c.args.self.now.blocks.items c.args.machine.now c.ready_isa-set.result c.isa.result c.frame_between-frame.result
+    (entry-is (ready_in c.args.self.now.past) c.args.top c.args.self.now.copy.items c.args.self.now.blocks.items c.args.machine.now c.ready_isa-set.result c.isa.result c.frame_between-frame.result
     c.deref.result.now c.blocks-2.result.now c.block_between-block.result _ _ _
     c.ready_isa-set.ensures c.isa.ensures c.frame_between-frame.ensures c.deref.ensures.value c.blocks-2.ensures c.block_between-block.ensures
     (ap length kept) (ap (λ rs. length (olds_of rs)) kept) kept)

@@ -3,9 +3,9 @@ use Rattle.switch_frame.specs.Records.{isa_of}
 use Rattle.mix_debug.specs.declared.head.FrameChange.TheVariants.{Stays as FrameStays}
 use Rattle.mix_debug.specs.declared.head.BlockChange.TheVariants.{Stays as BlockStays}
 use Rattle.mix_debug.specs.Entries.{Entry, within}
-use Rattle.mix_debug.specs.Rows.{ready_in}
 use Rattle.mix_debug.specs.Pasts.{entries_in}
-use Rattle.mix_debug.specs.Runs.{olds_of}
+use Rattle.mix_debug.specs.inner.Pasts.{ready_in}
+use Rattle.mix_debug.specs.WrittenBack.{olds_of}
 use Rattle.mix_debug.proofs.Keeping.{copy-kept, entry-is}
 use Rattle.mix_debug.proofs.Narrowing.{runs-found}
 use Rattle.mix_debug.proofs.Still.{all_same, block-stays, frame-stays, still_entry}
@@ -20,7 +20,7 @@ returns-then-reach-clause-entries c =
     let same = all_same c.args.reach c.args.self.now.copy.items c.args.machine.now.body.ram.bytes c.if-reach.true c.requires.stored in
     c.keep_still.ensures.entries c.args.top c.requires.waits
     ∙ ap (λ (e : Entry). within 1048576 (e ∷ entries_in c.args.self.now.past))
-    (still_entry (ready_in c.args.self.now.past.heads) c.args.top c.args.self.now.copy.items c.args.self.now.blocks.items c.args.machine.now c.requires.frames (sym (ap length c.requires.blocks)) same)
+    (still_entry (ready_in c.args.self.now.past) c.args.top c.args.self.now.copy.items c.args.self.now.blocks.items c.args.machine.now c.requires.frames (sym (ap length c.requires.blocks)) same)
 
 pub returns-clause-copied : goal.returns-clause-copied
 returns-clause-copied c =
@@ -32,7 +32,7 @@ returns-clause-entries c =
     let low = c.narrowed-range.result.low in
     let high = c.narrowed-range.result.high in
     let ram = c.args.machine.now.body.ram.bytes in
-    let file = ready_in c.args.self.now.past.heads in
+    let file = ready_in c.args.self.now.past in
     let long : length c.args.machine.now.body.heap.blocks ≡ length c.args.self.now.blocks.items = sym (ap length c.requires.blocks) in
     let kept = runs-found low high c.args.self.now.copy.items c.deref.result.now c.deref-3.result.now c.bytes-bytes.result.now ram c.deref.ensures.value c.deref-3.ensures.value c.bytes-bytes.ensures.is c.requires.copied c.narrowed-range.ensures in
     c.keep.ensures.entries

@@ -4,7 +4,8 @@ use Rattle.std.proofs.lemmas.List.{with_items_is}
 use Rattle.big_memory.specs.Memory.{Memory}
 use Rattle.mix_debug.specs.declared.history.History.{History}
 use Rattle.mix_engine.specs.declared.machine.Machine.{Machine}
-use Rattle.mix_debug.specs.Entries.{Entry, newest}
+use Rattle.mix_debug.specs.Entries.{Entry}
+use Rattle.mix_debug.specs.inner.Entries.{newest}
 use Rattle.mix_debug.specs.Pasts.{entries_in}
 use Rattle.mix_debug.proofs.Keeping.{newest-frame, newest-inside, undone-machine, undone-step}
 use Rattle.mix_debug.proofs.history.History.undo.Goals as goal
@@ -22,7 +23,7 @@ returns-clause-history c =
     let m : Machine = c.args.machine.now in
     let n : Machine = record {
       active = c.take-head.result.file;
-      body = record { ram = c.undo_frame.new.ram; heap = c.undo_blocks.new.heap; top = c.take-head.result.top; a5 = m.body.a5; main = m.body.main; start_sp = m.body.start_sp; operations = record {} };
+      body = record { ram = c.undo_frame.new.ram; heap = c.undo_blocks.new.heap; top = c.take-head.result.top; a5 = m.body.a5; main = m.body.main; start_sp = m.body.start_sp };
     } in
     let k : History = record { copy = with_items c.args.self.now.copy c.take-head.new.copy; blocks = c.undo_blocks.new.blocks; past = c.take-head.new.self } in
     let e : Entry = record { head = c.take-head.result; runs = newest (entries_in c.args.self.now.past) } in

@@ -1,5 +1,5 @@
 use Rattle.std.proofs.Common.{sym, subst}
-use Rattle.pef_head.specs.Parts.{IsLoadable}
+use Rattle.pef_head.specs.PartsClauses.{IsLoadable}
 use Rattle.pef_head.proofs.Loadable.{loadable}
 use Rattle.pef_head.proofs.pef.Pef.section.Goals as goal
 

@@ -1,5 +1,5 @@
 use Rattle.std.proofs.Common.{subst}
-use Rattle.rsrc_fork.specs.Walk.{ComesToEnd}
+use Rattle.rsrc_fork.specs.laws.Walk.{ComesToEnd}
 use Rattle.rsrc_fork.proofs.Walk.{comes_to_end, finds_all}
 use Rattle.rsrc_fork.proofs.fork.Fork.id_laws.Goals as goal
 

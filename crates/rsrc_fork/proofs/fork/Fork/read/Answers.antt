@@ -5,7 +5,7 @@ use Rattle.std.proofs.lemmas.Result.{err_from_is_err_and}
 use Rattle.std.specs.Result.{IfOk}
 use Rattle.rsrc_fork.specs.declared.error.RsrcError.{RsrcError}
 use Rattle.rsrc_fork.specs.declared.error.RsrcError.TheVariants.{NoMemory}
-use Rattle.rsrc_fork.specs.References.{reference_limit}
+use Rattle.rsrc_fork.specs.ReferencesClauses.{reference_limit}
 use Rattle.rsrc_fork.proofs.Listing.{fork_is, no_fork}
 use Rattle.rsrc_fork.proofs.Small.{small_is}
 use Rattle.rsrc_fork.proofs.fork.Fork.read.Goals as goal

@@ -1,0 +1,10 @@
+pub mod Arguments
+pub mod Deliver
+pub mod DeliverClauses
+pub mod Gather
+pub mod Places
+pub mod Results
+pub mod ResultsClauses
+pub mod Values
+pub mod laws
+pub mod inner

@@ -1,0 +1,4 @@
+pub mod Assembly
+pub mod Reading
+pub mod laws
+pub mod inner

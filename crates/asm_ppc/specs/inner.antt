@@ -1,0 +1,4 @@
+pub mod Answering
+pub mod Assembly
+pub mod Spelling
+pub mod Table

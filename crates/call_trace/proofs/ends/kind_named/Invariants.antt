@@ -1,7 +1,0 @@
--- The name is none of the kinds before.
-use Rattle.std.proofs.Common.{◌≡◌, drop}
-use Rattle.call_trace.specs.Reading.{kind_in}
-use Rattle.call_trace.proofs.ends.kind_named.Given as goal
-
-abbrev pub invariant-loop-kind : goal.invariant-loop-kind
-invariant-loop-kind l = kind_in (drop l.kind-index l.kinds) l.name ≡ kind_in l.kinds l.name

@@ -1,6 +1,0 @@
--- The event of the definition is exactly that of the line.
-use Rattle.call_trace.proofs.Exact.{reads_exactly}
-use Rattle.call_trace.proofs.read.read_event.Goals as goal
-
-pub returns : goal.returns
-returns c = record { exact = reads_exactly _ _ c.read_text.ensures }

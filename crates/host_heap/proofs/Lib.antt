@@ -1,0 +1,10 @@
+pub mod Fits
+pub mod Lowest
+pub mod Leaving
+pub mod Order
+pub mod Keeps
+pub mod Walk
+pub mod Undo
+pub mod Placing
+pub mod Appending
+pub mod InUse

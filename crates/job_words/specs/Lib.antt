@@ -1,0 +1,9 @@
+pub mod Asks
+pub mod Drafts
+pub mod Jobs
+pub mod JobsClauses
+pub mod Settings
+pub mod SettingsClauses
+pub mod Words
+pub mod laws
+pub mod inner

@@ -1,0 +1,3 @@
+pub mod Counted
+pub mod Statuses
+pub mod Told

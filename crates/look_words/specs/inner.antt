@@ -1,0 +1,5 @@
+pub mod Looks
+pub mod Refusals
+pub mod Requests
+pub mod Sentences
+pub mod Unmade

@@ -1,0 +1,7 @@
+mod Back
+mod Found
+mod Fetch
+mod Immediate
+mod Reading
+mod UsualModes
+mod Numbers

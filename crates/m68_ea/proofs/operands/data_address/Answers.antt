@@ -1,0 +1,33 @@
+use Rattle.std.proofs.Common.{ℕ, Option, Some, None}
+use Rattle.mix_bits.specs.declared.size.Size.{Size}
+use Rattle.mix_bits.specs.declared.size.Size.TheVariants.{One, Two, Four}
+use Rattle.mix_bits.specs.declared.fault.Fault.{Fault}
+use Rattle.m68_isa.specs.declared.registers.Regs68.{Regs68}
+use Rattle.m68_isa.specs.declared.operand.Operand.{Operand}
+use Rattle.m68_isa.specs.Operands.{operand_at}
+use Rattle.m68_ea.specs.Words.{words_at}
+use Rattle.m68_ea.specs.inner.Finds.{FindsAddress, FindsAt}
+use Rattle.m68_ea.proofs.operands.data_address.Goals as goal
+
+stands_at : (r : Regs68) (first : ℕ) (e : Size → Operand) (s : Size) (result : Option ℕ) (next : ℕ) (cell : Fault)
+    → FindsAddress r first e result next cell → FindsAt r first s (e s) result next cell
+stands_at r first e s (Some a) next cell h =
+    let found = h s s in record { good = found.0; stands = found.1; onward = found.2 }
+stands_at r first e s None next cell h = h s s
+
+at-size : (c : goal.After-address) (s : Size)
+    → FindsAt c.args.regs.now c.args.word s (operand_at (words_at c.args.ram.now c.args.regs.now.pc) c.args.next.now s c.args.mode c.args.lower)
+    c.address.result c.address.new.next c.address.new.fault
+at-size c s =
+    stands_at c.args.regs.now c.args.word
+    (λ t. operand_at (words_at c.args.ram.now c.args.regs.now.pc) c.args.next.now t c.args.mode c.args.lower)
+    s c.address.result c.address.new.next c.address.new.fault c.address.ensures.is
+
+pub returns-clause-byte : goal.returns-clause-byte
+returns-clause-byte c = at-size c One
+
+pub returns-clause-word : goal.returns-clause-word
+returns-clause-word c = at-size c Two
+
+pub returns-clause-long : goal.returns-clause-long
+returns-clause-long c = at-size c Four

@@ -1,0 +1,6 @@
+-- The list gets shorter.
+use Rattle.std.proofs.Common.{length}
+use Rattle.m68_ea.proofs.words.+read_words.Given as goal
+
+abbrev pub decreases-read_words : goal.decreases-read_words
+decreases-read_words l = length l.words.now

@@ -1,0 +1,9 @@
+pub mod Accesses
+pub mod AccessesClauses
+pub mod Finds
+pub mod Operands
+pub mod Places
+pub mod PlacesClauses
+pub mod Words
+pub mod laws
+pub mod inner

@@ -1,5 +1,0 @@
-use Rattle.m68_effects.proofs.Tried.{then_by_others}
-use Rattle.m68_effects.proofs.operand_laws.tried_laws.Goals as goal
-
-pub returns : goal.returns
-returns c = then_by_others

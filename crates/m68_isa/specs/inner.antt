@@ -1,0 +1,5 @@
+pub mod Extended
+pub mod Fields
+pub mod First
+pub mod Letters
+pub mod Lines

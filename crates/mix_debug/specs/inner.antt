@@ -1,0 +1,5 @@
+pub mod Entries
+pub mod Histories
+pub mod Pasts
+pub mod Reaches
+pub mod WrittenBack

@@ -1,5 +1,0 @@
-use Rattle.mix_io.proofs.Steps.{accounts-none, accounts-ask, accounts-eject, accounts-join}
-use Rattle.mix_io.proofs.laws.journal_laws.Goals as goal
-
-pub returns : goal.returns
-returns c = record { begins = accounts-none; asks = accounts-ask; ejects = accounts-eject; joins = accounts-join }

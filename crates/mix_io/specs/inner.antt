@@ -1,0 +1,5 @@
+pub mod Calls
+pub mod Counts
+pub mod Files
+pub mod Memory
+pub mod Told

@@ -1,0 +1,5 @@
+pub mod ForkImage
+pub mod Loaded
+pub mod Outcome
+pub mod Sections
+pub mod Segments

@@ -1,0 +1,3 @@
+pub mod Quick
+pub mod Ranges
+pub mod Steps

@@ -1,0 +1,5 @@
+pub mod Laws
+pub mod Ranges
+pub mod Rows68
+pub mod RowsPpc
+pub mod Steps

@@ -1,8 +1,0 @@
-use Rattle.mix_text.proofs.Spelled.{texts_spell, words_spell}
-use Rattle.mix_text.proofs.assembler_laws.spelling_laws.Goals as goal
-
-pub returns-clause-instructions : goal.returns-clause-instructions
-returns-clause-instructions c = texts_spell
-
-pub returns-clause-words : goal.returns-clause-words
-returns-clause-words c = words_spell

@@ -1,7 +1,0 @@
--- Laws of the sample image.
-use Rattle.std.specs.Prelude.{◌≡◌, ℕ, length}
-use Rattle.mix_top.specs.Sample.{sample_bytes, sample_image}
-
--- whatever is asked for, the image has so many bytes
-abbrev pub HasSampleBytes : Type 0
-HasSampleBytes = (n depth : ℕ) → length (sample_image n depth) ≡ sample_bytes

@@ -1,6 +1,0 @@
-ghost use Rattle.mix_top.specs.ImageLaws.{HasSampleBytes};
-
-/// What follows from the definition of the sample image. It does nothing: the clause is its point.
-pub fn sample_laws()
-    ensures { HasSampleBytes }
-{}

@@ -1,6 +1,0 @@
--- The list gets shorter.
-use Rattle.std.proofs.Common.{length}
-use Rattle.mode_switch.proofs.m68_deliver.+append_slots.Given as goal
-
-abbrev pub decreases-append_slots : goal.decreases-append_slots
-decreases-append_slots l = length l.params.now

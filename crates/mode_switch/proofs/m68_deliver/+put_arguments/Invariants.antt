@@ -1,6 +1,0 @@
--- The list gets shorter.
-use Rattle.std.proofs.Common.{length}
-use Rattle.mode_switch.proofs.m68_deliver.+put_arguments.Given as goal
-
-abbrev pub decreases-put_arguments : goal.decreases-put_arguments
-decreases-put_arguments l = length l.params.now

@@ -1,6 +1,0 @@
--- The list gets shorter.
-use Rattle.std.proofs.Common.{length}
-use Rattle.mode_switch.proofs.m68_gather.+append_values.Given as goal
-
-abbrev pub decreases-append_values : goal.decreases-append_values
-decreases-append_values l = length l.params.now

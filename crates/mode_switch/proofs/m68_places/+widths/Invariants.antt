@@ -1,6 +1,0 @@
--- The list gets shorter.
-use Rattle.std.proofs.Common.{length}
-use Rattle.mode_switch.proofs.m68_places.+widths.Given as goal
-
-abbrev pub decreases-widths : goal.decreases-widths
-decreases-widths l = length l.params.now

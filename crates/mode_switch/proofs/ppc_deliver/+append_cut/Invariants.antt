@@ -1,6 +1,0 @@
--- The list gets shorter.
-use Rattle.std.proofs.Common.{length}
-use Rattle.mode_switch.proofs.ppc_deliver.+append_cut.Given as goal
-
-abbrev pub decreases-append_cut : goal.decreases-append_cut
-decreases-append_cut l = length l.params.now

@@ -1,0 +1,3 @@
+pub mod Callee
+pub mod Returned
+pub mod Views

@@ -1,0 +1,4 @@
+pub mod ConditionBits
+pub mod Masks
+pub mod Outcomes
+pub mod Words

@@ -1,6 +1,0 @@
--- Each call looks at one record less.
-use Rattle.std.proofs.Common.{length}
-use Rattle.proc_info.proofs.choice.+look.Given as goal
-
-abbrev pub decreases-look : goal.decreases-look
-decreases-look l = length l.recs.now

@@ -1,0 +1,4 @@
+pub mod Arguments
+pub mod Filling
+pub mod Nothing
+pub mod Signature

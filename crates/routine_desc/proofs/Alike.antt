@@ -1,0 +1,115 @@
+-- Signatures of procInfo words that are called alike.
+use Rattle.std.proofs.Common.{◌≡◌, ℕ, ◌/◌, ◌%◌, ◌^◌, ◌==◌, true, not, if◌then◌else◌, List, Result, Ok, Err, arith, ap, sym, ◌∙◌, refl}
+use Rattle.std.proofs.lemmas.Bool.Decides.{nat_tests, Decides-eqb}
+use Rattle.mix_bits.specs.declared.size.Size.{Size}
+use Rattle.mix_bits.specs.declared.size.Size.TheVariants.{Zero}
+use Rattle.mix_bits.specs.Results.{◌>>=◌}
+use Rattle.proc_info.specs.declared.bad_info.BadInfo.{BadInfo}
+use Rattle.proc_info.specs.declared.bad_info.BadInfo.TheVariants.{TopBit, Place, Gap, Twice}
+use Rattle.proc_info.specs.declared.conv.Conv.{Conv}
+use Rattle.proc_info.specs.declared.conv.Conv.TheVariants.{Pascal, C, Register, D0Pascal, D0C, D1Pascal, StackPascal}
+use Rattle.proc_info.specs.declared.param.Param.{Param}
+use Rattle.proc_info.specs.Codes.{conv_at, shape_of, size_at, is_dispatched, is_place}
+use Rattle.proc_info.specs.Signature.{Signature, is_twice, in_registers, most_params, on_stack, params_at, signature_by, signature_of, unless_twice, with_selector}
+use Rattle.routine_desc.specs.Read.{is_alike, is_dispatched_in}
+use Rattle.routine_desc.specs.laws.Laws.{IsCalledLike}
+use Rattle.routine_desc.proofs.RecordChains.{chain_done, if_refused, ok_same, same_parts}
+
+-- the selector size in a word of a convention
+abbrev selector_by : Conv → ℕ → Size
+selector_by Pascal w = Zero
+selector_by C w = Zero
+selector_by Register w = Zero
+selector_by D0Pascal w = size_at (w / 64 % 4)
+selector_by D0C w = size_at (w / 64 % 4)
+selector_by D1Pascal w = size_at (w / 64 % 4)
+selector_by StackPascal w = size_at (w / 64 % 4)
+
+-- what a word says of its signature
+record Says (conv : Conv) (size : Size) (s : Signature) : Type 0 where
+  conv_is : s.conv ≡ conv
+  selector_is : s.selector ≡ size
+
+same_says : (r s : Signature) (x : Result Signature BadInfo) → x ≡ Ok r → x ≡ Ok s → Says r.conv r.selector s
+same_says r s x here there = let e : s ≡ r = ok_same s r x there here in record { conv_is = ap (λ x. x.conv) e; selector_is = ap (λ x. x.selector) e }
+
+stack_says : (conv : Conv) (w : ℕ) (s : Signature) (params : Result (List Param) BadInfo) → (params >>= λ ps. Ok (on_stack conv w ps)) ≡ Ok s → Says conv Zero s
+stack_says conv w s params h =
+    let d = chain_done params (λ ps. Ok (on_stack conv w ps)) s h in same_says (on_stack conv w d.value) s (Ok (on_stack conv w d.value)) refl d.rest
+
+dispatched_says : (conv : Conv) (w : ℕ) (s : Signature) (params : Result (List Param) BadInfo)
+    → (if w / 64 % 4 == 0 then Err Gap else (params >>= λ ps. Ok (with_selector conv w ps))) ≡ Ok s → Says conv (size_at (w / 64 % 4)) s
+dispatched_says conv w s params h =
+    let k = if_refused (w / 64 % 4 == 0) Gap (params >>= λ ps. Ok (with_selector conv w ps)) s h in
+    let d = chain_done params (λ ps. Ok (with_selector conv w ps)) s k in
+    same_says (with_selector conv w d.value) s (Ok (with_selector conv w d.value)) refl d.rest
+
+registers_says : (conv : Conv) (w : ℕ) (s : Signature) (params : Result (List Param) BadInfo)
+    → (if not (w / 2 ^ 31 == 0) then Err TopBit else (if not (is_place (w / 64 % 32) (size_at (w / 16 % 4))) then Err Place else (params >>= λ ps. unless_twice (in_registers conv w ps)))) ≡ Ok s
+    → Says conv Zero s
+registers_says conv w s params h =
+    let rest = params >>= λ ps. unless_twice (in_registers conv w ps) in
+    let j = if_refused (not (w / 2 ^ 31 == 0)) TopBit (if not (is_place (w / 64 % 32) (size_at (w / 16 % 4))) then Err Place else rest) s h in
+    let k = if_refused (not (is_place (w / 64 % 32) (size_at (w / 16 % 4)))) Place rest s j in
+    let d = chain_done params (λ ps. unless_twice (in_registers conv w ps)) s k in
+    let r = in_registers conv w d.value in
+    same_says r s (Ok r) refl (if_refused (is_twice r.params) Twice (Ok r) s d.rest)
+
+-- the parameters that the digits above a convention's other fields say
+abbrev params_in : Conv → ℕ → Result (List Param) BadInfo
+params_in conv v = params_at (shape_of conv) (most_params (shape_of conv)) v
+
+says_by : (conv : Conv) (w : ℕ) (s : Signature) → signature_by (shape_of conv) conv w ≡ Ok s → Says conv (selector_by conv w) s
+unfolding signature_by
+says_by Pascal w s h = stack_says Pascal w s (params_in Pascal (w / 64)) h
+says_by C w s h = stack_says C w s (params_in C (w / 64)) h
+says_by Register w s h = registers_says Register w s (params_in Register (w / 2048)) h
+says_by D0Pascal w s h = dispatched_says D0Pascal w s (params_in D0Pascal (w / 256)) h
+says_by D0C w s h = dispatched_says D0C w s (params_in D0C (w / 256)) h
+says_by D1Pascal w s h = dispatched_says D1Pascal w s (params_in D1Pascal (w / 256)) h
+says_by StackPascal w s h = dispatched_says StackPascal w s (params_in StackPascal (w / 256)) h
+
+-- the convention's number, its signature's convention, and the selector's size
+record Tells (w : ℕ) (s : Signature) : Type 0 where
+  conv_is : conv_at (w % 16) ≡ Ok s.conv
+  selector_is : s.selector ≡ selector_by s.conv w
+
+tells : (w : ℕ) (s : Signature) → signature_of w ≡ Ok s → Tells w s
+unfolding signature_of
+tells w s h =
+    let d = chain_done (conv_at (w % 16)) (λ conv. signature_by (shape_of conv) conv w) s h in
+    let says = says_by d.value w s d.rest in
+    record {
+      conv_is = d.first ∙ ap Ok (sym says.conv_is);
+      selector_is = says.selector_is ∙ ap (λ c. selector_by c w) (sym says.conv_is);
+    }
+
+same_size : (conv : Conv) (w v : ℕ) → (is_dispatched conv ≡ true → w / 64 % 4 ≡ v / 64 % 4) → selector_by conv w ≡ selector_by conv v
+same_size Pascal w v h = refl
+same_size C w v h = refl
+same_size Register w v h = refl
+same_size D0Pascal w v h = ap size_at (h refl)
+same_size D0C w v h = ap size_at (h refl)
+same_size D1Pascal w v h = ap size_at (h refl)
+same_size StackPascal w v h = ap size_at (h refl)
+
+-- words like a third one have signatures that are called alike
+pub called-alike : (u w v : ℕ) (s t : Signature) → is_alike u w ≡ true → is_alike u v ≡ true → signature_of w ≡ Ok s → signature_of v ≡ Ok t → IsCalledLike s t
+called-alike u w v s t like also is_s is_t =
+    let a = same_parts (u % 16 == w % 16) (is_dispatched_in (conv_at (u % 16))) (u / 64 % 4) (w / 64 % 4) u w like in
+    let b = same_parts (u % 16 == v % 16) (is_dispatched_in (conv_at (u % 16))) (u / 64 % 4) (v / 64 % 4) u v also in
+    let here : u % 16 ≡ w % 16 = (Decides-eqb (u % 16) (w % 16)).0 a.0 in
+    let there : u % 16 ≡ v % 16 = (Decides-eqb (u % 16) (v % 16)).0 b.0 in
+    let p = tells w s is_s in
+    let q = tells v t is_t in
+    let same : s.conv ≡ t.conv = ok_same s.conv t.conv (conv_at (w % 16)) p.conv_is (ap conv_at (sym here ∙ there) ∙ q.conv_is) in
+    let test : is_dispatched_in (conv_at (u % 16)) ≡ is_dispatched s.conv = ap is_dispatched_in (ap conv_at here ∙ p.conv_is) in
+    record {
+      conv = same;
+      selector = p.selector_is ∙ same_size s.conv w v (λ yes. sym (a.1 (test ∙ yes)) ∙ b.1 (test ∙ yes)) ∙ ap (λ c. selector_by c v) same ∙ sym q.selector_is;
+      whole = λ no. ok_same s t (signature_of w) is_s (ap signature_of (sym (a.2 (test ∙ no)) ∙ b.2 (test ∙ no)) ∙ is_t);
+    }
+
+-- a word is like itself
+pub alike-same : (w : ℕ) → is_alike w w ≡ true
+alike-same w = grind (arith, nat_tests)

@@ -1,0 +1,9 @@
+pub mod RecordLemmas
+pub mod RecordChains
+pub mod Alike
+pub mod Held
+pub mod Bytes
+pub mod Built
+pub mod Bits
+pub mod ChoiceLemmas
+pub mod Takes

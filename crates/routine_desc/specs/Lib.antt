@@ -1,0 +1,10 @@
+pub mod Build
+pub mod BuildClauses
+pub mod Choice
+pub mod Layout
+pub mod LayoutClauses
+pub mod Read
+pub mod ReadClauses
+pub mod RefusalCodes
+pub mod laws
+pub mod inner

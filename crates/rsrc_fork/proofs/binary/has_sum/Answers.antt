@@ -1,7 +1,0 @@
--- The bytes before the check sum are 124.
-use Rattle.std.proofs.Common.{arith}
-use Rattle.rsrc_fork.proofs.Fronts.{front_long}
-use Rattle.rsrc_fork.proofs.binary.has_sum.Goals as goal
-
-pub slice_bounds-summed-end : goal.slice_bounds-summed-end
-slice_bounds-summed-end c = front_long 124 c.args.bytes.now (omega arith)

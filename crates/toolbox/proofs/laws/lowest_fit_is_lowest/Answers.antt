@@ -1,5 +1,0 @@
-use Rattle.toolbox.proofs.Lowest.{lowest_fit-lowest}
-use Rattle.toolbox.proofs.laws.lowest_fit_is_lowest.Goals as goal
-
-pub returns : goal.returns
-returns c = lowest_fit-lowest

@@ -1,0 +1,3 @@
+pub mod Blames
+pub mod Functions
+pub mod Names

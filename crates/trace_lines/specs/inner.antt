@@ -1,0 +1,4 @@
+pub mod EventLines
+pub mod Exact
+pub mod Pieces
+pub mod Reading
