@@ -1,0 +1,4 @@
+pub mod Bytes
+pub mod Agreement
+pub mod Digits
+pub mod Streams
