@@ -1,17 +1,40 @@
 #!/usr/bin/env python3
 """Which definitions the promise of `mixed_main` rests on.
 
-Run it at the top of the repository: `python3 docs/believe.py [--files] [--names]`. It begins with the definitions of
-crates/mix_top/specs/Ends.antt, which the clause of `mixed_main` cites, and follows each name that a definition uses to where
-that name is defined. It prints the lines to believe, crate by crate (`--files`: file by file, `--names`: with the names), and
-ends with status 1 where a file holds definitions of both kinds, or one that is reached stands in a room of laws or of private
-definitions.
+Run it at the top of the repository: `python3 docs/believe.py [--files] [--names] [--steps]`. It begins with the definitions
+of crates/mix_top/specs/Ends.antt, which the clause of `mixed_main` cites, and follows each name that a definition uses to
+where that name is defined. It prints the lines to believe, crate by crate (`--files`: file by file, `--names`: with the names,
+`--steps`: by the steps of docs/believe.md), and ends with status 1 where a file holds definitions of both kinds, where one
+that is reached stands in a room of laws or of private definitions, or where one is in no step.
 """
 import pathlib
 import re
 import sys
 
 START = 'mix_top.specs.Ends'
+# The crates of each step, or the files of a crate; a file belongs to the first step that has it.
+STEPS = [
+    'mix_bits',
+    'big_memory',
+    'm68_isa',
+    'm68_alu m68_ea',
+    'm68_effects',
+    'ppc_isa ppc_alu ppc_integer',
+    'proc_info',
+    'routine_desc',
+    'args_m68 args_ppc',
+    'switch_frame',
+    'mode_switch',
+    'host_heap toolbox dev_rack',
+    'mixed_machine mix_engine',
+    'call_trace',
+    'rsrc_fork pef_head pef_reloc mix_load',
+    'job_words',
+    'm68_text ppc_text asm_m68 asm_ppc mix_text mix_image mix_debug mix_gen mix_top.Assembling mix_top.Commands '
+    'mix_top.Continuing mix_top.Debugging mix_top.Events mix_top.Plays mix_top.SampleLine mix_top.Samples mix_top.Scripts '
+    'mix_top.Sessions',
+    'mix_io mix_top',
+]
 MODIFIERS = {'abbrev', 'unfoldable', 'opaque', 'pub', 'record', 'data'}
 NAME = re.compile(r"[^\s:(){}\[\],;.]+")
 IMPORT = re.compile(r'use Rattle\.([\w.]+)\.\{(.*)\}')
@@ -84,17 +107,27 @@ def reach(all_modules):
     return reached
 
 
+def step_of(module):
+    """The number of the step that a file belongs to, from 1; none is 0."""
+    crate, _, file = module.split('.')[:3]
+    for number, places in enumerate(STEPS, 1):
+        if {crate, crate + '.' + file} & set(places.split()):
+            return number
+    return 0
+
+
 def main():
     all_modules = modules(pathlib.Path('.'))
     reached = reach(all_modules)
-    crates, wrong = {}, []
+    crates, steps, wrong = {}, [0] * (len(STEPS) + 1), []
     for name, module in all_modules.items():
         names = reached[name]
         lines = sum(len(module.bodies[x]) for x in names)
         row = crates.setdefault(name.split('.')[0], [0, 0])
         row[0] += lines
         row[1] += bool(names)
-        if names and ('.laws.' in name or '.inner.' in name or len(names) < len(module.bodies)):
+        steps[step_of(name)] += lines
+        if names and ('.laws.' in name or '.inner.' in name or len(names) < len(module.bodies) or not step_of(name)):
             wrong.append(name)
         if names and '--files' in sys.argv:
             print(f'{lines:5} {name}')
@@ -103,10 +136,13 @@ def main():
     for crate, (lines, files) in crates.items():
         if lines:
             print(f'{crate:16} {files:3} files {lines:5} lines')
-    total = sum(lines for lines, _ in crates.values())
+    if '--steps' in sys.argv:
+        for number, lines in enumerate(steps[1:], 1):
+            print(f'step {number:2} {lines:5} lines')
+    total = sum(steps)
     print(f'to believe: {total} lines in {sum(files for _, files in crates.values())} files')
     for name in wrong:
-        print('of two kinds, or in a wrong room: ' + name)
+        print('of two kinds, in a wrong room, or in no step: ' + name)
     sys.exit(bool(wrong))
 
 
