@@ -5,7 +5,7 @@ Run it at the top of the repository: `python3 docs/believe.py [--files] [--names
 of crates/mix_top/specs/Ends.antt, which the clause of `mixed_main` cites, and follows each name that a definition uses to
 where that name is defined. It prints the lines to believe, crate by crate (`--files`: file by file, `--names`: with the names,
 `--steps`: by the steps of docs/believe.md), and ends with status 1 where a file holds definitions of both kinds, where one
-that is reached stands in a room of laws or of private definitions, or where one is in no step.
+that is reached stands in a room of laws or of private definitions or is in no step, or where docs/believe.md has other numbers.
 """
 import pathlib
 import re
@@ -116,6 +116,12 @@ def step_of(module):
     return 0
 
 
+def told():
+    """The numbers of lines that docs/believe.md has for the steps."""
+    text = pathlib.Path('docs/believe.md').read_text(encoding='utf-8')
+    return [int(lines.replace(',', '')) for lines in re.findall(r'^\| \d+\. .*? \| .*? \| ([\d,]+) \|', text, re.M)]
+
+
 def main():
     all_modules = modules(pathlib.Path('.'))
     reached = reach(all_modules)
@@ -143,7 +149,10 @@ def main():
     print(f'to believe: {total} lines in {sum(files for _, files in crates.values())} files')
     for name in wrong:
         print('of two kinds, in a wrong room, or in no step: ' + name)
-    sys.exit(bool(wrong))
+    other = [number for number, pair in enumerate(zip(told(), steps[1:], strict=True), 1) if pair[0] != pair[1]]
+    for number in other:
+        print(f'docs/believe.md has another number for step {number}')
+    sys.exit(bool(wrong or other))
 
 
 main()
