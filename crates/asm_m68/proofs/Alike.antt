@@ -9,7 +9,7 @@ use Rattle.m68_isa.specs.First.{First}
 use Rattle.m68_isa.specs.declared.found.Found.{Found}
 use Rattle.m68_isa.specs.declared.found.Found.TheVariants.{Made, Privileged as RowPrivileged, Illegal as RowIllegal}
 use Rattle.m68_isa.specs.declared.instructions.Instr68.{Instr68}
-use Rattle.m68_isa.specs.declared.instructions.Instr68.TheVariants.{ImmediateToCcr, Move, Ext, MovemToMemory, MovemFromMemory}
+use Rattle.m68_isa.specs.declared.instructions.Instr68.TheVariants.{ImmediateToCcr, Move, MovemToMemory, MovemFromMemory}
 use Rattle.m68_isa.specs.declared.operand.Operand.{Operand as Read}
 use Rattle.m68_isa.specs.inner.First.{IsFirst}
 use Rattle.m68_isa.specs.Immediates.{logic_op}
@@ -208,7 +208,3 @@ masked_to at ws vs f g s some = masked at ws vs f g s some (λ w e. MovemToMemor
 
 pub masked_from : (at : ℕ) (ws vs : List ℕ) (f : First) (g : IsFirst f) → (s : Size) → is_any s ≡ true → IsSame at ws vs (taken (MovemFromMemory s (slice_index ws 1) (operand_at ws 2 s f.mode f.lower).ea) (operand_at ws 2 s f.mode f.lower)) (taken (MovemFromMemory s (slice_index vs 1) (operand_at vs 2 s f.mode f.lower).ea) (operand_at vs 2 s f.mode f.lower))
 masked_from at ws vs f g s some = masked at ws vs f g s some (λ w e. MovemFromMemory s w e) (λ w o. o ∷ Word w ∷ []) (λ us w e. refl)
-
-pub extension_told : (at : ℕ) (ws vs : List ℕ) (b : Bool) (n : ℕ) → operands (if b then Ext One Two n else Ext Two Four n) ws at ≡ operands (if b then Ext One Two n else Ext Two Four n) vs at
-extension_told at ws vs true n = refl
-extension_told at ws vs false n = refl

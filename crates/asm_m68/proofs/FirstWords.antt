@@ -6,7 +6,7 @@ use Rattle.mix_bits.specs.laws.Names.{no_space}
 use Rattle.mix_bits.specs.Digits.{digit_of}
 use Rattle.mix_bits.proofs.Conditions.{both}
 use Rattle.m68_isa.specs.declared.instructions.Instr68.{Instr68}
-use Rattle.m68_isa.specs.declared.instructions.Instr68.TheVariants.{Bcc, MulLong, DivLong}
+use Rattle.m68_isa.specs.declared.instructions.Instr68.TheVariants.{Bcc, BccLong, MulLong, DivLong}
 use Rattle.m68_isa.specs.declared.found.Found.{Found}
 use Rattle.m68_isa.specs.declared.found.Found.TheVariants.{Made, Privileged as RowPrivileged, Illegal as RowIllegal}
 use Rattle.m68_isa.specs.declared.op.Op68.{Op68}
@@ -43,7 +43,8 @@ is_near _ used = false
 
 -- what follows on the first word of an instruction of so many words
 abbrev pub ending_of : Instr68 → ℕ → Ending
-ending_of (Bcc condition disp) used = if used == 1 then Alone else if used == 3 then Distance else Extended
+ending_of (Bcc condition disp) used = if used == 1 then Alone else Extended
+ending_of (BccLong condition disp) used = Distance
 ending_of (MulLong signed wide by high low) used = Paired (if signed then 2048 else 0)
 ending_of (DivLong signed wide by high low) used = Paired (if signed then 2048 else 0)
 ending_of _ used = Extended

@@ -185,10 +185,6 @@ movep_numbers : (b : Bool) (f : First) (disp : ℕ) → Both (if b then (Upper, 
 movep_numbers true f disp = (refl, refl)
 movep_numbers false f disp = (refl, refl)
 
-ext_numbers : (b : Bool) (f : First) (ws : List ℕ) (at : ℕ) → Both (Lower, Neither) f (operands (if b then Instr.Ext One Two f.lower else Instr.Ext Two Four f.lower) ws at)
-ext_numbers true f ws at = (refl, refl)
-ext_numbers false f ws at = (refl, refl)
-
 paired_numbers : (b : Bool) (f : First) → Both (Lower, Upper) f (paired b f.lower f.upper)
 paired_numbers true f = (refl, refl)
 paired_numbers false f = (refl, refl)
@@ -231,7 +227,7 @@ are_from at ws f mode moved MoveToCcr = (from f Lower f.lower refl (Two) (Two) w
 are_from at ws f mode moved Nbcd = (from f Lower f.lower refl (One) (One) ws 1 (1) f.mode mode, refl)
 are_from at ws f mode moved Swap = (refl, refl)
 are_from at ws f mode moved Pea = (from f Lower f.lower refl (Four) (Four) ws 1 (1) f.mode mode, refl)
-are_from at ws f mode moved Ext = ext_numbers (f.size % 2 == 0) f ws at
+are_from at ws f mode moved Ext = (refl, refl)
 are_from at ws f mode moved ExtByte = (refl, refl)
 are_from at ws f mode moved MovemToMemory = (refl, from f Lower f.lower refl (long_or_word (f.size % 2)) (long_or_word (f.size % 2)) ws 1 (2) f.mode mode)
 are_from at ws f mode moved MovemFromMemory = (from f Lower f.lower refl (long_or_word (f.size % 2)) (long_or_word (f.size % 2)) ws 1 (2) f.mode mode, refl)

@@ -16,7 +16,7 @@ use Rattle.m68_isa.specs.declared.instructions.Exchange.{Exchange}
 use Rattle.m68_isa.specs.declared.instructions.Exchange.TheVariants.{Data as ExchangeData, Address as ExchangeAddress, DataAddress as ExchangeBoth}
 use Rattle.m68_isa.specs.declared.instructions.ShiftCount.TheVariants.{Number as CountNumber, Register as CountRegister}
 use Rattle.m68_isa.specs.declared.instructions.Instr68.{Instr68}
-use Rattle.m68_isa.specs.declared.instructions.Instr68.TheVariants.{Movep, Move, Ext, MovemToMemory, MovemFromMemory, MulLong, DivLong}
+use Rattle.m68_isa.specs.declared.instructions.Instr68.TheVariants.{Movep, Move, MovemToMemory, MovemFromMemory, MulLong, DivLong}
 use Rattle.m68_isa.specs.declared.operand.Operand.{Operand as Read}
 use Rattle.m68_isa.specs.Classes.{in_class, up_to}
 use Rattle.m68_isa.specs.First.{one_to_eight}
@@ -157,10 +157,6 @@ bits_none false mode lower is plain = no_alterable mode lower is
 pub movep_row : (at : ℕ) (ws : List ℕ) (f : First) (g : Given at ws f) → (s : Size) (b : Bool) → IsTelling at ws (Made (Movep s b f.upper f.lower (extended_word ws 1)) 2 true)
 movep_row at ws f g s true good = record { are_told = (g.upper, (g.lower, tt)); words = extended_shown at ws f g; low = λ h. cc }
 movep_row at ws f g s false good = record { are_told = (g.lower, (g.upper, tt)); words = extended_shown at ws f g; low = λ h. cc }
-
-pub ext_row : (at : ℕ) (ws : List ℕ) (f : First) (g : Given at ws f) → (b : Bool) → IsTelling at ws (Made (if b then Ext One Two f.lower else Ext Two Four f.lower) 1 true)
-ext_row at ws f g true good = record { are_told = (g.lower, tt); words = refl; low = λ h. cc }
-ext_row at ws f g false good = record { are_told = (g.lower, tt); words = refl; low = λ h. cc }
 
 pub move_row : (at : ℕ) (ws : List ℕ) (f : First) (g : Given at ws f) → in_class DataAlterable (move_mode f) f.upper ≡ true → (s : Size) → is_any s ≡ true → (from to : Read) → from ≡ operand_at ws 1 s f.mode f.lower → to ≡ operand_at ws from.next s (move_mode f) f.upper → IsTelling at ws (Made (Move s from.ea to.ea) to.next (from.good && to.good))
 move_row at ws f g alterable s some from to from_is to_is good =

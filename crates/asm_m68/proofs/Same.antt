@@ -6,6 +6,8 @@ use Rattle.mix_bits.specs.declared.size.Size.TheVariants.{One, Two, Four}
 use Rattle.m68_isa.specs.declared.instructions.ImmediateOp.{ImmediateOp}
 use Rattle.m68_isa.specs.declared.instructions.ImmediateOp.TheVariants as ImmediateBy
 use Rattle.m68_isa.specs.declared.instructions.Instr68.TheVariants as Instr
+use Rattle.m68_isa.specs.declared.instructions.JumpOp.TheVariants as JumpBy
+use Rattle.m68_isa.specs.declared.instructions.QuickOp.TheVariants as QuickBy
 use Rattle.m68_isa.specs.declared.op.Op68.{Op68}
 use Rattle.m68_isa.specs.declared.op.Op68.TheVariants.{Ori, Andi, Subi, Addi, Eori, Cmpi, LogicToCcr, BitByNumber, BitByRegister, Movep, MoveByte, MoveWord, MoveLong, MoveaWord, MoveaLong, Negx, Clr, Neg, Not, MoveFromSr, MoveToCcr, Nbcd, Swap, Pea, Ext, ExtByte, MovemToMemory, MovemFromMemory, MulLong, DivLong, Tst, Tas, Trap, Link, LinkLong, Unlk, Nop, Rtd, Rts, Trapv, Rtr, Jsr, Jmp, Chk, Lea, Addq, Subq, Scc, Dbcc, BraByte, BraWord, BraLong, BsrByte, BsrWord, BsrLong, BccByte, BccWord, BccLong, Moveq, OrToRegister, OrToMemory, Divu, Divs, Sbcd, SubToRegister, SubToMemory, Suba, Subx, Cmp, Cmpa, Eor, Cmpm, AndToRegister, AndToMemory, Mulu, Muls, Abcd, Exg, AddToRegister, AddToMemory, Adda, Addx, Shift, ShiftMemory, Illegal, Privileged, LineA, LineF}
 use Rattle.m68_isa.specs.First.{First, condition_of, long_or_word, one_to_eight, size_of}
@@ -18,7 +20,7 @@ use Rattle.m68_isa.specs.Shifts.{shift_op}
 use Rattle.m68_isa.specs.laws.Widths.{is_any}
 use Rattle.m68_text.specs.declared.operand.Operand.TheVariants.{Data, Address, Word, Number, ConditionCodes, StatusRegister}
 use Rattle.asm_m68.proofs.Shapes.{some_long, some_size}
-use Rattle.asm_m68.proofs.Alike.{IsSame, codes_row, extension_told, immediate_row, masked_from, masked_to, move_row, product_row, same_long, same_one, same_second, same_word}
+use Rattle.asm_m68.proofs.Alike.{IsSame, codes_row, immediate_row, masked_from, masked_to, move_row, product_row, same_long, same_one, same_second, same_word}
 
 same_immediate : (at : ℕ) (ws vs : List ℕ) (f : First) (g : IsFirst f) (op : ImmediateOp) → IsSame at ws vs (immediate_with op f ws) (immediate_with op f vs)
 same_immediate at ws vs f g op = immediate_row at ws vs f g (size_of f.size) (some_size f.size) (λ v e. Instr.Immediate op (size_of f.size) v e) (λ us v e. refl)
@@ -51,7 +53,7 @@ same at ws vs f g MoveToCcr = same_one at ws vs f g Two refl Instr.MoveToCcr (λ
 same at ws vs f g Nbcd = same_one at ws vs f g One refl Instr.Nbcd (λ o. o ∷ []) (λ us e. refl)
 same at ws vs f g Swap = λ a. record { some = omega arith; made = refl; told = refl }
 same at ws vs f g Pea = same_one at ws vs f g Four refl Instr.Pea (λ o. o ∷ []) (λ us e. refl)
-same at ws vs f g Ext = λ a. record { some = omega arith; made = refl; told = extension_told at ws vs (f.size % 2 == 0) f.lower }
+same at ws vs f g Ext = λ a. record { some = omega arith; made = refl; told = refl }
 same at ws vs f g ExtByte = λ a. record { some = omega arith; made = refl; told = refl }
 same at ws vs f g MovemToMemory = masked_to at ws vs f g (long_or_word (f.size % 2)) (some_long (f.size % 2))
 same at ws vs f g MovemFromMemory = masked_from at ws vs f g (long_or_word (f.size % 2)) (some_long (f.size % 2))
@@ -60,31 +62,31 @@ same at ws vs f g DivLong = product_row at ws vs f g Instr.DivLong (λ us s v e 
 same at ws vs f g Tst = same_one at ws vs f g (size_of f.size) (some_size f.size) (Instr.Tst (size_of f.size)) (λ o. o ∷ []) (λ us e. refl)
 same at ws vs f g Tas = same_one at ws vs f g One refl Instr.Tas (λ o. o ∷ []) (λ us e. refl)
 same at ws vs f g Trap = λ a. record { some = omega arith; made = refl; told = refl }
-same at ws vs f g Link = same_word at ws vs f g (λ w. Instr.Link Two f.lower (sign_extended w Two)) (λ w. refl)
-same at ws vs f g LinkLong = same_long at ws vs f g (λ v. Instr.Link Four f.lower v) (λ w. refl)
+same at ws vs f g Link = same_word at ws vs f g (λ w. Instr.Link f.lower (sign_extended w Two)) (λ w. refl)
+same at ws vs f g LinkLong = same_long at ws vs f g (λ v. Instr.LinkLong f.lower v) (λ w. refl)
 same at ws vs f g Unlk = λ a. record { some = omega arith; made = refl; told = refl }
 same at ws vs f g Nop = λ a. record { some = omega arith; made = refl; told = refl }
 same at ws vs f g Rtd = same_word at ws vs f g (λ w. Instr.Rtd (sign_extended w Two)) (λ w. refl)
 same at ws vs f g Rts = λ a. record { some = omega arith; made = refl; told = refl }
 same at ws vs f g Trapv = λ a. record { some = omega arith; made = refl; told = refl }
 same at ws vs f g Rtr = λ a. record { some = omega arith; made = refl; told = refl }
-same at ws vs f g Jsr = same_one at ws vs f g Four refl Instr.Jsr (λ o. o ∷ []) (λ us e. refl)
-same at ws vs f g Jmp = same_one at ws vs f g Four refl Instr.Jmp (λ o. o ∷ []) (λ us e. refl)
+same at ws vs f g Jsr = same_one at ws vs f g Four refl (Instr.Jump JumpBy.Jsr) (λ o. o ∷ []) (λ us e. refl)
+same at ws vs f g Jmp = same_one at ws vs f g Four refl (Instr.Jump JumpBy.Jmp) (λ o. o ∷ []) (λ us e. refl)
 same at ws vs f g Chk = same_one at ws vs f g Two refl (λ e. Instr.Chk e f.upper) (λ o. o ∷ Data f.upper ∷ []) (λ us e. refl)
 same at ws vs f g Lea = same_one at ws vs f g Four refl (λ e. Instr.Lea e f.upper) (λ o. o ∷ Address f.upper ∷ []) (λ us e. refl)
-same at ws vs f g Addq = same_one at ws vs f g (size_of f.size) (some_size f.size) (Instr.Addq (size_of f.size) (one_to_eight f.upper)) (λ o. Number (one_to_eight f.upper) ∷ o ∷ []) (λ us e. refl)
-same at ws vs f g Subq = same_one at ws vs f g (size_of f.size) (some_size f.size) (Instr.Subq (size_of f.size) (one_to_eight f.upper)) (λ o. Number (one_to_eight f.upper) ∷ o ∷ []) (λ us e. refl)
+same at ws vs f g Addq = same_one at ws vs f g (size_of f.size) (some_size f.size) (Instr.Quick QuickBy.Addq (size_of f.size) (one_to_eight f.upper)) (λ o. Number (one_to_eight f.upper) ∷ o ∷ []) (λ us e. refl)
+same at ws vs f g Subq = same_one at ws vs f g (size_of f.size) (some_size f.size) (Instr.Quick QuickBy.Subq (size_of f.size) (one_to_eight f.upper)) (λ o. Number (one_to_eight f.upper) ∷ o ∷ []) (λ us e. refl)
 same at ws vs f g Scc = same_one at ws vs f g One refl (Instr.Scc (condition_of f)) (λ o. o ∷ []) (λ us e. refl)
 same at ws vs f g Dbcc = same_word at ws vs f g (λ w. Instr.Dbcc (condition_of f) f.lower (sign_extended w Two)) (λ w. refl)
 same at ws vs f g BraByte = λ a. record { some = omega arith; made = refl; told = refl }
 same at ws vs f g BraWord = same_word at ws vs f g (λ w. Instr.Bcc 0 (sign_extended w Two)) (λ w. refl)
-same at ws vs f g BraLong = same_long at ws vs f g (λ v. Instr.Bcc 0 v) (λ w. refl)
+same at ws vs f g BraLong = same_long at ws vs f g (λ v. Instr.BccLong 0 v) (λ w. refl)
 same at ws vs f g BsrByte = λ a. record { some = omega arith; made = refl; told = refl }
 same at ws vs f g BsrWord = same_word at ws vs f g (λ w. Instr.Bcc 1 (sign_extended w Two)) (λ w. refl)
-same at ws vs f g BsrLong = same_long at ws vs f g (λ v. Instr.Bcc 1 v) (λ w. refl)
+same at ws vs f g BsrLong = same_long at ws vs f g (λ v. Instr.BccLong 1 v) (λ w. refl)
 same at ws vs f g BccByte = λ a. record { some = omega arith; made = refl; told = refl }
 same at ws vs f g BccWord = same_word at ws vs f g (λ w. Instr.Bcc (condition_of f) (sign_extended w Two)) (λ w. refl)
-same at ws vs f g BccLong = same_long at ws vs f g (λ v. Instr.Bcc (condition_of f) v) (λ w. refl)
+same at ws vs f g BccLong = same_long at ws vs f g (λ v. Instr.BccLong (condition_of f) v) (λ w. refl)
 same at ws vs f g Moveq = λ a. record { some = omega arith; made = refl; told = refl }
 same at ws vs f g OrToRegister = same_one at ws vs f g (size_of f.size) (some_size f.size) (λ e. Instr.Or (size_of f.size) false f.upper e) (λ o. o ∷ Data f.upper ∷ []) (λ us e. refl)
 same at ws vs f g OrToMemory = same_one at ws vs f g (size_of f.size) (some_size f.size) (λ e. Instr.Or (size_of f.size) true f.upper e) (λ o. Data f.upper ∷ o ∷ []) (λ us e. refl)

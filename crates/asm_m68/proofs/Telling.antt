@@ -5,6 +5,8 @@ use Rattle.mix_bits.specs.declared.size.Size.TheVariants.{One, Two, Four}
 use Rattle.m68_isa.specs.declared.instructions.ImmediateOp.{ImmediateOp}
 use Rattle.m68_isa.specs.declared.instructions.ImmediateOp.TheVariants as ImmediateBy
 use Rattle.m68_isa.specs.declared.instructions.Instr68.TheVariants as Instr
+use Rattle.m68_isa.specs.declared.instructions.JumpOp.TheVariants as JumpBy
+use Rattle.m68_isa.specs.declared.instructions.QuickOp.TheVariants as QuickBy
 use Rattle.m68_isa.specs.declared.op.Op68.{Op68}
 use Rattle.m68_isa.specs.declared.op.Op68.TheVariants.{Ori, Andi, Subi, Addi, Eori, Cmpi, LogicToCcr, BitByNumber, BitByRegister, Movep, MoveByte, MoveWord, MoveLong, MoveaWord, MoveaLong, Negx, Clr, Neg, Not, MoveFromSr, MoveToCcr, Nbcd, Swap, Pea, Ext, ExtByte, MovemToMemory, MovemFromMemory, MulLong, DivLong, Tst, Tas, Trap, Link, LinkLong, Unlk, Nop, Rtd, Rts, Trapv, Rtr, Jsr, Jmp, Chk, Lea, Addq, Subq, Scc, Dbcc, BraByte, BraWord, BraLong, BsrByte, BsrWord, BsrLong, BccByte, BccWord, BccLong, Moveq, OrToRegister, OrToMemory, Divu, Divs, Sbcd, SubToRegister, SubToMemory, Suba, Subx, Cmp, Cmpa, Eor, Cmpm, AndToRegister, AndToMemory, Mulu, Muls, Abcd, Exg, AddToRegister, AddToMemory, Adda, Addx, Shift, ShiftMemory, Illegal, Privileged, LineA, LineF}
 use Rattle.m68_isa.specs.Arithmetic.{exchange}
@@ -22,7 +24,7 @@ use Rattle.m68_isa.specs.laws.Widths.{is_any}
 use Rattle.m68_text.specs.declared.operand.Operand.TheVariants.{Data, Address, Word, Number, ConditionCodes, StatusRegister}
 use Rattle.asm_m68.proofs.Places.{plain_word}
 use Rattle.asm_m68.proofs.Parts.{at_word, of_near, of_parts}
-use Rattle.asm_m68.proofs.Rows.{bits_none, counted_alone, counted_told, distance_shown, either_none, exchanged_alone, exchanged_told, ext_row, extended_shown, first_word_shown, from_memory_row, front, immediate_row, last, long_shown, mode_none, move_row, movep_row, near_back, paired_alone, paired_told, product_row, quick_told, quotient_row, target_shown, to_memory_row, trap_told}
+use Rattle.asm_m68.proofs.Rows.{bits_none, counted_alone, counted_told, distance_shown, either_none, exchanged_alone, exchanged_told, extended_shown, first_word_shown, from_memory_row, front, immediate_row, last, long_shown, mode_none, move_row, movep_row, near_back, paired_alone, paired_told, product_row, quick_told, quotient_row, target_shown, to_memory_row, trap_told}
 use Rattle.asm_m68.proofs.Shapes.{Given, IsTelling, after, and_place, before, no_control, no_control_alterable, single, some_long, some_size}
 
 -- what the row of an operation asks of the first word, where its text tells the words by that
@@ -85,7 +87,7 @@ tells at ws f g MoveToCcr h = after at ws f g Two refl Instr.MoveToCcr Condition
 tells at ws f g Nbcd h = single at ws f g One refl Instr.Nbcd (λ e. refl) (λ e n. (refl, refl))
 tells at ws f g Swap h = λ good. record { are_told = (g.lower, tt); words = refl; low = λ n. cc }
 tells at ws f g Pea h = single at ws f g Four refl Instr.Pea (λ e. refl) (λ e n. (refl, refl))
-tells at ws f g Ext h = ext_row at ws f g (f.size % 2 == 0)
+tells at ws f g Ext h = λ good. record { are_told = (g.lower, tt); words = refl; low = λ n. cc }
 tells at ws f g ExtByte h = λ good. record { are_told = (g.lower, tt); words = refl; low = λ n. cc }
 tells at ws f g MovemToMemory h = to_memory_row at ws f g (either_none _ _ f.mode f.lower (no_control_alterable f.mode f.lower) (mode_none f.mode f.lower 4 (omega arith)) h) (long_or_word (f.size % 2)) (some_long (f.size % 2))
 tells at ws f g MovemFromMemory h = from_memory_row at ws f g (either_none _ _ f.mode f.lower (no_control f.mode f.lower) (mode_none f.mode f.lower 3 (omega arith)) h) (long_or_word (f.size % 2)) (some_long (f.size % 2))
@@ -102,12 +104,12 @@ tells at ws f g Rtd h = λ good. record { are_told = (tt, tt); words = extended_
 tells at ws f g Rts h = λ good. record { are_told = tt; words = refl; low = λ n. cc }
 tells at ws f g Trapv h = λ good. record { are_told = tt; words = refl; low = λ n. cc }
 tells at ws f g Rtr h = λ good. record { are_told = tt; words = refl; low = λ n. cc }
-tells at ws f g Jsr h = single at ws f g Four refl Instr.Jsr (λ e. refl) (λ e n. (refl, refl))
-tells at ws f g Jmp h = single at ws f g Four refl Instr.Jmp (λ e. refl) (λ e n. (refl, refl))
+tells at ws f g Jsr h = single at ws f g Four refl (Instr.Jump JumpBy.Jsr) (λ e. refl) (λ e n. (refl, refl))
+tells at ws f g Jmp h = single at ws f g Four refl (Instr.Jump JumpBy.Jmp) (λ e. refl) (λ e n. (refl, refl))
 tells at ws f g Chk h = after at ws f g Two refl (λ e. Instr.Chk e f.upper) (Data f.upper) g.upper refl refl (λ e. refl) (λ e n. (refl, refl))
 tells at ws f g Lea h = after at ws f g Four refl (λ e. Instr.Lea e f.upper) (Address f.upper) g.upper refl refl (λ e. refl) (λ e n. (refl, refl))
-tells at ws f g Addq h = before at ws f g (size_of f.size) (some_size f.size) (Instr.Addq (size_of f.size) (one_to_eight f.upper)) (Number (one_to_eight f.upper)) (quick_told f.upper g.upper) refl (λ e. refl) (λ e n. (refl, refl))
-tells at ws f g Subq h = before at ws f g (size_of f.size) (some_size f.size) (Instr.Subq (size_of f.size) (one_to_eight f.upper)) (Number (one_to_eight f.upper)) (quick_told f.upper g.upper) refl (λ e. refl) (λ e n. (refl, refl))
+tells at ws f g Addq h = before at ws f g (size_of f.size) (some_size f.size) (Instr.Quick QuickBy.Addq (size_of f.size) (one_to_eight f.upper)) (Number (one_to_eight f.upper)) (quick_told f.upper g.upper) refl (λ e. refl) (λ e n. (refl, refl))
+tells at ws f g Subq h = before at ws f g (size_of f.size) (some_size f.size) (Instr.Quick QuickBy.Subq (size_of f.size) (one_to_eight f.upper)) (Number (one_to_eight f.upper)) (quick_told f.upper g.upper) refl (λ e. refl) (λ e n. (refl, refl))
 tells at ws f g Scc h = single at ws f g One refl (Instr.Scc (condition_of f)) (λ e. refl) (λ e n. (refl, refl))
 tells at ws f g Dbcc h = λ good. record { are_told = (g.lower, (tt, tt)); words = target_shown at ws f g; low = λ n. cc }
 tells at ws f g BraByte h = told_near at ws f g 0

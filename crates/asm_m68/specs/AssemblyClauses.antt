@@ -1,4 +1,4 @@
--- What the 68K assembler answers, seen as a list of words or a refusal.
+-- What the 68K assembler answers, seen as a list of words or a refusal (this project's own).
 use Rattle.std.specs.Prelude.{ℕ, ◌≤◌, List, Result, Ok, Err}
 use Rattle.asm_m68.specs.declared.assembler.AsmError.{AsmError}
 use Rattle.asm_m68.specs.declared.code.Code68.{Code68}

@@ -1,5 +1,5 @@
 -- An operand by its text. Each kind of text has its own length, or one byte tells it from those of the same length;
--- what stands in the other places is not looked at.
+-- what stands in the other places is not looked at (the texts are this project's own).
 use Rattle.std.specs.Prelude.{ℕ, ◌+◌, ◌*◌, ◌%◌, ◌==◌, nat_lt, List, length, slice_index, if◌then◌else◌}
 use Rattle.m68_isa.specs.declared.ea.Index.{Index}
 use Rattle.m68_text.specs.declared.operand.Operand.{Operand}

@@ -1,4 +1,4 @@
--- The fetch of the instruction at pc.
+-- The fetch of the instruction at pc (M68000 Family Programmer's Reference Manual, section 2.1).
 use Rattle.std.specs.Prelude.{ℕ, ◌+◌, ◌-◌, ◌/◌, length}
 use Rattle.big_memory.specs.Map.{gate_page_end}
 use Rattle.big_memory.specs.Memory.{Memory}

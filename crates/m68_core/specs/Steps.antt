@@ -1,4 +1,4 @@
--- What `step68` answers.
+-- What `step68` answers (M68000 Family Programmer's Reference Manual, section 4).
 use Rattle.std.specs.Prelude.{◌≡◌}
 use Rattle.m68_isa.specs.declared.registers.Regs68.{Regs68}
 use Rattle.big_memory.specs.Memory.{Memory}

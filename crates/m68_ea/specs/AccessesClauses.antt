@@ -1,4 +1,5 @@
--- A value that is written at a place, or a refusal with nothing changed.
+-- A value that is written at a place, or a refusal with nothing changed
+-- (M68000 Family Programmer's Reference Manual, section 2.2).
 use Rattle.std.specs.Prelude.{◌≡◌, Result, Ok, Err}
 use Rattle.m68_isa.specs.declared.registers.Regs68.{Regs68}
 use Rattle.big_memory.specs.declared.refusals.Access.{Access}

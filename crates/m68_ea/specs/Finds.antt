@@ -1,5 +1,6 @@
 -- What code that reads operands from an instruction's words answers. A fault stands in a cell beside
--- the answer, and has changed neither registers nor memory.
+-- the answer, and has changed neither registers nor memory
+-- (M68000 Family Programmer's Reference Manual, section 2.2).
 use Rattle.std.specs.Prelude.{◌≡◌, ℕ, Bool, true, false, if◌then◌else◌, Option, Some, None, Result, Ok, Err}
 use Rattle.mix_bits.specs.declared.fault.Fault.{Fault}
 use Rattle.mix_bits.specs.declared.fault.FaultKind.TheVariants.{Illegal}

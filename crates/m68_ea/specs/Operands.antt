@@ -1,5 +1,6 @@
 -- Operands of an instruction, each found and then read or written. The registers' `pc` is the address of
--- the instruction's first word, by which a refused access is a fault.
+-- the instruction's first word, by which a refused access is a fault
+-- (M68000 Family Programmer's Reference Manual, section 2.2).
 use Rattle.std.specs.Prelude.{ℕ, Result, Ok, Err}
 use Rattle.mix_bits.specs.declared.size.Size.{Size}
 use Rattle.mix_bits.specs.declared.fault.Fault.{Fault}

@@ -1,4 +1,5 @@
--- What is asked of an operand and a place: register numbers below 8, and no immediate where one writes.
+-- What is asked of an operand and a place: register numbers below 8, and no immediate where one writes
+-- (M68000 Family Programmer's Reference Manual, section 2.2).
 use Rattle.std.specs.Prelude.{◌<◌}
 use Rattle.m68_isa.specs.declared.ea.Ea.{Ea}
 use Rattle.m68_isa.specs.declared.ea.Ea.TheVariants.{Dn as InDn, An as InAn, Ind, Post, Pre, Disp, Indexed, AbsWord, AbsLong, PcDisp, PcIndexed, Imm as Immediate}

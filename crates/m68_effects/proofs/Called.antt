@@ -3,14 +3,15 @@ use Rattle.std.proofs.Common.{◌≡◌, ◌≢◌, ℕ, ◌^◌, ◌<◌, ◌�
 use Rattle.std.specs.Prelude.{slice_index}
 use Rattle.std.proofs.Math.ListN.{set}
 use Rattle.std.proofs.lemmas.List.{length-set, set-set, set_comm, set-get_or}
-use Rattle.mix_bits.specs.declared.size.Size.{Size}
 use Rattle.mix_bits.specs.declared.size.Size.TheVariants.{Four}
 use Rattle.mix_bits.specs.declared.fault.Fault.{Fault}
 use Rattle.mix_bits.specs.Addresses.{onward}
 use Rattle.mix_bits.specs.Results.{◌>>=◌}
 use Rattle.m68_isa.specs.declared.registers.Regs68.{Regs68}
+use Rattle.m68_isa.specs.declared.instructions.PlainOp.TheVariants.{Rts}
+use Rattle.m68_isa.specs.declared.instructions.JumpOp.TheVariants.{Jsr}
 use Rattle.m68_isa.specs.declared.instructions.Instr68.{Instr68}
-use Rattle.m68_isa.specs.declared.instructions.Instr68.TheVariants.{Link, Unlk, Rts, Jsr, Bcc}
+use Rattle.m68_isa.specs.declared.instructions.Instr68.TheVariants.{Link, LinkLong, Unlk, Plain, Jump, Bcc, BccLong}
 use Rattle.m68_isa.specs.Targets.{branch_target}
 use Rattle.big_memory.specs.declared.refusals.Access.{Access}
 use Rattle.big_memory.specs.Memory.{Memory, loaded}
@@ -19,8 +20,9 @@ use Rattle.m68_ea.specs.Accesses.{or_fault}
 use Rattle.m68_ea.specs.Operands.{stored_at}
 use Rattle.m68_ea.specs.Places.{address_of, with_address}
 use Rattle.mix_bits.specs.Addresses.{backward}
-use Rattle.m68_effects.specs.Control.{called}
-use Rattle.m68_effects.specs.laws.Laws.{IsCall, IsFile, LeavesLong, Returns, ReturnsAtOnce, Unlinks, UnlinksAtOnce}
+use Rattle.m68_effects.specs.Control.{bcc, called}
+use Rattle.m68_effects.specs.Movement.{link}
+use Rattle.m68_effects.specs.laws.Laws.{IsCall, IsFile, IsLink, LeavesLong, Returns, ReturnsAtOnce, Unlinks, UnlinksAtOnce}
 use Rattle.m68_effects.specs.Parts.{Effect, goes_on}
 use Rattle.m68_effects.specs.Rows.{effect}
 use Rattle.big_memory.proofs.Longs.{stored_loads}
@@ -45,11 +47,15 @@ called-at r q m n next target is =
     let done = behind (stored_value m (backward (slice_index r.a 7) 4) Four next) r.pc (pushed_from r 7 4) q n (goes_to target) is in
     record { target = target; stores = done.0; registers = done.1 }
 
-call-is : (r q : Regs68) (m n : Memory) (next : ℕ) (call : Instr68) → IsCall call → effect r m next call ≡ Ok (q, n) → IsCalled r m next q n
-call-is r q m n next (Jsr to) call is = called-at r q m n next (address_of r to) is
-call-is r q m n next (Bcc condition displacement) call is =
-    let one : effect r m next (Bcc 1 displacement) ≡ Ok (q, n) = subst (λ c. effect r m next (Bcc c displacement) ≡ Ok (q, n)) call is in
+branch-is : (r q : Regs68) (m n : Memory) (next condition displacement : ℕ) → condition ≡ 1 → bcc r m next condition displacement ≡ Ok (q, n) → IsCalled r m next q n
+branch-is r q m n next condition displacement call is =
+    let one : bcc r m next 1 displacement ≡ Ok (q, n) = subst (λ c. bcc r m next c displacement ≡ Ok (q, n)) call is in
     called-at r q m n next (branch_target r.pc displacement) one
+
+call-is : (r q : Regs68) (m n : Memory) (next : ℕ) (call : Instr68) → IsCall call → effect r m next call ≡ Ok (q, n) → IsCalled r m next q n
+call-is r q m n next (Jump Jsr to) call is = called-at r q m n next (address_of r to) is
+call-is r q m n next (Bcc condition displacement) call is = branch-is r q m n next condition displacement call is
+call-is r q m n next (BccLong condition displacement) call is = branch-is r q m n next condition displacement call is
 call-is r q m n next _ call is = absurd call
 
 -- the return
@@ -57,7 +63,7 @@ abbrev to_popped : Memory → Regs68 × ℕ → Effect
 to_popped m found = goes_on found.1 found.0 m
 
 return-from : (r q p : Regs68) (m n k : Memory) (next last : ℕ) → IsFile r → next < 2 ^ 32 → IsCalled r m next q n → LeavesLong 7 q n p k
-    → effect p k last Rts ≡ goes_on next (with_address p 7 (slice_index r.a 7)) k
+    → effect p k last (Plain Rts) ≡ goes_on next (with_address p 7 (slice_index r.a 7)) k
 return-from r q p m n k next last file fits is left =
     let a : ℕ = backward (slice_index r.a 7) 4 in
     let here : slice_index q.a 7 ≡ a = ap (λ (t : Regs68). slice_index t.a 7) is.registers ∙ top r 7 a file.address_registers.count (lit< tt) in
@@ -115,11 +121,27 @@ link-from r q m n next frame displacement at v same value is =
 not-top : (frame : ℕ) → frame < 7 → frame ≢ 7
 not-top frame low = omega arith
 
-link-is : (r q : Regs68) (m n : Memory) (next frame displacement : ℕ) (size : Size) → length r.a ≡ 8 → frame < 7
-    → effect r m next (Link size frame displacement) ≡ Ok (q, n) → IsLinked r m next frame displacement q n
-link-is r q m n next frame displacement size count low is =
+abbrev displacement_of : Instr68 → ℕ
+displacement_of (Link register displacement) = displacement
+displacement_of (LinkLong register displacement) = displacement
+displacement_of _ = 0
+
+link-at : (r q : Regs68) (m n : Memory) (next frame displacement : ℕ) → length r.a ≡ 8 → frame < 7
+    → link r m next frame displacement ≡ Ok (q, n) → IsLinked r m next frame displacement q n
+link-at r q m n next frame displacement count low is =
     let a : ℕ = backward (slice_index r.a 7) 4 in
     link-from r q m n next frame displacement (slice_index (pushed_from r 7 4).a 7) (slice_index (pushed_from r 7 4).a frame) (top r 7 a count (lit< tt)) (get_or-set_other r.a 7 frame a 0 (not-top frame low)) is
+
+link-of : (r q : Regs68) (m n : Memory) (next frame register displacement : ℕ) → length r.a ≡ 8 → frame < 7 → register ≡ frame
+    → link r m next register displacement ≡ Ok (q, n) → IsLinked r m next frame displacement q n
+link-of r q m n next frame register displacement count low same is =
+    link-at r q m n next frame displacement count low (subst (λ k. link r m next k displacement ≡ Ok (q, n)) same is)
+
+link-is : (r q : Regs68) (m n : Memory) (next frame : ℕ) (first : Instr68) → length r.a ≡ 8 → frame < 7 → IsLink first frame
+    → effect r m next first ≡ Ok (q, n) → IsLinked r m next frame (displacement_of first) q n
+link-is r q m n next frame (Link register displacement) count low same is = link-of r q m n next frame register displacement count low same is
+link-is r q m n next frame (LinkLong register displacement) count low same is = link-of r q m n next frame register displacement count low same is
+link-is r q m n next frame _ count low same is = absurd same
 
 -- the frame's end
 abbrev to_register : Memory → ℕ → ℕ → Regs68 × ℕ → Effect
@@ -141,8 +163,8 @@ unlink-from r q p m n k next last frame displacement file count low is left =
     ∙ ap (λ xs. goes_on last (with_address (record p { a = xs }) frame v) k) (set-set p.a 7 x (onward a 4) ∙ ap (set p.a 7) (forth-back (slice_index r.a 7) 4 (file.address_registers.each 7) (lit< tt)))
 
 pub unlinks : Unlinks
-unlinks r q p m n k next last frame displacement size file other low is left =
-    unlink-from r q p m n k next last frame displacement file other.address_registers.count low (link-is r q m n next frame displacement size file.address_registers.count low is) left
+unlinks r q p m n k next last frame first file other low links is left =
+    unlink-from r q p m n k next last frame (displacement_of first) file other.address_registers.count low (link-is r q m n next frame first file.address_registers.count low links is) left
 
 both-back : (xs : List ℕ) (frame a z : ℕ) → frame ≢ 7 → set (set (set (set (set xs 7 a) frame a) 7 z) 7 (get_or xs 7 0)) frame (get_or xs frame 0) ≡ xs
 both-back xs frame a z other =
@@ -155,8 +177,9 @@ linked-count : (r : Regs68) (next frame a displacement : ℕ) → length r.a ≡
 linked-count r next frame a displacement count = rw (length-set, length-set, length-set) count
 
 pub unlinks_at_once : UnlinksAtOnce
-unlinks_at_once r q m n next last frame displacement size file low is =
-    let made = link-is r q m n next frame displacement size file.address_registers.count low is in
+unlinks_at_once r q m n next last frame first file low links is =
+    let displacement : ℕ = displacement_of first in
+    let made = link-is r q m n next frame first file.address_registers.count low links is in
     let a : ℕ = backward (slice_index r.a 7) 4 in
     let whole : Regs68 → Effect = λ t. goes_on last (with_address (with_address t 7 (slice_index r.a 7)) frame (slice_index r.a frame)) n in
     let count : length q.a ≡ 8 = ap (λ (t : Regs68). length t.a) made.registers ∙ linked-count r next frame a displacement file.address_registers.count in

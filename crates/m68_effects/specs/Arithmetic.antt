@@ -104,6 +104,10 @@ cmpm r m next size from to =
     goes_on next (with_ccr t (comparison size r.ccr d s)) m
 
 -- EXT, EXTB: a byte to a word, a word to a long, or a byte to a long
+abbrev pub half : Size → Size
+half Four = Two
+half _ = One
+
 abbrev pub extension : Size → Size → Ccr → ℕ → Out
 extension from to old v =
     let extended = truncated (sign_extended v from) to in

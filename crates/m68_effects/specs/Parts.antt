@@ -1,6 +1,7 @@
 -- Parts that many instructions share. An effect is the registers and the memory behind an instruction, or
 -- its fault; its accesses follow one another, and the first one that is refused is the fault. The
--- registers' `pc` is the address of the instruction until the program goes on.
+-- registers' `pc` is the address of the instruction until the program goes on
+-- (M68000 Family Programmer's Reference Manual, section 4).
 use Rattle.std.specs.Prelude.{ℕ, Bool, if◌then◌else◌, slice_index, Result, Ok, Err}
 use Rattle.mix_bits.specs.declared.size.Size.{Size}
 use Rattle.mix_bits.specs.declared.size.Size.TheVariants.{Four}

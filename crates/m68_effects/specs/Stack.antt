@@ -1,4 +1,5 @@
--- What pushing and popping answer; a refused one changes nothing.
+-- What pushing and popping answer; a refused one changes nothing
+-- (M68000 Family Programmer's Reference Manual, section 2.6.1).
 use Rattle.std.specs.Prelude.{◌≡◌, ℕ, Bool, true, false, slice_index, Option, Some, None, Result, Ok, Err}
 use Rattle.mix_bits.specs.declared.fault.Fault.{Fault}
 use Rattle.m68_isa.specs.declared.registers.Regs68.{Regs68}

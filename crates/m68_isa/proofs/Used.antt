@@ -6,6 +6,8 @@ use Rattle.mix_bits.specs.declared.size.Size.TheVariants.{One, Two, Four}
 use Rattle.m68_isa.specs.declared.ea.Ea.{Ea}
 use Rattle.m68_isa.specs.declared.instructions.ImmediateOp.{ImmediateOp}
 use Rattle.m68_isa.specs.declared.instructions.ImmediateOp.TheVariants as ImmediateBy
+use Rattle.m68_isa.specs.declared.instructions.JumpOp.TheVariants as JumpBy
+use Rattle.m68_isa.specs.declared.instructions.QuickOp.TheVariants as QuickBy
 use Rattle.m68_isa.specs.declared.instructions.Instr68.{Instr68}
 use Rattle.m68_isa.specs.declared.instructions.Instr68.TheVariants as Instr
 use Rattle.m68_isa.specs.declared.operand.Operand.{Operand}
@@ -126,31 +128,31 @@ keeps DivLong f ws us = registers_keep Instr.DivLong f ws us
 keeps Tst f ws us = one_keeps (Instr.Tst (size_of f.size)) (size_of f.size) f ws us
 keeps Tas f ws us = one_keeps (Instr.Tas) One f ws us
 keeps Trap f ws us = ((omega arith, omega arith), λ same. refl)
-keeps Link f ws us = word_keeps (λ v. Instr.Link Two f.lower (sign_extended v Two)) ws us
-keeps LinkLong f ws us = long_keeps (Instr.Link Four f.lower) ws us
+keeps Link f ws us = word_keeps (λ v. Instr.Link f.lower (sign_extended v Two)) ws us
+keeps LinkLong f ws us = long_keeps (Instr.LinkLong f.lower) ws us
 keeps Unlk f ws us = ((omega arith, omega arith), λ same. refl)
 keeps Nop f ws us = ((omega arith, omega arith), λ same. refl)
 keeps Rtd f ws us = word_keeps (λ v. Instr.Rtd (sign_extended v Two)) ws us
 keeps Rts f ws us = ((omega arith, omega arith), λ same. refl)
 keeps Trapv f ws us = ((omega arith, omega arith), λ same. refl)
 keeps Rtr f ws us = ((omega arith, omega arith), λ same. refl)
-keeps Jsr f ws us = one_keeps (Instr.Jsr) Four f ws us
-keeps Jmp f ws us = one_keeps (Instr.Jmp) Four f ws us
+keeps Jsr f ws us = one_keeps (Instr.Jump JumpBy.Jsr) Four f ws us
+keeps Jmp f ws us = one_keeps (Instr.Jump JumpBy.Jmp) Four f ws us
 keeps Chk f ws us = one_keeps (λ e. Instr.Chk e f.upper) Two f ws us
 keeps Lea f ws us = one_keeps (λ e. Instr.Lea e f.upper) Four f ws us
-keeps Addq f ws us = one_keeps (Instr.Addq (size_of f.size) (one_to_eight f.upper)) (size_of f.size) f ws us
-keeps Subq f ws us = one_keeps (Instr.Subq (size_of f.size) (one_to_eight f.upper)) (size_of f.size) f ws us
+keeps Addq f ws us = one_keeps (Instr.Quick QuickBy.Addq (size_of f.size) (one_to_eight f.upper)) (size_of f.size) f ws us
+keeps Subq f ws us = one_keeps (Instr.Quick QuickBy.Subq (size_of f.size) (one_to_eight f.upper)) (size_of f.size) f ws us
 keeps Scc f ws us = one_keeps (Instr.Scc (condition_of f)) One f ws us
 keeps Dbcc f ws us = word_keeps (λ v. Instr.Dbcc (condition_of f) f.lower (sign_extended v Two)) ws us
 keeps BraByte f ws us = ((omega arith, omega arith), λ same. refl)
 keeps BraWord f ws us = word_keeps (λ v. Instr.Bcc 0 (sign_extended v Two)) ws us
-keeps BraLong f ws us = long_keeps (Instr.Bcc 0) ws us
+keeps BraLong f ws us = long_keeps (Instr.BccLong 0) ws us
 keeps BsrByte f ws us = ((omega arith, omega arith), λ same. refl)
 keeps BsrWord f ws us = word_keeps (λ v. Instr.Bcc 1 (sign_extended v Two)) ws us
-keeps BsrLong f ws us = long_keeps (Instr.Bcc 1) ws us
+keeps BsrLong f ws us = long_keeps (Instr.BccLong 1) ws us
 keeps BccByte f ws us = ((omega arith, omega arith), λ same. refl)
 keeps BccWord f ws us = word_keeps (λ v. Instr.Bcc (condition_of f) (sign_extended v Two)) ws us
-keeps BccLong f ws us = long_keeps (Instr.Bcc (condition_of f)) ws us
+keeps BccLong f ws us = long_keeps (Instr.BccLong (condition_of f)) ws us
 keeps Moveq f ws us = ((omega arith, omega arith), λ same. refl)
 keeps OrToRegister f ws us = one_keeps (Instr.Or (size_of f.size) false f.upper) (size_of f.size) f ws us
 keeps OrToMemory f ws us = one_keeps (Instr.Or (size_of f.size) true f.upper) (size_of f.size) f ws us

@@ -4,7 +4,7 @@
 use Rattle.std.specs.Prelude.{ℕ, ◌==◌, ◌&&◌, ◌||◌, not, nat_lt, Bool, List, [], ◌∷◌}
 use Rattle.mix_bits.specs.Sizes.{sign_extended}
 use Rattle.mix_bits.specs.declared.size.Size.TheVariants.{One}
-use Rattle.m68_isa.specs.declared.instructions.Instr68.TheVariants.{Bcc}
+use Rattle.m68_isa.specs.declared.instructions.Instr68.TheVariants.{Bcc, BccLong}
 use Rattle.m68_isa.specs.declared.found.Found.{Found}
 use Rattle.m68_isa.specs.declared.op.Op68.TheVariants.{Addq, Subq, Scc, Dbcc, BraByte, BraWord, BraLong, BsrByte, BsrWord, BsrLong, BccByte, BccWord, BccLong, Moveq}
 use Rattle.m68_isa.specs.Classes.{in_class, is_source}
@@ -35,7 +35,7 @@ abbrev pub branch_word : ℕ → List ℕ → Found
 branch_word condition ws = words 2 (Bcc condition (extended_word ws 1))
 
 abbrev pub branch_long : ℕ → List ℕ → Found
-branch_long condition ws = words 3 (Bcc condition (long_at ws 1))
+branch_long condition ws = words 3 (BccLong condition (long_at ws 1))
 
 -- the low byte is the displacement
 abbrev pub is_short : First → Bool

@@ -1,4 +1,4 @@
--- A mode that may be written.
+-- A mode that may be written (M68000 Family Programmer's Reference Manual, section 2.3).
 use Rattle.std.specs.Prelude.{ℕ, ◌≡◌, true}
 use Rattle.m68_isa.specs.Classes.Class.{Alterable}
 use Rattle.m68_isa.specs.Classes.{in_class}

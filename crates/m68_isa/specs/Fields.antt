@@ -1,4 +1,5 @@
--- The ranges of an instruction's fields.
+-- The ranges of an instruction's fields
+-- (M68000 Family Programmer's Reference Manual, sections 2.2 and 4).
 use Rattle.std.specs.Prelude.{ℕ, ◌≡◌, ◌<◌, ◌≤◌, ◌^◌, ◌≢◌, ◌⊎◌}
 use Rattle.mix_bits.specs.Sizes.{modulus}
 use Rattle.mix_bits.specs.declared.size.Size.TheVariants.{Zero}
@@ -7,7 +8,7 @@ use Rattle.m68_isa.specs.declared.ea.Ea.TheVariants.{Dn, An, Ind, Post, Pre, Dis
 use Rattle.m68_isa.specs.declared.instructions.ShiftCount.{ShiftCount}
 use Rattle.m68_isa.specs.declared.instructions.ShiftCount.TheVariants.{Number, Register}
 use Rattle.m68_isa.specs.declared.instructions.Instr68.{Instr68}
-use Rattle.m68_isa.specs.declared.instructions.Instr68.TheVariants.{Immediate, ImmediateToCcr, BitByRegister, BitByNumber, Movep, Move, Movea, Negx, Clr, Neg, Not, MoveFromSr, MoveToCcr, Nbcd, Swap, Pea, Ext, MovemToMemory, MovemFromMemory, MulLong, DivLong, Tst, Tas, Trap, Link, Unlk, Nop, Rtd, Rts, Trapv, Rtr, Jsr, Jmp, Chk, Lea, Addq, Subq, Scc, Dbcc, Bcc, Moveq, Or, Div, Sbcd, Sub, Suba, Subx, Cmp, Cmpa, Eor, Cmpm, And, Mul, Abcd, Exg, Add, Adda, Addx, Shift, ShiftMemory}
+use Rattle.m68_isa.specs.declared.instructions.Instr68.TheVariants.{Immediate, ImmediateToCcr, BitByRegister, BitByNumber, Movep, Move, Movea, Negx, Clr, Neg, Not, MoveFromSr, MoveToCcr, Nbcd, Swap, Pea, Ext, ExtByte, MovemToMemory, MovemFromMemory, MulLong, DivLong, Tst, Tas, Trap, Link, LinkLong, Unlk, Plain, Rtd, Trapv, Rtr, Jump, Chk, Lea, Quick, Scc, Dbcc, Bcc, BccLong, Moveq, Or, Div, Sbcd, Sub, Suba, Subx, Cmp, Cmpa, Eor, Cmpm, And, Mul, Abcd, Exg, Add, Adda, Addx, Shift, ShiftMemory}
 use Rattle.m68_isa.specs.declared.instructions.Decoded68.{Decoded68}
 use Rattle.m68_isa.specs.declared.instructions.Decoded68.TheVariants.{Op, LineA, LineF, Privileged, Illegal, Short}
 
@@ -54,7 +55,8 @@ HasFields (MoveToCcr from) = HasRegisters from
 HasFields (Nbcd to) = HasRegisters to
 HasFields (Swap register) = register < 8
 HasFields (Pea from) = HasRegisters from
-HasFields (Ext from to register) = (from ≢ Zero) × (to ≢ Zero) × (register < 8)
+HasFields (Ext size register) = (size ≢ Zero) × (register < 8)
+HasFields (ExtByte register) = register < 8
 HasFields (MovemToMemory size mask to) = (size ≢ Zero) × (mask < 2 ^ 16) × (HasRegisters to)
 HasFields (MovemFromMemory size mask from) = (size ≢ Zero) × (mask < 2 ^ 16) × (HasRegisters from)
 HasFields (MulLong signed wide by high low) = (HasRegisters by) × (high < 8) × (low < 8)
@@ -62,22 +64,21 @@ HasFields (DivLong signed wide by high low) = (HasRegisters by) × (high < 8) ×
 HasFields (Tst size of) = (size ≢ Zero) × (HasRegisters of)
 HasFields (Tas to) = HasRegisters to
 HasFields (Trap number) = number < 16
-HasFields (Link size register disp) = (size ≢ Zero) × (register < 8)
+HasFields (Link register disp) = register < 8
+HasFields (LinkLong register disp) = register < 8
 HasFields (Unlk register) = register < 8
-HasFields Nop = Unit {0}
+HasFields (Plain op) = Unit {0}
 HasFields (Rtd disp) = Unit {0}
-HasFields Rts = Unit {0}
 HasFields Trapv = Unit {0}
 HasFields Rtr = Unit {0}
-HasFields (Jsr to) = HasRegisters to
-HasFields (Jmp to) = HasRegisters to
+HasFields (Jump op to) = HasRegisters to
 HasFields (Chk bound register) = (HasRegisters bound) × (register < 8)
 HasFields (Lea from to) = (HasRegisters from) × (to < 8)
-HasFields (Addq size number to) = (size ≢ Zero) × (0 < number) × (number < 9) × (HasRegisters to)
-HasFields (Subq size number to) = (size ≢ Zero) × (0 < number) × (number < 9) × (HasRegisters to)
+HasFields (Quick op size number to) = (size ≢ Zero) × (0 < number) × (number < 9) × (HasRegisters to)
 HasFields (Scc condition to) = (condition < 16) × (HasRegisters to)
 HasFields (Dbcc condition register disp) = (condition < 16) × (register < 8)
 HasFields (Bcc condition disp) = condition < 16
+HasFields (BccLong condition disp) = condition < 16
 HasFields (Moveq value to) = to < 8
 HasFields (Or size to_memory register operand) = (size ≢ Zero) × (register < 8) × (HasRegisters operand)
 HasFields (Div signed by register) = (HasRegisters by) × (register < 8)

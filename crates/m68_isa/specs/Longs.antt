@@ -1,4 +1,5 @@
--- A register file as its eighteen longs: D0 to D7, A0 to A7, the pc, and the bits of the condition codes.
+-- A register file as its eighteen longs: D0 to D7, A0 to A7, the pc, and the bits of the condition codes
+-- (M68000 Family Programmer's Reference Manual, section 1.1).
 use Rattle.std.specs.Prelude.{ℕ, List, [], ◌∷◌, ◌++◌, take, drop, slice_index}
 use Rattle.m68_isa.specs.declared.registers.Regs68.{Regs68}
 use Rattle.m68_isa.specs.Registers.{ccr_bits, ccr_of}

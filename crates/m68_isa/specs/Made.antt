@@ -4,6 +4,9 @@ use Rattle.std.specs.Prelude.{ℕ, ◌+◌, ◌*◌, ◌%◌, ◌==◌, nat_lt, 
 use Rattle.mix_bits.specs.Sizes.{sign_extended}
 use Rattle.mix_bits.specs.declared.size.Size.TheVariants.{One, Two, Four}
 use Rattle.m68_isa.specs.declared.instructions.ImmediateOp.TheVariants as ImmediateBy
+use Rattle.m68_isa.specs.declared.instructions.PlainOp.TheVariants as PlainBy
+use Rattle.m68_isa.specs.declared.instructions.JumpOp.TheVariants as JumpBy
+use Rattle.m68_isa.specs.declared.instructions.QuickOp.TheVariants as QuickBy
 use Rattle.m68_isa.specs.declared.instructions.Instr68.TheVariants as Instr
 use Rattle.m68_isa.specs.declared.found.Found.{Found}
 use Rattle.m68_isa.specs.declared.found.Found.TheVariants as Row
@@ -14,7 +17,7 @@ use Rattle.m68_isa.specs.Operands.{extended_word, immediate_at, long_at}
 use Rattle.m68_isa.specs.Rows.{words, one}
 use Rattle.m68_isa.specs.Immediates.{logic_op, immediate_with, bit_by_number, bit_by_register}
 use Rattle.m68_isa.specs.Moves.{moved_of}
-use Rattle.m68_isa.specs.Miscellaneous.{sized, masked, extension}
+use Rattle.m68_isa.specs.Miscellaneous.{sized, masked}
 use Rattle.m68_isa.specs.Products.{by_registers}
 use Rattle.m68_isa.specs.Branches.{branch_byte, branch_word, branch_long}
 use Rattle.m68_isa.specs.Arithmetic.{at_size, at_long_or_word, exchange}
@@ -46,8 +49,8 @@ made MoveToCcr f ws = one Instr.MoveToCcr Two f ws
 made Nbcd f ws = one Instr.Nbcd One f ws
 made Swap f ws = words 1 (Instr.Swap f.lower)
 made Pea f ws = one Instr.Pea Four f ws
-made Ext f ws = words 1 (extension f)
-made ExtByte f ws = words 1 (Instr.Ext One Four f.lower)
+made Ext f ws = words 1 (Instr.Ext (long_or_word (f.size % 2)) f.lower)
+made ExtByte f ws = words 1 (Instr.ExtByte f.lower)
 made MovemToMemory f ws = masked Instr.MovemToMemory f ws
 made MovemFromMemory f ws = masked Instr.MovemFromMemory f ws
 made MulLong f ws = by_registers Instr.MulLong f ws
@@ -55,20 +58,20 @@ made DivLong f ws = by_registers Instr.DivLong f ws
 made Tst f ws = sized Instr.Tst f ws
 made Tas f ws = one Instr.Tas One f ws
 made Trap f ws = words 1 (Instr.Trap (f.mode * 8 + f.lower))
-made Link f ws = words 2 (Instr.Link Two f.lower (extended_word ws 1))
-made LinkLong f ws = words 3 (Instr.Link Four f.lower (long_at ws 1))
+made Link f ws = words 2 (Instr.Link f.lower (extended_word ws 1))
+made LinkLong f ws = words 3 (Instr.LinkLong f.lower (long_at ws 1))
 made Unlk f ws = words 1 (Instr.Unlk f.lower)
-made Nop f ws = words 1 Instr.Nop
+made Nop f ws = words 1 (Instr.Plain PlainBy.Nop)
 made Rtd f ws = words 2 (Instr.Rtd (extended_word ws 1))
-made Rts f ws = words 1 Instr.Rts
+made Rts f ws = words 1 (Instr.Plain PlainBy.Rts)
 made Trapv f ws = words 1 Instr.Trapv
 made Rtr f ws = words 1 Instr.Rtr
-made Jsr f ws = one Instr.Jsr Four f ws
-made Jmp f ws = one Instr.Jmp Four f ws
+made Jsr f ws = one (Instr.Jump JumpBy.Jsr) Four f ws
+made Jmp f ws = one (Instr.Jump JumpBy.Jmp) Four f ws
 made Chk f ws = one (λ e. Instr.Chk e f.upper) Two f ws
 made Lea f ws = one (λ e. Instr.Lea e f.upper) Four f ws
-made Addq f ws = at_size (λ s e. Instr.Addq s (one_to_eight f.upper) e) f ws
-made Subq f ws = at_size (λ s e. Instr.Subq s (one_to_eight f.upper) e) f ws
+made Addq f ws = at_size (λ s e. Instr.Quick QuickBy.Addq s (one_to_eight f.upper) e) f ws
+made Subq f ws = at_size (λ s e. Instr.Quick QuickBy.Subq s (one_to_eight f.upper) e) f ws
 made Scc f ws = one (Instr.Scc (condition_of f)) One f ws
 made Dbcc f ws = words 2 (Instr.Dbcc (condition_of f) f.lower (extended_word ws 1))
 made BraByte f ws = branch_byte 0 f

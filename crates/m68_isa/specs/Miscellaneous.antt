@@ -1,11 +1,9 @@
 -- Line 4: one operand, movem, control of the program, addresses
 -- (M68000 Family Programmer's Reference Manual, section 8, miscellaneous).
-use Rattle.std.specs.Prelude.{ℕ, ◌%◌, ◌==◌, ◌&&◌, ◌||◌, nat_lt, Bool, List, [], ◌∷◌, slice_index, if◌then◌else◌}
+use Rattle.std.specs.Prelude.{ℕ, ◌%◌, ◌==◌, ◌&&◌, ◌||◌, nat_lt, Bool, List, [], ◌∷◌, slice_index}
 use Rattle.mix_bits.specs.declared.size.Size.{Size}
-use Rattle.mix_bits.specs.declared.size.Size.TheVariants.{One, Two, Four}
 use Rattle.m68_isa.specs.declared.ea.Ea.{Ea}
 use Rattle.m68_isa.specs.declared.instructions.Instr68.{Instr68}
-use Rattle.m68_isa.specs.declared.instructions.Instr68.TheVariants as Instr
 use Rattle.m68_isa.specs.declared.found.Found.{Found}
 use Rattle.m68_isa.specs.declared.op.Op68.TheVariants.{Negx, Clr, Neg, Not, MoveFromSr, MoveToCcr, Nbcd, Swap, Pea, Ext, ExtByte, MovemToMemory, MovemFromMemory, MulLong, DivLong, Tst, Tas, Trap, Link, LinkLong, Unlk, Nop, Rtd, Rts, Trapv, Rtr, Jsr, Jmp, Chk, Lea, Privileged, Illegal}
 use Rattle.m68_isa.specs.Classes.{in_class}
@@ -25,10 +23,6 @@ masked make f ws =
     let e = operand_at ws 2 s f.mode f.lower in
     taken (make s (slice_index ws 1) e.ea) e
 
--- ext by bit 6: of a byte to a word, of a word to a long
-abbrev pub extension : First → Instr68
-extension f = if f.size % 2 == 0 then Instr.Ext One Two f.lower else Instr.Ext Two Four f.lower
-
 abbrev pub is_data_alterable : First → Bool
 is_data_alterable f = in_class DataAlterable f.mode f.lower
 
@@ -47,7 +41,7 @@ rows_4_one =
 
 -- 0100 1000 00ee eeee: nbcd; 0100 1000 0000 1yyy: link with a long
 -- 0100 1000 01ee eeee: swap of a data register, pea of a control place
--- 0100 1000 1zee eeee: ext of a data register, movem to a control alterable place or -(An)
+-- 0100 1000 1zee eeee: ext of a data register, where z tells a long from a word, movem to a control alterable place or -(An)
 abbrev pub rows_4_8 : List Row
 rows_4_8 =
     row (λ f. (f.size == 0) && is_data_alterable f) Nbcd

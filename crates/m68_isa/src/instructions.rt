@@ -51,6 +51,27 @@ pub enum ShiftCount {
     Register(u8),
 }
 
+/// The instructions of one word that only go on or return.
+#[derive(Clone, Copy, PartialEq)]
+pub enum PlainOp {
+    Nop,
+    Rts,
+}
+
+/// The jumps: to a subroutine, or for good.
+#[derive(Clone, Copy, PartialEq)]
+pub enum JumpOp {
+    Jsr,
+    Jmp,
+}
+
+/// The operations with a number from 1 to 8.
+#[derive(Clone, Copy, PartialEq)]
+pub enum QuickOp {
+    Addq,
+    Subq,
+}
+
 /// Which registers `exg` exchanges.
 #[derive(Clone, Copy, PartialEq)]
 pub enum Exchange {
@@ -60,8 +81,8 @@ pub enum Exchange {
 }
 
 /// An instruction of the 68000 in user mode, or one of the additions of the 68020 that are taken, named as in the
-/// M68000 Family Programmer's Reference Manual, section 4. A register is a number below 8;
-/// which kind it is, the instruction says. Displacements are sign extended.
+/// M68000 Family Programmer's Reference Manual, section 4: one variant for each row of the table of instructions. A
+/// register is a number below 8; which kind it is, the instruction says. Displacements are sign extended.
 #[derive(Clone, Copy)]
 pub enum Instr68 {
     /// ori, andi, subi, addi, eori, cmpi.
@@ -137,10 +158,13 @@ pub enum Instr68 {
     Pea {
         from: Ea,
     },
-    /// ext.w from One to Two, ext.l from Two to Four, extb.l from One to Four.
+    /// ext.w of a byte to a word, at size Two, or ext.l of a word to a long, at size Four.
     Ext {
-        from: Size,
-        to: Size,
+        size: Size,
+        register: u8,
+    },
+    /// extb.l of a byte to a long.
+    ExtByte {
         register: u8,
     },
     /// movem to memory, with the mask as the extension word has it.
@@ -184,27 +208,32 @@ pub enum Instr68 {
     Trap {
         number: u8,
     },
-    /// link with a displacement of a word, at size Two, or of a long, at size Four.
+    /// link with a displacement of a word.
     Link {
-        size: Size,
+        register: u8,
+        disp: u32,
+    },
+    /// link.l, with a displacement of a long.
+    LinkLong {
         register: u8,
         disp: u32,
     },
     Unlk {
         register: u8,
     },
-    Nop,
+    /// nop, rts.
+    Plain {
+        op: PlainOp,
+    },
     /// rtd, which adds the displacement to the stack pointer behind the return address.
     Rtd {
         disp: u32,
     },
-    Rts,
     Trapv,
     Rtr,
-    Jsr {
-        to: Ea,
-    },
-    Jmp {
+    /// jsr, jmp.
+    Jump {
+        op: JumpOp,
         to: Ea,
     },
     Chk {
@@ -215,14 +244,9 @@ pub enum Instr68 {
         from: Ea,
         to: u8,
     },
-    /// addq of a number from 1 to 8.
-    Addq {
-        size: Size,
-        number: u8,
-        to: Ea,
-    },
-    /// subq of a number from 1 to 8.
-    Subq {
+    /// addq, subq of a number from 1 to 8.
+    Quick {
+        op: QuickOp,
         size: Size,
         number: u8,
         to: Ea,
@@ -237,9 +261,14 @@ pub enum Instr68 {
         register: u8,
         disp: u32,
     },
-    /// bcc, at condition 0 bra and at condition 1 bsr; the displacement counts from the
+    /// bcc, at condition 0 bra and at condition 1 bsr, with a displacement of a byte or a word, which counts from the
     /// address behind the first word.
     Bcc {
+        condition: u8,
+        disp: u32,
+    },
+    /// The same with a displacement of a long.
+    BccLong {
         condition: u8,
         disp: u32,
     },

@@ -39,7 +39,8 @@ pub use fields::{
     register_shift_of, shift_count_of, size_bits_of, size_of, transfer_size_of, trap_of, upper_of,
 };
 pub use instructions::{
-    BitOp, Decoded68, Exchange, ImmediateOp, Instr68, LogicOp, ShiftCount, ShiftOp,
+    BitOp, Decoded68, Exchange, ImmediateOp, Instr68, JumpOp, LogicOp, PlainOp, QuickOp,
+    ShiftCount, ShiftOp,
 };
 pub use laws::{long_laws, op_laws, reading_law};
 pub use op::Op68;

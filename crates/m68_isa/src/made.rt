@@ -2,10 +2,8 @@
 ghost use Rattle.std.specs.Prelude.{◌≡◌, ◌≢◌, ◌+◌, ◌<◌, ◌≤◌};
 ghost use Rattle.m68_isa.specs.First.{first_of};
 ghost use Rattle.m68_isa.specs.Operands.{operand_at as operand_at_lem};
-ghost use Rattle.m68_isa.specs.Rows.{words};
 ghost use Rattle.m68_isa.specs.Immediates.{immediate_with};
 ghost use Rattle.m68_isa.specs.Moves.{moved_of};
-ghost use Rattle.m68_isa.specs.Miscellaneous.{extension as extension_lem};
 ghost use Rattle.m68_isa.specs.Made.{made as made_lem};
 ghost use Rattle.m68_isa.specs.laws.Fits.{Fits};
 ghost use Rattle.m68_isa.specs.inner.Lines.{IsFromLine4, IsFromLine5, IsFromLine9, IsFromTest};
@@ -20,7 +18,7 @@ use super::fields::{
     register_shift_of, shift_count_of, size_of, transfer_size_of, trap_of, upper_of,
 };
 use super::found::Found;
-use super::instructions::{ImmediateOp, Instr68};
+use super::instructions::{ImmediateOp, Instr68, JumpOp, PlainOp, QuickOp};
 use super::op::Op68;
 use super::operand::{
     Operand, extended_word, immediate_at, immediate_words, long_at, operand_at, word_at,
@@ -142,19 +140,6 @@ fn moved(size: Size, word: u32, words: &[u16]) -> Found
     }
 }
 
-/// ext by bit 6: of a byte to a word, of a word to a long.
-fn extension(word: u32) -> Found
-    ensures value { result ≡ words 1 (extension_lem (first_of word)) }
-    ensures fields { HasFound result }
-    ensures extended { IsExtendedFound result }
-{
-    let register = lower_of(word) as u8;
-    match transfer_size_of(word) {
-        Size::Two => words!(1 => Ext { from: Size::One, to: Size::Two, register }),
-        _ => words!(1 => Ext { from: Size::Two, to: Size::Four, register }),
-    }
-}
-
 /// The instruction of an operation: of one in the lines 0 to 3 of the manual's table, of a refused one, or of one further down.
 pub fn made(op: Op68, word: u32, words: &[u16]) -> Found
     requires { Fits op word }
@@ -215,8 +200,8 @@ fn in_line_4(op: Op68, word: u32, words: &[u16]) -> Found
         Op68::Nbcd => one!(word, words, Size::One, to => Nbcd { to }),
         Op68::Swap => words!(1 => Swap { register: lower }),
         Op68::Pea => one!(word, words, Size::Four, from => Pea { from }),
-        Op68::Ext => extension(word),
-        Op68::ExtByte => words!(1 => Ext { from: Size::One, to: Size::Four, register: lower }),
+        Op68::Ext => words!(1 => Ext { size: transfer, register: lower }),
+        Op68::ExtByte => words!(1 => ExtByte { register: lower }),
         Op68::MovemToMemory =>
             behind!(word, words, transfer, mask, to => MovemToMemory { size: transfer, mask, to }),
         _ => in_line_4_from_test(op, word, words),
@@ -242,18 +227,16 @@ fn in_line_4_from_test(op: Op68, word: u32, words: &[u16]) -> Found
         Op68::MovemFromMemory =>
             behind!(word, words, transfer, mask, from => MovemFromMemory { size: transfer, mask, from }),
         Op68::Trap => words!(1 => Trap { number: trap_of(word) as u8 }),
-        Op68::Link =>
-            words!(2 => Link { size: Size::Two, register: lower, disp: extended_word(words, 1) }),
-        Op68::LinkLong =>
-            words!(3 => Link { size: Size::Four, register: lower, disp: long_at(words, 1) }),
+        Op68::Link => words!(2 => Link { register: lower, disp: extended_word(words, 1) }),
+        Op68::LinkLong => words!(3 => LinkLong { register: lower, disp: long_at(words, 1) }),
         Op68::Unlk => words!(1 => Unlk { register: lower }),
-        Op68::Nop => words!(1 => Nop {}),
+        Op68::Nop => words!(1 => Plain { op: PlainOp::Nop }),
         Op68::Rtd => words!(2 => Rtd { disp: extended_word(words, 1) }),
-        Op68::Rts => words!(1 => Rts {}),
+        Op68::Rts => words!(1 => Plain { op: PlainOp::Rts }),
         Op68::Trapv => words!(1 => Trapv {}),
         Op68::Rtr => words!(1 => Rtr {}),
-        Op68::Jsr => one!(word, words, Size::Four, to => Jsr { to }),
-        Op68::Jmp => one!(word, words, Size::Four, to => Jmp { to }),
+        Op68::Jsr => one!(word, words, Size::Four, to => Jump { op: JumpOp::Jsr, to }),
+        Op68::Jmp => one!(word, words, Size::Four, to => Jump { op: JumpOp::Jmp, to }),
         Op68::Chk => one!(word, words, Size::Two, bound => Chk { bound, register: upper }),
         Op68::Lea => one!(word, words, Size::Four, from => Lea { from, to: upper }),
         _ => in_lines_5_to_8(op, word, words),
@@ -274,21 +257,21 @@ fn in_lines_5_to_8(op: Op68, word: u32, words: &[u16]) -> Found
     let (upper, lower) = (upper_of(word) as u8, lower_of(word) as u8);
     match op {
         Op68::Addq =>
-            one!(word, words, size, to => Addq { size, number: quick_of(word) as u8, to }),
+            one!(word, words, size, to => Quick { op: QuickOp::Addq, size, number: quick_of(word) as u8, to }),
         Op68::Subq =>
-            one!(word, words, size, to => Subq { size, number: quick_of(word) as u8, to }),
+            one!(word, words, size, to => Quick { op: QuickOp::Subq, size, number: quick_of(word) as u8, to }),
         Op68::Scc => one!(word, words, Size::One, to => Scc { condition, to }),
         Op68::Dbcc =>
             words!(2 => Dbcc { condition, register: lower, disp: extended_word(words, 1) }),
         Op68::BraByte => words!(1 => Bcc { condition: 0, disp: byte_of(word) }),
         Op68::BraWord => words!(2 => Bcc { condition: 0, disp: extended_word(words, 1) }),
-        Op68::BraLong => words!(3 => Bcc { condition: 0, disp: long_at(words, 1) }),
+        Op68::BraLong => words!(3 => BccLong { condition: 0, disp: long_at(words, 1) }),
         Op68::BsrByte => words!(1 => Bcc { condition: 1, disp: byte_of(word) }),
         Op68::BsrWord => words!(2 => Bcc { condition: 1, disp: extended_word(words, 1) }),
-        Op68::BsrLong => words!(3 => Bcc { condition: 1, disp: long_at(words, 1) }),
+        Op68::BsrLong => words!(3 => BccLong { condition: 1, disp: long_at(words, 1) }),
         Op68::BccByte => words!(1 => Bcc { condition, disp: byte_of(word) }),
         Op68::BccWord => words!(2 => Bcc { condition, disp: extended_word(words, 1) }),
-        Op68::BccLong => words!(3 => Bcc { condition, disp: long_at(words, 1) }),
+        Op68::BccLong => words!(3 => BccLong { condition, disp: long_at(words, 1) }),
         Op68::Moveq => words!(1 => Moveq { value: byte_of(word), to: upper }),
         Op68::OrToRegister =>
             one!(word, words, size, operand => Or { size, to_memory: false, register: upper, operand }),

@@ -1,5 +1,5 @@
 -- A step that writes a value v, known as w, into an operand `e`, known as `made`, and what it makes of the registers.
-use Rattle.std.proofs.Common.{◌≡◌, ℕ, ◌*◌, Bool, true, false, if◌then◌else◌, Result, Ok, Err, ap, subst, sym, ◌∙◌}
+use Rattle.std.proofs.Common.{◌≡◌, ℕ, ◌*◌, true, if◌then◌else◌, Ok, Err, ap, subst, sym, ◌∙◌}
 use Rattle.mix_bits.specs.declared.size.Size.{Size}
 use Rattle.mix_bits.specs.declared.fault.Fault.{Fault}
 use Rattle.mix_bits.specs.declared.fault.FaultKind.TheVariants.{Illegal}
@@ -19,6 +19,7 @@ use Rattle.m68_ea.specs.Finds.{unless_illegal}
 use Rattle.m68_effects.specs.laws.Operations.{runs_with}
 use Rattle.m68_effects.specs.Parts.{Effect, after, goes_on}
 use Rattle.m68_effects.specs.Step.{stops}
+use Rattle.m68_effects.proofs.Steps.{unwritten as unwritten_by}
 
 abbrev pub behind : (Regs68 → Regs68) → ℕ → Regs68 × Memory → Effect
 behind turn next put = goes_on next (turn put.0) put.1
@@ -37,12 +38,7 @@ written r q new m n word next s turn e made v w did cell same value good is last
     subst (λ d. Does (writing r m word s turn made w) d cell r new m n) (sym goes)
     ((λ i. writing r m word s turn (sym same i) (sym value i)) ∙ step ∙ ap (λ t. Goes t n) (sym registers), free)
 
-stops_so : (good : Bool) (r : Regs68) (word : ℕ) (x : Result (Regs68 × Memory) Fault) (f : Regs68 × Memory → Effect) (cell : Fault)
-    → unless_illegal r.pc word good x ≡ Err cell → (if good then after (x >>= f) else stops r Illegal word) ≡ Stops cell
-stops_so true r word x f cell is = ap (λ y. after (y >>= f)) is
-stops_so false r word x f cell is = ap (λ y. after (y >>= f)) is
-
 pub unwritten : (r : Regs68) (m : Memory) (word : ℕ) (s : Size) (turn : Regs68 → Regs68) (e made : Operand) (v w : ℕ) (cell : Fault)
     → e ≡ made → v ≡ w → unless_illegal r.pc word e.good (put_into r m s e.ea v) ≡ Err cell → writing r m word s turn made w ≡ Stops cell
 unwritten r m word s turn e made v w cell same value is =
-    (λ i. writing r m word s turn (sym same i) (sym value i)) ∙ stops_so e.good r word (put_into r m s e.ea v) (behind turn (onward r.pc (2 * e.next))) cell is
+    subst (λ x. writing r m word s turn made x ≡ Stops cell) value (unwritten_by r m word s e made v (behind turn) cell same is)

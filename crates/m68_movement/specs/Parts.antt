@@ -1,4 +1,4 @@
--- What the parts of these instructions' code answer.
+-- What the parts of these instructions' code answer (M68000 Family Programmer's Reference Manual, section 4).
 use Rattle.std.specs.Prelude.{◌≡◌, ℕ, Bool, true, false, Ok, Err}
 use Rattle.mix_bits.specs.declared.size.Size.{Size}
 use Rattle.mix_bits.specs.declared.fault.Fault.{Fault}

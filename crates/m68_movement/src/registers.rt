@@ -1,11 +1,12 @@
 // Instructions on registers alone.
 ghost use Rattle.std.specs.Prelude.{◌≡◌};
 ghost use Rattle.m68_isa.specs.First.{first_of};
-ghost use Rattle.m68_isa.specs.declared.instructions.Instr68.TheVariants.{Ext};
-ghost use Rattle.m68_isa.specs.Rows.{words};
+ghost use Rattle.mix_bits.specs.Addresses.{onward};
 ghost use Rattle.big_memory.specs.StepsClauses.{Does};
+ghost use Rattle.m68_effects.specs.Arithmetic.{ext};
 ghost use Rattle.m68_effects.specs.Movement.{halves_swapped};
-ghost use Rattle.m68_effects.specs.laws.Ops.{by_op, runs_made};
+ghost use Rattle.m68_effects.specs.Parts.{after};
+ghost use Rattle.m68_effects.specs.laws.Ops.{by_op};
 
 use big_memory::{Did, Ram};
 use m68_alu::set_result_flags;
@@ -92,7 +93,7 @@ pub fn do_ext_byte(regs: &mut Regs68, ram: &Ram, fault: &mut Fault, word: u32) -
 /// The sign of a data register's low bytes of one size through those of another one.
 #[inline(always)]
 fn extend(regs: &mut Regs68, ram: &Ram, fault: &mut Fault, word: u32, from: Size, to: Size) -> Did
-    ensures { Does (runs_made regs.old ram.now word (words 1 (Ext from to (first_of word).lower))) result fault.new regs.old regs.new ram.now ram.now }
+    ensures { Does (after (ext regs.old ram.now (onward regs.old.pc 2) from to (first_of word).lower)) result fault.new regs.old regs.new ram.now ram.now }
 {
     let register = lower_of(word);
     let value = trunc(sext(regs.d[register], from), to);

@@ -6,10 +6,13 @@ use Rattle.m68_isa.specs.declared.instructions.BitOp.TheVariants.{Btst, Bchg, Bc
 use Rattle.m68_isa.specs.declared.instructions.ImmediateOp.TheVariants.{Ori, Andi, Subi, Addi, Eori, Cmpi}
 use Rattle.m68_isa.specs.declared.instructions.LogicOp.TheVariants.{And as LogicAnd, Or as LogicOr, Eor as LogicEor}
 use Rattle.m68_isa.specs.declared.instructions.ShiftOp.TheVariants.{As, Ls, Rox, Ro}
+use Rattle.m68_isa.specs.declared.instructions.PlainOp.TheVariants.{Nop, Rts}
+use Rattle.m68_isa.specs.declared.instructions.JumpOp.TheVariants.{Jsr, Jmp}
+use Rattle.m68_isa.specs.declared.instructions.QuickOp.TheVariants.{Addq, Subq}
 use Rattle.m68_isa.specs.declared.instructions.Instr68.{Instr68}
-use Rattle.m68_isa.specs.declared.instructions.Instr68.TheVariants.{Immediate, ImmediateToCcr, BitByRegister, BitByNumber, Movep, Move, Movea, Negx, Clr, Neg, Not, MoveFromSr, MoveToCcr, Nbcd, Swap, Pea, Ext, MovemToMemory, MovemFromMemory, MulLong, DivLong, Tst, Tas, Trap, Link, Unlk, Nop, Rtd, Rts, Trapv, Rtr, Jsr, Jmp, Chk, Lea, Addq, Subq, Scc, Dbcc, Bcc, Moveq, Or, Div, Sbcd, Sub, Suba, Subx, Cmp, Cmpa, Eor, Cmpm, And, Mul, Abcd, Exg, Add, Adda, Addx, Shift, ShiftMemory}
-use Rattle.m68_isa.specs.laws.Widths.{has_size, is_any, is_wide, is_extension}
-use Rattle.m68_text.specs.Names.{suffix, condition_name, branch_name, branch_suffix, extension_name, link_name, name}
+use Rattle.m68_isa.specs.declared.instructions.Instr68.TheVariants.{Immediate, ImmediateToCcr, BitByRegister, BitByNumber, Movep, Move, Movea, Negx, Clr, Neg, Not, MoveFromSr, MoveToCcr, Nbcd, Swap, Pea, Ext, ExtByte, MovemToMemory, MovemFromMemory, MulLong, DivLong, Tst, Tas, Trap, Link, LinkLong, Unlk, Plain, Rtd, Trapv, Rtr, Jump, Chk, Lea, Quick, Scc, Dbcc, Bcc, BccLong, Moveq, Or, Div, Sbcd, Sub, Suba, Subx, Cmp, Cmpa, Eor, Cmpm, And, Mul, Abcd, Exg, Add, Adda, Addx, Shift, ShiftMemory}
+use Rattle.m68_isa.specs.laws.Widths.{has_size, is_any, is_wide}
+use Rattle.m68_text.specs.Names.{suffix, condition_name, branch_name, branch_suffix, name}
 use Rattle.m68_text.specs.Listed.{stems, wide_stems, plain_names, tested, conditions, names, is_name}
 
 pub all_names : length names ≡ 234
@@ -45,23 +48,19 @@ at_wide P One two four is = cc
 at_wide P Two two four is = two
 at_wide P Four two four is = four
 
-at_extension : (P : Size → Size → Bool) (from to : Size) → P One Two ≡ true → P Two Four ≡ true → P One Four ≡ true → is_extension from to ≡ true → P from to ≡ true
-at_extension P One Two word long byte is = word
-at_extension P Two Four word long byte is = long
-at_extension P One Four word long byte is = byte
-at_extension P from to word long byte is = cc
+at_branch : (c : ℕ) (end : List ℕ) → is_name (codes "bra" ++ end) ≡ true → is_name (codes "bsr" ++ end) ≡ true → ((c == 0) ≡ false → (c == 1) ≡ false → is_name ((codes "b" ++ condition_name c) ++ end) ≡ true) → is_name (branch_name c ++ end) ≡ true
+at_branch c end bra bsr rest = chosen (λ n. is_name (n ++ end)) (c == 0) (codes "bra") _ bra (λ n0. chosen (λ n. is_name (n ++ end)) (c == 1) (codes "bsr") _ bsr (λ n1. rest n0 n1))
 
 branch : (c used : ℕ) → is_name (branch_name c ++ branch_suffix used) ≡ true
 unfolding names stems wide_stems plain_names tested conditions
 branch c used =
-    let at : List ℕ → Bool = λ end. is_name (branch_name c ++ end) in
-    let with_end : (end : List ℕ) → is_name (codes "bra" ++ end) ≡ true → is_name (codes "bsr" ++ end) ≡ true → ((n0 : (c == 0) ≡ false) → (c == 1) ≡ false → is_name ((codes "b" ++ condition_name c) ++ end) ≡ true) → is_name (branch_name c ++ end) ≡ true =
-    λ end bra bsr rest. chosen (λ n. is_name (n ++ end)) (c == 0) (codes "bra") _ bra (λ n0. chosen (λ n. is_name (n ++ end)) (c == 1) (codes "bsr") _ bsr (λ n1. rest n0 n1)) in
-    chosen at (used == 1) (codes ".b") (if used == 2 then codes ".w" else codes ".l")
-    (with_end (codes ".b") refl refl (λ n0 n1. at_tested (λ n. is_name ((codes "b" ++ n) ++ codes ".b")) c n0 n1 refl refl refl refl refl refl refl refl refl refl refl refl refl refl))
-    (λ _. chosen at (used == 2) (codes ".w") (codes ".l")
-    (with_end (codes ".w") refl refl (λ n0 n1. at_tested (λ n. is_name ((codes "b" ++ n) ++ codes ".w")) c n0 n1 refl refl refl refl refl refl refl refl refl refl refl refl refl refl))
-    (λ _. with_end (codes ".l") refl refl (λ n0 n1. at_tested (λ n. is_name ((codes "b" ++ n) ++ codes ".l")) c n0 n1 refl refl refl refl refl refl refl refl refl refl refl refl refl refl)))
+    chosen (λ end. is_name (branch_name c ++ end)) (used == 1) (codes ".b") (codes ".w")
+    (at_branch c (codes ".b") refl refl (λ n0 n1. at_tested (λ n. is_name ((codes "b" ++ n) ++ codes ".b")) c n0 n1 refl refl refl refl refl refl refl refl refl refl refl refl refl refl))
+    (λ _. at_branch c (codes ".w") refl refl (λ n0 n1. at_tested (λ n. is_name ((codes "b" ++ n) ++ codes ".w")) c n0 n1 refl refl refl refl refl refl refl refl refl refl refl refl refl refl))
+
+branch_long : (c : ℕ) → is_name (branch_name c ++ codes ".l") ≡ true
+unfolding names stems wide_stems plain_names tested conditions
+branch_long c = at_branch c (codes ".l") refl refl (λ n0 n1. at_tested (λ n. is_name ((codes "b" ++ n) ++ codes ".l")) c n0 n1 refl refl refl refl refl refl refl refl refl refl refl refl refl refl)
 
 pub listed : (i : Instr68) (used : ℕ) → has_size i ≡ true → is_name (name i used) ≡ true
 unfolding names stems wide_stems plain_names tested conditions
@@ -94,7 +93,8 @@ listed (MoveToCcr from) used h = refl
 listed (Nbcd to) used h = refl
 listed (Swap register) used h = refl
 listed (Pea from) used h = refl
-listed (Ext from to register) used h = at_extension (λ s t. is_name (extension_name s t)) from to refl refl refl h
+listed (Ext size register) used h = at_wide (λ s. is_name (codes "ext" ++ suffix s)) size refl refl h
+listed (ExtByte register) used h = refl
 listed (MovemToMemory size mask to) used h = at_wide (λ s. is_name (codes "movem" ++ suffix s)) size refl refl h
 listed (MovemFromMemory size mask from) used h = at_wide (λ s. is_name (codes "movem" ++ suffix s)) size refl refl h
 listed (MulLong true wide by high low) used h = refl
@@ -104,22 +104,24 @@ listed (DivLong false wide by high low) used h = refl
 listed (Tst size of) used h = at_any (λ s. is_name (codes "tst" ++ suffix s)) size refl refl refl h
 listed (Tas to) used h = refl
 listed (Trap number) used h = refl
-listed (Link size register disp) used h = at_wide (λ s. is_name (link_name s)) size refl refl h
+listed (Link register disp) used h = refl
+listed (LinkLong register disp) used h = refl
 listed (Unlk register) used h = refl
-listed Nop used h = refl
+listed (Plain Nop) used h = refl
+listed (Plain Rts) used h = refl
 listed (Rtd disp) used h = refl
-listed Rts used h = refl
 listed Trapv used h = refl
 listed Rtr used h = refl
-listed (Jsr to) used h = refl
-listed (Jmp to) used h = refl
+listed (Jump Jsr to) used h = refl
+listed (Jump Jmp to) used h = refl
 listed (Chk bound register) used h = refl
 listed (Lea from to) used h = refl
-listed (Addq size number to) used h = at_any (λ s. is_name (codes "addq" ++ suffix s)) size refl refl refl h
-listed (Subq size number to) used h = at_any (λ s. is_name (codes "subq" ++ suffix s)) size refl refl refl h
+listed (Quick Addq size number to) used h = at_any (λ s. is_name (codes "addq" ++ suffix s)) size refl refl refl h
+listed (Quick Subq size number to) used h = at_any (λ s. is_name (codes "subq" ++ suffix s)) size refl refl refl h
 listed (Scc condition to) used h = at_condition (λ n. is_name (codes "s" ++ n)) condition refl refl refl refl refl refl refl refl refl refl refl refl refl refl refl refl
 listed (Dbcc condition register disp) used h = at_condition (λ n. is_name (codes "db" ++ n)) condition refl refl refl refl refl refl refl refl refl refl refl refl refl refl refl refl
 listed (Bcc condition disp) used h = branch condition used
+listed (BccLong condition disp) used h = branch_long condition
 listed (Moveq value to) used h = refl
 listed (Or size to_memory register operand) used h = at_any (λ s. is_name (codes "or" ++ suffix s)) size refl refl refl h
 listed (Div true by register) used h = refl

@@ -11,8 +11,11 @@ use Rattle.m68_isa.specs.declared.instructions.LogicOp.{LogicOp}
 use Rattle.m68_isa.specs.declared.instructions.LogicOp.TheVariants.{And as LogicAnd, Or as LogicOr, Eor as LogicEor}
 use Rattle.m68_isa.specs.declared.instructions.ShiftOp.{ShiftOp}
 use Rattle.m68_isa.specs.declared.instructions.ShiftOp.TheVariants.{As, Ls, Rox, Ro}
+use Rattle.m68_isa.specs.declared.instructions.PlainOp.TheVariants.{Nop, Rts}
+use Rattle.m68_isa.specs.declared.instructions.JumpOp.TheVariants.{Jsr, Jmp}
+use Rattle.m68_isa.specs.declared.instructions.QuickOp.TheVariants.{Addq, Subq}
 use Rattle.m68_isa.specs.declared.instructions.Instr68.{Instr68}
-use Rattle.m68_isa.specs.declared.instructions.Instr68.TheVariants.{Immediate, ImmediateToCcr, BitByRegister, BitByNumber, Movep, Move, Movea, Negx, Clr, Neg, Not, MoveFromSr, MoveToCcr, Nbcd, Swap, Pea, Ext, MovemToMemory, MovemFromMemory, MulLong, DivLong, Tst, Tas, Trap, Link, Unlk, Nop, Rtd, Rts, Trapv, Rtr, Jsr, Jmp, Chk, Lea, Addq, Subq, Scc, Dbcc, Bcc, Moveq, Or, Div, Sbcd, Sub, Suba, Subx, Cmp, Cmpa, Eor, Cmpm, And, Mul, Abcd, Exg, Add, Adda, Addx, Shift, ShiftMemory}
+use Rattle.m68_isa.specs.declared.instructions.Instr68.TheVariants.{Immediate, ImmediateToCcr, BitByRegister, BitByNumber, Movep, Move, Movea, Negx, Clr, Neg, Not, MoveFromSr, MoveToCcr, Nbcd, Swap, Pea, Ext, ExtByte, MovemToMemory, MovemFromMemory, MulLong, DivLong, Tst, Tas, Trap, Link, LinkLong, Unlk, Plain, Rtd, Trapv, Rtr, Jump, Chk, Lea, Quick, Scc, Dbcc, Bcc, BccLong, Moveq, Or, Div, Sbcd, Sub, Suba, Subx, Cmp, Cmpa, Eor, Cmpm, And, Mul, Abcd, Exg, Add, Adda, Addx, Shift, ShiftMemory}
 
 -- none where there is no value
 abbrev pub suffix : Size → List ℕ
@@ -73,19 +76,9 @@ shift_name op left = shift_kind op ++ (if left then codes "l" else codes "r")
 abbrev pub branch_name : ℕ → List ℕ
 branch_name c = if c == 0 then codes "bra" else if c == 1 then codes "bsr" else codes "b" ++ condition_name c
 
--- whether the displacement is in the first word, in one of its own, or in two
+-- whether the displacement is in the first word, or in one of its own
 abbrev pub branch_suffix : ℕ → List ℕ
-branch_suffix used = if used == 1 then codes ".b" else if used == 2 then codes ".w" else codes ".l"
-
--- to a word or to a long, or past a word to a long
-abbrev pub extension_name : Size → Size → List ℕ
-extension_name One Four = codes "extb.l"
-extension_name from to = codes "ext" ++ suffix to
-
--- a displacement of a word is not marked
-abbrev pub link_name : Size → List ℕ
-link_name Four = codes "link.l"
-link_name _ = codes "link"
+branch_suffix used = if used == 1 then codes ".b" else codes ".w"
 
 -- the name of an instruction of so many words
 abbrev pub name : Instr68 → ℕ → List ℕ
@@ -105,7 +98,8 @@ name (MoveToCcr from) used = codes "move"
 name (Nbcd to) used = codes "nbcd"
 name (Swap register) used = codes "swap"
 name (Pea from) used = codes "pea"
-name (Ext from to register) used = extension_name from to
+name (Ext size register) used = codes "ext" ++ suffix size
+name (ExtByte register) used = codes "extb.l"
 name (MovemToMemory size mask to) used = codes "movem" ++ suffix size
 name (MovemFromMemory size mask from) used = codes "movem" ++ suffix size
 name (MulLong signed wide by high low) used = if signed then codes "muls.l" else codes "mulu.l"
@@ -113,22 +107,24 @@ name (DivLong signed wide by high low) used = if signed then codes "divs.l" else
 name (Tst size of) used = codes "tst" ++ suffix size
 name (Tas to) used = codes "tas"
 name (Trap number) used = codes "trap"
-name (Link size register disp) used = link_name size
+name (Link register disp) used = codes "link"
+name (LinkLong register disp) used = codes "link.l"
 name (Unlk register) used = codes "unlk"
-name Nop used = codes "nop"
+name (Plain Nop) used = codes "nop"
+name (Plain Rts) used = codes "rts"
 name (Rtd disp) used = codes "rtd"
-name Rts used = codes "rts"
 name Trapv used = codes "trapv"
 name Rtr used = codes "rtr"
-name (Jsr to) used = codes "jsr"
-name (Jmp to) used = codes "jmp"
+name (Jump Jsr to) used = codes "jsr"
+name (Jump Jmp to) used = codes "jmp"
 name (Chk bound register) used = codes "chk"
 name (Lea from to) used = codes "lea"
-name (Addq size number to) used = codes "addq" ++ suffix size
-name (Subq size number to) used = codes "subq" ++ suffix size
+name (Quick Addq size number to) used = codes "addq" ++ suffix size
+name (Quick Subq size number to) used = codes "subq" ++ suffix size
 name (Scc condition to) used = codes "s" ++ condition_name condition
 name (Dbcc condition register disp) used = codes "db" ++ condition_name condition
 name (Bcc condition disp) used = branch_name condition ++ branch_suffix used
+name (BccLong condition disp) used = branch_name condition ++ codes ".l"
 name (Moveq value to) used = codes "moveq"
 name (Or size to_memory register operand) used = codes "or" ++ suffix size
 name (Div signed by register) used = if signed then codes "divs" else codes "divu"

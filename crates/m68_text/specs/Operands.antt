@@ -13,7 +13,7 @@ use Rattle.m68_isa.specs.declared.instructions.ShiftCount.TheVariants.{Number as
 use Rattle.m68_isa.specs.declared.instructions.Exchange.{Exchange}
 use Rattle.m68_isa.specs.declared.instructions.Exchange.TheVariants.{Data as ExchangeData, Address as ExchangeAddress, DataAddress}
 use Rattle.m68_isa.specs.declared.instructions.Instr68.{Instr68}
-use Rattle.m68_isa.specs.declared.instructions.Instr68.TheVariants.{Immediate, ImmediateToCcr, BitByRegister, BitByNumber, Movep, Move, Movea, Negx, Clr, Neg, Not, MoveFromSr, MoveToCcr, Nbcd, Swap, Pea, Ext, MovemToMemory, MovemFromMemory, MulLong, DivLong, Tst, Tas, Trap, Link, Unlk, Nop, Rtd, Rts, Trapv, Rtr, Jsr, Jmp, Chk, Lea, Addq, Subq, Scc, Dbcc, Bcc, Moveq, Or, Div, Sbcd, Sub, Suba, Subx, Cmp, Cmpa, Eor, Cmpm, And, Mul, Abcd, Exg, Add, Adda, Addx, Shift, ShiftMemory}
+use Rattle.m68_isa.specs.declared.instructions.Instr68.TheVariants.{Immediate, ImmediateToCcr, BitByRegister, BitByNumber, Movep, Move, Movea, Negx, Clr, Neg, Not, MoveFromSr, MoveToCcr, Nbcd, Swap, Pea, Ext, ExtByte, MovemToMemory, MovemFromMemory, MulLong, DivLong, Tst, Tas, Trap, Link, LinkLong, Unlk, Plain, Rtd, Trapv, Rtr, Jump, Chk, Lea, Quick, Scc, Dbcc, Bcc, BccLong, Moveq, Or, Div, Sbcd, Sub, Suba, Subx, Cmp, Cmpa, Eor, Cmpm, And, Mul, Abcd, Exg, Add, Adda, Addx, Shift, ShiftMemory}
 use Rattle.m68_isa.specs.Operands.{long_at}
 use Rattle.m68_isa.specs.Targets.{branch_target}
 use Rattle.m68_text.specs.declared.operand.Operand.{Operand}
@@ -111,11 +111,6 @@ with_registers wide high low ws by =
     let source = place Four ws 2 by in
     if wide then source ∷ Pair high low ∷ [] else source ∷ Data high ∷ Data low ∷ []
 
--- a displacement that stands alone, of a word or of a long
-abbrev pub displacement : Size → ℕ → Operand
-displacement Four v = Long v
-displacement _ v = Word v
-
 abbrev pub counted : ShiftCount → Operand
 counted (CountNumber n) = Number n
 counted (CountRegister n) = Data n
@@ -139,7 +134,8 @@ operands (MoveToCcr from) ws at = place Two ws 1 from ∷ ConditionCodes ∷ []
 operands (Nbcd to) ws at = place One ws 1 to ∷ []
 operands (Swap register) ws at = Data register ∷ []
 operands (Pea from) ws at = place Four ws 1 from ∷ []
-operands (Ext from to register) ws at = Data register ∷ []
+operands (Ext size register) ws at = Data register ∷ []
+operands (ExtByte register) ws at = Data register ∷ []
 operands (MovemToMemory size mask to) ws at = Word mask ∷ place size ws 1 to ∷ []
 operands (MovemFromMemory size mask from) ws at = place size ws 1 from ∷ Word mask ∷ []
 operands (MulLong signed wide by high low) ws at = with_registers wide high low ws by
@@ -147,22 +143,21 @@ operands (DivLong signed wide by high low) ws at = with_registers wide high low 
 operands (Tst size of) ws at = place size ws 1 of ∷ []
 operands (Tas to) ws at = place One ws 1 to ∷ []
 operands (Trap number) ws at = Number number ∷ []
-operands (Link size register disp) ws at = Address register ∷ displacement size disp ∷ []
+operands (Link register disp) ws at = Address register ∷ Word disp ∷ []
+operands (LinkLong register disp) ws at = Address register ∷ Long disp ∷ []
 operands (Unlk register) ws at = Address register ∷ []
-operands Nop ws at = []
+operands (Plain op) ws at = []
 operands (Rtd disp) ws at = Word disp ∷ []
-operands Rts ws at = []
 operands Trapv ws at = []
 operands Rtr ws at = []
-operands (Jsr to) ws at = place Four ws 1 to ∷ []
-operands (Jmp to) ws at = place Four ws 1 to ∷ []
+operands (Jump op to) ws at = place Four ws 1 to ∷ []
 operands (Chk bound register) ws at = place Two ws 1 bound ∷ Data register ∷ []
 operands (Lea from to) ws at = place Four ws 1 from ∷ Address to ∷ []
-operands (Addq size number to) ws at = Number number ∷ place size ws 1 to ∷ []
-operands (Subq size number to) ws at = Number number ∷ place size ws 1 to ∷ []
+operands (Quick op size number to) ws at = Number number ∷ place size ws 1 to ∷ []
 operands (Scc condition to) ws at = place One ws 1 to ∷ []
 operands (Dbcc condition register disp) ws at = Data register ∷ Target (branch_target at disp) ∷ []
 operands (Bcc condition disp) ws at = Target (branch_target at disp) ∷ []
+operands (BccLong condition disp) ws at = Target (branch_target at disp) ∷ []
 operands (Moveq value to) ws at = Byte value ∷ Data to ∷ []
 operands (Or size to_memory register operand) ws at = directed to_memory register (place size ws 1 operand)
 operands (Div signed by register) ws at = place Two ws 1 by ∷ Data register ∷ []

@@ -1,7 +1,7 @@
 ghost use Rattle.std.specs.Prelude.{◌≡◌, ◌+◌, ◌≤◌, ◌++◌, codes, length};
-ghost use Rattle.m68_text.specs.Names.{bit_name as bit_name_of, branch_name as branch_name_of, branch_suffix as branch_suffix_of, extension_name as extension_name_of, link_name as link_name_of, condition_name as condition_name_of, immediate_name as immediate_name_of, logic_name as logic_name_of, name, shift_name as shift_name_of, suffix as suffix_of};
+ghost use Rattle.m68_text.specs.Names.{bit_name as bit_name_of, branch_name as branch_name_of, branch_suffix as branch_suffix_of, condition_name as condition_name_of, immediate_name as immediate_name_of, logic_name as logic_name_of, name, shift_name as shift_name_of, suffix as suffix_of};
 
-use m68_isa::{BitOp, ImmediateOp, Instr68, LogicOp, ShiftOp};
+use m68_isa::{BitOp, ImmediateOp, Instr68, JumpOp, LogicOp, PlainOp, QuickOp, ShiftOp};
 use mix_bits::Size;
 
 /// The name of an instruction: its stem, the condition in it, and its suffix.
@@ -143,24 +143,22 @@ fn shift_name(op: ShiftOp, left: bool) -> &'static str
     }
 }
 
-/// The suffix of a branch, by how many words it has.
+/// The suffix of a branch of one or two words.
 fn branch_suffix(used: u32) -> &'static str
     ensures text { result.now ≡ branch_suffix_of used }
     ensures short { length result.now ≤ 2 }
 {
     match used {
         1 => ".b",
-        2 => ".w",
-        _ => ".l",
+        _ => ".w",
     }
 }
 
-/// The name of a branch of so many words.
-fn branch_name(condition: u8, used: u32) -> Name
-    ensures text { result.stem.now ++ (result.condition.now ++ result.suffix.now) ≡ branch_name_of condition ++ branch_suffix_of used }
-    ensures short { length result.stem.now + length result.condition.now + length result.suffix.now ≤ 5 }
+/// The name of a branch with this suffix.
+fn branch_name(condition: u8, suffix: &'static str) -> Name
+    ensures text { result.stem.now ++ (result.condition.now ++ result.suffix.now) ≡ branch_name_of condition ++ suffix.now }
+    ensures short { length result.stem.now + length result.condition.now + length result.suffix.now ≤ 3 + length suffix.now }
 {
-    let suffix = branch_suffix(used);
     match condition {
         0 => Name {
             stem: "bra",
@@ -177,27 +175,6 @@ fn branch_name(condition: u8, used: u32) -> Name
             condition: condition_name(condition),
             suffix,
         },
-    }
-}
-
-/// The name of an extension of a sign.
-fn extension_name(from: Size, to: Size) -> Name
-    ensures text { result.stem.now ++ (result.condition.now ++ result.suffix.now) ≡ extension_name_of from to }
-    ensures short { length result.stem.now + length result.condition.now + length result.suffix.now ≤ 6 }
-{
-    match (from, to) {
-        (Size::One, Size::Four) => plain("extb.l"),
-        _ => sized("ext", to),
-    }
-}
-
-fn link_name(size: Size) -> Name
-    ensures text { result.stem.now ++ (result.condition.now ++ result.suffix.now) ≡ link_name_of size }
-    ensures short { length result.stem.now + length result.condition.now + length result.suffix.now ≤ 6 }
-{
-    match size {
-        Size::Four => plain("link.l"),
-        _ => plain("link"),
     }
 }
 
@@ -223,7 +200,8 @@ pub fn name_of(i: Instr68, used: u32) -> Name
         Instr68::Nbcd { .. } => plain("nbcd"),
         Instr68::Swap { .. } => plain("swap"),
         Instr68::Pea { .. } => plain("pea"),
-        Instr68::Ext { from, to, .. } => extension_name(from, to),
+        Instr68::Ext { size, .. } => sized("ext", size),
+        Instr68::ExtByte { .. } => plain("extb.l"),
         Instr68::MovemToMemory { size, .. } => sized("movem", size),
         Instr68::MovemFromMemory { size, .. } => sized("movem", size),
         Instr68::MulLong { signed, .. } => plain(if signed { "muls.l" } else { "mulu.l" }),
@@ -231,22 +209,38 @@ pub fn name_of(i: Instr68, used: u32) -> Name
         Instr68::Tst { size, .. } => sized("tst", size),
         Instr68::Tas { .. } => plain("tas"),
         Instr68::Trap { .. } => plain("trap"),
-        Instr68::Link { size, .. } => link_name(size),
+        Instr68::Link { .. } => plain("link"),
+        Instr68::LinkLong { .. } => plain("link.l"),
         Instr68::Unlk { .. } => plain("unlk"),
-        Instr68::Nop => plain("nop"),
+        Instr68::Plain { op: PlainOp::Nop } => plain("nop"),
+        Instr68::Plain { op: PlainOp::Rts } => plain("rts"),
         Instr68::Rtd { .. } => plain("rtd"),
-        Instr68::Rts => plain("rts"),
         Instr68::Trapv => plain("trapv"),
         Instr68::Rtr => plain("rtr"),
-        Instr68::Jsr { .. } => plain("jsr"),
-        Instr68::Jmp { .. } => plain("jmp"),
+        Instr68::Jump {
+            op: JumpOp::Jsr,
+            ..
+        } => plain("jsr"),
+        Instr68::Jump {
+            op: JumpOp::Jmp,
+            ..
+        } => plain("jmp"),
         Instr68::Chk { .. } => plain("chk"),
         Instr68::Lea { .. } => plain("lea"),
-        Instr68::Addq { size, .. } => sized("addq", size),
-        Instr68::Subq { size, .. } => sized("subq", size),
+        Instr68::Quick {
+            op: QuickOp::Addq,
+            size,
+            ..
+        } => sized("addq", size),
+        Instr68::Quick {
+            op: QuickOp::Subq,
+            size,
+            ..
+        } => sized("subq", size),
         Instr68::Scc { condition, .. } => conditional("s", condition),
         Instr68::Dbcc { condition, .. } => conditional("db", condition),
-        Instr68::Bcc { condition, .. } => branch_name(condition, used),
+        Instr68::Bcc { condition, .. } => branch_name(condition, branch_suffix(used)),
+        Instr68::BccLong { condition, .. } => branch_name(condition, ".l"),
         Instr68::Moveq { .. } => plain("moveq"),
         Instr68::Or { size, .. } => sized("or", size),
         Instr68::Div { signed, .. } => plain(if signed { "divs" } else { "divu" }),

@@ -1,5 +1,5 @@
 ghost use Rattle.std.specs.Prelude.{◌≡◌, ◌<◌};
-ghost use Rattle.m68_text.specs.Operands.{counted as counted_of, directed as directed_of, exchanged as exchanged_of, immediate as immediate_of, operands, paired as paired_of, displacement as displacement_of, place as place_of, with_registers as with_registers_of};
+ghost use Rattle.m68_text.specs.Operands.{counted as counted_of, directed as directed_of, exchanged as exchanged_of, immediate as immediate_of, operands, paired as paired_of, place as place_of, with_registers as with_registers_of};
 ghost use Rattle.m68_text.specs.inner.Operands.{listed};
 
 use super::operand::Operand::{
@@ -89,16 +89,6 @@ fn with_registers(wide: bool, high: u8, low: u8, words: &[u16], by: Ea) -> Opera
     }
 }
 
-/// A displacement that stands alone, of a word or of a long.
-fn displacement(size: Size, value: u32) -> Operand
-    ensures { result ≡ displacement_of size value }
-{
-    match size {
-        Size::Four => Long(value),
-        _ => Word(value),
-    }
-}
-
 /// How far a register is shifted.
 fn counted(count: ShiftCount) -> Operand
     ensures { result ≡ counted_of count }
@@ -150,6 +140,7 @@ pub fn operands68(i: Instr68, words: &[u16], at: u32) -> Operands
         Instr68::Swap { register } => One(Data(register)),
         Instr68::Pea { from } => One(place(Size::Four, words, 1, from)),
         Instr68::Ext { register, .. } => One(Data(register)),
+        Instr68::ExtByte { register } => One(Data(register)),
         Instr68::MovemToMemory { size, mask, to } => Two(Word(mask), place(size, words, 1, to)),
         Instr68::MovemFromMemory { size, mask, from } => Two(
             place(size, words, 1, from),
@@ -172,29 +163,29 @@ pub fn operands68(i: Instr68, words: &[u16], at: u32) -> Operands
         Instr68::Tst { size, of } => One(place(size, words, 1, of)),
         Instr68::Tas { to } => One(place(Size::One, words, 1, to)),
         Instr68::Trap { number } => One(Number(number)),
-        Instr68::Link {
-            size,
-            register,
-            disp,
-        } => Two(Address(register), displacement(size, disp)),
+        Instr68::Link { register, disp } => Two(Address(register), Word(disp)),
+        Instr68::LinkLong { register, disp } => Two(Address(register), Long(disp)),
         Instr68::Unlk { register } => One(Address(register)),
-        Instr68::Nop => Operands::None,
+        Instr68::Plain { .. } => Operands::None,
         Instr68::Rtd { disp } => One(Word(disp)),
-        Instr68::Rts => Operands::None,
         Instr68::Trapv => Operands::None,
         Instr68::Rtr => Operands::None,
-        Instr68::Jsr { to } => One(place(Size::Four, words, 1, to)),
-        Instr68::Jmp { to } => One(place(Size::Four, words, 1, to)),
+        Instr68::Jump { to, .. } => One(place(Size::Four, words, 1, to)),
         Instr68::Chk { bound, register } => Two(place(Size::Two, words, 1, bound), Data(register)),
         Instr68::Lea { from, to } => Two(place(Size::Four, words, 1, from), Address(to)),
-        Instr68::Addq { size, number, to } => Two(Number(number), place(size, words, 1, to)),
-        Instr68::Subq { size, number, to } => Two(Number(number), place(size, words, 1, to)),
+        Instr68::Quick {
+            size,
+            number,
+            to,
+            ..
+        } => Two(Number(number), place(size, words, 1, to)),
         Instr68::Scc { to, .. } => One(place(Size::One, words, 1, to)),
         Instr68::Dbcc { register, disp, .. } => Two(
             Data(register),
             Target(branch_target(at, disp)),
         ),
         Instr68::Bcc { disp, .. } => One(Target(branch_target(at, disp))),
+        Instr68::BccLong { disp, .. } => One(Target(branch_target(at, disp))),
         Instr68::Moveq { value, to } => Two(Byte(value), Data(to)),
         Instr68::Or {
             size,

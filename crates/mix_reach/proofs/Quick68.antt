@@ -12,8 +12,9 @@ use Rattle.m68_isa.specs.declared.found.Found.{Found}
 use Rattle.m68_isa.specs.declared.found.Found.TheVariants.{Made}
 use Rattle.m68_isa.specs.declared.found.Found.TheVariants as Row
 use Rattle.m68_isa.specs.declared.instructions.Instr68.{Instr68}
-use Rattle.m68_isa.specs.declared.instructions.Instr68.TheVariants.{Bcc, Move}
+use Rattle.m68_isa.specs.declared.instructions.Instr68.TheVariants.{Move}
 use Rattle.m68_isa.specs.declared.instructions.Instr68.TheVariants as Instr
+use Rattle.m68_isa.specs.declared.instructions.QuickOp.TheVariants as QuickBy
 use Rattle.m68_isa.specs.declared.instructions.Decoded68.TheVariants as Decoded
 use Rattle.m68_isa.specs.declared.op.Op68.{Op68}
 use Rattle.m68_isa.specs.declared.op.Op68.TheVariants.{Ori, Andi, Subi, Addi, Eori, Cmpi, LogicToCcr, BitByNumber, BitByRegister, Movep, MoveByte, MoveWord, MoveLong, MoveaWord, MoveaLong, Negx, Clr, Neg, Not, MoveFromSr, MoveToCcr, Nbcd, Swap, Pea, Ext, ExtByte, MovemToMemory, MovemFromMemory, MulLong, DivLong, Tst, Tas, Trap, Link, LinkLong, Unlk, Nop, Rtd, Rts, Trapv, Rtr, Jsr, Jmp, Chk, Lea, Addq, Subq, Scc, Dbcc, BraByte, BraWord, BraLong, BsrByte, BsrWord, BsrLong, BccByte, BccWord, BccLong, Moveq, OrToRegister, OrToMemory, Divu, Divs, Sbcd, SubToRegister, SubToMemory, Suba, Subx, Cmp, Cmpa, Eor, Cmpm, AndToRegister, AndToMemory, Mulu, Muls, Abcd, Exg, AddToRegister, AddToMemory, Adda, Addx, Shift, ShiftMemory, Illegal, Privileged, LineA, LineF}
@@ -36,7 +37,7 @@ use Rattle.m68_ea.specs.Words.{words_at}
 use Rattle.big_memory.specs.Memory.{Memory}
 use Rattle.mix_reach.specs.declared.reach.Reach.{Reach}
 use Rattle.mix_reach.specs.laws.Ranges.{nothing, plain}
-use Rattle.mix_reach.specs.laws.Rows68.{at_place, behind, into, links, stores}
+use Rattle.mix_reach.specs.laws.Rows68.{at_place, behind, branches, into, links, stores}
 use Rattle.m68_effects.specs.Bits.{bit_size}
 use Rattle.m68_effects.specs.Parts.{partner}
 use Rattle.m68_isa.specs.Immediates.{immediate_with}
@@ -67,12 +68,8 @@ found-none r (Made i used good) count none = by-tests r i used (nat_lt count use
 found-none r Row.Privileged count none = refl
 found-none r Row.Illegal count none = refl
 
-extends-none : (r : Regs68) (b : Bool) (n : ℕ) → stores r (if b then Instr.Ext One Two n else Instr.Ext Two Four n) ≡ nothing
-extends-none r true n = refl
-extends-none r false n = refl
-
-branches-none : (r : Regs68) (condition disp : ℕ) → 2 ≤ condition → stores r (Bcc condition disp) ≡ nothing
-branches-none r condition disp fits = rw (ne_eqb condition 1 (λ e. omega (arith, e, fits))) refl
+branches-none : (r : Regs68) (condition : ℕ) → 2 ≤ condition → branches r condition ≡ nothing
+branches-none r condition fits = rw (ne_eqb condition 1 (λ e. omega (arith, e, fits))) refl
 
 -- a data register is no place in memory
 data-operand : (ws : List ℕ) (at : ℕ) (size : Size) (mode lower : ℕ) → (mode == 0) ≡ true → operand_at ws at size mode lower ≡ plain_operand (Dn lower) at
@@ -117,7 +114,7 @@ none_told MoveToCcr word r ws keeps fits = found-none r (made MoveToCcr (first_o
 none_told Nbcd word r ws keeps fits = found-none r (made Nbcd (first_of word) ws) (length ws) (data-into r ws 1 One One (first_of word).mode (first_of word).lower keeps)
 none_told Swap word r ws keeps fits = found-none r (made Swap (first_of word) ws) (length ws) refl
 none_told Pea word r ws keeps fits = absurd (let e : false ≡ true = keeps in cc)
-none_told Ext word r ws keeps fits = found-none r (made Ext (first_of word) ws) (length ws) (extends-none r ((first_of word).size % 2 == 0) (first_of word).lower)
+none_told Ext word r ws keeps fits = found-none r (made Ext (first_of word) ws) (length ws) refl
 none_told ExtByte word r ws keeps fits = found-none r (made ExtByte (first_of word) ws) (length ws) refl
 none_told MovemToMemory word r ws keeps fits = absurd (let e : false ≡ true = keeps in cc)
 none_told MovemFromMemory word r ws keeps fits = found-none r (made MovemFromMemory (first_of word) ws) (length ws) refl
@@ -148,9 +145,9 @@ none_told BraLong word r ws keeps fits = found-none r (made BraLong (first_of wo
 none_told BsrByte word r ws keeps fits = absurd (let e : false ≡ true = keeps in cc)
 none_told BsrWord word r ws keeps fits = absurd (let e : false ≡ true = keeps in cc)
 none_told BsrLong word r ws keeps fits = absurd (let e : false ≡ true = keeps in cc)
-none_told BccByte word r ws keeps fits = found-none r (made BccByte (first_of word) ws) (length ws) (branches-none r (condition_of (first_of word)) (sign_extended (low_byte (first_of word)) One) fits)
-none_told BccWord word r ws keeps fits = found-none r (made BccWord (first_of word) ws) (length ws) (branches-none r (condition_of (first_of word)) (extended_word ws 1) fits)
-none_told BccLong word r ws keeps fits = found-none r (made BccLong (first_of word) ws) (length ws) (branches-none r (condition_of (first_of word)) (long_at ws 1) fits)
+none_told BccByte word r ws keeps fits = found-none r (made BccByte (first_of word) ws) (length ws) (branches-none r (condition_of (first_of word)) fits)
+none_told BccWord word r ws keeps fits = found-none r (made BccWord (first_of word) ws) (length ws) (branches-none r (condition_of (first_of word)) fits)
+none_told BccLong word r ws keeps fits = found-none r (made BccLong (first_of word) ws) (length ws) (branches-none r (condition_of (first_of word)) fits)
 none_told Moveq word r ws keeps fits = found-none r (made Moveq (first_of word) ws) (length ws) refl
 none_told OrToRegister word r ws keeps fits = found-none r (made OrToRegister (first_of word) ws) (length ws) refl
 none_told OrToMemory word r ws keeps fits = absurd (let e : false ≡ true = keeps in cc)
@@ -222,8 +219,8 @@ saved_told r ws f w few told =
     ∙ ended-told r (Instr.MovemToMemory size (slice_index ws 1) (Pre f.lower)) 2 (length ws) true w (omega (arith, few)) refl (sym told.1)
 
 -- link
-pub linked_told : (r : Regs68) (register disp count : ℕ) → 2 ≤ count → decoded_stores r (ended (Made (Instr.Link Two register disp) 2 true) count) ≡ plain (links r)
-linked_told r register disp count few = ended-told r (Instr.Link Two register disp) 2 count true (links r) few refl refl
+pub linked_told : (r : Regs68) (register disp count : ℕ) → 2 ≤ count → decoded_stores r (ended (Made (Instr.Link register disp) 2 true) count) ≡ plain (links r)
+linked_told r register disp count few = ended-told r (Instr.Link register disp) 2 count true (links r) few refl refl
 
 -- the words that begin with a first word
 first-read : (ws : List ℕ) → 5 ≤ length ws → decoded ws ≡ read (operation (first_of (slice_index ws 0))) (first_of (slice_index ws 0)) ws
@@ -319,11 +316,11 @@ changes_Not r ws word op x few is holds =
 
 pub changes_Addq : (r : Regs68) (ws : List ℕ) (word : ℕ) (op : Op68) (x : Option Reach) → 5 ≤ length ws → op ≡ Addq → IfSome x (Changes r ws (first_of word)) → IfSome x (TellsBy r ws (first_of word) op)
 changes_Addq r ws word op x few is holds =
-    some_told x (Changes r ws (first_of word)) (TellsBy r ws (first_of word) op) holds (λ w goes. by-op r ws (first_of word) op Addq w is (changed_told r ws (first_of word) (λ s e. Instr.Addq s (one_to_eight (first_of word).upper) e) w few (λ e. refl) goes))
+    some_told x (Changes r ws (first_of word)) (TellsBy r ws (first_of word) op) holds (λ w goes. by-op r ws (first_of word) op Addq w is (changed_told r ws (first_of word) (λ s e. Instr.Quick QuickBy.Addq s (one_to_eight (first_of word).upper) e) w few (λ e. refl) goes))
 
 pub changes_Subq : (r : Regs68) (ws : List ℕ) (word : ℕ) (op : Op68) (x : Option Reach) → 5 ≤ length ws → op ≡ Subq → IfSome x (Changes r ws (first_of word)) → IfSome x (TellsBy r ws (first_of word) op)
 changes_Subq r ws word op x few is holds =
-    some_told x (Changes r ws (first_of word)) (TellsBy r ws (first_of word) op) holds (λ w goes. by-op r ws (first_of word) op Subq w is (changed_told r ws (first_of word) (λ s e. Instr.Subq s (one_to_eight (first_of word).upper) e) w few (λ e. refl) goes))
+    some_told x (Changes r ws (first_of word)) (TellsBy r ws (first_of word) op) holds (λ w goes. by-op r ws (first_of word) op Subq w is (changed_told r ws (first_of word) (λ s e. Instr.Quick QuickBy.Subq s (one_to_eight (first_of word).upper) e) w few (λ e. refl) goes))
 
 pub changes_OrToMemory : (r : Regs68) (ws : List ℕ) (word : ℕ) (op : Op68) (x : Option Reach) → 5 ≤ length ws → op ≡ OrToMemory → IfSome x (Changes r ws (first_of word)) → IfSome x (TellsBy r ws (first_of word) op)
 changes_OrToMemory r ws word op x few is holds =

@@ -23,8 +23,11 @@ use Rattle.m68_isa.specs.declared.instructions.Exchange.{Exchange}
 use Rattle.m68_isa.specs.declared.instructions.Exchange.TheVariants.{Data, Address, DataAddress}
 use Rattle.m68_isa.specs.declared.instructions.ImmediateOp.{ImmediateOp}
 use Rattle.m68_isa.specs.declared.instructions.ImmediateOp.TheVariants.{Ori, Andi, Subi, Addi, Eori, Cmpi}
+use Rattle.m68_isa.specs.declared.instructions.PlainOp.TheVariants.{Nop, Rts}
+use Rattle.m68_isa.specs.declared.instructions.JumpOp.TheVariants.{Jsr, Jmp}
+use Rattle.m68_isa.specs.declared.instructions.QuickOp.TheVariants.{Addq, Subq}
 use Rattle.m68_isa.specs.declared.instructions.Instr68.{Instr68}
-use Rattle.m68_isa.specs.declared.instructions.Instr68.TheVariants.{Immediate, ImmediateToCcr, BitByRegister, BitByNumber, Movep, Move, Movea, Negx, Clr, Neg, Not, MoveFromSr, MoveToCcr, Nbcd, Swap, Pea, Ext, MovemToMemory, MovemFromMemory, MulLong, DivLong, Tst, Tas, Trap, Link, Unlk, Nop, Rtd, Rts, Trapv, Rtr, Jsr, Jmp, Chk, Lea, Addq, Subq, Scc, Dbcc, Bcc, Moveq, Or, Div, Sbcd, Sub, Suba, Subx, Cmp, Cmpa, Eor, Cmpm, And, Mul, Abcd, Exg, Add, Adda, Addx, Shift, ShiftMemory}
+use Rattle.m68_isa.specs.declared.instructions.Instr68.TheVariants.{Immediate, ImmediateToCcr, BitByRegister, BitByNumber, Movep, Move, Movea, Negx, Clr, Neg, Not, MoveFromSr, MoveToCcr, Nbcd, Swap, Pea, Ext, ExtByte, MovemToMemory, MovemFromMemory, MulLong, DivLong, Tst, Tas, Trap, Link, LinkLong, Unlk, Plain, Rtd, Trapv, Rtr, Jump, Chk, Lea, Quick, Scc, Dbcc, Bcc, BccLong, Moveq, Or, Div, Sbcd, Sub, Suba, Subx, Cmp, Cmpa, Eor, Cmpm, And, Mul, Abcd, Exg, Add, Adda, Addx, Shift, ShiftMemory}
 use Rattle.m68_isa.specs.declared.instructions.LogicOp.TheVariants.{And as WithAnd, Or as WithOr}
 use Rattle.m68_alu.specs.Logical.{combination}
 use Rattle.m68_alu.specs.Products.{divided}
@@ -45,7 +48,7 @@ use Rattle.m68_effects.specs.Multiple.{listed, loaded_along, movem_before, movem
 use Rattle.m68_effects.specs.Parts.{Effect, goes_on, popped}
 use Rattle.m68_effects.specs.Rows.{effect, immediate}
 use Rattle.mix_reach.specs.laws.Ranges.{Beside, nothing, range}
-use Rattle.mix_reach.specs.laws.Rows68.{behind, below, into, links, pushes, several, stores}
+use Rattle.mix_reach.specs.laws.Rows68.{behind, below, branches, into, links, pushes, several, stores}
 use Rattle.mix_reach.proofs.Leaving.{IsShort, Leaves, stores as one-store}
 use Rattle.mix_reach.proofs.Effects68.{Kept, Reaches, along-still, changes, down-still, either, either-way, ends, from-source, pairs, put, reads, refused, still, stored-along, stored-down, stored-left, stored-then, writes}
 
@@ -205,8 +208,8 @@ linked r m next n disp =
     (stored-left r.pc m sp Four (stored_value m sp Four (slice_index q.a n)) (one-store m sp Four (slice_index q.a n)))
     (λ k beside. ends (range sp 4) m _ k beside)
 
-branches : (r : Regs68) (m : Memory) (next condition disp : ℕ) → Kept (stores r (Bcc condition disp)) m (bcc r m next condition disp)
-branches r m next condition disp = by-test (condition == 1)
+branches-keep : (r : Regs68) (m : Memory) (next condition disp : ℕ) → Kept (branches r condition) m (bcc r m next condition disp)
+branches-keep r m next condition disp = by-test (condition == 1)
   where
     target : ℕ
     target = branch_target r.pc disp
@@ -250,7 +253,8 @@ rows r m next (MoveToCcr from) short = reads nothing m (sourced r m Two from) _ 
 rows r m next (Nbcd to) short = changes r m next One to _
 rows r m next (Swap register) short = still nothing m _
 rows r m next (Pea from) short = put-then r m Four (Pre 7) _ _ (λ q n beside. ends (pushes r) m _ n beside)
-rows r m next (Ext from to register) short = still nothing m _
+rows r m next (Ext size register) short = still nothing m _
+rows r m next (ExtByte register) short = still nothing m _
 rows r m next (MovemToMemory size mask to) short = to-memory r m next size mask to short
 rows r m next (MovemFromMemory size mask from) short = from-memory r m next size mask from
 rows r m next (MulLong signed wide by high low) short = reads nothing m (sourced r m Four by) _ (λ p. still nothing m _)
@@ -258,22 +262,24 @@ rows r m next (DivLong signed wide by high low) short = reads nothing m (sourced
 rows r m next (Tst size of) short = reads nothing m (sourced r m size of) _ (λ p. still nothing m _)
 rows r m next (Tas to) short = changes r m next One to (λ d. record { value = bit_or d 0x80; ccr = result_flags One d r.ccr })
 rows r m next (Trap number) short = refused nothing m _
-rows r m next (Link size register disp) short = linked r m next register disp
+rows r m next (Link register disp) short = linked r m next register disp
+rows r m next (LinkLong register disp) short = linked r m next register disp
 rows r m next (Unlk register) short = reads nothing m (popped (with_address r 7 (slice_index r.a register)) m Four) _ (λ p. still nothing m _)
-rows r m next Nop short = still nothing m _
+rows r m next (Plain Nop) short = still nothing m _
+rows r m next (Plain Rts) short = reads nothing m (popped r m Four) _ (λ p. still nothing m _)
 rows r m next (Rtd disp) short = reads nothing m (popped r m Four) _ (λ p. still nothing m _)
-rows r m next Rts short = reads nothing m (popped r m Four) _ (λ p. still nothing m _)
 rows r m next Trapv short = either nothing m r.ccr.v _ _ (refused nothing m _) (still nothing m _)
 rows r m next Rtr short = reads nothing m (popped r m Two) _ (λ p. reads nothing m (popped p.0 m Four) _ (λ t. still nothing m _))
-rows r m next (Jsr to) short = calls r m next (address_of r to)
-rows r m next (Jmp to) short = still nothing m _
+rows r m next (Jump Jsr to) short = calls r m next (address_of r to)
+rows r m next (Jump Jmp to) short = still nothing m _
 rows r m next (Chk bound register) short = reads nothing m (sourced r m Two bound) _ (λ p. either nothing m (is_out (slice_index p.0.d register) p.1) _ _ (refused nothing m _) (still nothing m _))
 rows r m next (Lea from to) short = still nothing m _
-rows r m next (Addq size number to) short = add-quick r m next size number to
-rows r m next (Subq size number to) short = subtract-quick r m next size number to
+rows r m next (Quick Addq size number to) short = add-quick r m next size number to
+rows r m next (Quick Subq size number to) short = subtract-quick r m next size number to
 rows r m next (Scc condition to) short = put-then r m One to _ _ (λ q n beside. ends (into r One to) m _ n beside)
 rows r m next (Dbcc condition register disp) short = counts r m next condition register disp
-rows r m next (Bcc condition disp) short = branches r m next condition disp
+rows r m next (Bcc condition disp) short = branches-keep r m next condition disp
+rows r m next (BccLong condition disp) short = branches-keep r m next condition disp
 rows r m next (Moveq value to) short = still nothing m _
 rows r m next (Or size to_memory register operand) short = either-way r m next size to_memory register operand (combination WithOr size r.ccr)
 rows r m next (Div signed by register) short = reads nothing m (sourced r m Two by) _ (λ p. quotients p.0 m next register (divided signed (slice_index p.0.d register) p.1 r.ccr))

@@ -6,12 +6,12 @@ ghost use Rattle.m68_ea.specs.Places.{address_of as address_of_operand};
 ghost use Rattle.m68_ea.specs.Words.{words_at};
 ghost use Rattle.m68_effects.specs.Bits.{bit_size as bit_size_of};
 ghost use Rattle.m68_effects.specs.Parts.{partner as partner_of};
-ghost use Rattle.mix_reach.specs.laws.Rows68.{at_place as at_place_of, behind as behind_of, below as below_of, if_into as if_into_of, into as into_of, links as links_of, pushes as pushes_of, several as several_of, stores as stores_of};
+ghost use Rattle.mix_reach.specs.laws.Rows68.{at_place as at_place_of, behind as behind_of, below as below_of, branches as branches_of, if_into as if_into_of, into as into_of, jumps as jumps_of, links as links_of, pushes as pushes_of, several as several_of, stores as stores_of};
 
 use crate::reach::{Reach, nothing, range};
 use big_memory::Ram;
 use m68_ea::{Place68, operand_law, place};
-use m68_isa::{Decoded68, Ea, Instr68, Regs68, decode68};
+use m68_isa::{Decoded68, Ea, Instr68, JumpOp, Regs68, decode68};
 use mix_bits::{Size, backward, onward};
 
 /// The instruction at an address.
@@ -68,17 +68,12 @@ pub fn stores(regs: &Regs68, instruction: Instr68) -> Reach
         Instr68::MovemToMemory { size, to, .. } => several(regs, size, to),
         Instr68::Tas { to } => into(regs, Size::One, to),
         Instr68::Link { .. } => links(regs),
-        Instr68::Jsr { .. } => pushes(regs),
-        Instr68::Addq { size, to, .. } => into(regs, size, to),
-        Instr68::Subq { size, to, .. } => into(regs, size, to),
+        Instr68::LinkLong { .. } => links(regs),
+        Instr68::Jump { op, .. } => jumps(regs, op),
+        Instr68::Quick { size, to, .. } => into(regs, size, to),
         Instr68::Scc { to, .. } => into(regs, Size::One, to),
-        Instr68::Bcc { condition, .. } => {
-            if condition == 1 {
-                pushes(regs)
-            } else {
-                nothing()
-            }
-        }
+        Instr68::Bcc { condition, .. } => branches(regs, condition),
+        Instr68::BccLong { condition, .. } => branches(regs, condition),
         Instr68::Or {
             size,
             to_memory,
@@ -188,6 +183,27 @@ pub fn pushes(regs: &Regs68) -> Reach
     ensures { result ≡ pushes_of regs.now }
 {
     into(regs, Size::Four, Ea::Pre(7))
+}
+
+/// A jump to a subroutine pushes.
+fn jumps(regs: &Regs68, op: JumpOp) -> Reach
+    ensures { result ≡ jumps_of regs.now op }
+{
+    match op {
+        JumpOp::Jsr => pushes(regs),
+        JumpOp::Jmp => nothing(),
+    }
+}
+
+/// So does BSR among the branches.
+fn branches(regs: &Regs68, condition: u8) -> Reach
+    ensures { result ≡ branches_of regs.now condition }
+{
+    if condition == 1 {
+        pushes(regs)
+    } else {
+        nothing()
+    }
 }
 
 /// LINK's old value, at the stack pointer as it is then.

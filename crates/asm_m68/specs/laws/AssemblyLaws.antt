@@ -1,4 +1,4 @@
--- Laws of lines, texts and names: each text gives its words, and no others.
+-- Laws of lines, texts and names: each text gives its words, and no others (the texts are this project's own).
 use Rattle.std.specs.Prelude.{ℕ, ◌≡◌, ◌≢◌, ◌^◌, ◌<◌, ◌≤◌, ◌==◌, List, length, take, Bool, true, false}
 use Rattle.m68_isa.specs.declared.instructions.Decoded68.{Decoded68}
 use Rattle.m68_isa.specs.declared.instructions.Decoded68.TheVariants.{Op, Short}

@@ -1,4 +1,4 @@
--- Laws of the table of names: a name has a form exactly where it is in the list.
+-- Laws of the table of names: a name has a form exactly where it is in the list (the texts are this project's own).
 use Rattle.std.specs.Prelude.{ℕ, ◌≡◌, List}
 use Rattle.std.specs.Option.{is_some}
 use Rattle.m68_text.specs.Listed.{is_name}

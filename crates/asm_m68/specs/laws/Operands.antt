@@ -1,4 +1,5 @@
--- The operands of a line, between which commas stand. A comma inside parentheses belongs to an operand.
+-- The operands of a line, between which commas stand. A comma inside parentheses belongs to an operand
+-- (the texts are this project's own).
 use Rattle.std.specs.Prelude.{ℕ, suc, ◌==◌, ◌&&◌, not, Bool, true, false, List, [], ◌∷◌, take, drop, if◌then◌else◌}
 use Rattle.asm_m68.specs.declared.operands.Parsed.{Parsed}
 use Rattle.asm_m68.specs.Reading.{read}

@@ -1,4 +1,4 @@
--- Laws of spelling: the text of an instruction spells its words.
+-- Laws of spelling: the text of an instruction spells its words (the texts are this project's own).
 use Rattle.std.specs.Prelude.{ℕ, ◌≡◌, ◌^◌, ◌<◌, List, [], ◌∷◌, ◌++◌, length, Option, Some, None}
 use Rattle.mix_bits.specs.Names.{name_of}
 use Rattle.mix_bits.specs.laws.Names.{rest_of}

@@ -1,4 +1,5 @@
--- The words at hand of an instruction that may end behind memory.
+-- The words at hand of an instruction that may end behind memory
+-- (M68000 Family Programmer's Reference Manual, section 2.1).
 use Rattle.std.specs.Prelude.{ℕ, ◌≡◌, ◌≢◌, ◌<◌, ◌≤◌, ◌⊎◌, List, length, slice_index}
 use Rattle.m68_isa.specs.declared.instructions.Decoded68.TheVariants.{Short}
 use Rattle.m68_isa.specs.Decode.{decoded}

@@ -1,4 +1,5 @@
--- What follows of the words of an instruction from where it lies.
+-- What follows of the words of an instruction from where it lies
+-- (M68000 Family Programmer's Reference Manual, section 2.1).
 use Rattle.std.specs.Prelude.{◌≡◌, ℕ, ◌+◌, ◌≤◌, length, drop, slice_index}
 use Rattle.byteorder.specs.Endian.{big_number}
 use Rattle.big_memory.specs.Memory.{Memory}

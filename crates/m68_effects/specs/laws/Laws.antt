@@ -1,4 +1,5 @@
--- Laws of instructions that undo one another, by what each does to registers and memory.
+-- Laws of instructions that undo one another, by what each does to registers and memory
+-- (M68000 Family Programmer's Reference Manual, section 4).
 use Rattle.std.specs.Prelude.{◌≡◌, ℕ, ◌^◌, ◌<◌, slice_index, Ok}
 use Rattle.mix_bits.specs.declared.size.Size.{Size}
 use Rattle.mix_bits.specs.declared.size.Size.TheVariants.{Four}
@@ -7,8 +8,10 @@ use Rattle.m68_isa.specs.declared.registers.Regs68.{Regs68}
 use Rattle.m68_isa.specs.declared.ea.Ea.{Ea}
 use Rattle.m68_isa.specs.declared.ea.Ea.TheVariants.{Dn, An, Post, Pre}
 use Rattle.m68_isa.specs.declared.instructions.Exchange.{Exchange}
+use Rattle.m68_isa.specs.declared.instructions.PlainOp.TheVariants.{Rts}
+use Rattle.m68_isa.specs.declared.instructions.JumpOp.TheVariants.{Jsr}
 use Rattle.m68_isa.specs.declared.instructions.Instr68.{Instr68}
-use Rattle.m68_isa.specs.declared.instructions.Instr68.TheVariants.{Move, Movea, Swap, Pea, Link, Unlk, Rts, Jsr, Bcc, Exg}
+use Rattle.m68_isa.specs.declared.instructions.Instr68.TheVariants.{Move, Movea, Swap, Pea, Link, LinkLong, Unlk, Plain, Jump, Bcc, BccLong, Exg}
 use Rattle.m68_alu.specs.Sizes.{result_flags}
 use Rattle.big_memory.specs.Memory.{Memory, loaded}
 use Rattle.big_memory.specs.Numbers.{AreLongs}
@@ -60,8 +63,9 @@ PopsEffective =
 
 -- JSR and BSR
 abbrev pub IsCall : Instr68 → Type 0
-IsCall (Jsr to) = Unit {0}
+IsCall (Jump Jsr to) = Unit {0}
 IsCall (Bcc condition displacement) = condition ≡ 1
+IsCall (BccLong condition displacement) = condition ≡ 1
 IsCall _ = ⊥
 
 -- registers p and memory k, which came from q and n, have an address register as it was, and the long there
@@ -74,7 +78,7 @@ abbrev pub ReturnsAtOnce : Type 0
 ReturnsAtOnce =
     (r q : Regs68) (m n : Memory) (next last : ℕ) (call : Instr68) → IsFile r → next < 2 ^ 32 → IsCall call
     → effect r m next call ≡ Ok (q, n)
-    → effect q n last Rts ≡ goes_on next r n
+    → effect q n last (Plain Rts) ≡ goes_on next r n
 
 -- whatever a subroutine does that leaves the stack pointer as it found it, and the long there, its return goes on
 -- behind the call with the stack pointer that the caller had
@@ -82,18 +86,24 @@ abbrev pub Returns : Type 0
 Returns =
     (r q p : Regs68) (m n k : Memory) (next last : ℕ) (call : Instr68) → IsFile r → next < 2 ^ 32 → IsCall call
     → effect r m next call ≡ Ok (q, n) → LeavesLong 7 q n p k
-    → effect p k last Rts ≡ goes_on next (with_address p 7 (slice_index r.a 7)) k
+    → effect p k last (Plain Rts) ≡ goes_on next (with_address p 7 (slice_index r.a 7)) k
+
+-- LINK of this register, with a displacement of a word or of a long
+abbrev pub IsLink : Instr68 → ℕ → Type 0
+IsLink (Link register displacement) frame = register ≡ frame
+IsLink (LinkLong register displacement) frame = register ≡ frame
+IsLink _ frame = ⊥
 
 -- LINK, and at once UNLK of the same register, give back that register and the stack pointer
 abbrev pub UnlinksAtOnce : Type 0
 UnlinksAtOnce =
-    (r q : Regs68) (m n : Memory) (next last frame displacement : ℕ) (size : Size) → IsFile r → frame < 7
-    → effect r m next (Link size frame displacement) ≡ Ok (q, n)
+    (r q : Regs68) (m n : Memory) (next last frame : ℕ) (first : Instr68) → IsFile r → frame < 7 → IsLink first frame
+    → effect r m next first ≡ Ok (q, n)
     → effect q n last (Unlk frame) ≡ goes_on last r n
 
 -- so they do whatever stands between them that leaves the register, which is not the stack pointer, and the long there
 abbrev pub Unlinks : Type 0
 Unlinks =
-    (r q p : Regs68) (m n k : Memory) (next last frame displacement : ℕ) (size : Size) → IsFile r → IsFile p → frame < 7
-    → effect r m next (Link size frame displacement) ≡ Ok (q, n) → LeavesLong frame q n p k
+    (r q p : Regs68) (m n k : Memory) (next last frame : ℕ) (first : Instr68) → IsFile r → IsFile p → frame < 7 → IsLink first frame
+    → effect r m next first ≡ Ok (q, n) → LeavesLong frame q n p k
     → effect p k last (Unlk frame) ≡ goes_on last (with_address (with_address p 7 (slice_index r.a 7)) frame (slice_index r.a frame)) k

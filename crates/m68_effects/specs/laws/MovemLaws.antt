@@ -1,4 +1,5 @@
--- MOVEM to -(An) and MOVEM from (An)+ of one list of registers.
+-- MOVEM to -(An) and MOVEM from (An)+ of one list of registers
+-- (M68000 Family Programmer's Reference Manual, section 4, MOVEM).
 use Rattle.std.specs.Prelude.{◌≡◌, ◌≢◌, ℕ, ◌+◌, ◌-◌, ◌<◌, ◌≤◌, slice_index, Ok}
 use Rattle.mix_bits.specs.declared.size.Size.{Size}
 use Rattle.mix_bits.specs.declared.size.Size.TheVariants.{Two, Four}

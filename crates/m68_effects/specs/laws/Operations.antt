@@ -1,5 +1,5 @@
 -- What the code that many instructions share does: one operation on two numbers, and the step that does it
--- with the operand of a first word.
+-- with the operand of a first word (M68000 Family Programmer's Reference Manual, section 4).
 use Rattle.std.specs.Prelude.{ℕ, ◌*◌, if◌then◌else◌}
 use Rattle.mix_bits.specs.declared.fault.FaultKind.TheVariants.{Illegal}
 use Rattle.mix_bits.specs.Addresses.{onward}

@@ -1,4 +1,5 @@
--- What the operation of a first word does, where no word of its instruction is missing.
+-- What the operation of a first word does, where no word of its instruction is missing
+-- (M68000 Family Programmer's Reference Manual, section 4).
 use Rattle.std.specs.Prelude.{ℕ, ◌*◌, if◌then◌else◌}
 use Rattle.mix_bits.specs.Addresses.{onward}
 use Rattle.mix_bits.specs.declared.fault.FaultKind.TheVariants.{Vector, Privileged as IsPrivileged, Illegal as IsIllegal}

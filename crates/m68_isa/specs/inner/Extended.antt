@@ -4,6 +4,6 @@ use Rattle.m68_isa.specs.declared.found.Found.TheVariants.{Made, Privileged as R
 use Rattle.m68_isa.specs.Extended.{IsExtended}
 
 abbrev pub IsExtendedFound : Found → Type 0
-IsExtendedFound (Made i used good) = IsExtended i used
+IsExtendedFound (Made i used good) = IsExtended i
 IsExtendedFound RowPrivileged = Unit {0}
 IsExtendedFound RowIllegal = Unit {0}

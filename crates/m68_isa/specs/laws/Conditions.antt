@@ -1,4 +1,4 @@
--- Conditions that differ in their last bit are opposite.
+-- Conditions that differ in their last bit are opposite (M68000 Family Programmer's Reference Manual, table 3-19).
 use Rattle.std.specs.Prelude.{ℕ, ◌≡◌, ◌+◌, ◌*◌, ◌<◌, not}
 use Rattle.m68_isa.specs.declared.registers.Ccr.{Ccr}
 use Rattle.m68_isa.specs.Conditions.{holds}

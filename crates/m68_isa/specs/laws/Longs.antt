@@ -1,4 +1,4 @@
--- A register file and its longs give each other back.
+-- A register file and its longs give each other back (M68000 Family Programmer's Reference Manual, section 1.1).
 use Rattle.std.specs.Prelude.{ℕ, ◌≡◌, ◌<◌, List, length, slice_index}
 use Rattle.m68_isa.specs.declared.registers.Regs68.{Regs68}
 use Rattle.m68_isa.specs.Longs.{longs_of, file_of}

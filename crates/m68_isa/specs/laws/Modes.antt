@@ -8,7 +8,7 @@ use Rattle.m68_isa.specs.Classes.Class.{Any, Data, Alterable, DataAlterable, Mem
 use Rattle.m68_isa.specs.declared.instructions.BitOp.{BitOp}
 use Rattle.m68_isa.specs.declared.instructions.BitOp.TheVariants.{Btst, Bchg, Bclr, Bset}
 use Rattle.m68_isa.specs.declared.instructions.Instr68.{Instr68}
-use Rattle.m68_isa.specs.declared.instructions.Instr68.TheVariants.{Immediate, ImmediateToCcr, BitByRegister, BitByNumber, Movep, Move, Movea, Negx, Clr, Neg, Not, MoveFromSr, MoveToCcr, Nbcd, Swap, Pea, Ext, MovemToMemory, MovemFromMemory, MulLong, DivLong, Tst, Tas, Trap, Link, Unlk, Nop, Rtd, Rts, Trapv, Rtr, Jsr, Jmp, Chk, Lea, Addq, Subq, Scc, Dbcc, Bcc, Moveq, Or, Div, Sbcd, Sub, Suba, Subx, Cmp, Cmpa, Eor, Cmpm, And, Mul, Abcd, Exg, Add, Adda, Addx, Shift, ShiftMemory}
+use Rattle.m68_isa.specs.declared.instructions.Instr68.TheVariants.{Immediate, ImmediateToCcr, BitByRegister, BitByNumber, Movep, Move, Movea, Negx, Clr, Neg, Not, MoveFromSr, MoveToCcr, Nbcd, Swap, Pea, Ext, ExtByte, MovemToMemory, MovemFromMemory, MulLong, DivLong, Tst, Tas, Trap, Link, LinkLong, Unlk, Plain, Rtd, Trapv, Rtr, Jump, Chk, Lea, Quick, Scc, Dbcc, Bcc, BccLong, Moveq, Or, Div, Sbcd, Sub, Suba, Subx, Cmp, Cmpa, Eor, Cmpm, And, Mul, Abcd, Exg, Add, Adda, Addx, Shift, ShiftMemory}
 use Rattle.m68_isa.specs.Classes.{Class, in_class, is_source}
 
 -- the mode's three bits and the register's, of which mode 7 makes modes of its own
@@ -84,12 +84,10 @@ has_modes (MulLong signed wide by high low) = is_in Data by
 has_modes (DivLong signed wide by high low) = is_in Data by
 has_modes (Tst size of) = is_in DataAlterable of
 has_modes (Tas to) = is_in DataAlterable to
-has_modes (Jsr to) = is_in Control to
-has_modes (Jmp to) = is_in Control to
+has_modes (Jump op to) = is_in Control to
 has_modes (Chk bound register) = is_in Data bound
 has_modes (Lea from to) = is_in Control from
-has_modes (Addq size number to) = is_sized Alterable size to
-has_modes (Subq size number to) = is_sized Alterable size to
+has_modes (Quick op size number to) = is_sized Alterable size to
 has_modes (Scc condition to) = is_in DataAlterable to
 has_modes (Or size to_memory register operand) = is_either to_memory (is_in Data operand) operand
 has_modes (Div signed by register) = is_in Data by
@@ -106,17 +104,19 @@ has_modes (Adda size from to) = true
 has_modes (ImmediateToCcr op value) = true
 has_modes (Movep size to_memory register base disp) = true
 has_modes (Swap register) = true
-has_modes (Ext from to register) = true
+has_modes (Ext size register) = true
+has_modes (ExtByte register) = true
 has_modes (Trap number) = true
-has_modes (Link size register disp) = true
+has_modes (Link register disp) = true
+has_modes (LinkLong register disp) = true
 has_modes (Unlk register) = true
-has_modes Nop = true
+has_modes (Plain op) = true
 has_modes (Rtd disp) = true
-has_modes Rts = true
 has_modes Trapv = true
 has_modes Rtr = true
 has_modes (Dbcc condition register disp) = true
 has_modes (Bcc condition disp) = true
+has_modes (BccLong condition disp) = true
 has_modes (Moveq value to) = true
 has_modes (Sbcd memory from to) = true
 has_modes (Subx size memory from to) = true

@@ -1,5 +1,5 @@
 -- How many words an operation needs, and that it looks at no others. Behind the last word of a
--- list stand zeros.
+-- list stand zeros (M68000 Family Programmer's Reference Manual, section 2.1).
 use Rattle.std.specs.Prelude.{ℕ, ◌≡◌, ◌≢◌, ◌<◌, ◌≤◌, ◌⊎◌, if◌then◌else◌, List, ◌∷◌, length, slice_index}
 use Rattle.m68_isa.specs.declared.instructions.Instr68.{Instr68}
 use Rattle.m68_isa.specs.declared.instructions.Decoded68.{Decoded68}

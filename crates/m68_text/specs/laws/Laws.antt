@@ -1,4 +1,4 @@
--- Laws of the names of instructions: each is in the list.
+-- Laws of the names of instructions: each is in the list (M68000 Family Programmer's Reference Manual, section 4).
 use Rattle.std.specs.Prelude.{ℕ, ◌≡◌, ◌^◌, ◌<◌, true, List, ◌∷◌}
 use Rattle.m68_isa.specs.declared.instructions.Decoded68.TheVariants.{Op}
 use Rattle.m68_isa.specs.declared.instructions.Instr68.{Instr68}

@@ -1,5 +1,5 @@
 -- Where an instruction of 68K code stores, by its row: at most four bytes at its destination or on the stack, and for
--- several registers as many bytes as sixteen longs have.
+-- several registers as many bytes as sixteen longs have (M68000 Family Programmer's Reference Manual, section 4).
 use Rattle.std.specs.Prelude.{ℕ, ◌+◌, ◌-◌, ◌==◌, Bool, if◌then◌else◌, slice_index}
 use Rattle.mix_bits.specs.Addresses.{onward}
 use Rattle.mix_bits.specs.Sizes.{bytes_of}
@@ -8,8 +8,10 @@ use Rattle.mix_bits.specs.declared.size.Size.TheVariants.{One, Two, Four}
 use Rattle.m68_isa.specs.declared.registers.Regs68.{Regs68}
 use Rattle.m68_isa.specs.declared.ea.Ea.{Ea}
 use Rattle.m68_isa.specs.declared.ea.Ea.TheVariants.{Pre}
+use Rattle.m68_isa.specs.declared.instructions.JumpOp.{JumpOp}
+use Rattle.m68_isa.specs.declared.instructions.JumpOp.TheVariants.{Jsr, Jmp}
 use Rattle.m68_isa.specs.declared.instructions.Instr68.{Instr68}
-use Rattle.m68_isa.specs.declared.instructions.Instr68.TheVariants.{Immediate, BitByRegister, BitByNumber, Movep, Move, Negx, Clr, Neg, Not, MoveFromSr, Nbcd, Pea, MovemToMemory, Tas, Link, Jsr, Addq, Subq, Scc, Bcc, Or, Sbcd, Sub, Subx, Eor, And, Abcd, Add, Addx, ShiftMemory}
+use Rattle.m68_isa.specs.declared.instructions.Instr68.TheVariants.{Immediate, BitByRegister, BitByNumber, Movep, Move, Negx, Clr, Neg, Not, MoveFromSr, Nbcd, Pea, MovemToMemory, Tas, Link, LinkLong, Jump, Quick, Scc, Bcc, BccLong, Or, Sbcd, Sub, Subx, Eor, And, Abcd, Add, Addx, ShiftMemory}
 use Rattle.m68_ea.specs.declared.places.Place68.{Place68}
 use Rattle.m68_ea.specs.declared.places.Place68.TheVariants.{Mem}
 use Rattle.m68_ea.specs.Places.{address_of, placed}
@@ -36,6 +38,14 @@ if_into to_memory r size to = if to_memory then into r size to else nothing
 
 abbrev pub pushes : Regs68 → Reach
 pushes r = into r Four (Pre 7)
+
+-- a jump to a subroutine pushes, and so does BSR among the branches
+abbrev pub jumps : Regs68 → JumpOp → Reach
+jumps r Jsr = pushes r
+jumps r Jmp = nothing
+
+abbrev pub branches : Regs68 → ℕ → Reach
+branches r condition = if condition == 1 then pushes r else nothing
 
 -- LINK's old value, at the stack pointer as it is then
 abbrev pub links : Regs68 → Reach
@@ -64,12 +74,13 @@ stores r (Nbcd to) = into r One to
 stores r (Pea from) = pushes r
 stores r (MovemToMemory size mask to) = several r size to
 stores r (Tas to) = into r One to
-stores r (Link size register disp) = links r
-stores r (Jsr to) = pushes r
-stores r (Addq size number to) = into r size to
-stores r (Subq size number to) = into r size to
+stores r (Link register disp) = links r
+stores r (LinkLong register disp) = links r
+stores r (Jump op to) = jumps r op
+stores r (Quick op size number to) = into r size to
 stores r (Scc condition to) = into r One to
-stores r (Bcc condition disp) = if condition == 1 then pushes r else nothing
+stores r (Bcc condition disp) = branches r condition
+stores r (BccLong condition disp) = branches r condition
 stores r (Or size to_memory register operand) = if_into to_memory r size operand
 stores r (Sbcd memory from to) = behind r One (partner memory from) (partner memory to)
 stores r (Sub size to_memory register operand) = if_into to_memory r size operand

@@ -1,6 +1,6 @@
 use Rattle.std.proofs.Common.{◌≡◌, ◌∙◌, refl}
 use Rattle.m68_isa.specs.declared.instructions.Instr68.{Instr68}
-use Rattle.m68_isa.specs.declared.instructions.Instr68.TheVariants.{Immediate, ImmediateToCcr, BitByRegister, BitByNumber, Movep, Move, Movea, Negx, Clr, Neg, Not, MoveFromSr, MoveToCcr, Nbcd, Swap, Pea, Ext, MovemToMemory, MovemFromMemory, MulLong, DivLong, Tst, Tas, Trap, Link, Unlk, Nop, Rtd, Rts, Trapv, Rtr, Jsr, Jmp, Chk, Lea, Addq, Subq, Scc, Dbcc, Bcc, Moveq, Or, Div, Sbcd, Sub, Suba, Subx, Cmp, Cmpa, Eor, Cmpm, And, Mul, Abcd, Exg, Add, Adda, Addx, Shift, ShiftMemory}
+use Rattle.m68_isa.specs.declared.instructions.Instr68.TheVariants.{Immediate, ImmediateToCcr, BitByRegister, BitByNumber, Movep, Move, Movea, Negx, Clr, Neg, Not, MoveFromSr, MoveToCcr, Nbcd, Swap, Pea, Ext, ExtByte, MovemToMemory, MovemFromMemory, MulLong, DivLong, Tst, Tas, Trap, Link, LinkLong, Unlk, Plain, Rtd, Trapv, Rtr, Jump, Chk, Lea, Quick, Scc, Dbcc, Bcc, BccLong, Moveq, Or, Div, Sbcd, Sub, Suba, Subx, Cmp, Cmpa, Eor, Cmpm, And, Mul, Abcd, Exg, Add, Adda, Addx, Shift, ShiftMemory}
 use Rattle.mix_reach.specs.laws.Ranges.{nothing}
 use Rattle.mix_reach.specs.laws.Rows68.{stores}
 use Rattle.mix_reach.proofs.m68.stores.Goals as goal
@@ -8,7 +8,7 @@ use Rattle.mix_reach.proofs.m68.stores.Goals as goal
 -- no other row stores
 pub returns-in_default : goal.returns-in_default
 returns-in_default c =
-    c.nothing-in_default.ensures
+    c.nothing.ensures
     ∙ elim c.args.instruction as (λ (i : Instr68). c.args.instruction ≡ i → nothing ≡ stores c.args.regs.now i) [
       | Immediate op size value to ↦ λ is. absurd (c.in_default.not-Immediate op size value to is)
       | ImmediateToCcr op value ↦ λ is. refl
@@ -26,7 +26,8 @@ returns-in_default c =
       | Nbcd to ↦ λ is. absurd (c.in_default.not-Nbcd to is)
       | Swap register ↦ λ is. refl
       | Pea from ↦ λ is. absurd (c.in_default.not-Pea from is)
-      | Ext from to register ↦ λ is. refl
+      | Ext size register ↦ λ is. refl
+      | ExtByte register ↦ λ is. refl
       | MovemToMemory size mask to ↦ λ is. absurd (c.in_default.not-MovemToMemory size mask to is)
       | MovemFromMemory size mask from ↦ λ is. refl
       | MulLong signed wide by high low ↦ λ is. refl
@@ -34,22 +35,21 @@ returns-in_default c =
       | Tst size of ↦ λ is. refl
       | Tas to ↦ λ is. absurd (c.in_default.not-Tas to is)
       | Trap number ↦ λ is. refl
-      | Link size register disp ↦ λ is. absurd (c.in_default.not-Link size register disp is)
+      | Link register disp ↦ λ is. absurd (c.in_default.not-Link register disp is)
+      | LinkLong register disp ↦ λ is. absurd (c.in_default.not-LinkLong register disp is)
       | Unlk register ↦ λ is. refl
-      | Nop ↦ λ is. refl
+      | Plain op ↦ λ is. refl
       | Rtd disp ↦ λ is. refl
-      | Rts ↦ λ is. refl
       | Trapv ↦ λ is. refl
       | Rtr ↦ λ is. refl
-      | Jsr to ↦ λ is. absurd (c.in_default.not-Jsr to is)
-      | Jmp to ↦ λ is. refl
+      | Jump op to ↦ λ is. absurd (c.in_default.not-Jump op to is)
       | Chk bound register ↦ λ is. refl
       | Lea from to ↦ λ is. refl
-      | Addq size number to ↦ λ is. absurd (c.in_default.not-Addq size number to is)
-      | Subq size number to ↦ λ is. absurd (c.in_default.not-Subq size number to is)
+      | Quick op size number to ↦ λ is. absurd (c.in_default.not-Quick op size number to is)
       | Scc condition to ↦ λ is. absurd (c.in_default.not-Scc condition to is)
       | Dbcc condition register disp ↦ λ is. refl
       | Bcc condition disp ↦ λ is. absurd (c.in_default.not-Bcc condition disp is)
+      | BccLong condition disp ↦ λ is. absurd (c.in_default.not-BccLong condition disp is)
       | Moveq value to ↦ λ is. refl
       | Or size to_memory register operand ↦ λ is. absurd (c.in_default.not-Or size to_memory register operand is)
       | Div signed by register ↦ λ is. refl
