@@ -11,8 +11,8 @@ use Rattle.ppc_isa.specs.Valid.{Stands}
 use Rattle.ppc_isa.proofs.Found.{decoded_stands}
 use Rattle.ppc_text.specs.declared.operand.Operand.TheVariants.{Target}
 use Rattle.ppc_text.specs.Listed.{is_name, names, shapes}
-use Rattle.ppc_text.specs.Names.{name}
-use Rattle.ppc_text.specs.Operands.{operands, operands_text}
+use Rattle.ppc_text.specs.Instructions.{name, operands}
+use Rattle.ppc_text.specs.Operands.{operands_text}
 use Rattle.ppc_text.specs.Text.{long_text, text_of, word_text}
 use Rattle.asm_ppc.specs.declared.assembler.AsmError.{AsmError}
 use Rattle.asm_ppc.specs.declared.assembler.AsmError.TheVariants.{Name, Operands}

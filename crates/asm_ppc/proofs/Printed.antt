@@ -8,10 +8,10 @@ use Rattle.std.specs.Str.{bytes_eq}
 use Rattle.mix_bits.specs.Names.{name_of}
 use Rattle.mix_bits.proofs.Conditions.{both}
 use Rattle.ppc_isa.specs.declared.instruction.InstrPpc.{InstrPpc}
-use Rattle.ppc_isa.specs.Rows.{decoded, operation}
+use Rattle.ppc_isa.specs.Rows.{decoded}
 use Rattle.ppc_isa.specs.Words.{word_of}
 use Rattle.ppc_text.specs.Listed.{names, shapes}
-use Rattle.ppc_text.specs.Names.{name}
+use Rattle.ppc_text.specs.Instructions.{name}
 use Rattle.ppc_text.specs.Text.{word_text}
 use Rattle.asm_ppc.specs.laws.AssemblyLaws.{IsPrinted, NamesArePrinted, TextsDiffer}
 use Rattle.asm_ppc.proofs.Complete.{gives_one}
@@ -28,11 +28,11 @@ all_print [] = true
 all_print (i ∷ is) = if prints_name (word_of i) (name i) then all_print is else false
 
 shapes_print : all_print shapes ≡ true
-unfolding shapes decoded operation
+unfolding shapes decoded
 shapes_print = refl
 
 long_prints : prints_name 0 (codes ".long") ≡ true
-unfolding decoded operation
+unfolding decoded
 long_prints = refl
 
 below : (w : ℕ) → nat_lt w (2 ^ 32) ≡ true → w < 2 ^ 32

@@ -26,8 +26,7 @@ use Rattle.ppc_isa.specs.declared.instruction.ConditionMove.TheVariants.{MoveFro
 use Rattle.ppc_isa.specs.declared.instruction.SpecialMove.TheVariants.{MoveFromSpecial, MoveToSpecial}
 use Rattle.ppc_isa.specs.Valid.{InRange, IsDisplacement}
 use Rattle.ppc_isa.specs.Words.{word_of}
-use Rattle.ppc_text.specs.Names.{name}
-use Rattle.ppc_text.specs.Operands.{operands}
+use Rattle.ppc_text.specs.Instructions.{name, operands}
 use Rattle.asm_ppc.specs.declared.layout.Layout.{Layout}
 use Rattle.asm_ppc.specs.Reading.{none}
 use Rattle.asm_ppc.specs.inner.Spelling.{is_long, placed}

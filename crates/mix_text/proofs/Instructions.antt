@@ -17,6 +17,7 @@ use Rattle.asm_ppc.specs.declared.assembler.AsmError.{AsmError as ErrorPpc}
 use Rattle.asm_ppc.specs.declared.assembler.AsmError.TheVariants.{Name as NamePpc, Operands as OperandsPpc}
 use Rattle.mix_text.specs.Lines.{address_in, is_silent}
 use Rattle.mix_text.specs.Assembling.{IsM68, IsAddressed, IsGiven, IsInstruction, IsPpc, long_bytes, word_bytes}
+use Rattle.mix_text.proofs.Known.{known_m68, known_ppc, listed_m68, listed_ppc, unknown}
 use Rattle.mix_text.specs.inner.Parts.{GivesBytes, SpellsBytes, reason_m68, reason_ppc}
 use Rattle.mix_text.specs.declared.refused.Reason.{Reason}
 use Rattle.mix_text.specs.declared.refused.Reason.TheVariants.{Address}
@@ -35,8 +36,8 @@ pub words-68k : (line : List ℕ) (at : ℕ) (code : Code68) (bytes : List ℕ) 
 words-68k line at code bytes words is = (kept code, (words (kept code)).0 refl, is)
 
 is-refused : (line : List ℕ) (at : ℕ) (e : ErrorM68) → NameM68Is line (Err e) → OperandsM68Are line at (Err e) → IsM68 line at (Err (reason_m68 e))
-is-refused line at NameM68 named operands = named.0 refl
-is-refused line at OperandsM68 named operands = operands.0 refl
+is-refused line at NameM68 named operands = unknown (is_name_m68 (name_of line)) (listed_m68 (name_of line)) (named.0 refl)
+is-refused line at OperandsM68 named operands = let none = operands.0 refl in (known_m68 (name_of line) none.0, none.1)
 
 pub refused-68k : (line : List ℕ) (at : ℕ) (e : ErrorM68) (reason : Reason) → NameM68Is line (Err e) → OperandsM68Are line at (Err e) → reason ≡ reason_m68 e → IsM68 line at (Err reason)
 refused-68k line at e reason named operands is = subst (λ x. IsM68 line at (Err x)) (sym is) (is-refused line at e named operands)
@@ -55,8 +56,8 @@ pub word-ppc : (line : List ℕ) (at word : ℕ) (bytes : List ℕ) → WordPpc 
 word-ppc line at word bytes words is = (word, (words word).0 refl, is)
 
 ppc-refused : (line : List ℕ) (at : ℕ) (e : ErrorPpc) → NamePpcIs line (Err e) → OperandsPpcAre line at (Err e) → IsPpc line at (Err (reason_ppc e))
-ppc-refused line at NamePpc named operands = named.0 refl
-ppc-refused line at OperandsPpc named operands = operands.0 refl
+ppc-refused line at NamePpc named operands = unknown (is_name_ppc (name_of line)) (listed_ppc (name_of line)) (named.0 refl)
+ppc-refused line at OperandsPpc named operands = let none = operands.0 refl in (known_ppc (name_of line) none.0, none.1)
 
 pub refused-ppc : (line : List ℕ) (at : ℕ) (e : ErrorPpc) (reason : Reason) → NamePpcIs line (Err e) → OperandsPpcAre line at (Err e) → reason ≡ reason_ppc e → IsPpc line at (Err reason)
 refused-ppc line at e reason named operands is = subst (λ x. IsPpc line at (Err x)) (sym is) (ppc-refused line at e named operands)

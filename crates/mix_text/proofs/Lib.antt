@@ -1,6 +1,7 @@
 pub mod ListedLines
 pub mod Words
 pub mod Splits
+pub mod Known
 pub mod Instructions
 pub mod Walks
 pub mod Once

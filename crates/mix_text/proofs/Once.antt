@@ -5,14 +5,12 @@ use Rattle.mix_bits.specs.Addresses.{onward}
 use Rattle.mix_bits.specs.declared.isa.Isa.{Isa}
 use Rattle.mix_bits.specs.declared.isa.Isa.TheVariants.{M68, Ppc}
 use Rattle.mix_bits.specs.Names.{name_of}
-use Rattle.m68_text.specs.Listed.{is_name as is_name_m68}
 use Rattle.asm_m68.specs.Assembly.{Gives as GivesM68}
-use Rattle.asm_m68.proofs.Complete.{given_named as named_m68, gives_one as one_m68}
-use Rattle.ppc_text.specs.Listed.{is_name as is_name_ppc}
+use Rattle.asm_m68.proofs.Complete.{gives_one as one_m68}
 use Rattle.asm_ppc.specs.Assembly.{Gives as GivesPpc}
-use Rattle.asm_ppc.proofs.Complete.{given_named as named_ppc, gives_one as one_ppc}
+use Rattle.asm_ppc.proofs.Complete.{gives_one as one_ppc}
 use Rattle.mix_text.specs.Lines.{address_in, is_silent, lines_of}
-use Rattle.mix_text.specs.Assembling.{Assembles, IsAddressed, IsAnswer, IsGiven, IsInstruction, IsWithRest, before, long_bytes, refused_at, word_bytes}
+use Rattle.mix_text.specs.Assembling.{Assembles, IsAddressed, IsAnswer, IsGiven, IsInstruction, IsKnown, IsWithRest, before, long_bytes, refused_at, word_bytes}
 use Rattle.mix_text.specs.laws.Laws.{AnswersOnce}
 use Rattle.mix_text.specs.declared.refused.Reason.{Reason}
 use Rattle.mix_text.specs.declared.refused.Reason.TheVariants.{Address, Name, Operands}
@@ -22,27 +20,28 @@ use Rattle.mix_text.specs.declared.refused.Refused.{Refused}
 abbrev pub IsOne : {A : Type 0} → (A → Type 0) → Type 0
 IsOne {A = A} Holds = (a b : A) → Holds a → Holds b → a ≡ b
 
-not_both : {P : Type 0} (b : Bool) → b ≡ true → b ≡ false → P
-not_both {P} b e h = absurd (let clash : true ≡ false = sym e ∙ h in cc)
+-- a line that gives something has a name
+known_by : {X : Type 0} (Gives : List ℕ → ℕ → X → Type 0) (line : List ℕ) (at : ℕ) (code : X) → at < 2 ^ 32 → Gives line at code → IsKnown Gives (name_of line)
+known_by {X} Gives line at code fits given = record { line = line; at = at; fits = fits; code = code; gives = given; named = refl }
 
-one_answer : {X : Type 0} (Gives : X → Type 0) (bytes_of : X → List ℕ) (known : Bool) → IsOne Gives → ((code : X) → Gives code → known ≡ true) → IsOne (IsAnswer Gives bytes_of known)
-one_answer {X} Gives bytes_of known one named (Ok x) (Ok y) a b = ap Ok (a.2 ∙ ap bytes_of (one a.0 b.0 a.1 b.1) ∙ sym b.2)
-one_answer {X} Gives bytes_of known one named (Ok x) (Err Address) a b = absurd b
-one_answer {X} Gives bytes_of known one named (Ok x) (Err Name) a b = not_both known (named a.0 a.1) b
-one_answer {X} Gives bytes_of known one named (Ok x) (Err Operands) a b = absurd (b.1 a.0 a.1)
-one_answer {X} Gives bytes_of known one named (Err Address) s a b = absurd a
-one_answer {X} Gives bytes_of known one named (Err Name) (Ok y) a b = not_both known (named b.0 b.1) a
-one_answer {X} Gives bytes_of known one named (Err Name) (Err Address) a b = absurd b
-one_answer {X} Gives bytes_of known one named (Err Name) (Err Name) a b = refl
-one_answer {X} Gives bytes_of known one named (Err Name) (Err Operands) a b = not_both known b.0 a
-one_answer {X} Gives bytes_of known one named (Err Operands) (Ok y) a b = absurd (a.1 b.0 b.1)
-one_answer {X} Gives bytes_of known one named (Err Operands) (Err Address) a b = absurd b
-one_answer {X} Gives bytes_of known one named (Err Operands) (Err Name) a b = not_both known a.0 b
-one_answer {X} Gives bytes_of known one named (Err Operands) (Err Operands) a b = refl
+one_answer : {X : Type 0} (Gives : List ℕ → ℕ → X → Type 0) (bytes_of : X → List ℕ) (line : List ℕ) (at : ℕ) → at < 2 ^ 32 → IsOne (Gives line at) → IsOne (IsAnswer Gives bytes_of line at)
+one_answer {X} Gives bytes_of line at fits one (Ok x) (Ok y) a b = ap Ok (a.2 ∙ ap bytes_of (one a.0 b.0 a.1 b.1) ∙ sym b.2)
+one_answer {X} Gives bytes_of line at fits one (Ok x) (Err Address) a b = absurd b
+one_answer {X} Gives bytes_of line at fits one (Ok x) (Err Name) a b = absurd (b (known_by Gives line at a.0 fits a.1))
+one_answer {X} Gives bytes_of line at fits one (Ok x) (Err Operands) a b = absurd (b.1 a.0 a.1)
+one_answer {X} Gives bytes_of line at fits one (Err Address) s a b = absurd a
+one_answer {X} Gives bytes_of line at fits one (Err Name) (Ok y) a b = absurd (a (known_by Gives line at b.0 fits b.1))
+one_answer {X} Gives bytes_of line at fits one (Err Name) (Err Address) a b = absurd b
+one_answer {X} Gives bytes_of line at fits one (Err Name) (Err Name) a b = refl
+one_answer {X} Gives bytes_of line at fits one (Err Name) (Err Operands) a b = absurd (a b.0)
+one_answer {X} Gives bytes_of line at fits one (Err Operands) (Ok y) a b = absurd (a.1 b.0 b.1)
+one_answer {X} Gives bytes_of line at fits one (Err Operands) (Err Address) a b = absurd b
+one_answer {X} Gives bytes_of line at fits one (Err Operands) (Err Name) a b = absurd (b a.0)
+one_answer {X} Gives bytes_of line at fits one (Err Operands) (Err Operands) a b = refl
 
 one_instruction : (set : Isa) (line : List ℕ) (at : ℕ) → at < 2 ^ 32 → IsOne (IsInstruction set line at)
-one_instruction M68 line at fits = one_answer (GivesM68 line at) word_bytes (is_name_m68 (name_of line)) (λ vs ws. one_m68 line at vs ws fits) (λ ws. named_m68 line at ws fits)
-one_instruction Ppc line at fits = one_answer (GivesPpc line at) long_bytes (is_name_ppc (name_of line)) (λ v w. one_ppc line at v w fits) (λ w. named_ppc line at w fits)
+one_instruction M68 line at fits = one_answer GivesM68 word_bytes line at fits (λ vs ws. one_m68 line at vs ws fits)
+one_instruction Ppc line at fits = one_answer GivesPpc long_bytes line at fits (λ v w. one_ppc line at v w fits)
 
 -- of two ways, by a test
 either_way : {A : Type 0} (b : Bool) (Yes No : A → Type 0) → IsOne Yes → IsOne No → IsOne (λ r. MatchBool b (Yes r) (No r))

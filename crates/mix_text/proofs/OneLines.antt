@@ -26,8 +26,8 @@ use Rattle.ppc_isa.specs.Rows.{decoded as decoded_ppc}
 use Rattle.ppc_text.specs.declared.operand.Operand.{Operand as OperandPpc}
 use Rattle.ppc_text.specs.declared.operand.Operand.TheVariants.{Register, Number as NumberPpc, Signed, Displaced as DisplacedPpc, Target as TargetPpc}
 use Rattle.ppc_text.specs.Listed.{names as names_ppc, shapes}
-use Rattle.ppc_text.specs.Names.{name as name_ppc}
-use Rattle.ppc_text.specs.Operands.{operand_text as text_ppc, operands as operands_ppc, operands_text as operands_text_ppc, register_text}
+use Rattle.ppc_text.specs.Instructions.{name as name_ppc, operands as operands_ppc}
+use Rattle.ppc_text.specs.Operands.{operand_text as text_ppc, operands_text as operands_text_ppc, register_text}
 use Rattle.ppc_text.specs.Text.{text_of as text_of_ppc, word_text}
 use Rattle.ppc_text.proofs.NameLists.{names_listed}
 use Rattle.mix_text.specs.Lines.{lines_of, with_byte}

@@ -1,12 +1,10 @@
 -- What a text of lines assembles to, line by line: its bytes, or the first line that is refused (this project's own).
-use Rattle.std.specs.Prelude.{ℕ, ◌≡◌, ◌+◌, ◌/◌, ◌%◌, ◌==◌, List, [], ◌∷◌, ◌++◌, length, drop, Bool, true, false, MatchBool, Option, Some, None, Result, Ok, Err}
+use Rattle.std.specs.Prelude.{ℕ, ◌≡◌, ◌+◌, ◌/◌, ◌%◌, ◌^◌, ◌<◌, ◌==◌, List, [], ◌∷◌, ◌++◌, length, drop, MatchBool, Option, Some, None, Result, Ok, Err}
 use Rattle.mix_bits.specs.Addresses.{onward}
 use Rattle.mix_bits.specs.declared.isa.Isa.{Isa}
 use Rattle.mix_bits.specs.declared.isa.Isa.TheVariants.{M68, Ppc}
 use Rattle.mix_bits.specs.Names.{name_of}
-use Rattle.m68_text.specs.Listed.{is_name as is_name_m68}
 use Rattle.asm_m68.specs.Assembly.{Gives as GivesM68}
-use Rattle.ppc_text.specs.Listed.{is_name as is_name_ppc}
 use Rattle.asm_ppc.specs.Assembly.{Gives as GivesPpc}
 use Rattle.mix_text.specs.Lines.{address_in, is_silent, lines_of}
 use Rattle.mix_text.specs.declared.refused.Reason.{Reason}
@@ -22,20 +20,29 @@ word_bytes (word ∷ words) = word / 256 ∷ (word % 256 ∷ word_bytes words)
 abbrev pub long_bytes : ℕ → List ℕ
 long_bytes long = word_bytes (long / 65536 ∷ (long % 65536 ∷ []))
 
--- a line gives the bytes of what it stands for; else its name is none, or it stands for nothing
-abbrev pub IsAnswer : {X : Type 0} → (X → Type 0) → (X → List ℕ) → Bool → Result (List ℕ) Reason → Type 0
-IsAnswer {X = X} Gives bytes_of known (Ok bytes) = (code : X) × Gives code × (bytes ≡ bytes_of code)
-IsAnswer {X = X} Gives bytes_of known (Err Address) = ⊥
-IsAnswer {X = X} Gives bytes_of known (Err Name) = known ≡ false
-IsAnswer {X = X} Gives bytes_of known (Err Operands) = (known ≡ true) × ((code : X) → ¬ Gives code)
+-- a name is one of an instruction set where some line with it gives something, at some address
+pub record IsKnown {X : Type 0} (Gives : List ℕ → ℕ → X → Type 0) (name : List ℕ) : Type 0 where
+  pub line : List ℕ
+  pub at : ℕ
+  pub fits : at < 2 ^ 32
+  pub code : X
+  pub gives : Gives line at code
+  pub named : name_of line ≡ name
+
+-- a line gives the bytes of what it stands for at an address; else its name is none, or it stands for nothing
+abbrev pub IsAnswer : {X : Type 0} → (List ℕ → ℕ → X → Type 0) → (X → List ℕ) → List ℕ → ℕ → Result (List ℕ) Reason → Type 0
+IsAnswer {X = X} Gives bytes_of line at (Ok bytes) = (code : X) × Gives line at code × (bytes ≡ bytes_of code)
+IsAnswer {X = X} Gives bytes_of line at (Err Address) = ⊥
+IsAnswer {X = X} Gives bytes_of line at (Err Name) = ¬ IsKnown Gives (name_of line)
+IsAnswer {X = X} Gives bytes_of line at (Err Operands) = IsKnown Gives (name_of line) × ((code : X) → ¬ Gives line at code)
 
 -- a line of 68K code stands for the words whose text at an address it is
 abbrev pub IsM68 : List ℕ → ℕ → Result (List ℕ) Reason → Type 0
-IsM68 line at given = IsAnswer (GivesM68 line at) word_bytes (is_name_m68 (name_of line)) given
+IsM68 line at given = IsAnswer GivesM68 word_bytes line at given
 
 -- a line of PowerPC code, the same of its word
 abbrev pub IsPpc : List ℕ → ℕ → Result (List ℕ) Reason → Type 0
-IsPpc line at given = IsAnswer (GivesPpc line at) long_bytes (is_name_ppc (name_of line)) given
+IsPpc line at given = IsAnswer GivesPpc long_bytes line at given
 
 abbrev pub IsInstruction : Isa → List ℕ → ℕ → Result (List ℕ) Reason → Type 0
 IsInstruction M68 line at given = IsM68 line at given

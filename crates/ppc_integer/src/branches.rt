@@ -1,8 +1,7 @@
 // Branches.
 ghost use Rattle.std.specs.Prelude.{◌≡◌, ◌+◌, ◌-◌, ◌*◌, ◌/◌, ◌%◌, ◌^◌, ◌<◌, ◌==◌, true};
 ghost use Rattle.mix_bits.specs.Digits.{digit_of};
-ghost use Rattle.ppc_isa.specs.Fields.{fields_of};
-ghost use Rattle.ppc_isa.specs.Made.{displacement_of};
+ghost use Rattle.ppc_isa.specs.Fields.{displacement_of, fields_of};
 ghost use Rattle.ppc_isa.specs.declared.instruction.InstrPpc.TheVariants.{Branch, BranchConditional, BranchConditionalToRegister};
 ghost use Rattle.ppc_integer.specs.Condition.{bit_of};
 ghost use Rattle.ppc_integer.specs.Branches.{branch_where, condition_allows as condition_allows_of, count_allows, counted, is_same, leaves_count as leaves_count_of};

@@ -5,16 +5,15 @@ use Rattle.std.specs.Int.{from_bool}
 use Rattle.mix_bits.specs.Digits.{digit_of}
 use Rattle.ppc_isa.specs.declared.instruction.InstrPpc.{InstrPpc}
 use Rattle.ppc_isa.specs.declared.fields.Fields.{Fields}
-use Rattle.ppc_isa.specs.Fields.{fields_of}
+use Rattle.ppc_isa.specs.Fields.{displacement_of, fields_of}
 use Rattle.ppc_isa.specs.inner.FieldRanges.{word_with}
 use Rattle.ppc_isa.specs.Words.{immediate_form, extended_form}
 use Rattle.ppc_isa.specs.Valid.{IsDisplacement}
-use Rattle.ppc_isa.specs.Made.{displacement_of, made}
 use Rattle.ppc_isa.specs.Rows.{found, table}
 
 -- the instruction of fields
 abbrev pub read : Fields → Option InstrPpc
-read f = made (found table f) f
+read f = found table f
 
 -- a word is the word of its fields
 pub whole : (w : ℕ) → w < 2 ^ 32 → word_with (fields_of w) ≡ w

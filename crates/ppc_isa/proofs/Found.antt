@@ -8,13 +8,13 @@ use Rattle.ppc_isa.specs.declared.instruction.InstrPpc.TheVariants.{MoveConditio
 use Rattle.ppc_isa.specs.declared.instruction.ConditionMove.TheVariants.{MoveToConditionFields}
 use Rattle.ppc_isa.specs.declared.fields.Fields.{Fields}
 use Rattle.ppc_isa.specs.declared.op.OpPpc.{OpPpc}
-use Rattle.ppc_isa.specs.declared.op.OpPpc.TheVariants.{Invalid, Mtcrf}
+use Rattle.ppc_isa.specs.declared.op.OpPpc.TheVariants.{Mtcrf}
 use Rattle.ppc_isa.specs.inner.FieldRanges.{IsFields, word_with}
 use Rattle.ppc_isa.specs.Fields.{fields_of}
 use Rattle.ppc_isa.specs.Valid.{InRange, Stands}
 use Rattle.ppc_isa.specs.laws.Laws.{DecodedStands}
 use Rattle.ppc_isa.specs.Made.{made}
-use Rattle.ppc_isa.specs.Rows.{Row, decoded, found, is_allowed, is_in, operation, operation_in, rows_19, rows_31, rows_to_18, rows_to_29, rows_to_47, table}
+use Rattle.ppc_isa.specs.Rows.{Row, decoded, found, instruction_in, is_allowed, is_in, rows_19, rows_31, rows_to_18, rows_to_29, rows_to_47, table}
 use Rattle.ppc_isa.proofs.Forms.{read, whole}
 use Rattle.ppc_isa.proofs.ReadBack.{decoded_word}
 
@@ -22,9 +22,9 @@ use Rattle.ppc_isa.proofs.ReadBack.{decoded_word}
 abbrev Reads : ℕ → Option InstrPpc → Type 0
 Reads w read = IfSome read (λ i. Stands i w)
 
--- a row whose operation makes an instruction that each of its words stands for
+-- a row whose instruction each of its words stands for
 abbrev IsGood : Row → Type 0
-IsGood r = (f : Fields) → IsFields f → is_in r f ≡ true → is_allowed r f ≡ true → Reads (word_with f) (made (operation_in r) f)
+IsGood r = (f : Fields) → IsFields f → is_in r f ≡ true → is_allowed r f ≡ true → Reads (word_with f) (Some (instruction_in r f))
 
 abbrev AreGood : List Row → Type 0
 AreGood [] = Unit {0}
@@ -56,16 +56,16 @@ table-good =
     (all-good rows_to_29 (rows_31 ++ rows_to_47) rows_to_29-good
     (all-good rows_31 rows_to_47 rows_31-good rows_to_47-good)))
 
-chosen-reads : (w : ℕ) (f : Fields) (within allowed : Bool) (o rest : OpPpc) → (within ≡ true → allowed ≡ true → Reads w (made o f)) → Reads w (made rest f)
-    → Reads w (made (if within then (if allowed then o else Invalid) else rest) f)
-chosen-reads w f true true o rest good more = good refl refl
-chosen-reads w f true false o rest good more = tt
-chosen-reads w f false allowed o rest good more = more
+chosen-reads : (w : ℕ) (within allowed : Bool) (i : InstrPpc) (rest : Option InstrPpc) → (within ≡ true → allowed ≡ true → Reads w (Some i)) → Reads w rest
+    → Reads w (if within then (if allowed then Some i else None) else rest)
+chosen-reads w true true i rest good more = good refl refl
+chosen-reads w true false i rest good more = tt
+chosen-reads w false allowed i rest good more = more
 
-found-reads : (rows : List Row) (f : Fields) → IsFields f → AreGood rows → Reads (word_with f) (made (found rows f) f)
+found-reads : (rows : List Row) (f : Fields) → IsFields f → AreGood rows → Reads (word_with f) (found rows f)
 found-reads [] f h good = tt
 found-reads (r ∷ rows) f h good =
-    chosen-reads (word_with f) f (is_in r f) (is_allowed r f) (operation_in r) (found rows f) (good.0 f h) (found-reads rows f h good.1)
+    chosen-reads (word_with f) (is_in r f) (is_allowed r f) (instruction_in r f) (found rows f) (good.0 f h) (found-reads rows f h good.1)
 
 last_bit : (n : ℕ) → n < 2 → from_bool (n == 1) ≡ n
 last_bit n h = grind (arith, nat_tests)
@@ -86,7 +86,7 @@ word-reads : (w : ℕ) → w < 2 ^ 32 → Reads w (read (fields_of w))
 word-reads w h = subst (λ (n : ℕ). Reads n (read (fields_of w))) (whole w h) (found-reads table (fields_of w) (are_fields w h) table-good)
 
 pub decoded_stands : DecodedStands
-unfolding decoded operation
+unfolding decoded
 decoded_stands w fits i =
     (λ h. subst (λ (o : Option InstrPpc). Reads w o) h (word-reads w fits), λ s. decoded_word i w s)
 

@@ -4,3 +4,4 @@ pub mod Forms
 pub mod Found
 pub mod ReadBack
 pub mod Longs
+pub mod Operations

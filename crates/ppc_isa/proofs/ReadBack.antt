@@ -25,10 +25,9 @@ use Rattle.ppc_isa.specs.declared.instruction.StringImmediateAccess.TheVariants.
 use Rattle.ppc_isa.specs.declared.instruction.StringIndexedAccess.TheVariants.{LoadStringIndexed, StoreStringIndexed}
 use Rattle.ppc_isa.specs.declared.instruction.ConditionMove.TheVariants.{MoveFromConditionRegister, MoveToConditionFields}
 use Rattle.ppc_isa.specs.declared.instruction.SpecialMove.TheVariants.{MoveFromSpecial, MoveToSpecial}
-use Rattle.ppc_isa.specs.Fields.{fields_of}
+use Rattle.ppc_isa.specs.Fields.{displacement_of, fields_of}
 use Rattle.ppc_isa.specs.Words.{word_of, immediate_form}
 use Rattle.ppc_isa.specs.Valid.{IsDisplacement, InRange, Stands, is_valid}
-use Rattle.ppc_isa.specs.Made.{displacement_of}
 use Rattle.ppc_isa.proofs.Forms.{read, at_immediate, at_extended, displacement_back_16, displacement_back_26, with_marks, marks_below, absolute_mark, link_mark, marks_fit}
 
 -- a branch by its parts

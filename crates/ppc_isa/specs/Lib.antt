@@ -2,6 +2,7 @@ pub mod Fields
 pub mod Longs
 pub mod Made
 pub mod Operands
+pub mod Operations
 pub mod Registers
 pub mod Rows
 pub mod Targets

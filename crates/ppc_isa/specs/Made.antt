@@ -1,6 +1,6 @@
--- The instruction that an operation makes of a word's fields: which field is which operand
+-- The instruction that an operation makes of a word's fields: what its row of the table makes of them
 -- (PowerPC 601 RISC Microprocessor User's Manual, chapter 10).
-use Rattle.std.specs.Prelude.{ℕ, ◌+◌, ◌-◌, ◌*◌, ◌/◌, ◌%◌, ◌^◌, ◌==◌, nat_lt, true, false, Option, Some, None, if◌then◌else◌}
+use Rattle.std.specs.Prelude.{ℕ, ◌+◌, ◌*◌, ◌/◌, ◌%◌, ◌^◌, true, false, Option, Some, None}
 use Rattle.ppc_isa.specs.declared.instruction.CarryUse.TheVariants.{Plain, Carrying, Extended}
 use Rattle.ppc_isa.specs.declared.instruction.ExtendedOperand.TheVariants.{Zero as ZeroOperand, MinusOne}
 use Rattle.ppc_isa.specs.declared.instruction.ImmediateOp.TheVariants.{Or as ImmediateOr, OrShifted, Xor as ImmediateXor, XorShifted, And as ImmediateAnd, AndShifted}
@@ -25,12 +25,9 @@ use Rattle.ppc_isa.specs.declared.instruction.SpecialMove.TheVariants.{MoveFromS
 use Rattle.ppc_isa.specs.declared.instruction.Multiplication.TheVariants.{MultiplyHigh, MultiplyLow}
 use Rattle.ppc_isa.specs.declared.instruction.Rotation.TheVariants.{RotateLeft, RotateLeftImmediate}
 use Rattle.ppc_isa.specs.declared.fields.Fields.{Fields}
+use Rattle.ppc_isa.specs.Fields.{aa, displacement_of, oe}
 use Rattle.ppc_isa.specs.declared.op.OpPpc.{OpPpc}
 use Rattle.ppc_isa.specs.declared.op.OpPpc.TheVariants.{Twi, Mulli, Subfic, Cmpli, Cmpi, Addic, AddicRecord, Addi, Addis, Bc, B, Rlwimi, Rlwinm, Rlwnm, Ori, Oris, Xori, Xoris, Andi, Andis, Lwz, Lwzu, Lbz, Lbzu, Stw, Stwu, Stb, Stbu, Lhz, Lhzu, Lha, Lhau, Sth, Sthu, Lmw, Stmw, Mcrf, Bclr, Crnor, Crandc, Isync, Crxor, Crnand, Crand, Creqv, Crorc, Cror, Bcctr, Cmp, Tw, Subfc, Addc, Mulhwu, Mfcr, Lwzx, Slw, Cntlzw, And, Cmpl, Subf, Lwzux, Andc, Mulhw, Lbzx, Neg, Lbzux, Nor, Subfe, Adde, Mtcrf, Stwx, Stwux, Subfze, Addze, Stbx, Subfme, Addme, Mullw, Stbux, Add, Lhzx, Eqv, Lhzux, Xor, Mfxer, Mflr, Mfctr, Lhax, Lhaux, Sthx, Orc, Sthux, Or, Divwu, Mtxer, Mtlr, Mtctr, Nand, Divw, Mcrxr, Lswx, Lwbrx, Srw, Lswi, Sync, Stswx, Stwbrx, Stswi, Lhbrx, Sraw, Srawi, Sthbrx, Extsh, Extsb, Invalid}
-
--- a signed number of `bits` bits as a pattern of 32 bits
-abbrev pub displacement_of : ℕ → ℕ → ℕ
-displacement_of bits n = if nat_lt n (2 ^ (bits - 1)) then n else n + (2 ^ 32 - 2 ^ bits)
 
 -- the instruction of an operation with these fields
 abbrev pub made : OpPpc → Fields → Option InstrPpc
@@ -43,8 +40,8 @@ made Addic f = Some (AddImmediateCarrying false f.d f.a f.low)
 made AddicRecord f = Some (AddImmediateCarrying true f.d f.a f.low)
 made Addi f = Some (AddImmediate false f.d f.a f.low)
 made Addis f = Some (AddImmediate true f.d f.a f.low)
-made Bc f = Some (BranchConditional f.d f.a (displacement_of 16 (f.low / 4 * 4)) ((f.low / 2 % 2) == 1) f.last)
-made B f = Some (Branch (displacement_of 26 (f.d * 2 ^ 21 + f.a * 2 ^ 16 + f.low / 4 * 4)) ((f.low / 2 % 2) == 1) f.last)
+made Bc f = Some (BranchConditional f.d f.a (displacement_of 16 (f.low / 4 * 4)) (aa f) f.last)
+made B f = Some (Branch (displacement_of 26 (f.d * 2 ^ 21 + f.a * 2 ^ 16 + f.low / 4 * 4)) (aa f) f.last)
 made Rlwimi f = Some (Rotate (RotateLeftImmediate Insert f.a f.d f.b (f.xo / 32) (f.xo % 32) f.last))
 made Rlwinm f = Some (Rotate (RotateLeftImmediate Clear f.a f.d f.b (f.xo / 32) (f.xo % 32) f.last))
 made Rlwnm f = Some (Rotate (RotateLeft f.a f.d f.b (f.xo / 32) (f.xo % 32) f.last))
@@ -84,8 +81,8 @@ made Cror f = Some (ConditionLogical LogicalOr f.d f.a f.b)
 made Bcctr f = Some (BranchConditionalToRegister CountTarget f.d f.a f.last)
 made Cmp f = Some (CompareOrTrap (Compare true (f.d / 4) f.a f.b))
 made Tw f = Some (CompareOrTrap (TrapWord f.d f.a f.b))
-made Subfc f = Some (SubtractFrom Carrying f.d f.a f.b ((f.xo / 512) == 1) f.last)
-made Addc f = Some (AddWords Carrying f.d f.a f.b ((f.xo / 512) == 1) f.last)
+made Subfc f = Some (SubtractFrom Carrying f.d f.a f.b (oe f) f.last)
+made Addc f = Some (AddWords Carrying f.d f.a f.b (oe f) f.last)
 made Mulhwu f = Some (Multiply (MultiplyHigh false f.d f.a f.b f.last))
 made Mfcr f = Some (MoveCondition (MoveFromConditionRegister f.d))
 made Lwzx f = Some (LoadIndexed LoadWord false f.d f.a f.b)
@@ -93,27 +90,27 @@ made Slw f = Some (Shift Left f.a f.d f.b f.last)
 made Cntlzw f = Some (Unary CountLeadingZeros f.a f.d f.last)
 made And f = Some (Logical LogicalAnd f.a f.d f.b f.last)
 made Cmpl f = Some (CompareOrTrap (Compare false (f.d / 4) f.a f.b))
-made Subf f = Some (SubtractFrom Plain f.d f.a f.b ((f.xo / 512) == 1) f.last)
+made Subf f = Some (SubtractFrom Plain f.d f.a f.b (oe f) f.last)
 made Lwzux f = Some (LoadIndexed LoadWord true f.d f.a f.b)
 made Andc f = Some (Logical AndComplement f.a f.d f.b f.last)
 made Mulhw f = Some (Multiply (MultiplyHigh true f.d f.a f.b f.last))
 made Lbzx f = Some (LoadIndexed LoadByte false f.d f.a f.b)
-made Neg f = Some (Negate f.d f.a ((f.xo / 512) == 1) f.last)
+made Neg f = Some (Negate f.d f.a (oe f) f.last)
 made Lbzux f = Some (LoadIndexed LoadByte true f.d f.a f.b)
 made Nor f = Some (Logical LogicalNor f.a f.d f.b f.last)
-made Subfe f = Some (SubtractFrom Extended f.d f.a f.b ((f.xo / 512) == 1) f.last)
-made Adde f = Some (AddWords Extended f.d f.a f.b ((f.xo / 512) == 1) f.last)
+made Subfe f = Some (SubtractFrom Extended f.d f.a f.b (oe f) f.last)
+made Adde f = Some (AddWords Extended f.d f.a f.b (oe f) f.last)
 made Mtcrf f = Some (MoveCondition (MoveToConditionFields (f.a * 16 + f.b / 2) f.d))
 made Stwx f = Some (StoreIndexed StoreWord false f.d f.a f.b)
 made Stwux f = Some (StoreIndexed StoreWord true f.d f.a f.b)
-made Subfze f = Some (SubtractFromExtended ZeroOperand f.d f.a ((f.xo / 512) == 1) f.last)
-made Addze f = Some (AddExtended ZeroOperand f.d f.a ((f.xo / 512) == 1) f.last)
+made Subfze f = Some (SubtractFromExtended ZeroOperand f.d f.a (oe f) f.last)
+made Addze f = Some (AddExtended ZeroOperand f.d f.a (oe f) f.last)
 made Stbx f = Some (StoreIndexed StoreByte false f.d f.a f.b)
-made Subfme f = Some (SubtractFromExtended MinusOne f.d f.a ((f.xo / 512) == 1) f.last)
-made Addme f = Some (AddExtended MinusOne f.d f.a ((f.xo / 512) == 1) f.last)
-made Mullw f = Some (Multiply (MultiplyLow f.d f.a f.b ((f.xo / 512) == 1) f.last))
+made Subfme f = Some (SubtractFromExtended MinusOne f.d f.a (oe f) f.last)
+made Addme f = Some (AddExtended MinusOne f.d f.a (oe f) f.last)
+made Mullw f = Some (Multiply (MultiplyLow f.d f.a f.b (oe f) f.last))
 made Stbux f = Some (StoreIndexed StoreByte true f.d f.a f.b)
-made Add f = Some (AddWords Plain f.d f.a f.b ((f.xo / 512) == 1) f.last)
+made Add f = Some (AddWords Plain f.d f.a f.b (oe f) f.last)
 made Lhzx f = Some (LoadIndexed LoadHalf false f.d f.a f.b)
 made Eqv f = Some (Logical Equivalent f.a f.d f.b f.last)
 made Lhzux f = Some (LoadIndexed LoadHalf true f.d f.a f.b)
@@ -127,12 +124,12 @@ made Sthx f = Some (StoreIndexed StoreHalf false f.d f.a f.b)
 made Orc f = Some (Logical OrComplement f.a f.d f.b f.last)
 made Sthux f = Some (StoreIndexed StoreHalf true f.d f.a f.b)
 made Or f = Some (Logical LogicalOr f.a f.d f.b f.last)
-made Divwu f = Some (Divide false f.d f.a f.b ((f.xo / 512) == 1) f.last)
+made Divwu f = Some (Divide false f.d f.a f.b (oe f) f.last)
 made Mtxer f = Some (MoveSpecial (MoveToSpecial Xer f.d))
 made Mtlr f = Some (MoveSpecial (MoveToSpecial LinkSpecial f.d))
 made Mtctr f = Some (MoveSpecial (MoveToSpecial CountSpecial f.d))
 made Nand f = Some (Logical LogicalNand f.a f.d f.b f.last)
-made Divw f = Some (Divide true f.d f.a f.b ((f.xo / 512) == 1) f.last)
+made Divw f = Some (Divide true f.d f.a f.b (oe f) f.last)
 made Mcrxr f = Some (MoveXerToConditionField (f.d / 4))
 made Lswx f = Some (StringIndexed (LoadStringIndexed f.d f.a f.b))
 made Lwbrx f = Some (Reversed (LoadReversed ReversedWord f.d f.a f.b))

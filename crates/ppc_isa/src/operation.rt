@@ -1,7 +1,8 @@
 ghost use Rattle.std.specs.Prelude.{◌≡◌, false};
 ghost use Rattle.ppc_isa.specs.Fields.{fields_of};
 ghost use Rattle.ppc_isa.specs.Made.{made};
-ghost use Rattle.ppc_isa.specs.Rows.{decoded, operation};
+ghost use Rattle.ppc_isa.specs.Operations.{operation};
+ghost use Rattle.ppc_isa.specs.Rows.{decoded};
 
 use super::op::OpPpc;
 use super::reserved::{
@@ -13,7 +14,7 @@ use super::word::{a_of, b_of, d_of, extended_of, is_last, primary_of, special_of
 
 /// The operation of a word, or Invalid where it stands for no instruction.
 #[inline(always)]
-#[tactic(auto, unfolding(crate::specs::Rows::decoded))]
+#[tactic(auto, using(crate::proofs::Operations::decoded_made))]
 pub fn op_of(word: u32) -> OpPpc
     ensures table { result ≡ operation word }
     ensures makes { decoded word ≡ made result (fields_of word) }
@@ -23,7 +24,7 @@ pub fn op_of(word: u32) -> OpPpc
 
 /// The operation by the opcode.
 #[inline(always)]
-#[tactic(auto, unfolding(crate::specs::Rows::operation))]
+#[tactic(auto, unfolding(crate::specs::Operations::operation))]
 fn by_opcode(word: u32) -> OpPpc
     ensures { result ≡ operation word }
 {
@@ -138,7 +139,7 @@ fn by_opcode(word: u32) -> OpPpc
 
 /// Opcode 19.
 #[inline(always)]
-#[tactic(auto, unfolding(crate::specs::Rows::operation))]
+#[tactic(auto, unfolding(crate::specs::Operations::operation))]
 fn op_19(word: u32) -> OpPpc
     requires { (fields_of word).op ≡ 19 }
     ensures { result ≡ operation word }
@@ -162,7 +163,7 @@ fn op_19(word: u32) -> OpPpc
 
 /// Opcode 31.
 #[inline(always)]
-#[tactic(auto, unfolding(crate::specs::Rows::operation))]
+#[tactic(auto, unfolding(crate::specs::Operations::operation))]
 fn op_31(word: u32) -> OpPpc
     requires { (fields_of word).op ≡ 31 }
     ensures { result ≡ operation word }
@@ -249,7 +250,7 @@ fn op_31(word: u32) -> OpPpc
 }
 
 /// A move from a special purpose register.
-#[tactic(auto, unfolding(crate::specs::Rows::operation))]
+#[tactic(auto, unfolding(crate::specs::Operations::operation))]
 fn from_special(word: u32) -> OpPpc
     requires op { (fields_of word).op ≡ 31 }
     requires extended { (fields_of word).xo ≡ 339 }
@@ -265,7 +266,7 @@ fn from_special(word: u32) -> OpPpc
 }
 
 /// A move to a special purpose register.
-#[tactic(auto, unfolding(crate::specs::Rows::operation))]
+#[tactic(auto, unfolding(crate::specs::Operations::operation))]
 fn to_special(word: u32) -> OpPpc
     requires op { (fields_of word).op ≡ 31 }
     requires extended { (fields_of word).xo ≡ 467 }

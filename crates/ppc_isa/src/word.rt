@@ -1,8 +1,7 @@
 ghost use Rattle.std.specs.Prelude.{◌≡◌, ◌+◌, ◌*◌, ◌/◌, ◌%◌, ◌^◌, ◌<◌, ◌==◌};
 ghost use Rattle.mix_bits.specs.Sizes.{sign_extended};
 ghost use Rattle.mix_bits.specs.declared.size.Size.TheVariants.{Two};
-ghost use Rattle.ppc_isa.specs.Fields.{fields_of};
-ghost use Rattle.ppc_isa.specs.Made.{displacement_of};
+ghost use Rattle.ppc_isa.specs.Fields.{displacement_of, fields_of};
 
 /// The opcode.
 #[inline(always)]

@@ -25,7 +25,7 @@ use Rattle.ppc_isa.specs.declared.instruction.StringImmediateAccess.TheVariants.
 use Rattle.ppc_isa.specs.declared.instruction.StringIndexedAccess.TheVariants.{LoadStringIndexed, StoreStringIndexed}
 use Rattle.ppc_isa.specs.declared.instruction.ConditionMove.TheVariants.{MoveFromConditionRegister, MoveToConditionFields}
 use Rattle.ppc_isa.specs.declared.instruction.SpecialMove.TheVariants.{MoveFromSpecial, MoveToSpecial}
-use Rattle.ppc_text.specs.Names.{name}
+use Rattle.ppc_text.specs.Instructions.{name}
 
 -- one instruction of each name, each of them valid
 unfoldable pub shapes : List InstrPpc

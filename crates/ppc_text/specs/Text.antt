@@ -3,8 +3,8 @@ use Rattle.std.specs.Prelude.{ℕ, List, ◌++◌, codes, Option, None, Some}
 use Rattle.mix_bits.specs.Text.{hexadecimal}
 use Rattle.ppc_isa.specs.declared.instruction.InstrPpc.{InstrPpc}
 use Rattle.ppc_isa.specs.Rows.{decoded}
-use Rattle.ppc_text.specs.Names.{name}
-use Rattle.ppc_text.specs.Operands.{operands, operands_text}
+use Rattle.ppc_text.specs.Instructions.{name, operands}
+use Rattle.ppc_text.specs.Operands.{operands_text}
 
 -- a word as itself
 abbrev pub long_text : ℕ → List ℕ

@@ -1,5 +1,6 @@
 ghost use Rattle.std.specs.Prelude.{◌≡◌, ◌+◌, ◌≤◌, ◌++◌, codes, length};
-ghost use Rattle.ppc_text.specs.Names.{branch_marks as branch_marks_of, branch_name as branch_name_of, carry_name, extended_name, immediate_name as immediate_name_of, letter as letter_of, load_name as load_name_of, load_reversed_name as load_reversed_name_of, logical_name as logical_name_of, name, overflow_marks as overflow_marks_of, rotate_name as rotate_name_of, shift_name as shift_name_of, store_name as store_name_of, store_reversed_name as store_reversed_name_of, unary_name as unary_name_of, update};
+ghost use Rattle.ppc_text.specs.Instructions.{name};
+ghost use Rattle.ppc_text.specs.Names.{branch_marks as branch_marks_of, branch_name as branch_name_of, carry_name, extended_name, immediate_name as immediate_name_of, letter as letter_of, load_name as load_name_of, load_reversed_name as load_reversed_name_of, logical_name as logical_name_of, overflow_marks as overflow_marks_of, rotate_name as rotate_name_of, shift_name as shift_name_of, store_name as store_name_of, store_reversed_name as store_reversed_name_of, unary_name as unary_name_of, update};
 
 use ppc_isa::{
     BranchRegister, CarryUse, Comparison, ConditionMove, ExtendedOperand, ImmediateOp, InstrPpc,

@@ -1,7 +1,8 @@
 ghost use Rattle.std.specs.Prelude.{◌≡◌, [], ◌∷◌, if◌then◌else◌};
 ghost use Rattle.ppc_isa.specs.Targets.{branch_target as branch_target_of};
 ghost use Rattle.ppc_text.specs.inner.Operands.{listed};
-ghost use Rattle.ppc_text.specs.Operands.{operands, special_number};
+ghost use Rattle.ppc_text.specs.Instructions.{operands};
+ghost use Rattle.ppc_text.specs.Operands.{special_number};
 ghost use Rattle.ppc_text.specs.declared.operand.Operand.TheVariants.{Displaced as DisplacedOf, Number as NumberOf, Register as RegisterOf, Signed as SignedOf, Target as TargetOf};
 
 use super::operand::Operand::{self, Displaced, Number, Register, Signed, Target};

@@ -1,4 +1,5 @@
--- Laws of texts and of listings: a text has one answer, and a listing gives the bytes that it lists.
+-- Laws of texts and of listings: a text has one answer, and a listing gives the bytes that it lists
+-- (the texts are this project's own).
 use Rattle.std.specs.Prelude.{ℕ, zero, suc, ◌≡◌, ◌+◌, ◌^◌, ◌<◌, List, length, Option, Some, None, Result, Ok}
 use Rattle.mix_bits.specs.Addresses.{onward}
 use Rattle.mix_bits.specs.declared.isa.Isa.{Isa}

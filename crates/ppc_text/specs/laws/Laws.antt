@@ -2,7 +2,7 @@
 use Rattle.std.specs.Prelude.{ℕ, ◌≡◌, ◌+◌, ◌-◌, ◌^◌, ◌<◌, ◌≤◌, ◌∷◌, decimal, true}
 use Rattle.ppc_isa.specs.declared.instruction.InstrPpc.{InstrPpc}
 use Rattle.ppc_text.specs.Listed.{is_name}
-use Rattle.ppc_text.specs.Names.{name}
+use Rattle.ppc_text.specs.Instructions.{name}
 use Rattle.ppc_text.specs.Operands.{signed_text}
 
 -- each instruction's name is in the list

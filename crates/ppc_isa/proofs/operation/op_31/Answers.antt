@@ -1,6 +1,6 @@
 use Rattle.std.proofs.Common.{◌≡◌, ◌%◌, ◌<◌, ◌==◌, false, arith, refl}
 use Rattle.mix_bits.specs.Digits.{digit_of}
-use Rattle.ppc_isa.specs.Rows.{operation}
+use Rattle.ppc_isa.specs.Operations.{operation}
 use Rattle.ppc_isa.proofs.Apart.{apart, apart_both}
 use Rattle.ppc_isa.proofs.operation.op_31.Goals as goal
 
