@@ -41,7 +41,7 @@ impl Function {
 
     /// Its number.
     #[inline(always)]
-    fn number(self) -> u8
+    pub fn number(self) -> u8
         ensures is { result ≡ number_of self }
         ensures below { result < 16 }
     {

@@ -1,54 +1,42 @@
-ghost use Rattle.std.specs.Prelude.{◌≡◌, ◌^◌, ◌<◌, ◌≤◌, IfSome, length};
-ghost use Rattle.std.specs.List.{position};
-ghost use Rattle.toolbox.specs.Functions.{has_trap as has_this_trap, trap_number};
 ghost use Rattle.toolbox.specs.NamesClauses.{IsTrapIndex};
+ghost use Rattle.toolbox.specs.inner.Traps.{IsReached};
 ghost use Rattle.toolbox.specs.laws.Names.{TrapsHaveOneNumber};
 
-use crate::table::{ROWS, Row};
+use crate::function::Function;
 
 /// The number of the function that a trap word reaches.
 #[inline(always)]
 pub fn trap_index(word: u16) -> Option<u32>
     ensures { IsTrapIndex word result }
 {
-    trap_number(word)
-}
-
-/// The number of the first row with this trap.
-#[inline(always)]
-fn trap_number(word: u16) -> Option<u32>
-    ensures { result ≡ trap_number word }
-{
-    trap_among(&ROWS, word)
-}
-
-#[inline(always)]
-fn trap_among(rows: &[Row], word: u16) -> Option<u32>
-    requires { length rows.now ≤ 2 ^ 16 }
-    ensures { result ≡ position (λ r. has_this_trap r.trap word) rows.now }
-{
-    match place_among(rows, word) {
-        Some(place) => Some(place as u32),
+    match function_of(word) {
+        Some(function) => Some(function.number() as u32),
         None => None,
     }
 }
 
+/// The function that a trap word reaches: the rows' traps as a match, which takes no walk at each trap.
 #[inline(always)]
-fn place_among(rows: &[Row], word: u16) -> Option<usize>
-    ensures place { result ≡ position (λ r. has_this_trap r.trap word) rows.now }
-    ensures inside { IfSome result (λ k. k < length rows.now) }
+fn function_of(word: u16) -> Option<Function>
+    ensures { IsReached word result }
 {
-    rows.iter().position(|row| has_trap(row.trap, word))
-}
-
-/// Whether a row's trap is this word.
-#[inline(always)]
-fn has_trap(trap: Option<u16>, word: u16) -> bool
-    ensures { result ≡ has_this_trap trap word }
-{
-    match trap {
-        None => false,
-        Some(trap) => trap == word,
+    match word {
+        0xA01F => Some(Function::DisposePtr),
+        0xA02E => Some(Function::BlockMove),
+        0xA11E => Some(Function::NewPtr),
+        0xA31E => Some(Function::NewPtrClear),
+        0xA9F1 => Some(Function::UnloadSeg),
+        0xA9F4 => Some(Function::ExitToShell),
+        0xAA80 => Some(Function::PutByte),
+        0xAA81 => Some(Function::GetByte),
+        0xAA82 => Some(Function::PutBlock),
+        0xAA83 => Some(Function::AskDevice),
+        0xAA84 => Some(Function::EjectDevice),
+        0xAA85 => Some(Function::ExitWith),
+        0xAA86 => Some(Function::NewRoutineDescriptor),
+        0xAA87 => Some(Function::NewFatRoutineDescriptor),
+        0xAA88 => Some(Function::DisposeRoutineDescriptor),
+        _ => None,
     }
 }
 
