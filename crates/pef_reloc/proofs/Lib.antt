@@ -12,3 +12,4 @@ mod Alike
 mod Refusals
 mod Work
 mod Spans
+mod Last

@@ -1,8 +1,8 @@
 -- What holds of pattern data, of the table of relocations, and of runs of them as a whole.
-use Rattle.std.specs.Prelude.{◌≡◌, ℕ, zero, suc, ◌+◌, ◌-◌, ◌*◌, ◌/◌, ◌<◌, ◌≤◌, ◌==◌, ◌↔◌, ◌⊎◌, nat_le, ◌&&◌, Bool, true, false, if◌then◌else◌, List, [], ◌∷◌, ◌++◌, length, slice_index, All, Option, Some, None}
+use Rattle.std.specs.Prelude.{◌≡◌, ℕ, zero, suc, ◌+◌, ◌-◌, ◌*◌, ◌/◌, ◌<◌, ◌≤◌, ◌==◌, ◌↔◌, ◌⊎◌, nat_le, ◌&&◌, Bool, true, false, if◌then◌else◌, List, [], ◌∷◌, ◌++◌, length, slice_index, All, Option, Some, None, Result, Ok, Err}
 use Rattle.std.specs.Int.{from_bool}
 use Rattle.pef_reloc.specs.declared.error.RelocError.{RelocError}
-use Rattle.pef_reloc.specs.declared.error.RelocError.TheVariants.{Work}
+use Rattle.pef_reloc.specs.declared.error.RelocError.TheVariants.{RepeatFront, Work}
 use Rattle.pef_reloc.specs.declared.instruction.Instruction.{Instruction}
 use Rattle.pef_reloc.specs.declared.instruction.Instruction.TheVariants.{BySectDWithSkip, Run, ByImport, SetSectC, SetSectD, BySection, IncrPosition, SetPosition}
 use Rattle.pef_reloc.specs.declared.instruction.Turn.{Turn}
@@ -13,8 +13,8 @@ use Rattle.pef_reloc.specs.declared.instruction.First.{First}
 use Rattle.pef_reloc.specs.declared.instruction.First.TheVariants.{One, Two, Repeat, NoRow}
 use Rattle.pef_reloc.specs.Pattern.{with_rest, piece_in, unpacked}
 use Rattle.pef_reloc.specs.Rows.{Row, rows, first_of}
-use Rattle.pef_reloc.specs.Additions.{Sources, with_long}
-use Rattle.pef_reloc.specs.Program.{relocated, is_repeat, is_span, span_at, width_at}
+use Rattle.pef_reloc.specs.Additions.{Sources, State, Refused, Operation, Add, Skip, Place, Import, SetC, SetD, does, with_long}
+use Rattle.pef_reloc.specs.Program.{relocated, can_repeat, is_repeat, is_span, repeated, span_at, width_at}
 use Rattle.mix_bits.specs.Fields.{word_at}
 
 -- pattern data writes the pieces of its instructions, one after the other
@@ -168,6 +168,43 @@ IsWithinLimit = (sources : Sources) (words section : List ℕ) → (relocated so
 -- and the limit refuses none that takes no more
 abbrev pub IsBeyondLimit : Type 0
 IsBeyondLimit = (sources : Sources) (words section : List ℕ) → (relocated sources words section).refusal ≡ Some Work → 16777216 < work_of words
+
+-- an operation in an instruction that is one too many, or in one that is not
+abbrev pub when_over : Bool → State → State
+when_over over s = record s { cursor = record s.cursor { over = over } }
+
+-- whether an operation asks for a value
+abbrev pub asks : Operation → Bool
+asks (Add source) = true
+asks (Skip n) = false
+asks (Place n) = false
+asks (Import n) = false
+asks (SetC n) = true
+asks (SetD n) = true
+
+abbrev pub refusal_of : Result State Refused → Option RelocError
+refusal_of (Ok s) = None
+refusal_of (Err r) = Some r.error
+
+-- a refusal, or else that of one too many where a value is asked for
+abbrev pub else_work : Option RelocError → Bool → Option RelocError
+else_work (Some e) asking = Some e
+else_work None asking = if asking then Some Work else None
+
+-- Work comes last: an operation of an instruction that is one too many is refused as it would be in one that is not, and for
+-- the work alone where it would not be
+abbrev pub IsWorkLast : Type 0
+IsWorkLast = (sources : Sources) (o : Operation) (s : State)
+    → refusal_of (does sources o (when_over true s)) ≡ else_work (refusal_of (does sources o (when_over false s))) (asks o)
+
+-- a state whose work is used up
+abbrev pub without_work : State → State
+without_work s = record s { cursor = record s.cursor { left = 0 } }
+
+-- where no work is left, a repeat that cannot go back is refused for that, and any other for the work
+abbrev pub IsRepeatWorkLast : Type 0
+IsRepeatWorkLast = (sources : Sources) (words : List ℕ) (place count further : ℕ) (s : State)
+    → refusal_of (repeated sources words place count further (without_work s)) ≡ Some (if can_repeat words place count then Work else RepeatFront place)
 
 -- instructions, none of them a repeat, fill a span from a place on
 pub data Fills : List ℕ → ℕ → Type 0 where
