@@ -4,7 +4,7 @@ use Rattle.std.proofs.lemmas.List.{map-set}
 use Rattle.std.proofs.Math.ListN.{get_or-map}
 use Rattle.dev_rack.specs.SlotsClauses.{Heard, HeardAt}
 use Rattle.dev_rack.specs.Slots.{device_at}
-use Rattle.dev_rack.specs.inner.Slots.{seen, seen_slots}
+use Rattle.dev_rack.specs.Boxed.{seen, seen_slots}
 
 -- a slot that holds a device holds the same whatever stands for what is not there
 same_held : {A B : Type 0} (f : A → B) (xs : List (Option A)) (i : ℕ) (d : Option A) (b : A) →

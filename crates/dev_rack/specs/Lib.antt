@@ -1,6 +1,6 @@
 pub mod Accounts
+pub mod Boxed
 pub mod Rack
 pub mod RackClauses
 pub mod Slots
 pub mod SlotsClauses
-pub mod inner

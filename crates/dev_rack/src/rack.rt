@@ -22,8 +22,7 @@ pub struct Rack {
 }
 
 impl Rack {
-    ghost use Rattle.dev_rack.specs.inner.Slots.{seen};
-    ghost use Rattle.dev_rack.specs.inner.Rack.{fresh};
+    ghost use Rattle.dev_rack.specs.Boxed.{fresh, seen, seen_slots};
 
     /// Puts the devices into the slots from 0 on, with an empty journal. A refusal gives up the devices.
     #[tactic(auto, using(crate::proofs::Seen::seen_filled))]
@@ -36,10 +35,19 @@ impl Rack {
             journal: Vec::with_capacity(alloc, JOURNAL_LIMIT)?,
         })
     }
+
+    /// The devices as they are now, each in its slot, and none where it was given up. What they were asked is read in the
+    /// journal before.
+    pub fn into_devices(self) -> Vec<Option<Box<dyn Device>>>
+        ensures { seen_slots faults told result.items ≡ (⟦<Rack as Devices>⟧.state self).slots }
+    {
+        let Rack { slots, journal: _ } = self;
+        slots
+    }
 }
 
 impl Devices for Rack {
-    ghost use Rattle.dev_rack.specs.inner.Slots.{seen_slots};
+    ghost use Rattle.dev_rack.specs.Boxed.{seen_slots};
 
     ghost state = { λ rack. record {
       slots = seen_slots (λ b. (Device-box b).faults b.value) (λ b. (Device-box b).told b.value) rack.slots.items;

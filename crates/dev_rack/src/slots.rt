@@ -2,7 +2,7 @@
 ghost use Rattle.std.specs.Prelude.{◌≡◌, IsSome, IfOk, is_some, map, slice_set};
 ghost use Rattle.dev_rack.specs.SlotsClauses.{Heard, HeardAt};
 ghost use Rattle.dev_rack.specs.Slots.{device_at};
-ghost use Rattle.dev_rack.specs.inner.Slots.{seen, seen_slots};
+ghost use Rattle.dev_rack.specs.Boxed.{seen, seen_slots};
 
 use mix_bits::NoMemory;
 use mix_io::{Device, Failed};

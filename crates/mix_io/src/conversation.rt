@@ -1,5 +1,5 @@
 // What a device in memory was asked and answered.
-ghost use Rattle.std.specs.Prelude.{◌≡◌, ◌≤◌, ℕ, List, [], Option, None, Some, IfOk, vec_capacity, if◌then◌else◌};
+ghost use Rattle.std.specs.Prelude.{◌≡◌, ◌≤◌, ℕ, List, [], Option, None, Some, IfOk, MatchOption, vec_capacity, if◌then◌else◌};
 ghost use Rattle.mix_io.specs.Devices.{noted};
 
 use mix_bits::NoMemory;
@@ -9,7 +9,8 @@ use std::marker::Model;
 /// How many asks are told.
 const TOLD: usize = 4096;
 
-/// The asks so far with their answers. It is told while there is room for it, and never after that.
+/// The asks so far with their answers, which a device of one's own may keep and tell. It is told while there is room for it,
+/// which is for 4096 asks, and never after that.
 #[derive(Drop)]
 pub struct Conversation {
     asks: Vec<(u32, Option<u32>)>,
@@ -25,6 +26,7 @@ impl Model for Conversation {
 }
 
 impl Conversation {
+    /// A conversation without an ask. It takes the memory for all that it may tell here.
     pub fn new(alloc: Global) -> Result<Conversation, NoMemory>
         ensures { IfOk result (λ c. c ≡ Some []) }
     {
@@ -34,6 +36,7 @@ impl Conversation {
         })
     }
 
+    /// Notes an ask with its answer, or with none where the device failed.
     pub fn note(&mut self, word: u32, answer: Option<u32>)
         ensures { self.new ≡ noted self.old word answer }
     {
@@ -42,5 +45,12 @@ impl Conversation {
         } else {
             self.telling = false;
         }
+    }
+
+    /// The asks so far, each with its answer, or none where there were too many.
+    pub fn told(&self) -> Option<&[(u32, Option<u32>)]>
+        ensures { MatchOption result (self.now ≡ None) (λ asks. self.now ≡ Some asks.now) }
+    {
+        if self.telling { Some(&self.asks) } else { None }
     }
 }

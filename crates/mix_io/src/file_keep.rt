@@ -1,5 +1,8 @@
 // A keeper over a file of the system.
-ghost use Rattle.std.specs.Prelude.{◌≡◌, ℕ, List, None};
+ghost use Rattle.std.specs.Prelude.{◌≡◌, ℕ, List, None, IfSome, IsSomeAnd, is_err};
+ghost use Rattle.mix_io.specs.CountsClauses.{NamedCause};
+ghost use Rattle.mix_io.specs.KeptClauses.{Saves};
+ghost use Rattle.mix_io.specs.Told.{Puts};
 
 use super::counts::count_fault;
 use super::errors::Failed;
@@ -35,7 +38,12 @@ impl<R: Files> Keeper for FileKeep<'_, R> {
 
     ghost faults = { λ s _. s.faults };
 
-    fn keep(&mut self, name: &str, piece: &[u8]) -> Result<(), Failed> {
+    fn keep(&mut self, name: &str, piece: &[u8]) -> Result<(), Failed>
+        ensures bytes { Saves None None name.now piece.now result }
+        ensures cause { NamedCause (λ _. self.old.faults) (λ _. self.new.faults) name.now (is_err result) }
+        // A file that is there stays, and what it tells to hold, if it does, grows by what is kept.
+        ensures behind { IfSome self.old.file (λ before. IsSomeAnd self.new.file (λ after. Puts (R.File.contents before) (R.File.contents after) piece.now result)) }
+    {
         if self.file.is_none() {
             let Ok(file) = fs::create(self.rt, name) else {
                 self.faults = count_fault(self.faults);

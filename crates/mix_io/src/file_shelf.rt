@@ -1,5 +1,5 @@
 // A shelf over the files of the system.
-ghost use Rattle.std.specs.Prelude.{◌≡◌, ◌≤◌, ℕ, List, None, IfOk, IfSome, length};
+ghost use Rattle.std.specs.Prelude.{◌≡◌, ◌≤◌, ℕ, List, None, IfErr, IfOk, IfSome, IsErrAnd, length};
 ghost use Rattle.std.specs.IoError.{error_kind};
 ghost use Rattle.mix_io.specs.inner.Told.{NamesLimit};
 ghost use Rattle.mix_io.specs.inner.Files.{IsRefusal, ReadsWhole};
@@ -46,7 +46,7 @@ impl<R: Files> Shelf for FileShelf<'_, R> {
     ghost excesses = { λ s _. s.excesses };
 
     fn fetch(&mut self, alloc: Global, name: &str, limit: u32) -> Result<Vec<u8>, FetchError> {
-        let fetched = read_file(self.rt, alloc, name, limit);
+        let fetched = read_opened(alloc, fs::open(self.rt, name), limit);
         match &fetched {
             Err(FetchError::Failed) => self.faults = count_fault(self.faults),
             Err(FetchError::TooLong(_)) => self.excesses = count_fault(self.excesses),
@@ -56,12 +56,21 @@ impl<R: Files> Shelf for FileShelf<'_, R> {
     }
 }
 
-fn read_file<R: Files>(rt: &R, alloc: Global, name: &str, limit: u32) -> Result<Vec<u8>, FetchError>
+/// What a file that was to be opened holds, or why it cannot be had.
+fn read_opened<F: Read + Drop>(
+    alloc: Global,
+    opened: io::Result<F>,
+    limit: u32,
+) -> Result<Vec<u8>, FetchError>
     ensures within { IfOk result (λ v. length v.items ≤ limit) }
     ensures limit { NamesLimit limit result }
+    ensures refused { IfErr opened (λ error. IsErrAnd result (IsRefusal (error_kind error))) }
+    ensures whole { IfOk opened (λ file. IfSome (F.remaining file) (λ bytes. ReadsWhole bytes limit result)) }
 {
-    let mut file = fs::open(rt, name).map_err(refusal)?;
-    read_whole(alloc, &mut file, limit)
+    match opened {
+        Ok(mut file) => read_whole(alloc, &mut file, limit),
+        Err(error) => Err(refusal(error)),
+    }
 }
 
 /// What a reader has left, if that is at most `limit` bytes.

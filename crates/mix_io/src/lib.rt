@@ -20,6 +20,7 @@ mod tape;
 mod traits;
 mod write;
 
+pub use conversation::Conversation;
 pub use counter::Counter;
 pub use errors::{Failed, FetchError};
 pub use file_keep::FileKeep;

@@ -59,6 +59,17 @@ impl MemKeep {
     {
         self.pieces.held()
     }
+
+    /// The bytes that it keeps by a name, none where that is another than its own.
+    pub fn kept_by(&self, name: &str) -> &[u8]
+        ensures { result.now ≡ kept_as self.now name.now }
+    {
+        if name == self.name.as_str() {
+            self.pieces.held()
+        } else {
+            &[]
+        }
+    }
 }
 
 impl Keeper for MemKeep {

@@ -10,12 +10,6 @@ Takes old new (Ok (Some byte)) = Consumes old new (byte ∷ [])
 Takes old new (Ok None) = IsAtEnd old × (new ≡ Some [])
 Takes old new (Err e) = Keeps old new
 
--- what a read of one byte takes from a reader that may tell its bytes
-abbrev pub Reads : {E : Type 0} → Option (List ℕ) → Option (List ℕ) → Result (Option ℕ) E → Type 0
-Reads old new (Ok (Some byte)) = Consumes old new (byte ∷ [])
-Reads old new (Ok None) = IsAtEnd old × Keeps old new
-Reads old new (Err e) = Keeps old new
-
 -- the answer for a file that is told, or told not to be there; whether a failure is due is for the count to say
 abbrev pub FetchesFile : {A : Type 0} → Option (List ℕ) → ℕ → Result (Vec ℕ A) FetchError → Type 0
 FetchesFile (Some bytes) limit (Ok v) = (v.items ≡ bytes) × (length bytes ≤ limit)

@@ -1,2 +1,0 @@
-pub mod Rack
-pub mod Slots
