@@ -1,3 +1,4 @@
+pub mod Counted
 pub mod Start
 pub mod Turns
 pub mod laws

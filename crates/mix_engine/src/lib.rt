@@ -25,7 +25,7 @@ mod runs;
 mod stepping;
 mod turn;
 
-pub use machine::{Machine, run};
+pub use machine::{Machine, run, run_counted};
 pub use mixed_machine::{Body, Stop};
 pub use one_step::{step, step_beside};
 pub use outside::Outside;

@@ -13,6 +13,7 @@ ghost use Rattle.mixed_machine.specs.RunsClauses.{Runs};
 ghost use Rattle.mix_engine.specs.inner.Beside.{AreSame, machine_beside, outside_lent, trace_lent};
 ghost use Rattle.mix_io.specs.StreamsClauses.{output};
 ghost use Rattle.mix_engine.specs.Start.{start_of};
+ghost use Rattle.mix_engine.specs.Counted.{RunsTo};
 
 use super::Outside;
 use crate::runs::run_turns;
@@ -82,13 +83,35 @@ pub fn run<I: Source, O: Sink, T: Sink, D: Devices>(
     ensures blames { Blames result (counts (I.faults input.old) (O.faults out.old) (T.faults trace.old)) (counts (I.faults input.new) (O.faults out.new) (T.faults trace.new)) }
     ensures devices { Accounts (D.state rack.old) (D.state rack.new) }
 {
+    let mut left = steps;
+    run_counted(m, input, out, trace, rack, &mut left)
+}
+
+/// Does the same with the steps that are left in a cell, which each step that is done lowers: an exit is a step that is
+/// done, and a fault is none.
+pub fn run_counted<I: Source, O: Sink, T: Sink, D: Devices>(
+    m: &mut Machine,
+    input: &mut I,
+    out: &mut O,
+    trace: &mut T,
+    rack: &mut D,
+    left: &mut u32,
+) -> Stop
+    requires { IsWhole m.old.body (isa_of m.old.active) }
+    ensures whole { IsWhole m.new.body (isa_of m.new.active) }
+    ensures run { RunsTo left.old left.new
+        (at m.old.body m.old.active (outside_of (I.left input.old) (I.faults input.old) (D.state rack.old) (O.held out.old) (O.faults out.old)) (output (T.held trace.old) (T.faults trace.old)))
+        (at m.new.body m.new.active (outside_of (I.left input.new) (I.faults input.new) (D.state rack.new) (O.held out.new) (O.faults out.new)) (output (T.held trace.new) (T.faults trace.new))) result }
+    ensures blames { Blames result (counts (I.faults input.old) (O.faults out.old) (T.faults trace.old)) (counts (I.faults input.new) (O.faults out.new) (T.faults trace.new)) }
+    ensures devices { Accounts (D.state rack.old) (D.state rack.new) }
+{
     let mut outside = Outside {
         input,
         out,
         trace,
         rack,
     };
-    run_beside(&mut m.body, &mut m.active, &mut outside, steps)
+    run_beside(&mut m.body, &mut m.active, &mut outside, left)
 }
 
 /// The same beside what lies outside. Each turn but the last gives up a suspended caller.
@@ -96,11 +119,11 @@ fn run_beside<'i, 'o, 't, 'd, I: Source, O: Sink, T: Sink, D: Devices>(
     body: &mut Body,
     active: &mut Active,
     outside: &mut Outside<'i, 'o, 't, 'd, I, O, T, D>,
-    steps: u32,
+    left: &mut u32,
 ) -> Stop
     requires { IsWhole body.old (isa_of active.old) }
     ensures whole { IsWhole body.new (isa_of active.new) }
-    ensures run { Runs steps
+    ensures run { RunsTo left.old left.new
         (machine_beside I.left I.faults O.held O.faults T.held T.faults D.state body.old active.old outside.old)
         (machine_beside I.left I.faults O.held O.faults T.held T.faults D.state body.new active.new outside.new) result }
     ensures blames { Blames result
@@ -109,9 +132,8 @@ fn run_beside<'i, 'o, 't, 'd, I: Source, O: Sink, T: Sink, D: Devices>(
     ensures devices { Accounts (D.state outside.old.rack.now) (D.state outside.new.rack.now) }
     ensures same { AreSame outside.old outside.new }
 {
-    let mut left = steps;
     'turns: loop {
-        match run_turns(body, active, outside, &mut left) {
+        match run_turns(body, active, outside, left) {
             TurnEnd::Back => {}
             TurnEnd::Stop(stop) => return stop,
         }

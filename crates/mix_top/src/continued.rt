@@ -7,7 +7,7 @@ ghost use Rattle.mix_top.specs.Continuing.{ContinueWay};
 ghost use Rattle.mix_top.specs.inner.Parts.{beside_lent};
 
 use super::close::close_unrestored;
-use super::run::run_machine;
+use super::run::run_machine_beside;
 use dev_rack::Devices;
 use mix_engine::Outside;
 use mix_image::restore;
@@ -31,7 +31,7 @@ pub fn continue_image<'i, 'o, 't, 'd, I: Source, O: Sink, T: Sink, D: Devices, K
     ensures same { AreSame outside.old outside.new }
 {
     match restore(alloc, image) {
-        Ok(mut machine) => run_machine(&mut machine, steps, save, outside, keep),
+        Ok(mut machine) => run_machine_beside(&mut machine, steps, save, outside, keep),
         Err(error) => close_unrestored(error, outside.trace),
     }
 }

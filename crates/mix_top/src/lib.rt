@@ -2,6 +2,8 @@
 //!
 //! `mixed_main` carries the promise of the program: a call ends in one of the ways of `specs/Ends`, with its cause.
 //!
+//! `run_files` and `run_machine` are what `run` and `continue` do once their files were fetched, for a caller without words.
+//!
 //! Scripts of the debugger: `Script::read` tests a whole text before anything is done. `run_script` does, for each
 //! debugger and each outside, the events that the commands have by definition.
 //!
@@ -10,6 +12,7 @@
 #![tactic(auto)]
 
 mod assemble;
+mod calls;
 mod checkpoint;
 mod close;
 mod command;
@@ -34,6 +37,7 @@ mod texts;
 mod top;
 mod walk;
 
+pub use calls::{run_files, run_machine};
 pub use command::ScriptCommand;
 pub use job_words::{BadWord, Command, Job, read_words};
 pub use laws::checkpoint_laws;

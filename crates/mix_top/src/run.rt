@@ -24,7 +24,7 @@ use std::alloc::Global;
 use switch_frame::Program;
 
 /// Loads the files of a job, and runs their program.
-pub fn run_files<'i, 'o, 't, 'd, I: Source, O: Sink, T: Sink, D: Devices, K: Keeper>(
+pub fn run_files_beside<'i, 'o, 't, 'd, I: Source, O: Sink, T: Sink, D: Devices, K: Keeper>(
     alloc: Global,
     files: &Files,
     job: Job,
@@ -63,14 +63,14 @@ fn run_program<'i, 'o, 't, 'd, I: Source, O: Sink, T: Sink, D: Devices, K: Keepe
     ensures same { AreSame outside.old outside.new }
 {
     match Machine::start(alloc, program) {
-        Ok(mut machine) => run_machine(&mut machine, steps, save, outside, keep),
+        Ok(mut machine) => run_machine_beside(&mut machine, steps, save, outside, keep),
         Err(_) => close_without_memory(outside.trace),
     }
 }
 
 /// Runs a machine from where it is, for at most `steps` steps, keeps it under a name where these were done, and puts the end
 /// line.
-pub fn run_machine<'i, 'o, 't, 'd, I: Source, O: Sink, T: Sink, D: Devices, K: Keeper>(
+pub fn run_machine_beside<'i, 'o, 't, 'd, I: Source, O: Sink, T: Sink, D: Devices, K: Keeper>(
     machine: &mut Machine,
     steps: u32,
     save: Option<&str>,
@@ -83,6 +83,7 @@ pub fn run_machine<'i, 'o, 't, 'd, I: Source, O: Sink, T: Sink, D: Devices, K: K
         (beside_lent I.left I.faults O.held O.faults T.held T.faults D.state outside.new (keeping (K.kept keep.new) (K.faults keep.new)))
         result }
     ensures same { AreSame outside.old outside.new }
+    ensures whole { IsWhole machine.new.body (isa_of machine.new.active) }
 {
     let stop = run(
         machine,

@@ -18,7 +18,7 @@ use super::debug::debug_files;
 use super::files::{Fetched, bytes_of, fetch_files};
 use super::lines::words_text;
 use super::list::{Span, list_files};
-use super::run::run_files;
+use super::run::run_files_beside;
 use super::sampling::write_sample;
 use super::status::BAD_WORDS;
 use dev_rack::Devices;
@@ -119,7 +119,7 @@ fn do_over_files<'i, 'o, 't, 'd, I: Source, O: Sink, T: Sink, D: Devices, K: Kee
     ensures same { AreSame outside.old outside.new }
 {
     match command {
-        Command::Run(job) => run_files(alloc, &files.program, job, save, outside, keep),
+        Command::Run(job) => run_files_beside(alloc, &files.program, job, save, outside, keep),
         Command::List(job, at, count) => {
             list_files(alloc, &files.program, job, Span { at, count }, outside)
         }

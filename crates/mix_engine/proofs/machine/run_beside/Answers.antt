@@ -4,7 +4,7 @@ use Rattle.mix_engine.proofs.Ways.{same-more, whole-back, whole-begins, whole-st
 use Rattle.mix_engine.proofs.machine.run_beside.Goals as goal
 
 pub turns-init : goal.turns-init
-turns-init g c = (whole-begins c.args.steps _ c.requires, (refl, refl, refl, refl))
+turns-init g c = (whole-begins _ _ c.requires, (refl, refl, refl, refl))
 
 pub run_turns-requires : goal.run_turns-requires
 run_turns-requires g c = c.turns.invariant.0.whole
@@ -25,7 +25,7 @@ returns-in-Stop g c =
     let end = whole-stopped _ _ _ _ _ _ _ _ c.turns.invariant.0 turn.turned in
     record {
       whole = end.whole;
-      run = record { left = c.run_turns.new.steps; fewer = end.fewer; run = end.stops };
+      run = record { fewer = end.fewer; run = end.stops };
       blames = end.blames;
       devices = end.devices;
       same = same-more c.turns.invariant.1 turn.same;

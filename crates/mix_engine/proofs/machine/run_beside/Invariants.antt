@@ -10,7 +10,7 @@ decreases-turns g l = length (callers_of l.body)
 
 abbrev pub invariant-turns : goal.invariant-turns
 invariant-turns g l =
-    Way 0 l.steps l.left
+    Way 0 l.initial.left l.left
     (machine_beside g.I.Source.left g.I.Source.faults g.O.Sink.held g.O.Sink.faults g.T.Sink.held g.T.Sink.faults g.D.Devices.state l.initial.body l.initial.active l.initial.outside)
     (machine_beside g.I.Source.left g.I.Source.faults g.O.Sink.held g.O.Sink.faults g.T.Sink.held g.T.Sink.faults g.D.Devices.state l.body l.active l.outside)
     × AreSame l.initial.outside l.outside

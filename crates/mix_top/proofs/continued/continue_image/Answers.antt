@@ -6,7 +6,7 @@ use Rattle.mix_top.proofs.continued.continue_image.Goals as goal
 
 pub returns-in-Ok-clause-ends : goal.returns-in-Ok-clause-ends
 returns-in-Ok-clause-ends g c =
-    record { accounted = c.run_machine.ensures.ends.accounted; way = continued c.in-Ok.machine c.in-Ok.ensures.whole c.in-Ok.ensures.spelled c.run_machine.ensures.ends.way }
+    record { accounted = c.run_machine_beside.ensures.ends.accounted; way = continued c.in-Ok.machine c.in-Ok.ensures.whole c.in-Ok.ensures.spelled c.run_machine_beside.ensures.ends.way }
 
 pub returns-in-Err-clause-ends : goal.returns-in-Err-clause-ends
 returns-in-Err-clause-ends g c = ends-unrestored _ c.args.steps c.args.image.now _ _ c.in-Err.error _ c.in-Err.ensures.exact refl refl c.close_unrestored.ensures

@@ -2,7 +2,7 @@
 use Rattle.std.proofs.Common.{refl}
 use Rattle.mix_top.specs.Ends.LoadWay.{loaded}
 use Rattle.mix_top.proofs.Ways.{ends-unloaded}
-use Rattle.mix_top.proofs.run.run_files.Goals as goal
+use Rattle.mix_top.proofs.run.run_files_beside.Goals as goal
 
 pub returns-in-Ok-clause-ends : goal.returns-in-Ok-clause-ends
 returns-in-Ok-clause-ends g c = record { accounted = c.run_program.ensures.ends.accounted; way = loaded c.in-Ok.program c.in-Ok.ensures.is c.run_program.ensures.ends.way }

@@ -2,7 +2,7 @@
 use Rattle.std.proofs.Common.{refl}
 use Rattle.switch_frame.specs.Records.{isa_of}
 use Rattle.mix_top.proofs.Ways.{ends-run, ends-unkept}
-use Rattle.mix_top.proofs.run.run_machine.Goals as goal
+use Rattle.mix_top.proofs.run.run_machine_beside.Goals as goal
 
 pub returns-in-Ok-clause-ends : goal.returns-in-Ok-clause-ends
 returns-in-Ok-clause-ends g c =
