@@ -5,17 +5,21 @@ crate=$top/crates/$name
 program=$crate/out/$name
 begun=$crate/out.begun
 log=$crate/out.log
+verdict=$crate/out/verdict
 released=$top/release/$name-x86_64-linux
 manifest=$top/release/MANIFEST
 [ "$name" = mixedrun ] || manifest=$manifest-$name
 
 # The texts stand in the program's source, and are printed from there without a build.
+texts=$crate/src/main.rt
+[ "$name" = mixedrun ] && texts=$top/crates/mix_main/src/texts.rt
+
 print_help() {
-    sed -n '/^const HELP: &str = "\\$/,/^";$/p' "$crate/src/main.rt" | sed '1d;$d'
+    sed -n '/const HELP: &str = "\\$/,/^";$/p' "$texts" | sed '1d;$d'
 }
 
 print_version() {
-    sed -n 's/^const VERSION: &str = "\(.*\)\\n";$/\1/p' "$crate/src/main.rt"
+    sed -n 's/^.*const VERSION: &str = "\(.*\)\\n";$/\1/p' "$texts"
 }
 
 # The names of the crates that the program stands on, itself among them.
@@ -102,16 +106,43 @@ build() {
     rm -f "$log" "$begun"
 }
 
+# Whether an earlier run found which program is that of the sources, and nothing changed since: neither a file nor a
+# folder that the verdict rests on. That is seen by the times of their last change, which nobody sets.
+is_remembered() {
+    [ -f "$verdict" ] || return 1
+    changed=$(find "$top/crates.txt" "$top/release" "$top/crates" -name out -prune -o -cnewer "$verdict" -print -quit)
+    [ -z "$changed" ] || return 1
+    [ "$(cat "$verdict")" = built ] || program=$released
+    [ -x "$program" ]
+}
+
+# Keeps which program is that of the sources, as of the moment at which the look at them began. Where the folder takes
+# no file, the next run looks again.
+remember() {
+    { echo "$1" >"$verdict.new" && touch -r "$moment" "$verdict.new" && mv "$verdict.new" "$verdict"; } 2>/dev/null
+    rm -f "$moment"
+}
+
+# Finds the program that is that of the sources, and builds it if there is none.
+find_program() {
+    is_remembered && return
+    mkdir -p "$crate/out" 2>/dev/null
+    moment=$(mktemp) || exit 1
+    if ! is_stale; then
+        remember built
+    elif is_released; then
+        program=$released
+        remember released
+    else
+        rm -f "$moment"
+        build
+    fi
+}
+
 # Runs the program that is that of the sources, once it is built, with the words given. Where standard error is a
 # terminal, `hint` is told the status and the words afterwards.
 run_program() {
-    if is_stale; then
-        if is_released; then
-            program=$released
-        else
-            build
-        fi
-    fi
+    find_program
     [ -t 2 ] || exec "$program" "$@"
     "$program" "$@"
     status=$?

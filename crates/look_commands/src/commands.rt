@@ -22,7 +22,7 @@ use mix_bits::{File, NoMemory};
 use std::alloc::Global;
 use std::io::{Read, Write};
 use std::rt::Files;
-use wrapped_forks::find_fork;
+use wrapped_forks::{Fork, find_fork};
 
 /// Does what the words ask for, and answers the status. Behind the refusal of words, `usage` is put to the errors.
 pub fn answer<F: Files, R: Read + Drop, W: Write + Drop, E: Write + Drop>(
@@ -108,9 +108,9 @@ pub fn write_fork<R: Read + Drop, W: Write + Drop, E: Write + Drop>(
     streams: &mut Streams<R, W, E>,
 ) -> u8
     requires { length bytes.now < 2 ^ 32 }
-    ensures { PutsFork bytes.now (fork_of bytes.now) (W.contents streams.old.out) (W.contents streams.new.out) result }
+    ensures { PutsFork bytes.now (fork_of bytes.now Fork.Resource) (W.contents streams.old.out) (W.contents streams.new.out) result }
 {
-    match find_fork(bytes) {
+    match find_fork(bytes, Fork::Resource) {
         Ok(found) => {
             let start = found.start as usize;
             print(

@@ -1,1 +1,1 @@
-pub mod Checksum
+pub mod Wholes

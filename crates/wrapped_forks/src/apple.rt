@@ -1,18 +1,16 @@
 // AppleSingle and AppleDouble: a header of 26 bytes, and an entry of twelve bytes for each part of the file.
 ghost use Rattle.std.specs.Prelude.{◌≡◌, ◌+◌, ◌*◌, ◌^◌, ◌<◌, ◌≤◌, IfOk, IfSome, length};
 ghost use Rattle.std.specs.Option.{option_or};
-ghost use Rattle.wrapped_forks.specs.inner.Forks.{apple_fork as fork_in_apple, entry_place as place_of_entry, fork_entry as entry_of_fork, is_fork as names_fork, is_version as is_known_version, listed_fork, named};
+ghost use Rattle.wrapped_forks.specs.inner.Forks.{apple_fork as fork_in_apple, entry_kind as kind_of_entry, entry_place as place_of_entry, fork_entry as entry_of_fork, is_fork as names_fork, is_version as is_known_version, listed_fork, named};
 
+use crate::fork::Fork;
 use crate::wrapping::{ForkError, ForkPlace, Wrapping, inside};
 use mix_bits::{long_at, word_at};
 
-/// The number of the entry of a resource fork.
-const RESOURCE_FORK: u32 = 2;
-
-/// The fork of a file with the magic number of AppleSingle or AppleDouble.
-pub fn apple_fork(bytes: &[u8], wrapping: Wrapping) -> Result<ForkPlace, ForkError>
+/// A fork of a file with the magic number of AppleSingle or AppleDouble.
+pub fn apple_fork(bytes: &[u8], wrapping: Wrapping, fork: Fork) -> Result<ForkPlace, ForkError>
     requires { length bytes.now < 2 ^ 32 }
-    ensures fork { result ≡ fork_in_apple bytes.now wrapping }
+    ensures fork { result ≡ fork_in_apple bytes.now wrapping fork }
     ensures inside { IfOk result (λ fork. fork.start + fork.length ≤ length bytes.now) }
 {
     if bytes.len() < 26 {
@@ -25,7 +23,7 @@ pub fn apple_fork(bytes: &[u8], wrapping: Wrapping) -> Result<ForkPlace, ForkErr
     if (bytes.len() as u64) < u64::from(entry_place(count)) {
         return Err(ForkError::Cut(wrapping));
     }
-    listed(bytes, wrapping, count)
+    listed(bytes, wrapping, fork, count)
 }
 
 /// Whether a version is 1 or 2.
@@ -44,43 +42,59 @@ fn entry_place(k: u16) -> u32
 }
 
 /// The fork that one of the entries names.
-fn listed(bytes: &[u8], wrapping: Wrapping, count: u16) -> Result<ForkPlace, ForkError>
+fn listed(bytes: &[u8], wrapping: Wrapping, fork: Fork, count: u16) -> Result<ForkPlace, ForkError>
     requires short { length bytes.now < 2 ^ 32 }
     requires whole { place_of_entry count ≤ length bytes.now }
-    ensures fork { result ≡ listed_fork bytes.now wrapping count }
+    ensures fork { result ≡ listed_fork bytes.now wrapping fork count }
     ensures inside { IfOk result (λ fork. fork.start + fork.length ≤ length bytes.now) }
 {
-    match fork_entry(bytes, count) {
+    match fork_entry(bytes, fork, count) {
         Some(k) => {
             let place = entry_place(k);
             let start = long_at(bytes, place + 4);
-            inside(bytes, wrapping, u64::from(start), long_at(bytes, place + 8))
+            inside(
+                bytes,
+                wrapping,
+                fork,
+                u64::from(start),
+                long_at(bytes, place + 8),
+            )
         }
-        None => Err(ForkError::Forkless(wrapping)),
+        None => Err(ForkError::Forkless(wrapping, fork)),
     }
 }
 
-/// The first entry of a resource fork.
-fn fork_entry(bytes: &[u8], count: u16) -> Option<u16>
+/// The number that an entry has which is of a fork.
+fn entry_kind(fork: Fork) -> u32
+    ensures { result ≡ kind_of_entry fork }
+{
+    match fork {
+        Fork::Data => 1,
+        Fork::Resource => 2,
+    }
+}
+
+/// The first entry of a fork.
+fn fork_entry(bytes: &[u8], fork: Fork, count: u16) -> Option<u16>
     requires { place_of_entry count ≤ length bytes.now }
-    ensures entry { result ≡ entry_of_fork bytes.now count }
+    ensures entry { result ≡ entry_of_fork bytes.now fork count }
     ensures inside { IfSome result (λ k. k < count) }
 {
     let mut found = None;
     for k in 0..count {
-        found = first(found, bytes, k);
+        found = first(found, bytes, fork, k);
     }
     found
 }
 
-/// The entry that was found, or this one where it is a resource fork's.
-fn first(found: Option<u16>, bytes: &[u8], k: u16) -> Option<u16>
+/// The entry that was found, or this one where it is the fork's.
+fn first(found: Option<u16>, bytes: &[u8], fork: Fork, k: u16) -> Option<u16>
     requires { place_of_entry k + 12 ≤ length bytes.now }
-    ensures { result ≡ option_or found (named k (names_fork bytes.now k)) }
+    ensures { result ≡ option_or found (named k (names_fork bytes.now fork k)) }
 {
     match found {
         Some(j) => Some(j),
-        None if long_at(bytes, entry_place(k)) == RESOURCE_FORK => Some(k),
+        None if long_at(bytes, entry_place(k)) == entry_kind(fork) => Some(k),
         None => None,
     }
 }

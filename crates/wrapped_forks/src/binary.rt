@@ -2,10 +2,11 @@
 // of 128.
 ghost use Rattle.std.specs.Prelude.{◌≡◌, ◌==◌, ◌+◌, ◌^◌, ◌<◌, ◌≤◌, IfOk, IfSome, length};
 ghost use Rattle.std.specs.List.{list_all};
-ghost use Rattle.wrapped_forks.specs.inner.Forks.{binary_fork as fork_in_binary, binary_wrapping as wrapping_of_binary, has_sum as has_right_sum, is_first as is_first_version, is_header as is_binary_header, level_of};
+ghost use Rattle.wrapped_forks.specs.inner.Forks.{binary_data as data_in_binary, binary_fork as fork_in_binary, binary_wrapping as wrapping_of_binary, has_sum as has_right_sum, is_first as is_first_version, is_header as is_binary_header, level_of};
 
-use crate::checksum::checksum;
+use crate::fork::Fork;
 use crate::wrapping::{ForkError, ForkPlace, Wrapping, inside};
+use crc16::checksum;
 use mix_bits::{long_at, round_up, word_at};
 
 /// `mBIN`, by which MacBinary III is known.
@@ -51,7 +52,7 @@ fn has_sum(bytes: &[u8]) -> bool
     ensures { result ≡ has_right_sum bytes.now }
 {
     let summed = &bytes[..124];
-    word_at(bytes, 124) == checksum(0, summed)
+    word_at(bytes, 124) == checksum(summed)
 }
 
 /// Whether a header can be of MacBinary I: the bytes that it leaves are zero, and both forks have a length that it allows.
@@ -71,19 +72,31 @@ fn are_zeros(bytes: &[u8]) -> bool
     bytes.iter().all(|byte| *byte == 0)
 }
 
-/// The fork of a MacBinary file.
-pub fn binary_fork(bytes: &[u8], wrapping: Wrapping) -> Result<ForkPlace, ForkError>
+/// A fork of a MacBinary file.
+pub fn binary_fork(bytes: &[u8], wrapping: Wrapping, fork: Fork) -> Result<ForkPlace, ForkError>
     requires long { 128 ≤ length bytes.now }
     requires short { length bytes.now < 2 ^ 32 }
-    ensures fork { result ≡ fork_in_binary bytes.now wrapping }
+    ensures fork { result ≡ fork_in_binary bytes.now wrapping fork }
     ensures inside { IfOk result (λ fork. fork.start + fork.length ≤ length bytes.now) }
 {
-    let second = round_up(u64::from(word_at(bytes, 120)), 128);
-    let data_bytes = round_up(u64::from(long_at(bytes, 83)), 128);
-    inside(
-        bytes,
-        wrapping,
-        128 + second + data_bytes,
-        long_at(bytes, 87),
-    )
+    let data_bytes = long_at(bytes, 83);
+    match fork {
+        Fork::Data => inside(bytes, wrapping, fork, binary_data(bytes), data_bytes),
+        Fork::Resource => inside(
+            bytes,
+            wrapping,
+            fork,
+            binary_data(bytes) + round_up(u64::from(data_bytes), 128),
+            long_at(bytes, 87),
+        ),
+    }
+}
+
+/// Where the data fork begins.
+fn binary_data(bytes: &[u8]) -> u64
+    requires { 128 ≤ length bytes.now }
+    ensures place { result ≡ data_in_binary bytes.now }
+    ensures near { result < 2 ^ 20 }
+{
+    128 + round_up(u64::from(word_at(bytes, 120)), 128)
 }

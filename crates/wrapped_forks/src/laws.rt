@@ -1,8 +1,19 @@
-ghost use Rattle.std.specs.Prelude.{◌≡◌, codes};
-ghost use Rattle.wrapped_forks.specs.laws.Checksum.{sum_from};
+ghost use Rattle.wrapped_forks.specs.laws.Wholes.{AppleGivesBack, BinaryGivesBack, RawGivesBack};
 
-/// The check value that is published of this check sum, that of nine digits. It does nothing: the clause is its point.
-#[tactic(auto, unfolding(crate::specs::laws::Checksum::shifted))]
-pub fn checksum_law()
-    ensures { sum_from 0 (codes "123456789") ≡ 0x31C3 }
+/// That the parts of a MacBinary file give its forks back. It does nothing: the clause is its point.
+#[tactic(auto, using(crate::proofs::Wholes::binary_back))]
+pub fn binary_law()
+    ensures { BinaryGivesBack }
+{}
+
+/// The same of AppleSingle and AppleDouble.
+#[tactic(auto, using(crate::proofs::Wholes::apple_back))]
+pub fn apple_law()
+    ensures { AppleGivesBack }
+{}
+
+/// The same of a raw fork.
+#[tactic(auto, using(crate::proofs::Wholes::raw_back))]
+pub fn raw_law()
+    ensures { RawGivesBack }
 {}

@@ -1,4 +1,4 @@
-//! Finds the raw resource fork in a file that is one or wraps one: MacBinary I to III, AppleSingle and AppleDouble.
+//! Finds the forks in a file that is a raw resource fork or wraps forks: MacBinary I to III, AppleSingle and AppleDouble.
 //!
 //! Sources: AppleSingle/AppleDouble Formats for Foreign Files Developer's Note (Apple, 1990); the MacBinary II standard
 //! (1987), with the layout of MacBinary I, and the MacBinary III standard (1996).
@@ -6,9 +6,10 @@
 
 mod apple;
 mod binary;
-mod checksum;
+mod fork;
 mod laws;
 mod wrapping;
 
-pub use laws::checksum_law;
+pub use fork::Fork;
+pub use laws::{apple_law, binary_law, raw_law};
 pub use wrapping::{ForkError, ForkPlace, Wrapping, find_fork};

@@ -1,16 +1,17 @@
-ghost use Rattle.std.specs.Prelude.{◌≡◌, ◌+◌, ◌^◌, ◌<◌, ◌≤◌, Some, IfOk, length};
-ghost use Rattle.wrapped_forks.specs.inner.Forks.{apple_wrapping as wrapping_of_magic, fork_of, inside as inside_of, is_raw as is_raw_fork, raw_or_refusal as raw_or_refused, wrapped_fork, wrapping_name};
+ghost use Rattle.std.specs.Prelude.{◌≡◌, ◌+◌, ◌^◌, ◌<◌, ◌≤◌, true, Some, IfOk, length};
+ghost use Rattle.wrapped_forks.specs.inner.Forks.{apple_wrapping as wrapping_of_magic, are_areas, binary_or_refusal as binary_or_refused, fork_of, inside as inside_of, is_raw as is_raw_fork, raw_fork as fork_of_raw, wrapped_fork as fork_of_wrapped, wrapping_name};
 
 use crate::apple::apple_fork;
 use crate::binary::{binary_fork, binary_wrapping, is_header};
+use crate::fork::Fork;
 use mix_bits::long_at;
 use std::fmt;
 use thiserror::Error;
 
-/// What a resource fork is wrapped in.
+/// What forks are wrapped in.
 #[derive(Clone, Copy, Debug, PartialEq, Eq)]
 pub enum Wrapping {
-    /// In nothing: the file is the fork.
+    /// In nothing: the file is the resource fork.
     Raw,
     MacBinary,
     MacBinary2,
@@ -43,7 +44,7 @@ impl fmt::Display for Wrapping {
     }
 }
 
-/// The place of a raw fork in a file: its first byte, and how many there are.
+/// The place of a fork in a file: its first byte, and how many there are.
 #[derive(Clone, Copy, Debug, PartialEq, Eq)]
 pub struct ForkPlace {
     pub wrapping: Wrapping,
@@ -63,23 +64,77 @@ pub enum ForkError {
     Version(Wrapping),
     #[error("it is {0}, and cut: its header, or what that names, goes on behind the last byte")]
     Cut(Wrapping),
-    #[error("it is {0}, without a resource fork")]
-    Forkless(Wrapping),
+    #[error("it is {0}, without a {1}")]
+    Forkless(Wrapping, Fork),
 }
 
-/// The fork that a file is or wraps, or why there is none.
+/// A fork that a file is or wraps, or why there is none.
 #[tactic(auto, unfolding(crate::specs::inner::Forks::fork_of))]
-pub fn find_fork(bytes: &[u8]) -> Result<ForkPlace, ForkError>
+pub fn find_fork(bytes: &[u8], fork: Fork) -> Result<ForkPlace, ForkError>
     requires { length bytes.now < 2 ^ 32 }
-    ensures fork { result ≡ fork_of bytes.now }
+    ensures fork { result ≡ fork_of bytes.now fork }
+    ensures raw { is_raw_fork bytes.now ≡ true → result ≡ fork_of_raw bytes.now fork }
+    ensures inside { IfOk result (λ fork. fork.start + fork.length ≤ length bytes.now) }
+{
+    if is_raw(bytes) {
+        raw_fork(bytes, fork)
+    } else {
+        wrapped_fork(bytes, fork)
+    }
+}
+
+/// Whether the data and the map that a raw fork's header names lie in the file, the map has its 28 bytes, and they share
+/// no byte.
+fn is_raw(bytes: &[u8]) -> bool
+    requires { length bytes.now < 2 ^ 32 }
+    ensures { result ≡ is_raw_fork bytes.now }
+{
+    16 <= bytes.len() && has_areas(bytes)
+}
+
+/// The same where there is a header.
+fn has_areas(bytes: &[u8]) -> bool
+    requires long { 16 ≤ length bytes.now }
+    requires short { length bytes.now < 2 ^ 32 }
+    ensures { result ≡ are_areas bytes.now }
+{
+    let len = bytes.len() as u64;
+    let data_start = u64::from(long_at(bytes, 0));
+    let map_start = u64::from(long_at(bytes, 4));
+    let data_end = data_start + u64::from(long_at(bytes, 8));
+    let map_end = map_start + u64::from(long_at(bytes, 12));
+    let shared = data_start.max(map_start) < data_end.min(map_end);
+    data_end <= len && map_end <= len && 28 <= long_at(bytes, 12) && !shared
+}
+
+/// A fork of a file that is a raw resource fork.
+fn raw_fork(bytes: &[u8], fork: Fork) -> Result<ForkPlace, ForkError>
+    requires { length bytes.now < 2 ^ 32 }
+    ensures fork { result ≡ fork_of_raw bytes.now fork }
+    ensures inside { IfOk result (λ fork. fork.start + fork.length ≤ length bytes.now) }
+{
+    match fork {
+        Fork::Data => Err(ForkError::Forkless(Wrapping::Raw, fork)),
+        Fork::Resource => Ok(ForkPlace {
+            wrapping: Wrapping::Raw,
+            start: 0,
+            length: bytes.len() as u32,
+        }),
+    }
+}
+
+/// A fork of a file that is no raw one.
+fn wrapped_fork(bytes: &[u8], fork: Fork) -> Result<ForkPlace, ForkError>
+    requires { length bytes.now < 2 ^ 32 }
+    ensures fork { result ≡ fork_of_wrapped bytes.now fork }
     ensures inside { IfOk result (λ fork. fork.start + fork.length ≤ length bytes.now) }
 {
     if bytes.len() < 16 {
         return Err(ForkError::Unknown);
     }
     match apple_wrapping(long_at(bytes, 0)) {
-        Some(wrapping) => apple_fork(bytes, wrapping),
-        None => bare_or_binary(bytes),
+        Some(wrapping) => apple_fork(bytes, wrapping, fork),
+        None => binary_or_refusal(bytes, fork),
     }
 }
 
@@ -94,64 +149,34 @@ fn apple_wrapping(magic: u32) -> Option<Wrapping>
     }
 }
 
-/// The fork of a file that is neither AppleSingle nor AppleDouble.
-fn bare_or_binary(bytes: &[u8]) -> Result<ForkPlace, ForkError>
-    requires long { 16 ≤ length bytes.now }
-    requires short { length bytes.now < 2 ^ 32 }
-    ensures fork { result ≡ wrapped_fork bytes.now }
+/// A fork of a file that is neither a raw one nor AppleSingle or AppleDouble.
+fn binary_or_refusal(bytes: &[u8], fork: Fork) -> Result<ForkPlace, ForkError>
+    requires { length bytes.now < 2 ^ 32 }
+    ensures fork { result ≡ binary_or_refused bytes.now fork }
     ensures inside { IfOk result (λ fork. fork.start + fork.length ≤ length bytes.now) }
 {
     match binary_wrapping(bytes) {
-        Some(wrapping) => binary_fork(bytes, wrapping),
-        None => raw_or_refusal(bytes),
+        Some(wrapping) => binary_fork(bytes, wrapping, fork),
+        None if is_header(bytes) => Err(ForkError::Header),
+        None => Err(ForkError::Unknown),
     }
-}
-
-/// The file itself, where it is a raw fork.
-fn raw_or_refusal(bytes: &[u8]) -> Result<ForkPlace, ForkError>
-    requires long { 16 ≤ length bytes.now }
-    requires short { length bytes.now < 2 ^ 32 }
-    ensures fork { result ≡ raw_or_refused bytes.now }
-    ensures inside { IfOk result (λ fork. fork.start + fork.length ≤ length bytes.now) }
-{
-    if is_raw(bytes) {
-        Ok(ForkPlace {
-            wrapping: Wrapping::Raw,
-            start: 0,
-            length: bytes.len() as u32,
-        })
-    } else if is_header(bytes) {
-        Err(ForkError::Header)
-    } else {
-        Err(ForkError::Unknown)
-    }
-}
-
-/// Whether the data and the map that a raw fork's header names lie in the file, and the map has its 28 bytes.
-fn is_raw(bytes: &[u8]) -> bool
-    requires { 16 ≤ length bytes.now }
-    ensures { result ≡ is_raw_fork bytes.now }
-{
-    let len = bytes.len() as u64;
-    let data_end = u64::from(long_at(bytes, 0)) + u64::from(long_at(bytes, 8));
-    let map_end = u64::from(long_at(bytes, 4)) + u64::from(long_at(bytes, 12));
-    data_end <= len && map_end <= len && 28 <= long_at(bytes, 12)
 }
 
 /// The fork of so many bytes from a place on, where it lies in the file.
 pub fn inside(
     bytes: &[u8],
     wrapping: Wrapping,
+    fork: Fork,
     start: u64,
     count: u32,
 ) -> Result<ForkPlace, ForkError>
     requires short { length bytes.now < 2 ^ 32 }
     requires near { start < 2 ^ 40 }
-    ensures fork { result ≡ inside_of bytes.now wrapping start count }
+    ensures fork { result ≡ inside_of bytes.now wrapping fork start count }
     ensures inside { IfOk result (λ fork. fork.start + fork.length ≤ length bytes.now) }
 {
     if count == 0 {
-        return Err(ForkError::Forkless(wrapping));
+        return Err(ForkError::Forkless(wrapping, fork));
     }
     if (bytes.len() as u64) < start + u64::from(count) {
         return Err(ForkError::Cut(wrapping));

@@ -4,6 +4,7 @@
 use Rattle.std.specs.Prelude.{◌≡◌, ◌≢◌, ◌≤◌, ◌+◌, ◌*◌, ◌++◌, ◌⊎◌, ℕ, Bool, true, false, List, [], ◌∷◌, codes, length, slice_range, take, Option, Result, Ok, Err}
 use Rattle.std.specs.Io.KnownBytes.{Appends}
 use Rattle.wrapped_forks.specs.inner.Forks.{fork_of}
+use Rattle.wrapped_forks.specs.declared.fork.Fork.TheVariants.{Resource}
 use Rattle.wrapped_forks.specs.declared.wrapping.ForkError.{ForkError}
 use Rattle.wrapped_forks.specs.declared.wrapping.ForkPlace.{ForkPlace}
 use Rattle.job_words.specs.declared.job.BadWord.{BadWord}
@@ -60,7 +61,7 @@ PutsFork bytes (Err error) old new status = (status ≡ 3) × (new ≡ old)
 
 -- the same of the bytes of a file, whatever they are, unless it was lost, and nothing is put
 abbrev pub WritesFork : Option (List ℕ) → Option (List ℕ) → ℕ → Type 0
-WritesFork old new status = ((bytes : List ℕ) × PutsFork bytes (fork_of bytes) old new status) ⊎ (IsLost status × (new ≡ old))
+WritesFork old new status = ((bytes : List ℕ) × PutsFork bytes (fork_of bytes Resource) old new status) ⊎ (IsLost status × (new ≡ old))
 
 -- what could be read of files that are refused is put, also where there was no memory for the sentence that says why, or
 -- a front of it where the output failed

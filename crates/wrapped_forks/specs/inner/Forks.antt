@@ -1,10 +1,12 @@
--- Where the raw resource fork lies in a file that is or wraps one.
-use Rattle.std.specs.Prelude.{ℕ, zero, suc, ◌+◌, ◌*◌, ◌==◌, ◌&&◌, ◌||◌, not, nat_le, nat_lt, Bool, List, codes, length, slice_index, slice_range, if◌then◌else◌, Option, Some, None, Result, Ok, Err}
+-- Where a fork lies in a file that is a raw resource fork or wraps forks (the sources are named in the crate's head).
+use Rattle.std.specs.Prelude.{ℕ, zero, suc, ◌+◌, ◌*◌, ◌==◌, ◌&&◌, ◌||◌, not, max, min, nat_le, nat_lt, Bool, List, codes, length, slice_index, slice_range, if◌then◌else◌, Option, Some, None, Result, Ok, Err}
 use Rattle.std.specs.List.{list_all}
 use Rattle.std.specs.Option.{option_or}
 use Rattle.mix_bits.specs.Multiples.{rounded_up}
 use Rattle.mix_bits.specs.Fields.{word_at, long_at}
-use Rattle.wrapped_forks.specs.laws.Checksum.{sum_from}
+use Rattle.crc16.specs.Checksum.{checksum_of}
+use Rattle.wrapped_forks.specs.declared.fork.Fork.{Fork}
+use Rattle.wrapped_forks.specs.declared.fork.Fork.TheVariants.{Data, Resource}
 use Rattle.wrapped_forks.specs.declared.wrapping.ForkPlace.{ForkPlace}
 use Rattle.wrapped_forks.specs.declared.wrapping.ForkError.{ForkError}
 use Rattle.wrapped_forks.specs.declared.wrapping.ForkError.TheVariants.{Unknown, Header, Version, Cut, Forkless}
@@ -20,15 +22,23 @@ wrapping_name MacBinary3 = codes "MacBinary III"
 wrapping_name AppleSingle = codes "AppleSingle"
 wrapping_name AppleDouble = codes "AppleDouble"
 
+abbrev pub fork_name : Fork → List ℕ
+fork_name Data = codes "data fork"
+fork_name Resource = codes "resource fork"
+
 -- the fork of so many bytes from a place on, where it has some and they lie in the file
-abbrev pub inside : List ℕ → Wrapping → ℕ → ℕ → Result ForkPlace ForkError
-inside bytes wrapping start count =
-    if count == 0 then Err (Forkless wrapping)
+abbrev pub inside : List ℕ → Wrapping → Fork → ℕ → ℕ → Result ForkPlace ForkError
+inside bytes wrapping fork start count =
+    if count == 0 then Err (Forkless wrapping fork)
     else (if nat_lt (length bytes) (start + count) then Err (Cut wrapping)
-    else Ok (record { wrapping = wrapping; start = start; length = count }))
+    else Ok (record {
+      wrapping = wrapping;
+      start = start;
+      length = count;
+    }))
 
 -- AppleSingle and AppleDouble: a magic number, a version, 16 bytes, the number of entries in a word, and for each entry
--- three longs: what it is (2 is a resource fork), its place and its length
+-- three longs: what it is (1 is a data fork, 2 a resource fork), its place and its length
 abbrev pub apple_wrapping : ℕ → Option Wrapping
 apple_wrapping magic = if magic == 0x51600 then Some AppleSingle else (if magic == 0x51607 then Some AppleDouble else None)
 
@@ -38,30 +48,34 @@ is_version version = (version == 0x10000) || (version == 0x20000)
 abbrev pub entry_place : ℕ → ℕ
 entry_place k = 26 + 12 * k
 
-abbrev pub is_fork : List ℕ → ℕ → Bool
-is_fork bytes k = long_at bytes (entry_place k) == 2
+abbrev pub entry_kind : Fork → ℕ
+entry_kind Data = 1
+entry_kind Resource = 2
+
+abbrev pub is_fork : List ℕ → Fork → ℕ → Bool
+is_fork bytes fork k = long_at bytes (entry_place k) == entry_kind fork
 
 abbrev pub named : ℕ → Bool → Option ℕ
 named k is = if is then Some k else None
 
--- the first entry of a resource fork, among so many
-abbrev pub fork_entry : List ℕ → ℕ → Option ℕ
-fork_entry bytes zero = None
-fork_entry bytes (suc k) = option_or (fork_entry bytes k) (named k (is_fork bytes k))
+-- the first entry of a fork, among so many
+abbrev pub fork_entry : List ℕ → Fork → ℕ → Option ℕ
+fork_entry bytes fork zero = None
+fork_entry bytes fork (suc k) = option_or (fork_entry bytes fork k) (named k (is_fork bytes fork k))
 
-abbrev pub at_entry : List ℕ → Wrapping → Option ℕ → Result ForkPlace ForkError
-at_entry bytes wrapping None = Err (Forkless wrapping)
-at_entry bytes wrapping (Some k) = inside bytes wrapping (long_at bytes (entry_place k + 4)) (long_at bytes (entry_place k + 8))
+abbrev pub at_entry : List ℕ → Wrapping → Fork → Option ℕ → Result ForkPlace ForkError
+at_entry bytes wrapping fork None = Err (Forkless wrapping fork)
+at_entry bytes wrapping fork (Some k) = inside bytes wrapping fork (long_at bytes (entry_place k + 4)) (long_at bytes (entry_place k + 8))
 
-abbrev pub listed_fork : List ℕ → Wrapping → ℕ → Result ForkPlace ForkError
-listed_fork bytes wrapping count = at_entry bytes wrapping (fork_entry bytes count)
+abbrev pub listed_fork : List ℕ → Wrapping → Fork → ℕ → Result ForkPlace ForkError
+listed_fork bytes wrapping fork count = at_entry bytes wrapping fork (fork_entry bytes fork count)
 
-abbrev pub apple_fork : List ℕ → Wrapping → Result ForkPlace ForkError
-apple_fork bytes wrapping =
+abbrev pub apple_fork : List ℕ → Wrapping → Fork → Result ForkPlace ForkError
+apple_fork bytes wrapping fork =
     if nat_lt (length bytes) 26 then Err (Cut wrapping)
     else (if not (is_version (long_at bytes 4)) then Err (Version wrapping)
     else (if nat_lt (length bytes) (entry_place (word_at bytes 24)) then Err (Cut wrapping)
-    else listed_fork bytes wrapping (word_at bytes 24)))
+    else listed_fork bytes wrapping fork (word_at bytes 24)))
 
 -- MacBinary: bytes 0 and 74 are zero, and byte 1 is the length of a name
 abbrev pub is_header : List ℕ → Bool
@@ -71,7 +85,7 @@ is_header bytes =
 
 -- MacBinary II: the check sum of the bytes before it stands at 124
 abbrev pub has_sum : List ℕ → Bool
-has_sum bytes = word_at bytes 124 == sum_from 0 (slice_range bytes 0 124)
+has_sum bytes = word_at bytes 124 == checksum_of (slice_range bytes 0 124)
 
 -- MacBinary I: byte 82 and those from 101 to 125 are zero, and no fork is longer than $7FFFFF
 abbrev pub is_first : List ℕ → Bool
@@ -91,33 +105,52 @@ binary_wrapping bytes = if is_header bytes then level_of bytes else None
 
 -- behind the header of 128 bytes stand a second header, whose length is at 120, and the data fork, whose length is at 83;
 -- each is filled up to a multiple of 128. The length of the resource fork is at 87
-abbrev pub binary_fork : List ℕ → Wrapping → Result ForkPlace ForkError
-binary_fork bytes wrapping =
-    inside bytes wrapping (128 + rounded_up 128 (word_at bytes 120) + rounded_up 128 (long_at bytes 83)) (long_at bytes 87)
+abbrev pub binary_data : List ℕ → ℕ
+binary_data bytes = 128 + rounded_up 128 (word_at bytes 120)
 
--- a raw fork: its header names the places and lengths of the data and the map, which lie in the file, and the map has at
--- least 28 bytes
+abbrev pub binary_fork : List ℕ → Wrapping → Fork → Result ForkPlace ForkError
+binary_fork bytes wrapping Data = inside bytes wrapping Data (binary_data bytes) (long_at bytes 83)
+binary_fork bytes wrapping Resource =
+    inside bytes wrapping Resource (binary_data bytes + rounded_up 128 (long_at bytes 83)) (long_at bytes 87)
+
+abbrev pub by_binary : List ℕ → Fork → Option Wrapping → Result ForkPlace ForkError
+by_binary bytes fork (Some wrapping) = binary_fork bytes wrapping fork
+by_binary bytes fork None = if is_header bytes then Err Header else Err Unknown
+
+abbrev pub binary_or_refusal : List ℕ → Fork → Result ForkPlace ForkError
+binary_or_refusal bytes fork = by_binary bytes fork (binary_wrapping bytes)
+
+abbrev pub by_apple : List ℕ → Fork → Option Wrapping → Result ForkPlace ForkError
+by_apple bytes fork (Some wrapping) = apple_fork bytes wrapping fork
+by_apple bytes fork None = binary_or_refusal bytes fork
+
+-- a fork of a file that is no raw one
+abbrev pub wrapped_fork : List ℕ → Fork → Result ForkPlace ForkError
+wrapped_fork bytes fork =
+    if nat_lt (length bytes) 16 then Err Unknown else by_apple bytes fork (apple_wrapping (long_at bytes 0))
+
+-- a raw fork: its header names the places and lengths of the data and the map, which lie in the file and share no byte,
+-- and the map has at least 28 bytes (More Macintosh Toolbox, 'Resource Manager')
+abbrev pub are_areas : List ℕ → Bool
+are_areas bytes =
+    let data_end = long_at bytes 0 + long_at bytes 8 in
+    let map_end = long_at bytes 4 + long_at bytes 12 in
+    nat_le data_end (length bytes) && nat_le map_end (length bytes) && nat_le 28 (long_at bytes 12)
+    && not (nat_lt (max (long_at bytes 0) (long_at bytes 4)) (min data_end map_end))
+
 abbrev pub is_raw : List ℕ → Bool
-is_raw bytes =
-    nat_le (long_at bytes 0 + long_at bytes 8) (length bytes) && nat_le (long_at bytes 4 + long_at bytes 12) (length bytes)
-    && nat_le 28 (long_at bytes 12)
+is_raw bytes = nat_le 16 (length bytes) && are_areas bytes
 
-abbrev pub raw_or_refusal : List ℕ → Result ForkPlace ForkError
-raw_or_refusal bytes =
-    if is_raw bytes then Ok (record { wrapping = Raw; start = 0; length = length bytes })
-    else (if is_header bytes then Err Header else Err Unknown)
+-- such a file is the resource fork
+abbrev pub raw_fork : List ℕ → Fork → Result ForkPlace ForkError
+raw_fork bytes Data = Err (Forkless Raw Data)
+raw_fork bytes Resource =
+    Ok (record {
+      wrapping = Raw;
+      start = 0;
+      length = length bytes;
+    })
 
-abbrev pub by_binary : List ℕ → Option Wrapping → Result ForkPlace ForkError
-by_binary bytes (Some wrapping) = binary_fork bytes wrapping
-by_binary bytes None = raw_or_refusal bytes
-
-abbrev pub wrapped_fork : List ℕ → Result ForkPlace ForkError
-wrapped_fork bytes = by_binary bytes (binary_wrapping bytes)
-
-abbrev pub by_apple : List ℕ → Option Wrapping → Result ForkPlace ForkError
-by_apple bytes (Some wrapping) = apple_fork bytes wrapping
-by_apple bytes None = wrapped_fork bytes
-
--- the fork of a file, or why there is none
-unfoldable pub fork_of : List ℕ → Result ForkPlace ForkError
-fork_of bytes = if nat_lt (length bytes) 16 then Err Unknown else by_apple bytes (apple_wrapping (long_at bytes 0))
+-- a fork of a file, or why there is none: a raw fork goes before all that wraps one
+unfoldable pub fork_of : List ℕ → Fork → Result ForkPlace ForkError
+fork_of bytes fork = if is_raw bytes then raw_fork bytes fork else wrapped_fork bytes fork
