@@ -1,0 +1,5 @@
+pub mod Answers
+pub mod Descriptions
+pub mod Registers
+pub mod Stops
+pub mod laws

@@ -1,0 +1,4 @@
+pub mod Hearing
+pub mod Replies
+pub mod Stops
+pub mod Commands

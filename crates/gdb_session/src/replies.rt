@@ -1,0 +1,215 @@
+//! What is sent at a packet of gdb's.
+ghost use Rattle.std.specs.Prelude.{◌≡◌, ◌++◌, [], IfOk, OnOk};
+ghost use Rattle.gdb_session.specs.Replies.{DoneBy, Replies, console_packet, said};
+ghost use Rattle.gdb_session.specs.Replies.{Allowed, command_text, placed as placed_by};
+ghost use Rattle.gdb_session.specs.Commands.{budget_of};
+ghost use Rattle.gdb_session.specs.Stops.{exit_answer, halt_answer as halt_told, halt_talk, is_end as is_end_told};
+ghost use Rattle.gdb_answers.specs.declared.answer.Answer.TheVariants.{Done as done};
+
+use crate::commands::{help, read_budget};
+use crate::outcome::Outcome;
+use crate::target::{Halt, Target};
+use gdb_answers::{Answer, Reason, append_console};
+use gdb_packets::append_packet;
+use gdb_requests::read_request;
+use gdb_talk::{Deed, Talk, Walk};
+use mix_bits::{Isa, NoMemory};
+use std::alloc::Global;
+
+/// Does what a packet of gdb's with this data asks for, and puts the packets that gdb gets for it into `sent`. `console`
+/// has what a walk told on the console. Both are empty before.
+pub fn reply<T: Target>(
+    alloc: Global,
+    target: &mut T,
+    talk: &mut Talk,
+    data: &[u8],
+    console: &mut Vec<u8>,
+    sent: &mut Vec<u8>,
+) -> Result<Outcome, NoMemory>
+    requires console { console.old.items ≡ [] }
+    requires sent { sent.old.items ≡ [] }
+    ensures { IfOk result (λ outcome. Replies T.scene T.walks T.inserts T.removes T.allows «data».now talk.old talk.new target.old target.new console.new.items sent.new.items outcome) }
+{
+    let request = read_request(data);
+    let active = target.set();
+    let deed = talk.deed(active, request);
+    talk.note(active, request);
+    obey(alloc, target, talk, deed, data, console, sent)
+}
+
+fn obey<T: Target>(
+    alloc: Global,
+    target: &mut T,
+    talk: &mut Talk,
+    deed: Deed,
+    data: &[u8],
+    console: &mut Vec<u8>,
+    sent: &mut Vec<u8>,
+) -> Result<Outcome, NoMemory>
+    requires console { console.old.items ≡ [] }
+    requires sent { sent.old.items ≡ [] }
+    ensures { IfOk result (λ outcome. DoneBy T.scene T.walks T.inserts T.removes T.allows «data».now talk.old talk.new target.old target.new console.new.items sent.new.items deed outcome) }
+{
+    match deed {
+        Deed::Answer(answer) => {
+            answer_alone(alloc, target, answer, sent)?;
+            Ok(Outcome::Answered)
+        }
+        Deed::Walk(way) => walk(alloc, target, talk, way, console, sent),
+        Deed::Insert(point, address, count) => {
+            let is_set = target.insert(point, address, count);
+            answer_alone(alloc, target, placed(is_set), sent)?;
+            Ok(Outcome::Placed(is_set))
+        }
+        Deed::Remove(point, address, count) => {
+            target.remove(point, address, count);
+            answer_alone(alloc, target, Answer::Done, sent)?;
+            Ok(Outcome::Answered)
+        }
+        Deed::Command => command(alloc, target, data, sent),
+        Deed::Leave => {
+            answer_alone(alloc, target, Answer::Done, sent)?;
+            Ok(Outcome::Ended)
+        }
+        Deed::End => Ok(Outcome::Ended),
+    }
+}
+
+/// Puts the packet of an answer where none is yet.
+fn answer_alone<T: Target>(
+    alloc: Global,
+    target: &T,
+    answer: Answer,
+    sent: &mut Vec<u8>,
+) -> Result<(), NoMemory>
+    requires { sent.old.items ≡ [] }
+    ensures { OnOk result (sent.new.items ≡ said (T.scene target.now) answer) }
+{
+    put_answer(alloc, target, answer, sent)
+}
+
+fn put_answer<T: Target>(
+    alloc: Global,
+    target: &T,
+    answer: Answer,
+    sent: &mut Vec<u8>,
+) -> Result<(), NoMemory>
+    ensures { OnOk result (sent.new.items ≡ sent.old.items ++ said (T.scene target.now) answer) }
+{
+    let mut data = Vec::new(alloc);
+    target.tell(answer, &mut data)?;
+    append_packet(sent, &data)
+}
+
+fn put_console(alloc: Global, bytes: &[u8], sent: &mut Vec<u8>) -> Result<(), NoMemory>
+    ensures { OnOk result (sent.new.items ≡ sent.old.items ++ console_packet bytes.now) }
+{
+    if bytes.is_empty() {
+        return Ok(());
+    }
+    let mut data = Vec::new(alloc);
+    append_console(&mut data, bytes)?;
+    append_packet(sent, &data)
+}
+
+fn walk<T: Target>(
+    alloc: Global,
+    target: &mut T,
+    talk: &mut Talk,
+    way: Walk,
+    console: &mut Vec<u8>,
+    sent: &mut Vec<u8>,
+) -> Result<Outcome, NoMemory>
+    requires console { console.old.items ≡ [] }
+    requires sent { sent.old.items ≡ [] }
+    ensures { IfOk result (λ outcome. DoneBy T.scene T.walks T.inserts T.removes T.allows [] talk.old talk.new target.old target.new console.new.items sent.new.items (Deed.Walk way) outcome) }
+{
+    let halt = target.walk(way, console);
+    put_console(alloc, console, sent)?;
+    let active = target.set();
+    let answer = halt_answer(talk, active, halt);
+    note_halt(talk, active, halt);
+    put_answer(alloc, target, answer, sent)?;
+    Ok(Outcome::Walked(halt))
+}
+
+fn halt_answer(talk: &Talk, active: Isa, halt: Halt) -> Answer
+    ensures { result ≡ halt_told active talk.now halt }
+{
+    match halt {
+        Halt::Stopped(reason) => talk.stop_answer(active, reason),
+        Halt::Exit(code) => {
+            if is_end(talk.reason) {
+                Answer::Exited(code)
+            } else {
+                talk.stop_answer(active, Reason::Ends)
+            }
+        }
+    }
+}
+
+fn is_end(reason: Reason) -> bool
+    ensures { result ≡ is_end_told reason }
+{
+    match reason {
+        Reason::Ends => true,
+        _ => false,
+    }
+}
+
+fn note_halt(talk: &mut Talk, active: Isa, halt: Halt)
+    ensures { talk.new ≡ halt_talk active talk.old halt }
+{
+    match halt {
+        Halt::Stopped(reason) => talk.stop(active, reason),
+        Halt::Exit(_) => talk.stop(active, Reason::Ends),
+    }
+}
+
+fn placed(is_set: bool) -> Answer
+    ensures { result ≡ placed_by is_set }
+{
+    if is_set {
+        Answer::Done
+    } else {
+        Answer::Refused
+    }
+}
+
+fn command<T: Target>(
+    alloc: Global,
+    target: &mut T,
+    data: &[u8],
+    sent: &mut Vec<u8>,
+) -> Result<Outcome, NoMemory>
+    requires { sent.old.items ≡ [] }
+    ensures answered { IfOk result (λ outcome. outcome ≡ Outcome.Answered) }
+    ensures same { T.scene target.new ≡ T.scene target.old }
+    ensures allowed { IfOk result (λ _. Allowed T.allows target.old target.new (budget_of «data».now)) }
+    ensures sent { OnOk result (sent.new.items ≡ console_packet (command_text (budget_of «data».now)) ++ said (T.scene target.old) done) }
+{
+    do_command(alloc, target, data, sent)?;
+    put_answer(alloc, target, Answer::Done, sent)?;
+    Ok(Outcome::Answered)
+}
+
+/// Does a command, and puts what is told of the commands where there is no such one.
+fn do_command<T: Target>(
+    alloc: Global,
+    target: &mut T,
+    data: &[u8],
+    sent: &mut Vec<u8>,
+) -> Result<(), NoMemory>
+    requires { sent.old.items ≡ [] }
+    ensures same { T.scene target.new ≡ T.scene target.old }
+    ensures allowed { IfOk result (λ _. Allowed T.allows target.old target.new (budget_of «data».now)) }
+    ensures sent { OnOk result (sent.new.items ≡ console_packet (command_text (budget_of «data».now))) }
+{
+    match read_budget(alloc, data)? {
+        Some(budget) => {
+            target.allow(budget);
+            Ok(())
+        }
+        None => put_console(alloc, help(), sent),
+    }
+}
