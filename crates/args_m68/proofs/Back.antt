@@ -18,9 +18,10 @@ use Rattle.proc_info.specs.Cut.{cut}
 use Rattle.proc_info.specs.Codes.{is_dispatched}
 use Rattle.proc_info.specs.Rules.{KeepsRules}
 use Rattle.proc_info.specs.Signature.{Signature, is_twice}
-use Rattle.args_m68.specs.declared.places.Route.{Route}
-use Rattle.args_m68.specs.declared.places.Route.TheVariants.{PascalStack, CStack, Registers}
-use Rattle.args_m68.specs.Places.{params_bytes, result_bytes, route_of, width}
+use Rattle.proc_info.specs.declared.conv.Route.{Route}
+use Rattle.proc_info.specs.declared.conv.Route.TheVariants.{PascalStack, CStack, Registers}
+use Rattle.proc_info.specs.Routes.{route_of}
+use Rattle.args_m68.specs.Places.{params_bytes, result_bytes, width}
 use Rattle.args_m68.specs.declared.places.Place.TheVariants.{Stack, Data}
 use Rattle.args_m68.specs.Values.{value_at}
 use Rattle.args_m68.specs.Gather.{selector_in, values_at}

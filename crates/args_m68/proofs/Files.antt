@@ -9,16 +9,18 @@ use Rattle.mix_bits.specs.declared.size.Size.TheVariants.{Zero, One, Two, Four}
 use Rattle.big_memory.specs.Memory.{Memory}
 use Rattle.m68_isa.specs.declared.registers.Regs68.{Regs68}
 use Rattle.proc_info.specs.declared.conv.Conv.{Conv}
-use Rattle.proc_info.specs.declared.conv.Conv.TheVariants.{Pascal, C, Register, D0Pascal, D0C, D1Pascal, StackPascal}
+use Rattle.proc_info.specs.declared.conv.Dispatch.{Dispatch}
+use Rattle.proc_info.specs.declared.conv.Dispatch.TheVariants.{Nowhere, D0, D1, OnStack}
+use Rattle.proc_info.specs.Codes.{dispatch_of}
 use Rattle.proc_info.specs.declared.param.Param.{Param}
 use Rattle.proc_info.specs.Cut.{cut}
 use Rattle.proc_info.specs.Signature.{Signature, is_twice}
-use Rattle.args_m68.specs.declared.places.Route.{Route}
-use Rattle.args_m68.specs.declared.places.Route.TheVariants.{PascalStack, CStack, Registers}
+use Rattle.proc_info.specs.declared.conv.Route.{Route}
+use Rattle.proc_info.specs.declared.conv.Route.TheVariants.{PascalStack, CStack, Registers}
 use Rattle.args_m68.specs.declared.places.Place.{Place}
 use Rattle.args_m68.specs.declared.places.Place.TheVariants.{Stack, Data, Address, Condition}
 use Rattle.args_m68.specs.inner.Places.{IsThere}
-use Rattle.args_m68.specs.Places.{place_numbered, place_of, selector_place}
+use Rattle.args_m68.specs.Places.{place_by, place_numbered, place_of, selector_place}
 use Rattle.args_m68.specs.Values.{value_at, with_value}
 use Rattle.args_m68.specs.Gather.{values_at}
 use Rattle.args_m68.specs.Deliver.{with_arguments, with_selector}
@@ -50,14 +52,14 @@ place-there PascalStack p = tt
 place-there CStack p = tt
 place-there Registers p = numbered-there p.reg
 
+pub passed-there : (dispatch : Dispatch) → IsThere (place_by dispatch)
+passed-there Nowhere = omega arith
+passed-there D0 = omega arith
+passed-there D1 = omega arith
+passed-there OnStack = tt
+
 pub selector-there : (conv : Conv) → IsThere (selector_place conv)
-selector-there Pascal = omega arith
-selector-there C = omega arith
-selector-there Register = omega arith
-selector-there D0Pascal = omega arith
-selector-there D0C = omega arith
-selector-there D1Pascal = omega arith
-selector-there StackPascal = tt
+selector-there conv = passed-there (dispatch_of conv)
 
 pub arguments-keep_sp : (route : Route) (ps : List Param) (vs : List ℕ) (r : Regs68) → get_or (with_arguments route ps vs r).a 7 0 ≡ get_or r.a 7 0
 arguments-keep_sp route [] vs r = refl

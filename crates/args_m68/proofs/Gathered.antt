@@ -9,7 +9,7 @@ use Rattle.proc_info.specs.declared.param.Param.{Param}
 use Rattle.proc_info.specs.laws.Arguments.{behind}
 use Rattle.proc_info.proofs.Chains.{behind_front}
 use Rattle.args_m68.specs.declared.places.Place.{Place}
-use Rattle.args_m68.specs.declared.places.Route.{Route}
+use Rattle.proc_info.specs.declared.conv.Route.{Route}
 use Rattle.args_m68.specs.Places.{next_base, place_of, widths}
 use Rattle.args_m68.specs.Values.{value_at}
 use Rattle.proc_info.specs.inner.Arguments.{Appends}

@@ -1,5 +1,5 @@
 -- A result that was put is found, and what a return leaves.
-use Rattle.std.proofs.Common.{◌≡◌, ℕ, ◌+◌, ◌≤◌, Bool, true, false, ◌==◌, nat_lt, List, length, get_or, Option, Some, None, Result, Ok, Err, arith, refl, sym, ap, ◌∙◌, subst}
+use Rattle.std.proofs.Common.{◌≡◌, ◌≢◌, ℕ, ◌+◌, ◌*◌, ◌≤◌, if◌then◌else◌, Bool, true, false, ◌==◌, nat_lt, length, get_or, Option, Some, None, Result, Ok, Err, arith, refl, sym, ap, ◌∙◌, subst}
 use Rattle.std.proofs.lemmas.List.{get_or-set_same, length-set}
 use Rattle.std.proofs.lemmas.Bool.{le-leb}
 use Rattle.std.proofs.lemmas.Bool.Decides.{nat_tests}
@@ -14,23 +14,22 @@ use Rattle.big_memory.specs.Stores.{stored_unless, stored_value}
 use Rattle.big_memory.proofs.Guarded.{loads_back}
 use Rattle.m68_isa.specs.declared.registers.Ccr.{Ccr}
 use Rattle.m68_isa.specs.declared.registers.Regs68.{Regs68}
-use Rattle.proc_info.specs.declared.conv.Conv.{Conv}
-use Rattle.proc_info.specs.declared.conv.Conv.TheVariants.{Pascal, C, Register, D0Pascal, D0C, D1Pascal, StackPascal}
-use Rattle.proc_info.specs.declared.param.Param.{Param}
 use Rattle.proc_info.specs.Signature.{Signature}
 use Rattle.args_m68.specs.declared.places.Flag.{Flag}
 use Rattle.args_m68.specs.declared.places.Flag.TheVariants.{Carry, Overflow, IsZero, Negative, Extend}
 use Rattle.args_m68.specs.declared.places.Place.{Place}
 use Rattle.args_m68.specs.declared.places.Place.TheVariants.{Stack, Data, Address, Condition}
-use Rattle.args_m68.specs.declared.places.Route.{Route}
-use Rattle.args_m68.specs.declared.places.Route.TheVariants.{PascalStack, CStack, Registers}
+use Rattle.proc_info.specs.declared.conv.Route.{Route}
+use Rattle.proc_info.specs.declared.conv.Route.TheVariants.{PascalStack, CStack, Registers}
 use Rattle.args_m68.specs.inner.Places.{IsThere}
-use Rattle.args_m68.specs.Places.{result_place, route_of}
+use Rattle.proc_info.specs.Routes.{route_of}
+use Rattle.args_m68.specs.Places.{params_bytes, result_bytes, result_place, selector_width}
 use Rattle.args_m68.specs.Values.{Given, above_sp, flag_in, put_at, value_at, with_flag, with_value}
-use Rattle.args_m68.specs.Deliver.{below}
-use Rattle.args_m68.specs.Results.{after_call, removed}
+use Rattle.args_m68.specs.Deliver.{callee_base}
+use Rattle.args_m68.specs.Results.{after_call, removed_by}
 use Rattle.args_m68.specs.laws.ResultLaws.{IsFile, ResultComesBack, ReturnLeaves, left_by, shown_at}
 use Rattle.args_m68.proofs.Files.{low-back, numbered-there}
+use Rattle.args_m68.proofs.Spots.{only-pascal}
 
 -- bytes that may be stored lie in memory
 inside : (m : Memory) (a n : ℕ) → refusal m a n ≡ None → in_memory m a n ≡ true
@@ -97,18 +96,15 @@ result-comes-back sig v r m given file done =
     put-back (result_place (route_of sig.conv) sig.place) sig.result v (after_call sig r) m given (result-there (route_of sig.conv) sig.place)
     (record { data_registers = file.data_registers; address_registers = length-set r.a 7 _ ∙ file.address_registers }) done
 
-leaves-of : (conv : Conv) (result : Size) (place : ℕ) (selector : Size) (ps : List Param) (passed : Bool)
-    → let sig : Signature = record { conv = conv; result = result; place = place; selector = selector; params = ps } in below sig passed ≡ removed sig passed + left_by (route_of conv) sig
-leaves-of Pascal result place selector ps passed = refl
-leaves-of C result place selector ps true = omega arith
-leaves-of C result place selector ps false = omega arith
-leaves-of Register result place selector ps true = omega arith
-leaves-of Register result place selector ps false = omega arith
-leaves-of D0Pascal result place selector ps passed = refl
-leaves-of D0C result place selector ps true = omega arith
-leaves-of D0C result place selector ps false = omega arith
-leaves-of D1Pascal result place selector ps passed = refl
-leaves-of StackPascal result place selector ps passed = refl
+leaves-no_selector : (passed : Bool) (width bytes : ℕ) → width ≡ 0 → 4 + (if passed then width else 0) + bytes + 0 ≡ 4 + bytes
+leaves-no_selector true width bytes none = omega (arith, none)
+leaves-no_selector false width bytes none = omega arith
+
+leaves-by : (route : Route) (sig : Signature) (passed : Bool) → (route ≢ PascalStack → selector_width sig.conv sig.selector ≡ 0)
+    → callee_base sig passed + params_bytes route sig.params + result_bytes route sig.result ≡ removed_by route sig passed + left_by route sig
+leaves-by PascalStack sig passed none = refl
+leaves-by CStack sig passed none = leaves-no_selector passed (selector_width sig.conv sig.selector) (4 * length sig.params) (none (λ same. cc))
+leaves-by Registers sig passed none = leaves-no_selector passed (selector_width sig.conv sig.selector) 0 (none (λ same. cc))
 
 pub return-leaves : ReturnLeaves
-return-leaves sig passed = leaves-of sig.conv sig.result sig.place sig.selector sig.params passed
+return-leaves sig passed = leaves-by (route_of sig.conv) sig passed (only-pascal sig.conv sig.selector)

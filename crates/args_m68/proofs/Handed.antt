@@ -8,8 +8,8 @@ use Rattle.mix_bits.specs.declared.size.Size.TheVariants.{Zero, One, Two, Four}
 use Rattle.m68_isa.specs.declared.registers.Regs68.{Regs68}
 use Rattle.proc_info.specs.declared.param.Param.{Param}
 use Rattle.args_m68.specs.declared.places.Place.{Place}
-use Rattle.args_m68.specs.declared.places.Route.{Route}
-use Rattle.args_m68.specs.declared.places.Route.TheVariants.{PascalStack, CStack, Registers}
+use Rattle.proc_info.specs.declared.conv.Route.{Route}
+use Rattle.proc_info.specs.declared.conv.Route.TheVariants.{PascalStack, CStack, Registers}
 use Rattle.args_m68.specs.Places.{params_bytes, place_of, width, widths}
 use Rattle.args_m68.specs.Values.{with_value}
 use Rattle.args_m68.specs.Deliver.{pascal_slot, slots, with_arguments}

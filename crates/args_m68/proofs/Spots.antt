@@ -20,8 +20,9 @@ use Rattle.proc_info.specs.Rules.{KeepsRules}
 use Rattle.proc_info.specs.Signature.{Signature, is_twice}
 use Rattle.args_m68.specs.declared.places.Place.{Place}
 use Rattle.args_m68.specs.declared.places.Place.TheVariants.{Stack, Data, Address, Condition}
-use Rattle.args_m68.specs.declared.places.Route.TheVariants.{PascalStack, CStack, Registers}
-use Rattle.args_m68.specs.Places.{next_base, place_numbered, place_of, width, widths}
+use Rattle.proc_info.specs.declared.conv.Route.TheVariants.{PascalStack, CStack, Registers}
+use Rattle.proc_info.specs.Routes.{route_of}
+use Rattle.args_m68.specs.Places.{next_base, place_numbered, place_of, selector_width, width, widths}
 use Rattle.args_m68.specs.Values.{value_at}
 use Rattle.args_m68.specs.laws.Apart.{AreReadThere, HasByte, IsApart, PlacesAreApart, Spot, call_spots, param_spots}
 use Rattle.args_m68.proofs.Stacks.{bytes-width}
@@ -256,6 +257,16 @@ c-alone : (ps : List Param) → AllPairs IsApart (gate_spot ∷ (param_spots CSt
 c-alone ps =
     none-behind (λ xs. AllPairs IsApart (gate_spot ∷ xs)) (param_spots CStack 4 ps)
     (behind-gate (param_spots CStack 4 ps) (all-beyond (param_spots CStack 4 ps) 4 (4 + 4 * length ps) 4 (omega arith) (c-lie 4 ps)) (c-apart 4 ps))
+
+-- no convention but of Pascal passes its selector on the stack
+pub only-pascal : (conv : Conv) (s : Size) → (route_of conv ≢ PascalStack → selector_width conv s ≡ 0)
+only-pascal Pascal s other = refl
+only-pascal C s other = refl
+only-pascal Register s other = refl
+only-pascal D0Pascal s other = refl
+only-pascal D0C s other = refl
+only-pascal D1Pascal s other = refl
+only-pascal StackPascal s other = absurd (other refl)
 
 apart-of : (conv : Conv) (result : Size) (place : ℕ) (selector : Size) (ps : List Param) (passed : Bool)
     → let sig : Signature = record { conv = conv; result = result; place = place; selector = selector; params = ps } in

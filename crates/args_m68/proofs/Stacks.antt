@@ -1,5 +1,5 @@
 -- The bytes of a callee's stack, and what they read back as.
-use Rattle.std.proofs.Common.{◌≡◌, ℕ, ◌+◌, ◌-◌, ◌*◌, ◌≤◌, List, [], ◌∷◌, ◌++◌, length, drop, get_or, replicate, Option, Some, None, Result, Ok, Err, is_some, if◌then◌else◌, arith, refl, sym, ap, ◌∙◌, append_assoc, length-append}
+use Rattle.std.proofs.Common.{◌≡◌, ℕ, ◌+◌, ◌-◌, ◌*◌, ◌≤◌, List, [], ◌∷◌, ◌++◌, length, drop, get_or, replicate, Option, Some, None, Result, Ok, Err, is_some, if◌then◌else◌, arith, refl, sym, ap, ◌∙◌, append_assoc, length-append, Bool, true, false}
 use Rattle.std.proofs.lemmas.List.{drop-drop, drop_at, length-replicate}
 use Rattle.byteorder.specs.Endian.{big_bytes, big_number}
 use Rattle.mix_bits.specs.Results.{◌>>=◌}
@@ -11,12 +11,13 @@ use Rattle.big_memory.specs.Memory.{Memory, loaded}
 use Rattle.big_memory.proofs.Numbers.{loads_number}
 use Rattle.m68_isa.specs.declared.registers.Regs68.{Regs68}
 use Rattle.proc_info.specs.declared.conv.Conv.{Conv}
-use Rattle.proc_info.specs.declared.conv.Conv.TheVariants.{Pascal, C, Register, D0Pascal, D0C, D1Pascal, StackPascal}
+use Rattle.proc_info.specs.Codes.{dispatch_of}
 use Rattle.proc_info.specs.declared.param.Param.{Param}
 use Rattle.proc_info.specs.Cut.{cut}
-use Rattle.args_m68.specs.declared.places.Route.{Route}
-use Rattle.args_m68.specs.declared.places.Route.TheVariants.{PascalStack, CStack, Registers}
-use Rattle.args_m68.specs.Places.{params_bytes, result_bytes, route_of, selector_width, width, widths}
+use Rattle.proc_info.specs.declared.conv.Route.{Route}
+use Rattle.proc_info.specs.declared.conv.Route.TheVariants.{PascalStack, CStack, Registers}
+use Rattle.proc_info.specs.Routes.{route_of}
+use Rattle.args_m68.specs.Places.{is_on_stack, params_bytes, result_bytes, selector_width, width, widths}
 use Rattle.args_m68.specs.Values.{above_sp}
 use Rattle.args_m68.specs.Gather.{values_at}
 use Rattle.args_m68.specs.Deliver.{pascal_slot, selector_slot, slots}
@@ -40,15 +41,13 @@ length-slots CStack (p ∷ ps) (v ∷ vs) same =
     omega (arith, length-append (big_bytes 4 (truncated v p.size)) (slots CStack ps vs), length-slots CStack ps vs (omega (arith, same)))
 length-slots Registers ps vs same = refl
 
+length-passed : (passed : Bool) (s : Size) (v : ℕ) → length (if passed then pascal_slot s v else []) ≡ (if passed then width s else 0)
+length-passed true s v = length-slot s v
+length-passed false s v = refl
+
 pub length-selector : (conv : Conv) (s : Size) (selector : Option ℕ) → length (selector_slot conv s selector) ≡ (if is_some selector then selector_width conv s else 0)
 length-selector conv s None = refl
-length-selector Pascal s (Some v) = refl
-length-selector C s (Some v) = refl
-length-selector Register s (Some v) = refl
-length-selector D0Pascal s (Some v) = refl
-length-selector D0C s (Some v) = refl
-length-selector D1Pascal s (Some v) = refl
-length-selector StackPascal s (Some v) = length-slot s v
+length-selector conv s (Some v) = length-passed (is_on_stack (dispatch_of conv)) s v
 
 -- how many bytes a value has, and how many it takes
 pub bytes-width : (s : Size) → bytes_of s ≤ width s

@@ -10,12 +10,13 @@ use Rattle.big_memory.specs.Map.{return_gate}
 use Rattle.m68_isa.specs.declared.registers.Regs68.{Regs68}
 use Rattle.m68_isa.specs.Registers.{cleared_registers}
 use Rattle.proc_info.specs.declared.conv.Conv.{Conv}
-use Rattle.proc_info.specs.declared.conv.Conv.TheVariants.{Pascal, C, Register, D0Pascal, D0C, D1Pascal, StackPascal}
+use Rattle.proc_info.specs.Codes.{dispatch_of}
 use Rattle.proc_info.specs.declared.param.Param.{Param}
 use Rattle.proc_info.specs.Signature.{Signature}
-use Rattle.args_m68.specs.declared.places.Route.{Route}
-use Rattle.args_m68.specs.declared.places.Route.TheVariants.{PascalStack, CStack, Registers}
-use Rattle.args_m68.specs.Places.{params_bytes, place_of, result_bytes, route_of, selector_place, selector_width}
+use Rattle.proc_info.specs.declared.conv.Route.{Route}
+use Rattle.proc_info.specs.declared.conv.Route.TheVariants.{PascalStack, CStack, Registers}
+use Rattle.proc_info.specs.Routes.{route_of}
+use Rattle.args_m68.specs.Places.{is_on_stack, params_bytes, place_of, result_bytes, selector_place, selector_width}
 use Rattle.args_m68.specs.Values.{with_value}
 
 -- how far above the return address the parameters of a callee begin: a selector on the stack counts where it is passed
@@ -46,13 +47,7 @@ slots Registers ps vs = []
 
 -- a selector on the stack
 abbrev pub stack_selector : Conv → Size → ℕ → List ℕ
-stack_selector Pascal s v = []
-stack_selector C s v = []
-stack_selector Register s v = []
-stack_selector D0Pascal s v = []
-stack_selector D0C s v = []
-stack_selector D1Pascal s v = []
-stack_selector StackPascal s v = pascal_slot s v
+stack_selector conv s v = if is_on_stack (dispatch_of conv) then pascal_slot s v else []
 
 abbrev pub selector_slot : Conv → Size → Option ℕ → List ℕ
 selector_slot conv s None = []

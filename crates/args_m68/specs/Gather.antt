@@ -6,10 +6,9 @@ use Rattle.big_memory.specs.Memory.{Memory}
 use Rattle.m68_isa.specs.declared.registers.Regs68.{Regs68}
 use Rattle.proc_info.specs.declared.param.Param.{Param}
 use Rattle.proc_info.specs.Signature.{Signature}
-use Rattle.proc_info.specs.inner.Arguments.{Appends}
-use Rattle.args_m68.specs.Arguments.{answered, words_of}
-use Rattle.args_m68.specs.declared.places.Route.{Route}
-use Rattle.args_m68.specs.Places.{next_base, place_of, route_of, selector_place, selector_width, widths}
+use Rattle.proc_info.specs.declared.conv.Route.{Route}
+use Rattle.proc_info.specs.Routes.{route_of}
+use Rattle.args_m68.specs.Places.{next_base, place_of, selector_place, selector_width, widths}
 use Rattle.args_m68.specs.Values.{value_at}
 
 -- the values of parameters whose lowest begins so far above the return address, in the parameters' order, or the first

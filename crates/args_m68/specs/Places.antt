@@ -1,29 +1,21 @@
 -- Where the values of a call stand in 68K code
 -- (Inside Macintosh: PowerPC System Software, chapter 2; the long slots of C parameters are this project's own).
 -- All of it is counted from the return address, which is at A7 when a callee begins.
-use Rattle.std.specs.Prelude.{ℕ, ◌+◌, ◌-◌, ◌*◌, ◌==◌, nat_lt, if◌then◌else◌, List, [], ◌∷◌, length}
+use Rattle.std.specs.Prelude.{ℕ, ◌+◌, ◌-◌, ◌*◌, ◌==◌, nat_lt, Bool, true, false, if◌then◌else◌, List, [], ◌∷◌, length}
 use Rattle.mix_bits.specs.declared.size.Size.{Size}
 use Rattle.mix_bits.specs.declared.size.Size.TheVariants.{Zero, One, Two, Four}
 use Rattle.mix_bits.specs.Sizes.{bytes_of}
 use Rattle.proc_info.specs.declared.conv.Conv.{Conv}
-use Rattle.proc_info.specs.declared.conv.Conv.TheVariants.{Pascal, C, Register, D0Pascal, D0C, D1Pascal, StackPascal}
+use Rattle.proc_info.specs.declared.conv.Dispatch.{Dispatch}
+use Rattle.proc_info.specs.declared.conv.Dispatch.TheVariants.{D1, OnStack}
+use Rattle.proc_info.specs.Codes.{dispatch_of}
 use Rattle.proc_info.specs.declared.param.Param.{Param}
 use Rattle.args_m68.specs.declared.places.Flag.{Flag}
 use Rattle.args_m68.specs.declared.places.Flag.TheVariants.{Carry, Overflow, IsZero, Negative, Extend}
 use Rattle.args_m68.specs.declared.places.Place.{Place}
 use Rattle.args_m68.specs.declared.places.Place.TheVariants.{Stack, Data, Address, Condition}
-use Rattle.args_m68.specs.declared.places.Route.{Route}
-use Rattle.args_m68.specs.declared.places.Route.TheVariants.{PascalStack, CStack, Registers}
-
--- how a convention passes parameters and results; selectors aside
-abbrev pub route_of : Conv → Route
-route_of Pascal = PascalStack
-route_of C = CStack
-route_of Register = Registers
-route_of D0Pascal = PascalStack
-route_of D0C = CStack
-route_of D1Pascal = PascalStack
-route_of StackPascal = PascalStack
+use Rattle.proc_info.specs.declared.conv.Route.{Route}
+use Rattle.proc_info.specs.declared.conv.Route.TheVariants.{PascalStack, CStack, Registers}
 
 -- how many bytes a value takes on a Pascal stack, which stays even
 abbrev pub width : Size → ℕ
@@ -64,24 +56,21 @@ next_base CStack base = base + 4
 next_base Registers base = base
 
 -- the place of a selector; only dispatched conventions have one, of some size
+abbrev pub place_by : Dispatch → Place
+place_by D1 = Data 1
+place_by OnStack = Stack 4
+place_by _ = Data 0
+
 abbrev pub selector_place : Conv → Place
-selector_place Pascal = Data 0
-selector_place C = Data 0
-selector_place Register = Data 0
-selector_place D0Pascal = Data 0
-selector_place D0C = Data 0
-selector_place D1Pascal = Data 1
-selector_place StackPascal = Stack 4
+selector_place conv = place_by (dispatch_of conv)
 
 -- how far a selector on the stack pushes the parameters up
+abbrev pub is_on_stack : Dispatch → Bool
+is_on_stack OnStack = true
+is_on_stack _ = false
+
 abbrev pub selector_width : Conv → Size → ℕ
-selector_width Pascal s = 0
-selector_width C s = 0
-selector_width Register s = 0
-selector_width D0Pascal s = 0
-selector_width D0C s = 0
-selector_width D1Pascal s = 0
-selector_width StackPascal s = width s
+selector_width conv s = if is_on_stack (dispatch_of conv) then width s else 0
 
 -- the place of a result once the return has removed what it removes: a Pascal result's room is then the top of the stack
 abbrev pub result_place : Route → ℕ → Place

@@ -8,16 +8,14 @@ ghost use Rattle.args_m68.specs.Places.{params_bytes as params_bytes_lem, select
 ghost use Rattle.args_m68.specs.Deliver.{below, callee_base as callee_base_lem, callee_registers, fresh as fresh_lem, pascal_slot, selector_slot, slots, stack_of, with_arguments, with_selector};
 ghost use Rattle.args_m68.specs.DeliverClauses.{callee_sp, delivered};
 
-use super::places::{
-    Route, params_bytes, place_for, result_bytes, route_for, selector_place, selector_width,
-};
+use super::places::{params_bytes, place_for, result_bytes, selector_place, selector_width};
 use super::values::put_value;
 use super::words::Words;
 use arrayvec::ArrayVec;
 use big_memory::{Ram, return_gate};
 use m68_isa::Regs68;
 use mix_bits::{Isa, Size, append, trunc};
-use proc_info::{Conv, Param, Sig};
+use proc_info::{Conv, Dispatch, Param, Route, Sig};
 
 /// The bytes of a callee's stack: a return address, a selector, thirteen parameters and a result.
 type Stack = ArrayVec<u8, 64>;
@@ -51,7 +49,7 @@ pub fn below68(sig: &Sig, selector: bool) -> u32
     ensures value { result ≡ below (signature sig.now) selector }
     ensures small { result ≤ 64 }
 {
-    let route = route_for(sig.conv);
+    let route = sig.conv.route();
     callee_base(sig, selector) + params_bytes(route, sig.params()) + result_bytes(route, sig.result)
 }
 
@@ -103,7 +101,7 @@ pub fn start_68(
     ram.fix(sp, &stack(sig, params, values, selector));
     begin(regs, start.a5, sp, start.target);
     put_selector(regs, sig, selector);
-    put_arguments(regs, route_for(sig.conv), params, values);
+    put_arguments(regs, sig.conv.route(), params, values);
 }
 
 /// The bytes of a callee's stack.
@@ -114,7 +112,7 @@ fn stack(sig: &Sig, params: &[Param], values: &[u32], selector: Option<u32>) -> 
     ensures bytes { result.items ≡ stack_of (signature sig.now) selector values.now }
     ensures length { length result.items ≡ below (signature sig.now) (is_some selector) }
 {
-    let route = route_for(sig.conv);
+    let route = sig.conv.route();
     let mut stack = ArrayVec::new();
     append(&mut stack, &return_gate(Isa::M68).to_be_bytes());
     append_selector(&mut stack, sig.conv, sig.selector, selector);
@@ -134,10 +132,9 @@ fn append_selector(stack: &mut Stack, conv: Conv, size: Size, selector: Option<u
     ensures few { length stack.new.items ≤ length stack.old.items + 4 }
 {
     if let Some(value) = selector {
-        match conv {
-            Conv::StackPascal => append_packed(stack, size, value),
-            Conv::Pascal | Conv::C | Conv::Register | Conv::D0Pascal | Conv::D0C | Conv::D1Pascal =>
-                {}
+        match conv.dispatch() {
+            Dispatch::OnStack => append_packed(stack, size, value),
+            Dispatch::Nowhere | Dispatch::D0 | Dispatch::D1 => {}
         }
     }
 }

@@ -7,14 +7,12 @@ ghost use Rattle.proc_info.specs.inner.Arguments.{Appends};
 ghost use Rattle.args_m68.specs.Arguments.{answered};
 ghost use Rattle.args_m68.specs.Gather.{gathered, selector_in, values_at};
 
-use super::places::{
-    Route, next_base, place_for, route_for, selector_place, selector_width, widths,
-};
+use super::places::{next_base, place_for, selector_place, selector_width, widths};
 use super::values::value_at;
 use super::words::Words;
 use big_memory::{Access, Ram};
 use m68_isa::Regs68;
-use proc_info::{Param, Sig};
+use proc_info::{Param, Route, Sig};
 
 /// The selector that a caller passes, cut to its size, or the refusal of its bytes. A7 is at the return
 /// address.
@@ -34,14 +32,7 @@ pub fn gather68(sig: &Sig, regs: &Regs68, ram: &Ram) -> Result<Words, Access>
 {
     let base = 4 + selector_width(sig.conv, sig.selector);
     let mut words = Words::empty();
-    append_values(
-        &mut words,
-        regs,
-        ram,
-        route_for(sig.conv),
-        base,
-        sig.params(),
-    )?;
+    append_values(&mut words, regs, ram, sig.conv.route(), base, sig.params())?;
     Ok(words)
 }
 

@@ -17,8 +17,7 @@ pub use deliver::{Start68, below68, deliver68, start_68};
 pub use gather::{gather68, select68};
 pub use laws::{args68_laws, place68_laws, result68_laws};
 pub use places::{
-    Flag, Place, Route, next_base, place_for, result_place, route_for, selector_place,
-    selector_width, widths,
+    Flag, Place, next_base, place_for, result_place, selector_place, selector_width, widths,
 };
 pub use results::{popped, put_result68, removed68, result68};
 pub use words::Words;

@@ -1,22 +1,10 @@
 // Where the values of a call stand.
 ghost use Rattle.std.specs.Prelude.{◌≡◌, ◌+◌, ◌*◌, ◌≤◌, ◌<◌, length};
 ghost use Rattle.args_m68.specs.inner.Places.{IsThere};
-ghost use Rattle.args_m68.specs.Places.{flag_numbered as flag_numbered_lem, next_base as next_base_lem, params_bytes as params_bytes_lem, place_numbered as place_numbered_lem, place_of, result_bytes as result_bytes_lem, result_place as result_place_lem, route_of, selector_place as selector_place_lem, selector_width as selector_width_lem, width as width_lem, widths as widths_lem};
+ghost use Rattle.args_m68.specs.Places.{flag_numbered as flag_numbered_lem, next_base as next_base_lem, params_bytes as params_bytes_lem, place_numbered as place_numbered_lem, place_of, result_bytes as result_bytes_lem, result_place as result_place_lem, selector_place as selector_place_lem, selector_width as selector_width_lem, width as width_lem, widths as widths_lem};
 
 use mix_bits::Size;
-use proc_info::{Conv, Param};
-
-/// How a convention passes parameters and results; selectors aside.
-#[derive(Clone, Copy)]
-pub enum Route {
-    /// Packed on the stack, the first parameter highest and the room for the result above it. The callee
-    /// removes the parameters.
-    PascalStack,
-    /// A long for each parameter on the stack, the first one lowest; the result in D0.
-    CStack,
-    /// In registers.
-    Registers,
-}
+use proc_info::{Conv, Dispatch, Param, Route};
 
 /// A condition bit.
 #[derive(Clone, Copy)]
@@ -39,21 +27,6 @@ pub enum Place {
     Address(u8),
     /// In a condition bit.
     Condition(Flag),
-}
-
-/// How a convention passes parameters and results.
-pub fn route_for(conv: Conv) -> Route
-    ensures { result ≡ route_of conv }
-{
-    match conv {
-        Conv::Pascal => Route::PascalStack,
-        Conv::C => Route::CStack,
-        Conv::Register => Route::Registers,
-        Conv::D0Pascal => Route::PascalStack,
-        Conv::D0C => Route::CStack,
-        Conv::D1Pascal => Route::PascalStack,
-        Conv::StackPascal => Route::PascalStack,
-    }
 }
 
 /// How many bytes a value of this size takes on a Pascal stack.
@@ -147,10 +120,11 @@ pub fn selector_place(conv: Conv) -> Place
     ensures place { result ≡ selector_place_lem conv }
     ensures there { IsThere result }
 {
-    match conv {
-        Conv::D1Pascal => Place::Data(1),
-        Conv::StackPascal => Place::Stack(4),
-        Conv::Pascal | Conv::C | Conv::Register | Conv::D0Pascal | Conv::D0C => Place::Data(0),
+    match conv.dispatch() {
+        Dispatch::Nowhere => Place::Data(0),
+        Dispatch::D0 => Place::Data(0),
+        Dispatch::D1 => Place::Data(1),
+        Dispatch::OnStack => Place::Stack(4),
     }
 }
 
@@ -159,9 +133,9 @@ pub fn selector_width(conv: Conv, size: Size) -> u32
     ensures value { result ≡ selector_width_lem conv size }
     ensures small { result ≤ 4 }
 {
-    match conv {
-        Conv::StackPascal => width(size),
-        Conv::Pascal | Conv::C | Conv::Register | Conv::D0Pascal | Conv::D0C | Conv::D1Pascal => 0,
+    match conv.dispatch() {
+        Dispatch::OnStack => width(size),
+        Dispatch::Nowhere | Dispatch::D0 | Dispatch::D1 => 0,
     }
 }
 

@@ -6,11 +6,11 @@ ghost use Rattle.args_m68.specs.ResultsClauses.{Leaves};
 ghost use Rattle.args_m68.specs.Results.{popped as popped_lem, removed, result_in, with_result};
 
 use super::deliver::callee_base;
-use super::places::{Route, result_place, route_for, widths};
+use super::places::{result_place, widths};
 use super::values::{above_sp, put_at, value_at};
 use big_memory::{Access, Ram};
 use m68_isa::Regs68;
-use proc_info::Sig;
+use proc_info::{Route, Sig};
 
 /// How many bytes a callee's return removes from the stack, its return address among them; `selector`
 /// tells whether it was passed its selector.
@@ -18,7 +18,7 @@ pub fn removed68(sig: &Sig, selector: bool) -> u32
     ensures value { result ≡ removed (signature sig.now) selector }
     ensures small { result ≤ 60 }
 {
-    match route_for(sig.conv) {
+    match sig.conv.route() {
         Route::PascalStack => callee_base(sig, selector) + widths(sig.params()),
         Route::CStack => 4,
         Route::Registers => 4,
@@ -41,7 +41,7 @@ pub fn result68(sig: &Sig, regs: &Regs68, ram: &Ram) -> Result<u32, Access>
     value_at(
         regs,
         ram,
-        result_place(route_for(sig.conv), sig.place),
+        result_place(sig.conv.route(), sig.place),
         sig.result,
     )
 }
@@ -59,7 +59,7 @@ pub fn put_result68(sig: &Sig, value: u32, regs: &mut Regs68, ram: &mut Ram) -> 
     let sp = regs.a[7];
     let after = above_sp(regs, popped(sig));
     set_register(&mut regs.a, 7, after);
-    let place = result_place(route_for(sig.conv), sig.place);
+    let place = result_place(sig.conv.route(), sig.place);
     match put_at(regs, ram, place, sig.result, value) {
         Ok(()) => Ok(()),
         Err(access) => {

@@ -6,9 +6,7 @@ ghost use Rattle.look_text.specs.inner.Info.{first_word as first_of, info_of, pa
 use super::line::{Piece, add_line, line_of};
 use super::pieces::add;
 use super::words::{conv_name, rule_text, size_name};
-use args_m68::{
-    next_base, place_for, result_place, route_for, selector_place, selector_width, widths,
-};
+use args_m68::{next_base, place_for, result_place, selector_place, selector_width, widths};
 use mix_bits::{NoMemory, Size};
 use proc_info::{Conv, Param, Sig, read};
 use std::alloc::Global;
@@ -72,7 +70,7 @@ fn add_result(text: &mut Vec<u8>, sig: &Sig) -> Result<(), NoMemory>
                 Piece::Text("result: "),
                 Piece::Text(size_name(size)),
                 Piece::Text(", 68K "),
-                Piece::Place(result_place(route_for(sig.conv), sig.place)),
+                Piece::Place(result_place(sig.conv.route(), sig.place)),
                 Piece::Text(" behind the return, PowerPC r3\n"),
             ],
         ),
@@ -119,7 +117,7 @@ fn add_params(
         [] => Ok(()),
         [first, rest @ ..] => {
             add_param(text, conv, base, k, *first, widths(rest))?;
-            add_params(text, conv, next_base(route_for(conv), base), k + 1, rest)
+            add_params(text, conv, next_base(conv.route(), base), k + 1, rest)
         }
     }
 }
@@ -146,7 +144,7 @@ fn add_param(
             Piece::Text(": "),
             Piece::Text(size_name(param.size)),
             Piece::Text(", 68K "),
-            Piece::Place(place_for(route_for(conv), base, &param, later)),
+            Piece::Place(place_for(conv.route(), base, &param, later)),
             Piece::Text(", PowerPC "),
             Piece::PpcWord(word),
             Piece::Text(", by CallUniversalProc "),

@@ -36,10 +36,11 @@ use Rattle.routine_desc.specs.Build.{image}
 use Rattle.routine_desc.specs.Layout.{mixed_mode_magic}
 use Rattle.args_m68.specs.declared.places.Place.{Place}
 use Rattle.args_m68.specs.declared.places.Place.TheVariants.{Data, Address}
-use Rattle.args_m68.specs.declared.places.Route.{Route}
-use Rattle.args_m68.specs.declared.places.Route.TheVariants.{PascalStack, CStack, Registers}
+use Rattle.proc_info.specs.declared.conv.Route.{Route}
+use Rattle.proc_info.specs.declared.conv.Route.TheVariants.{PascalStack, CStack, Registers}
 use Rattle.args_m68.specs.Gather.{values_at as values_at_68k}
-use Rattle.args_m68.specs.Places.{next_base, place_of, result_place, route_of, widths}
+use Rattle.proc_info.specs.Routes.{route_of}
+use Rattle.args_m68.specs.Places.{next_base, place_of, result_place, widths}
 use Rattle.args_m68.specs.Results.{after_call, with_result as with_result_68k}
 use Rattle.args_m68.specs.Values.{Given as Given68, above_sp, put_at, value_at as value_at_68k}
 use Rattle.args_ppc.specs.Words.{value_at as value_at_ppc, values_at as values_at_ppc}

@@ -1,6 +1,6 @@
 -- The numbers of conventions, sizes, registers and refusals
 -- (Inside Macintosh: PowerPC System Software, chapter 2).
-use Rattle.std.specs.Prelude.{ℕ, Bool, true, false, Result, Ok, Err, if◌then◌else◌, ◌==◌, ◌&&◌, ◌||◌, nat_le}
+use Rattle.std.specs.Prelude.{ℕ, List, [], ◌∷◌, slice_index_or, Bool, true, false, Result, Ok, Err, if◌then◌else◌, ◌==◌, ◌&&◌, ◌||◌, nat_le}
 use Rattle.mix_bits.specs.declared.size.Size.{Size}
 use Rattle.mix_bits.specs.declared.size.Size.TheVariants.{Zero, One, Two, Four}
 use Rattle.proc_info.specs.declared.bad_info.BadInfo.{BadInfo}
@@ -8,37 +8,59 @@ use Rattle.proc_info.specs.declared.bad_info.BadInfo.TheVariants.{Convention, To
 use Rattle.proc_info.specs.declared.conv.Conv.{Conv}
 use Rattle.proc_info.specs.declared.conv.Conv.TheVariants.{Pascal, C, Register, D0Pascal, D0C, D1Pascal, StackPascal}
 use Rattle.proc_info.specs.declared.conv.Shape.{Shape}
-use Rattle.proc_info.specs.declared.conv.Shape.TheVariants.{Stack, Dispatched, Registers}
+use Rattle.proc_info.specs.declared.conv.Shape.TheVariants.{Stack, Dispatched, Registers as InRegisters}
+use Rattle.proc_info.specs.declared.conv.Route.{Route}
+use Rattle.proc_info.specs.declared.conv.Route.TheVariants.{PascalStack, Registers}
+use Rattle.proc_info.specs.declared.conv.Dispatch.{Dispatch}
+use Rattle.proc_info.specs.declared.conv.Dispatch.TheVariants.{Nowhere}
+use Rattle.proc_info.specs.declared.conv.TheConstants.{CONVENTIONS}
 
--- the convention of that number
+-- a row of the table of conventions: a convention, its number, how it passes parameters and results, and where a selector
+abbrev pub Row : Type 0
+Row = Conv × ℕ × Route × Dispatch
+
+abbrev pub number_of : Conv → ℕ
+number_of Pascal = 0
+number_of C = 1
+number_of Register = 2
+number_of D0Pascal = 3
+number_of D0C = 4
+number_of D1Pascal = 5
+number_of StackPascal = 6
+
+abbrev pub row : Conv → Row
+row conv = slice_index_or CONVENTIONS (number_of conv) (Pascal, 0, PascalStack, Nowhere)
+
+-- the convention of a number
+abbrev pub conv_among : ℕ → List Row → Result Conv BadInfo
+conv_among code [] = Err Convention
+conv_among code (r ∷ rows) = if code == r.1 then Ok r.0 else conv_among code rows
+
 abbrev pub conv_at : ℕ → Result Conv BadInfo
-conv_at code =
-    if code == 0 then Ok Pascal else
-    (if code == 1 then Ok C else
-    (if code == 2 then Ok Register else
-    (if code == 8 then Ok D0Pascal else
-    (if code == 9 then Ok D0C else
-    (if code == 12 then Ok D1Pascal else
-    (if code == 14 then Ok StackPascal else Err Convention))))))
+conv_at code = conv_among code CONVENTIONS
+
+abbrev pub dispatch_of : Conv → Dispatch
+dispatch_of conv = (row conv).3
+
+-- the shape of a convention's words
+abbrev pub stack_shape : Dispatch → Shape
+stack_shape Nowhere = Stack
+stack_shape _ = Dispatched
+
+abbrev pub shape_by : Route → Dispatch → Shape
+shape_by Registers dispatch = InRegisters
+shape_by _ dispatch = stack_shape dispatch
 
 abbrev pub shape_of : Conv → Shape
-shape_of Pascal = Stack
-shape_of C = Stack
-shape_of Register = Registers
-shape_of D0Pascal = Dispatched
-shape_of D0C = Dispatched
-shape_of D1Pascal = Dispatched
-shape_of StackPascal = Dispatched
+shape_of conv = shape_by (row conv).2 (row conv).3
 
 -- whether a convention has a selector
+abbrev pub has_selector : Shape → Bool
+has_selector Dispatched = true
+has_selector _ = false
+
 abbrev pub is_dispatched : Conv → Bool
-is_dispatched Pascal = false
-is_dispatched C = false
-is_dispatched Register = false
-is_dispatched D0Pascal = true
-is_dispatched D0C = true
-is_dispatched D1Pascal = true
-is_dispatched StackPascal = true
+is_dispatched conv = has_selector (shape_of conv)
 
 abbrev pub size_code : Size → ℕ
 size_code Zero = 0

@@ -1,6 +1,7 @@
 pub mod Codes
 pub mod CodesClauses
 pub mod Cut
+pub mod Routes
 pub mod Rules
 pub mod Signature
 pub mod SignatureClauses

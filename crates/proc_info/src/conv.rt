@@ -1,8 +1,11 @@
 ghost use Rattle.std.specs.Prelude.{◌≡◌, ◌<◌};
+ghost use Rattle.proc_info.specs.Codes.{conv_among as conv_among_of, conv_at, dispatch_of, is_dispatched, number_of, row as row_of, shape_of, stack_shape as stack_shape_of};
 ghost use Rattle.proc_info.specs.CodesClauses.{conv_code};
-ghost use Rattle.proc_info.specs.Codes.{conv_at, shape_of, is_dispatched};
+ghost use Rattle.proc_info.specs.Routes.{route_of};
 
 use super::bad_info::BadInfo;
+use Dispatch::{D0, D1, Nowhere, OnStack};
+use Route::{CStack, PascalStack, Registers};
 
 /// A calling convention.
 #[derive(Clone, Copy, Debug, PartialEq, Eq)]
@@ -23,9 +26,46 @@ pub enum Conv {
     StackPascal,
 }
 
+/// How a convention passes parameters and results; selectors aside.
+#[derive(Clone, Copy)]
+pub enum Route {
+    /// Packed on the stack of the 68K, the first parameter highest and the room for the result above it. The callee
+    /// removes the parameters.
+    PascalStack,
+    /// A long for each parameter on the stack, the first one lowest; the result in D0.
+    CStack,
+    /// In registers.
+    Registers,
+}
+
+/// Where a convention passes a selector, which chooses among the routines of one descriptor.
+#[derive(Clone, Copy)]
+pub enum Dispatch {
+    /// There is none.
+    Nowhere,
+    D0,
+    D1,
+    /// On the stack, above the return address.
+    OnStack,
+}
+
+/// A convention, its number in bits 0 to 3, how it passes parameters and results, and where a selector.
+type Row = (Conv, u32, Route, Dispatch);
+
+/// The table of conventions.
+static CONVENTIONS: [Row; 7] = [
+    (Conv::Pascal, 0, PascalStack, Nowhere),
+    (Conv::C, 1, CStack, Nowhere),
+    (Conv::Register, 2, Registers, Nowhere),
+    (Conv::D0Pascal, 8, PascalStack, D0),
+    (Conv::D0C, 9, CStack, D0),
+    (Conv::D1Pascal, 12, PascalStack, D1),
+    (Conv::StackPascal, 14, PascalStack, OnStack),
+];
+
 /// What stands above the result's size in a procInfo word.
 #[derive(Clone, Copy, Debug, PartialEq, Eq)]
-pub(crate) enum Shape {
+pub enum Shape {
     /// Two bits for each parameter from bit 6 on.
     Stack,
     /// The selector's size in bits 6 and 7, two bits for each parameter from bit 8 on.
@@ -39,16 +79,22 @@ impl Conv {
     pub fn at(code: u32) -> Result<Conv, BadInfo>
         ensures { result ≡ conv_at code }
     {
-        match code {
-            0 => Ok(Conv::Pascal),
-            1 => Ok(Conv::C),
-            2 => Ok(Conv::Register),
-            8 => Ok(Conv::D0Pascal),
-            9 => Ok(Conv::D0C),
-            12 => Ok(Conv::D1Pascal),
-            14 => Ok(Conv::StackPascal),
-            _ => Err(BadInfo::Convention),
-        }
+        conv_among(&CONVENTIONS, code)
+    }
+
+    /// Its place in the table.
+    fn number(self) -> u8
+        ensures is { result ≡ number_of self }
+        ensures below { result < 7 }
+    {
+        self as u8
+    }
+
+    /// Its row.
+    fn row(self) -> Row
+        ensures { result ≡ row_of self }
+    {
+        CONVENTIONS[self.number() as usize]
     }
 
     /// The convention's number in bits 0 to 3.
@@ -56,29 +102,31 @@ impl Conv {
         ensures number { result ≡ conv_code self }
         ensures below { result < 16 }
     {
-        match self {
-            Conv::Pascal => 0,
-            Conv::C => 1,
-            Conv::Register => 2,
-            Conv::D0Pascal => 8,
-            Conv::D0C => 9,
-            Conv::D1Pascal => 12,
-            Conv::StackPascal => 14,
-        }
+        self.row().1
+    }
+
+    /// How it passes parameters and results.
+    pub fn route(self) -> Route
+        ensures { result ≡ route_of self }
+    {
+        self.row().2
+    }
+
+    /// Where it passes a selector.
+    pub fn dispatch(self) -> Dispatch
+        ensures { result ≡ dispatch_of self }
+    {
+        self.row().3
     }
 
     /// The shape of this convention's words.
     pub(crate) fn shape(self) -> Shape
         ensures { result ≡ shape_of self }
     {
-        match self {
-            Conv::Pascal => Shape::Stack,
-            Conv::C => Shape::Stack,
-            Conv::Register => Shape::Registers,
-            Conv::D0Pascal => Shape::Dispatched,
-            Conv::D0C => Shape::Dispatched,
-            Conv::D1Pascal => Shape::Dispatched,
-            Conv::StackPascal => Shape::Dispatched,
+        match self.route() {
+            PascalStack => stack_shape(self.dispatch()),
+            CStack => stack_shape(self.dispatch()),
+            Registers => Shape::Registers,
         }
     }
 
@@ -91,5 +139,33 @@ impl Conv {
             Shape::Dispatched => true,
             Shape::Registers => false,
         }
+    }
+}
+
+/// The first convention with this number among some.
+fn conv_among(rows: &[Row], code: u32) -> Result<Conv, BadInfo>
+    ensures { result ≡ conv_among_of code rows.now }
+{
+    match rows {
+        [] => Err(BadInfo::Convention),
+        [row, rest @ ..] => {
+            if code == row.1 {
+                Ok(row.0)
+            } else {
+                conv_among(rest, code)
+            }
+        }
+    }
+}
+
+/// The shape of words of a convention that has its parameters on the stack.
+fn stack_shape(dispatch: Dispatch) -> Shape
+    ensures { result ≡ stack_shape_of dispatch }
+{
+    match dispatch {
+        Nowhere => Shape::Stack,
+        D0 => Shape::Dispatched,
+        D1 => Shape::Dispatched,
+        OnStack => Shape::Dispatched,
     }
 }

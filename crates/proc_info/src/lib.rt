@@ -14,7 +14,7 @@ mod size;
 mod writer;
 
 pub use bad_info::BadInfo;
-pub use conv::Conv;
+pub use conv::{Conv, Dispatch, Route, Shape};
 pub use laws::word_laws;
 pub use param::Param;
 pub use reader::{read, read_signed};

@@ -7,23 +7,23 @@ use Rattle.mix_bits.specs.Results.{◌>>=◌}
 use Rattle.proc_info.specs.declared.bad_info.BadInfo.{BadInfo}
 use Rattle.proc_info.specs.declared.bad_info.BadInfo.TheVariants.{TopBit, Place, Gap, Twice}
 use Rattle.proc_info.specs.declared.conv.Conv.{Conv}
-use Rattle.proc_info.specs.declared.conv.Conv.TheVariants.{Pascal, C, Register, D0Pascal, D0C, D1Pascal, StackPascal}
+use Rattle.proc_info.specs.declared.conv.Shape.{Shape}
+use Rattle.proc_info.specs.declared.conv.Shape.TheVariants.{Stack, Dispatched, Registers}
 use Rattle.proc_info.specs.declared.param.Param.{Param}
-use Rattle.proc_info.specs.Codes.{conv_at, shape_of, size_at, is_dispatched, is_place}
+use Rattle.proc_info.specs.Codes.{conv_at, has_selector, shape_of, size_at, is_dispatched, is_place}
 use Rattle.proc_info.specs.Signature.{Signature, is_twice, in_registers, most_params, on_stack, params_at, signature_by, signature_of, unless_twice, with_selector}
 use Rattle.routine_desc.specs.Read.{is_alike, is_dispatched_in}
 use Rattle.routine_desc.specs.laws.Laws.{IsCalledLike}
 use Rattle.routine_desc.proofs.RecordChains.{chain_done, if_refused, ok_same, same_parts}
 
 -- the selector size in a word of a convention
+abbrev selector_in : Shape → ℕ → Size
+selector_in Stack w = Zero
+selector_in Dispatched w = size_at (w / 64 % 4)
+selector_in Registers w = Zero
+
 abbrev selector_by : Conv → ℕ → Size
-selector_by Pascal w = Zero
-selector_by C w = Zero
-selector_by Register w = Zero
-selector_by D0Pascal w = size_at (w / 64 % 4)
-selector_by D0C w = size_at (w / 64 % 4)
-selector_by D1Pascal w = size_at (w / 64 % 4)
-selector_by StackPascal w = size_at (w / 64 % 4)
+selector_by conv w = selector_in (shape_of conv) w
 
 -- what a word says of its signature
 record Says (conv : Conv) (size : Size) (s : Signature) : Type 0 where
@@ -55,19 +55,18 @@ registers_says conv w s params h =
     let r = in_registers conv w d.value in
     same_says r s (Ok r) refl (if_refused (is_twice r.params) Twice (Ok r) s d.rest)
 
--- the parameters that the digits above a convention's other fields say
-abbrev params_in : Conv → ℕ → Result (List Param) BadInfo
-params_in conv v = params_at (shape_of conv) (most_params (shape_of conv)) v
+-- the parameters that the digits above a shape's other fields say
+abbrev params_in : Shape → ℕ → Result (List Param) BadInfo
+params_in shape v = params_at shape (most_params shape) v
+
+says_in : (shape : Shape) (conv : Conv) (w : ℕ) (s : Signature) → signature_by shape conv w ≡ Ok s → Says conv (selector_in shape w) s
+unfolding signature_by
+says_in Stack conv w s h = stack_says conv w s (params_in Stack (w / 64)) h
+says_in Dispatched conv w s h = dispatched_says conv w s (params_in Dispatched (w / 256)) h
+says_in Registers conv w s h = registers_says conv w s (params_in Registers (w / 2048)) h
 
 says_by : (conv : Conv) (w : ℕ) (s : Signature) → signature_by (shape_of conv) conv w ≡ Ok s → Says conv (selector_by conv w) s
-unfolding signature_by
-says_by Pascal w s h = stack_says Pascal w s (params_in Pascal (w / 64)) h
-says_by C w s h = stack_says C w s (params_in C (w / 64)) h
-says_by Register w s h = registers_says Register w s (params_in Register (w / 2048)) h
-says_by D0Pascal w s h = dispatched_says D0Pascal w s (params_in D0Pascal (w / 256)) h
-says_by D0C w s h = dispatched_says D0C w s (params_in D0C (w / 256)) h
-says_by D1Pascal w s h = dispatched_says D1Pascal w s (params_in D1Pascal (w / 256)) h
-says_by StackPascal w s h = dispatched_says StackPascal w s (params_in StackPascal (w / 256)) h
+says_by conv w s h = says_in (shape_of conv) conv w s h
 
 -- the convention's number, its signature's convention, and the selector's size
 record Tells (w : ℕ) (s : Signature) : Type 0 where
@@ -84,14 +83,13 @@ tells w s h =
       selector_is = says.selector_is ∙ ap (λ c. selector_by c w) (sym says.conv_is);
     }
 
+same_in : (shape : Shape) (w v : ℕ) → (has_selector shape ≡ true → w / 64 % 4 ≡ v / 64 % 4) → selector_in shape w ≡ selector_in shape v
+same_in Stack w v h = refl
+same_in Dispatched w v h = ap size_at (h refl)
+same_in Registers w v h = refl
+
 same_size : (conv : Conv) (w v : ℕ) → (is_dispatched conv ≡ true → w / 64 % 4 ≡ v / 64 % 4) → selector_by conv w ≡ selector_by conv v
-same_size Pascal w v h = refl
-same_size C w v h = refl
-same_size Register w v h = refl
-same_size D0Pascal w v h = ap size_at (h refl)
-same_size D0C w v h = ap size_at (h refl)
-same_size D1Pascal w v h = ap size_at (h refl)
-same_size StackPascal w v h = ap size_at (h refl)
+same_size conv w v h = same_in (shape_of conv) w v h
 
 -- words like a third one have signatures that are called alike
 pub called-alike : (u w v : ℕ) (s t : Signature) → is_alike u w ≡ true → is_alike u v ≡ true → signature_of w ≡ Ok s → signature_of v ≡ Ok t → IsCalledLike s t

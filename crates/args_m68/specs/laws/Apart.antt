@@ -13,9 +13,10 @@ use Rattle.proc_info.specs.Rules.{KeepsRules}
 use Rattle.proc_info.specs.Signature.{Signature}
 use Rattle.args_m68.specs.declared.places.Place.{Place}
 use Rattle.args_m68.specs.declared.places.Place.TheVariants.{Stack, Data, Address, Condition}
-use Rattle.args_m68.specs.declared.places.Route.{Route}
-use Rattle.args_m68.specs.declared.places.Route.TheVariants.{PascalStack, CStack, Registers}
-use Rattle.args_m68.specs.Places.{next_base, place_of, route_of, selector_place, widths}
+use Rattle.proc_info.specs.declared.conv.Route.{Route}
+use Rattle.proc_info.specs.declared.conv.Route.TheVariants.{PascalStack, CStack, Registers}
+use Rattle.proc_info.specs.Routes.{route_of}
+use Rattle.args_m68.specs.Places.{next_base, place_of, selector_place, widths}
 use Rattle.args_m68.specs.Values.{value_at}
 use Rattle.args_m68.specs.Gather.{values_at}
 use Rattle.args_m68.specs.Deliver.{callee_base}

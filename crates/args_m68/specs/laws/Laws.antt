@@ -7,7 +7,7 @@ use Rattle.proc_info.specs.Codes.{is_dispatched}
 use Rattle.proc_info.specs.Cut.{cut}
 use Rattle.proc_info.specs.Rules.{KeepsRules}
 use Rattle.proc_info.specs.Signature.{Signature}
-use Rattle.args_m68.specs.Places.{route_of}
+use Rattle.proc_info.specs.Routes.{route_of}
 use Rattle.args_m68.specs.Gather.{selector_in, values_at}
 use Rattle.args_m68.specs.Deliver.{below, callee_base, callee_registers, stack_of}
 use Rattle.args_m68.specs.DeliverClauses.{callee_sp, delivered}

@@ -8,9 +8,10 @@ use Rattle.m68_isa.specs.declared.registers.Regs68.{Regs68}
 use Rattle.proc_info.specs.Signature.{Signature}
 use Rattle.args_m68.specs.declared.places.Place.{Place}
 use Rattle.args_m68.specs.declared.places.Place.TheVariants.{Stack, Data, Address, Condition}
-use Rattle.args_m68.specs.declared.places.Route.{Route}
-use Rattle.args_m68.specs.declared.places.Route.TheVariants.{PascalStack, CStack, Registers}
-use Rattle.args_m68.specs.Places.{result_bytes, result_place, route_of}
+use Rattle.proc_info.specs.declared.conv.Route.{Route}
+use Rattle.proc_info.specs.declared.conv.Route.TheVariants.{PascalStack, CStack, Registers}
+use Rattle.proc_info.specs.Routes.{route_of}
+use Rattle.args_m68.specs.Places.{result_bytes, result_place}
 use Rattle.args_m68.specs.Values.{Given}
 use Rattle.args_m68.specs.Deliver.{below}
 use Rattle.args_m68.specs.Results.{removed, result_in, with_result}

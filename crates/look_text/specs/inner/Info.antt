@@ -8,7 +8,8 @@ use Rattle.proc_info.specs.Signature.{Signature, signature_of}
 use Rattle.proc_info.specs.declared.bad_info.BadInfo.{BadInfo}
 use Rattle.proc_info.specs.declared.conv.Conv.{Conv}
 use Rattle.proc_info.specs.declared.param.Param.{Param}
-use Rattle.args_m68.specs.Places.{next_base, place_of, result_place, route_of, selector_place, selector_width, widths}
+use Rattle.proc_info.specs.Routes.{route_of}
+use Rattle.args_m68.specs.Places.{next_base, place_of, result_place, selector_place, selector_width, widths}
 use Rattle.args_m68.specs.declared.places.Place.{Place}
 use Rattle.look_text.specs.inner.Pieces.{joined}
 use Rattle.look_text.specs.inner.Places.{place_text, ppc_place}

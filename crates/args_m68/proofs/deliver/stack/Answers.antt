@@ -3,7 +3,8 @@ use Rattle.std.proofs.Common.{◌≡◌, ℕ, ◌≤◌, List, ◌∷◌, [], �
 use Rattle.std.proofs.lemmas.List.{length-replicate, take-replicate}
 use Rattle.byteorder.specs.Endian.{big_bytes}
 use Rattle.proc_info.specs.Views.{signature}
-use Rattle.args_m68.specs.Places.{result_bytes, route_of}
+use Rattle.proc_info.specs.Routes.{route_of}
+use Rattle.args_m68.specs.Places.{result_bytes}
 use Rattle.args_m68.specs.Deliver.{selector_slot, slots}
 use Rattle.args_m68.proofs.Stacks.{length-stack}
 use Rattle.args_m68.proofs.deliver.stack.Goals as goal
@@ -39,11 +40,11 @@ returns c =
     let route = route_of sig.conv in
     let values = c.args.values.now in
     let given : c.append_slots.new.stack.items ≡ c.append_selector.new.stack.items ++ slots route sig.params values =
-    c.append_slots.ensures.bytes ∙ ap (λ r. c.append_selector.new.stack.items ++ slots r c.args.params.now values) c.route_for-route.ensures
+    c.append_slots.ensures.bytes ∙ ap (λ r. c.append_selector.new.stack.items ++ slots r c.args.params.now values) c.route-route.ensures
     ∙ ap (λ ps. c.append_selector.new.stack.items ++ slots route ps values) (sym c.requires.params) in
     let room : c.append-2.new.list.items ≡ c.append_slots.new.stack.items ++ replicate (result_bytes route sig.result) 0 =
     c.append-2.ensures.is ∙ ap (λ ys. c.append_slots.new.stack.items ++ ys)
-    (blank c.result_bytes.result (result_bytes route sig.result) (c.result_bytes.ensures.value ∙ ap (λ r. result_bytes r sig.result) c.route_for-route.ensures) c.result_bytes.ensures.small) in
+    (blank c.result_bytes.result (result_bytes route sig.result) (c.result_bytes.ensures.value ∙ ap (λ r. result_bytes r sig.result) c.route-route.ensures) c.result_bytes.ensures.small) in
     let gate = c.append.ensures.is ∙ ap (λ xs. xs ++ c.to_be_bytes.result) c.new-stack.ensures ∙ c.to_be_bytes.ensures ∙ ap (big_bytes 4) c.return_gate.ensures in
     let bytes = four _ (selector_slot sig.conv sig.selector c.args.selector) (slots route sig.params values) (replicate (result_bytes route sig.result) 0) _ _ _ _ gate c.append_selector.ensures.bytes given room in
     record { bytes = bytes; length = ap length bytes ∙ length-stack sig c.args.selector values (c.requires.count ∙ ap length (sym c.requires.params)) }

@@ -3,7 +3,8 @@ use Rattle.std.proofs.Common.{◌≡◌, ℕ, List, [], ◌∷◌, ◌++◌, Res
 use Rattle.std.specs.Prelude.{OnOk}
 use Rattle.mix_bits.specs.declared.size.Size.{Size}
 use Rattle.mix_bits.specs.declared.size.Size.TheVariants.{Zero, One, Two, Four}
-use Rattle.args_m68.specs.Places.{result_place, route_of}
+use Rattle.proc_info.specs.Routes.{route_of}
+use Rattle.args_m68.specs.Places.{result_place}
 use Rattle.args_m68.specs.declared.places.Place.{Place}
 use Rattle.look_text.specs.inner.Info.{sized_result}
 use Rattle.look_text.specs.inner.Pieces.{joined}
@@ -23,6 +24,6 @@ told r new old name Four place is named placed some put = rw (named, placed) at 
 pub returns-in_default : goal.returns-in_default
 returns-in_default c =
     let named : c.size_name.result.now ≡ size_name c.args.sig.now.result = cc c.size_name.ensures in
-    let placed : c.result_place.result ≡ result_place (route_of c.args.sig.now.conv) c.args.sig.now.place = rw c.route_for.ensures at c.result_place.ensures.place in
+    let placed : c.result_place.result ≡ result_place (route_of c.args.sig.now.conv) c.args.sig.now.place = rw c.route.ensures at c.result_place.ensures.place in
     told c.add_line.result c.add_line.new.text.items c.args.text.now.items c.size_name.result.now c.args.sig.now.result
     c.result_place.result _ named placed c.in_default.not-Zero c.add_line.ensures
