@@ -1,5 +1,6 @@
 // A container: its sections and its imports.
 ghost use Rattle.std.specs.Prelude.{◌≡◌, ℕ, ◌^◌, ◌<◌, ◌≤◌, ◌++◌, IfSome, OnOk, length, slice_index};
+ghost use Rattle.big_memory.specs.Map.{host_functions};
 ghost use Rattle.pef_head.specs.Parts.{import_count};
 ghost use Rattle.pef_head.specs.inner.Parts.{library_of};
 ghost use Rattle.pef_head.specs.PartsClauses.{names};
@@ -89,7 +90,7 @@ fn add_import(text: &mut Vec<u8>, i: u32, import: Import) -> Result<(), NoMemory
 
 /// Appends what the host has for an import.
 fn add_host(text: &mut Vec<u8>, weak: bool, index: Option<u32>) -> Result<(), NoMemory>
-    requires { IfSome index (λ k. k < 15) }
+    requires { IfSome index (λ k. k < host_functions) }
     ensures { OnOk result (text.new.items ≡ text.old.items ++ host_text index weak) }
 {
     match index {

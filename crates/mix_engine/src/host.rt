@@ -5,6 +5,7 @@ ghost use Rattle.mix_bits.specs.Faults.{fault_at};
 ghost use Rattle.mix_bits.specs.declared.isa.Isa.TheVariants.{M68 as set_m68};
 ghost use Rattle.switch_frame.specs.Records.{isa_of};
 ghost use Rattle.toolbox.specs.Functions.{trap_number};
+ghost use Rattle.toolbox.specs.declared.table.TheConstants.{FUNCTIONS};
 ghost use Rattle.mixed_machine.specs.laws.Acts.{Acts};
 ghost use Rattle.mixed_machine.specs.Host.{hosts, traps_to, universal};
 ghost use Rattle.mixed_machine.specs.Machine.{IsWhole};
@@ -137,7 +138,7 @@ fn call_import<'i, 'o, 't, 'd, I: Source, O: Sink, T: Sink, D: Devices>(
     fault: &mut Fault,
 ) -> Did
     requires whole { IsWhole body.old (isa_of active.old) }
-    requires index { index < 16 }
+    requires index { index < FUNCTIONS }
     ensures does { Acts (λ s. hosts s index) result fault.new
         (machine_beside I.left I.faults O.held O.faults T.held T.faults D.state body.old active.old outside.old)
         (machine_beside I.left I.faults O.held O.faults T.held T.faults D.state body.new active.new outside.new) }
@@ -156,7 +157,7 @@ fn call_function<'i, 'o, 't, 'd, I: Source, O: Sink, T: Sink, D: Devices>(
     fault: &mut Fault,
 ) -> Did
     requires whole { IsWhole body.old (isa_of active.old) }
-    requires index { index < 16 }
+    requires index { index < FUNCTIONS }
     ensures does { Acts (λ s. hosts s index) result fault.new
         (machine_beside I.left I.faults O.held O.faults T.held T.faults D.state body.old active.old outside.old)
         (machine_beside I.left I.faults O.held O.faults T.held T.faults D.state body.new active.new outside.new) }
@@ -180,7 +181,7 @@ fn call_any<'i, 'o, 't, 'd, I: Source, O: Sink, T: Sink, D: Devices>(
     fault: &mut Fault,
 ) -> Did
     requires whole { IsWhole body.old (isa_of active.old) }
-    requires index { index < 16 }
+    requires index { index < FUNCTIONS }
     ensures does { Acts (λ s. hosts s index) result fault.new
         (machine_beside I.left I.faults O.held O.faults T.held T.faults D.state body.old active.old outside.old)
         (machine_beside I.left I.faults O.held O.faults T.held T.faults D.state body.new active.new outside.new) }
@@ -205,7 +206,7 @@ fn call<'i, 'o, 't, 'd, I: Source, O: Sink, T: Sink, D: Devices>(
     fault: &mut Fault,
 ) -> Called
     requires whole { IsWhole body.old (isa_of active.old) }
-    requires index { index < 16 }
+    requires index { index < FUNCTIONS }
     ensures does { IsCalled index result fault.new
         (machine_beside I.left I.faults O.held O.faults T.held T.faults D.state body.old active.old outside.old)
         (machine_beside I.left I.faults O.held O.faults T.held T.faults D.state body.new active.new outside.new) }

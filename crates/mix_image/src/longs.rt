@@ -1,5 +1,6 @@
 // Longs of an image.
 ghost use Rattle.std.specs.Prelude.{◌≡◌, ◌+◌, ◌*◌, ◌^◌, ◌<◌, ◌≤◌, length};
+ghost use Rattle.mix_bits.specs.declared.file.TheConstants.{IMAGE_BYTES};
 ghost use Rattle.big_memory.specs.Numbers.{long_at, longs_at};
 ghost use Rattle.mix_image.specs.Fields.{long_from};
 
@@ -20,7 +21,7 @@ pub fn short(bytes: &[u8]) -> ImageError
 
 /// The long at a place of the image.
 pub fn long(bytes: &[u8], at: usize) -> Result<u32, ImageError>
-    requires place { at ≤ 17825792 }
+    requires place { at ≤ IMAGE_BYTES }
     ensures { result ≡ long_from bytes.now at }
 {
     if bytes.len() < at + 4 {

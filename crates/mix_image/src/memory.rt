@@ -1,5 +1,6 @@
 // The bytes of RAM in an image.
 ghost use Rattle.std.specs.Prelude.{◌≡◌, ◌+◌, ◌*◌, ◌<◌, ◌≤◌, ℕ, length, nat_le, slice_index, IfOk, Ok, option_copied};
+ghost use Rattle.mix_bits.specs.declared.file.TheConstants.{IMAGE_BYTES};
 ghost use Rattle.big_memory.specs.Memory.{with_bytes};
 ghost use Rattle.mix_image.specs.Fields.{full_page, memory_from, only_if, page_bytes, page_from, page_size};
 ghost use Rattle.mix_image.specs.inner.Restoring.{Gives, Reads};
@@ -30,7 +31,7 @@ pub fn test_memory(bytes: &[u8], at: usize, kib: u32) -> Result<(), ImageError>
 
 /// Tests that no byte stands behind the last field.
 fn test_end(bytes: &[u8], end: usize) -> Result<(), ImageError>
-    requires near { end ≤ 17825792 }
+    requires near { end ≤ IMAGE_BYTES }
     ensures { result ≡ only_if (nat_le (length bytes.now) end) (ImageError.Extra end) (record {}) }
 {
     if bytes.len() <= end {
@@ -61,7 +62,7 @@ pub fn read_memory(alloc: Global, bytes: &[u8], at: usize, kib: u32) -> Result<R
 
 /// The page with this number, none where all its bytes are 0.
 fn read_page(bytes: &[u8], at: usize, k: u32) -> Result<Option<&[u8]>, ImageError>
-    requires near { at ≤ 17825792 }
+    requires near { at ≤ IMAGE_BYTES }
     ensures exact { Reads option_copied result (page_from bytes.now at k) }
     ensures len { IfOk result (λ page. length (page_bytes (option_copied page)) ≡ 1024) }
     ensures within { IfOk result (λ page. at + page_size (option_copied page) ≤ length bytes.now) }
@@ -76,7 +77,7 @@ fn read_page(bytes: &[u8], at: usize, k: u32) -> Result<Option<&[u8]>, ImageErro
 
 /// The page behind a byte 1.
 fn read_full_page(bytes: &[u8], at: usize, k: u32) -> Result<Option<&[u8]>, ImageError>
-    requires near { at ≤ 17825792 }
+    requires near { at ≤ IMAGE_BYTES }
     ensures exact { Reads option_copied result (full_page bytes.now at k) }
     ensures len { IfOk result (λ page. length (page_bytes (option_copied page)) ≡ 1024) }
     ensures within { IfOk result (λ page. at + page_size (option_copied page) ≤ length bytes.now) }

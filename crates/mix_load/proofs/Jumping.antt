@@ -71,7 +71,7 @@ over-then low high to v xs ys behind within over =
     let one = one-long low high to v xs behind (omega (arith, over.long, within)) in
     record { long = one.long ∙ over.long; alike = alike-then low high (put to (big_bytes 4 v) xs) xs ys one.alike over.alike }
 
-vectors-over : (n high : ℕ) (xs : List ℕ) → n ≤ 15 → 0x2000 ≤ length xs → Over 0x2000 high (puts (vectors n) xs) xs
+vectors-over : (n high : ℕ) (xs : List ℕ) → n ≤ host_functions → 0x2000 ≤ length xs → Over 0x2000 high (puts (vectors n) xs) xs
 unfolding vectors
 vectors-over zero high xs few within = record { long = refl; alike = λ k above below. refl }
 vectors-over (suc n) high xs few within =

@@ -15,7 +15,7 @@ use Rattle.switch_frame.specs.Program.{blank, gate_longs, told, vectors, start_s
 use Rattle.switch_frame.specs.laws.Program.{page_bytes}
 use Rattle.switch_frame.specs.ProgramClauses.{IsProgram}
 use Rattle.switch_frame.proofs.Gates.{length-blank, page_has_longs}
-use Rattle.big_memory.specs.Map.{exit_gate, host_vector_at}
+use Rattle.big_memory.specs.Map.{exit_gate, host_functions, host_vector_at}
 use Rattle.mix_load.specs.declared.image.Image.{Image}
 use Rattle.mix_bits.specs.Multiples.{rounded_up}
 use Rattle.mix_load.specs.Pieces.{with_pieces}
@@ -66,7 +66,7 @@ page-over lo n end ps xs ys end_is below most more same =
     ∙ (ap (drop lo) (pieces-take end ps xs below most ∙ (ap (puts ps) same ∙ sym (pieces-take end ps ys below more)))
     ∙ (ap (λ (e : ℕ). drop lo (take e (puts ps ys))) (sym end_is) ∙ sym (part-take lo n (puts ps ys)))))
 
-vectors-below : (k : ℕ) → k ≤ 15 → AllBelow 0x2000 (vectors k)
+vectors-below : (k : ℕ) → k ≤ host_functions → AllBelow 0x2000 (vectors k)
 unfolding vectors
 vectors-below zero few = tt
 vectors-below (suc k) few =
@@ -81,7 +81,7 @@ gate-below entry vector a5 len =
     let two : 0x1028 + 4 ≤ 0x2000 = omega arith in
     let three : 0x1024 + 4 ≤ 0x2000 = omega arith in
     let four : 0x1020 + 4 ≤ 0x2000 = omega arith in
-    (one, (two, (three, (four, vectors-below 15 (omega arith)))))
+    (one, (two, (three, (four, vectors-below host_functions (omega arith)))))
 
 page-is : (entry vector a5 len : ℕ) (xs : List ℕ) → 0x2000 ≤ length xs → take 0x2000 xs ≡ blank 0x2000 → part 0x1000 0x1000 (puts (gate_longs entry vector a5 len) xs) ≡ page_bytes entry vector a5 len
 unfolding page_bytes

@@ -1,5 +1,6 @@
 -- The files that a job can name.
-use Rattle.std.specs.Prelude.{◌≡◌, ℕ, ◌^◌, ◌≤◌, List, length, Option, Some, None, IsSome}
+use Rattle.std.specs.Prelude.{◌≡◌, ℕ, ◌≤◌, List, length, Option, Some, None, IsSome}
+use Rattle.mix_bits.specs.declared.file.TheConstants.{MOST_BYTES}
 use Rattle.mix_bits.specs.declared.isa.Isa.{Isa}
 use Rattle.mix_bits.specs.declared.isa.Isa.TheVariants.{M68, Ppc}
 use Rattle.mix_load.specs.declared.files.Files.{Files}
@@ -7,7 +8,7 @@ use Rattle.mix_load.specs.declared.files.Files.{Files}
 -- the files that a job can name: a flat file alone, or a fork, a container or both, with that of the main program
 abbrev pub IsSmall : Option (List ℕ) → Type 0
 IsSmall None = Unit {0}
-IsSmall (Some bytes) = length bytes ≤ 2 ^ 24
+IsSmall (Some bytes) = length bytes ≤ MOST_BYTES
 
 abbrev pub HasMain : Isa → Files → Type 0
 HasMain M68 files = IsSome files.rsrc

@@ -1,5 +1,6 @@
 //! Containers as programs.
 ghost use Rattle.std.specs.Prelude.{◌≡◌, ℕ, ◌+◌, ◌^◌, ◌≤◌, ◌&&◌, is_none, length, take, IfOk, IfSome, OnOk};
+ghost use Rattle.mix_bits.specs.declared.file.TheConstants.{MOST_BYTES};
 ghost use Rattle.std.specs.Result.{result_err};
 ghost use Rattle.pef_head.specs.Container.{instantiated_count};
 ghost use Rattle.mix_bits.specs.SearchOperator.{◌or◌};
@@ -81,7 +82,7 @@ pub fn add_container(
     main: Isa,
     image: Image,
 ) -> Result<Image, LoadError>
-    requires small { length bytes.now ≤ 2 ^ 24 }
+    requires small { length bytes.now ≤ MOST_BYTES }
     requires whole { IsImage image }
     ensures is { Gives result (with_container main bytes.now image) }
     ensures whole { IfOk result IsImage }

@@ -1,5 +1,6 @@
 //! Flat files as programs.
-ghost use Rattle.std.specs.Prelude.{◌≡◌, ◌^◌, ◌≤◌, length, IfOk};
+ghost use Rattle.std.specs.Prelude.{◌≡◌, ◌≤◌, length, IfOk};
+ghost use Rattle.mix_bits.specs.declared.file.TheConstants.{MOST_BYTES};
 ghost use Rattle.mix_load.specs.Load.{flat_entry, with_flat};
 ghost use Rattle.mix_load.specs.inner.Loaded.{IsImage};
 ghost use Rattle.mix_load.specs.OutcomeClauses.{Gives};
@@ -21,7 +22,7 @@ fn flat_entry(main: Isa) -> u32
 
 /// Adds a flat file, whole.
 pub fn add_flat(bytes: &[u8], main: Isa, mut image: Image) -> Result<Image, LoadError>
-    requires small { length bytes.now ≤ 2 ^ 24 }
+    requires small { length bytes.now ≤ MOST_BYTES }
     requires whole { IsImage image }
     ensures is { Gives result (with_flat main bytes.now image) }
     ensures whole { IfOk result IsImage }

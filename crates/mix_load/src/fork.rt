@@ -1,5 +1,6 @@
 //! Resource forks as programs.
 ghost use Rattle.std.specs.Prelude.{◌≡◌, ◌^◌, ◌≤◌, length, IfOk, OnOk};
+ghost use Rattle.mix_bits.specs.declared.file.TheConstants.{MOST_BYTES};
 ghost use Rattle.std.specs.Result.{result_err};
 ghost use Rattle.mix_load.specs.inner.ForkImage.{HasRoom};
 ghost use Rattle.mix_load.specs.ForkImage.{fork_end, fork_memory, fork_refusal, with_codes, with_fork, with_resources};
@@ -21,7 +22,7 @@ pub const ID_COUNT: u16 = 32768;
 
 /// Tests the segments below a count of ids and the jump table, and gives where they end.
 fn test_codes(fork: &Fork, code0: &[u8], ids: u16, floor: u32) -> Result<u64, LoadError>
-    requires small { length code0.now ≤ 2 ^ 24 }
+    requires small { length code0.now ≤ MOST_BYTES }
     requires few { ids ≤ 32768 }
     ensures refusal { result_err result ≡ fork_refusal ids floor fork.now code0.now }
     ensures end { IfOk result (λ end. end ≡ fork_end ids fork.now (header_of code0.now)) }
@@ -45,7 +46,7 @@ fn put_codes(
 ) -> Result<(), AllocError>
     requires room { HasRoom ids (length ram.old.bytes) fork.now code0.now }
     requires small { length ram.old.bytes ≤ 2 ^ 24 }
-    requires brief { length code0.now ≤ 2 ^ 24 }
+    requires brief { length code0.now ≤ MOST_BYTES }
     ensures memory { OnOk result (ram.new ≡ fork_memory ids fork.now code0.now ram.old) }
     ensures len { length ram.new.bytes ≡ length ram.old.bytes }
 {
@@ -64,7 +65,7 @@ fn add_codes(
     mut image: Image,
 ) -> Result<Image, LoadError>
     requires few { ids ≤ 32768 }
-    requires brief { length code0.now ≤ 2 ^ 24 }
+    requires brief { length code0.now ≤ MOST_BYTES }
     requires whole { IsImage image }
     ensures is { Gives result (with_codes ids fork.now (Some code0.now) image) }
     ensures whole { IfOk result IsImage }
@@ -93,7 +94,7 @@ fn add_resources(alloc: Global, fork: &Fork, ids: u16, image: Image) -> Result<I
 
 /// Adds the program of a fork's file.
 pub fn add_fork(alloc: Global, bytes: &[u8], image: Image) -> Result<Image, LoadError>
-    requires small { length bytes.now ≤ 2 ^ 24 }
+    requires small { length bytes.now ≤ MOST_BYTES }
     requires whole { IsImage image }
     ensures is { Gives result (with_fork bytes.now image) }
     ensures whole { IfOk result IsImage }

@@ -1,5 +1,6 @@
 //! The gate page.
 ghost use Rattle.std.specs.Prelude.{◌≡◌, ◌^◌, ◌<◌, ◌≤◌, length};
+ghost use Rattle.big_memory.specs.Map.{host_functions};
 ghost use Rattle.switch_frame.specs.Program.{gate_longs, vectors};
 ghost use Rattle.mix_load.specs.Pieces.{with_pieces};
 
@@ -10,7 +11,7 @@ use switch_frame::{A5_PLACE, ENTRY_PLACE, MAIN_VECTOR_PLACE, RAM_SIZE_PLACE};
 #[tactic(auto, unfolding(switch_frame::specs::Program::vectors))]
 fn put_vectors(ram: &mut Ram, count: u32)
     requires room { 0x2000 ≤ length ram.old.bytes }
-    requires few { count ≤ 15 }
+    requires few { count ≤ host_functions }
     ensures memory { ram.new ≡ with_pieces (vectors count) ram.old }
     ensures len { length ram.new.bytes ≡ length ram.old.bytes }
 {

@@ -1,4 +1,5 @@
 ghost use Rattle.std.specs.Prelude.{IsTrue, ◌≡◌, ◌+◌, ◌^◌, ◌≤◌, ◌<◌, length};
+ghost use Rattle.mix_bits.specs.declared.file.TheConstants.{MOST_BYTES};
 ghost use Rattle.mix_load.specs.inner.Segments.{HasTable};
 ghost use Rattle.mix_load.specs.Segments.{a5_of, has_table, header_of, segments_start, table_start};
 
@@ -30,7 +31,7 @@ pub fn read_header(code0: &[u8]) -> CodeHeader
 
 /// Whether CODE 0 has its longs and a table that lies in the world above A5.
 pub fn has_table(code0: &[u8]) -> bool
-    requires { length code0.now ≤ 2 ^ 24 }
+    requires { length code0.now ≤ MOST_BYTES }
     ensures is { result ≡ has_table code0.now }
     ensures facts { IsTrue result → HasTable code0.now }
     ensures room { IsTrue result → (header_of code0.now).table_offset + (header_of code0.now).table_len < 2 ^ 32 }

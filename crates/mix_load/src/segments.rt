@@ -1,5 +1,6 @@
 //! The segments of a fork: its CODEs above 0.
 ghost use Rattle.std.specs.Prelude.{◌≡◌, ◌+◌, ◌^◌, ◌≤◌, ◌<◌, [], false, length, option_map, IfSome, IfOk};
+ghost use Rattle.mix_bits.specs.declared.file.TheConstants.{MOST_BYTES};
 ghost use Rattle.std.specs.Result.{result_err};
 ghost use Rattle.std.specs.Option.{option_map_or};
 ghost use Rattle.mix_bits.specs.SearchOperator.{◌or◌};
@@ -22,7 +23,7 @@ const CODE: u32 = 0x434F_4445;
 pub fn code_at<'a>(fork: &Fork<'a>, id: u16) -> Option<&'a [u8]>
     requires { id < 32768 }
     ensures is { option_map (λ code. code.now) result ≡ code_at fork.now id }
-    ensures small { IfSome result (λ code. length code.now ≤ 2 ^ 24) }
+    ensures small { IfSome result (λ code. length code.now ≤ MOST_BYTES) }
 {
     fork.get(CODE, id as i16)
 }
@@ -30,7 +31,7 @@ pub fn code_at<'a>(fork: &Fork<'a>, id: u16) -> Option<&'a [u8]>
 /// The segment with this number, a word that is read as a signed id.
 pub fn segment_at<'a>(fork: &Fork<'a>, id: u16) -> Option<&'a [u8]>
     ensures is { option_map (λ code. code.now) result ≡ segment_at fork.now id }
-    ensures small { IfSome result (λ code. length code.now ≤ 2 ^ 24) }
+    ensures small { IfSome result (λ code. length code.now ≤ MOST_BYTES) }
 {
     if id == 0 || 32768 <= id {
         return None;

@@ -1,5 +1,6 @@
 //! The jump table, which stands in CODE 0 and is loaded into the world above A5.
 ghost use Rattle.std.specs.Prelude.{◌≡◌, ◌+◌, ◌*◌, ◌^◌, ◌≤◌, ◌<◌, length, IfSome, OnOk};
+ghost use Rattle.mix_bits.specs.declared.file.TheConstants.{MOST_BYTES};
 ghost use Rattle.std.specs.Result.{result_err};
 ghost use Rattle.mix_bits.specs.Search.{least};
 ghost use Rattle.mix_load.specs.ForkImage.{table_refusal};
@@ -97,7 +98,7 @@ fn bad_entry(fork: &Fork, code0: &[u8], count: u32) -> Option<u32>
 
 /// Tests the table of CODE 0 and its entries.
 pub fn test_table(fork: &Fork, code0: &[u8]) -> Result<(), LoadError>
-    requires { length code0.now ≤ 2 ^ 24 }
+    requires { length code0.now ≤ MOST_BYTES }
     ensures refusal { result_err result ≡ table_refusal fork.now code0.now }
     ensures table { OnOk result (HasTable code0.now) }
 {
@@ -144,7 +145,7 @@ fn put_entries(ram: &mut Ram, table: u32, code0: &[u8], places: &[u32], count: u
 /// Puts the jump table of CODE 0, whose segments are loaded at these places.
 pub fn put_table(ram: &mut Ram, code0: &[u8], places: &[u32])
     requires table { HasTable code0.now }
-    requires brief { length code0.now ≤ 2 ^ 24 }
+    requires brief { length code0.now ≤ MOST_BYTES }
     requires room { table_start (header_of code0.now) + (header_of code0.now).table_len ≤ length ram.old.bytes }
     requires small { length ram.old.bytes ≤ 2 ^ 24 }
     ensures memory { ram.new ≡ with_pieces (table_pieces places.now (table_start (header_of code0.now)) code0.now (entry_count code0.now)) ram.old }

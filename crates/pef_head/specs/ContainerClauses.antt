@@ -1,11 +1,12 @@
 -- Where section headers and packed bytes lie in a container that is read.
-use Rattle.std.specs.Prelude.{◌≡◌, false, ℕ, ◌+◌, ◌^◌, ◌≤◌, ◌<◌, List, length}
+use Rattle.std.specs.Prelude.{◌≡◌, false, ℕ, ◌+◌, ◌≤◌, ◌<◌, List, length}
+use Rattle.mix_bits.specs.declared.file.TheConstants.{MOST_BYTES}
 use Rattle.pef_head.specs.Container.{section_count, instantiated_count, section_header, packed_of, offset_of, exponent_of, is_malformed}
 
 -- the section headers are in the file, which has at most 16 MiB
 pub record HasHeaders (bytes : List ℕ) : Type 0 where
   pub headers_fit : section_header (section_count bytes) ≤ length bytes
-  pub small : length bytes ≤ 2 ^ 24
+  pub small : length bytes ≤ MOST_BYTES
 
 -- a section's header and packed bytes are in the file, and it can be instantiated
 pub record IsSection (bytes : List ℕ) (k : ℕ) : Type 0 where

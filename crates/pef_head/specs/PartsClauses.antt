@@ -1,5 +1,6 @@
 -- What holds of each section and each import of a container that is read.
-use Rattle.std.specs.Prelude.{◌≡◌, ◌%◌, ◌^◌, ◌≤◌, ◌⊎◌, false, length}
+use Rattle.std.specs.Prelude.{◌≡◌, ◌%◌, ◌≤◌, ◌⊎◌, false, length}
+use Rattle.mix_bits.specs.declared.file.TheConstants.{MOST_BYTES}
 use Rattle.pef_head.specs.declared.section.Section.{Section}
 use Rattle.pef_head.specs.declared.import.Import.{Import}
 use Rattle.pef_head.specs.Container.{is_pattern, is_uninstantiable}
@@ -17,7 +18,7 @@ pub record IsLoadable (s : SectionParts) : Type 0 where
   pub positive : 1 ≤ s.align
   pub divides : (s.align % 16 ≡ 0) ⊎ (16 % s.align ≡ 0)
   pub whole : is_pattern s.kind ≡ false → length s.bytes ≡ s.unpacked
-  pub small : length s.bytes ≤ 2 ^ 24
+  pub small : length s.bytes ≤ MOST_BYTES
 
 abbrev pub names : Import → ImportParts
 names i = record { library = i.library.now; name = i.name.now; weak = i.weak }

@@ -1,5 +1,6 @@
 //! A container's header and its section headers.
 ghost use Rattle.std.specs.Prelude.{◌≡◌, ◌+◌, ◌^◌, ◌≤◌, ◌<◌, length, OnOk, IfSome};
+ghost use Rattle.mix_bits.specs.declared.file.TheConstants.{MOST_BYTES};
 ghost use Rattle.std.specs.Result.{result_err};
 ghost use Rattle.mix_bits.specs.Search.{least};
 ghost use Rattle.pef_head.specs.ContainerClauses.{HasHeaders, HasSections};
@@ -69,7 +70,7 @@ pub fn section_header(k: u32) -> u32
 
 /// Tests the header, and that the section headers are in the file.
 pub fn test_header(bytes: &[u8]) -> Result<(), PefError>
-    requires { length bytes.now ≤ 2 ^ 24 }
+    requires { length bytes.now ≤ MOST_BYTES }
     ensures refusal { result_err result ≡ header_refusal bytes.now }
     ensures headers { OnOk result (HasHeaders bytes.now) }
 {

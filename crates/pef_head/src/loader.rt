@@ -1,5 +1,6 @@
 //! The loader section's header.
-ghost use Rattle.std.specs.Prelude.{◌≡◌, ◌+◌, ◌^◌, ◌≤◌, ◌<◌, length, OnOk, IfOk};
+ghost use Rattle.std.specs.Prelude.{◌≡◌, ◌+◌, ◌≤◌, ◌<◌, length, OnOk, IfOk};
+ghost use Rattle.mix_bits.specs.declared.file.TheConstants.{MOST_BYTES};
 ghost use Rattle.std.specs.Result.{result_err};
 ghost use Rattle.pef_head.specs.Container.{offset_of, packed_of, section_header};
 ghost use Rattle.pef_head.specs.Loader.{loader_in};
@@ -31,7 +32,7 @@ fn loader_in(bytes: &[u8], k: u16) -> Loader
     requires header { section_header k + 28 ≤ length bytes.now }
     requires within { offset_of bytes.now k + packed_of bytes.now k ≤ length bytes.now }
     requires whole { 56 ≤ packed_of bytes.now k }
-    requires small { length bytes.now ≤ 2 ^ 24 }
+    requires small { length bytes.now ≤ MOST_BYTES }
     ensures { result ≡ loader_in bytes.now k }
 {
     let header = section_header(k as u32);
@@ -50,7 +51,7 @@ fn loader_in(bytes: &[u8], k: u16) -> Loader
 /// Tests that the tables are in the loader section.
 fn test_tables(l: Loader) -> Result<(), PefError>
     requires header { l.start + 56 ≤ l.end }
-    requires small { l.end ≤ 2 ^ 24 }
+    requires small { l.end ≤ MOST_BYTES }
     ensures refusal { result_err result ≡ tables_refusal l }
     ensures libraries { OnOk result (library l l.libraries ≤ l.end) }
     ensures symbols { OnOk result (symbol l l.symbols ≤ l.end) }
@@ -76,7 +77,7 @@ fn test_tables(l: Loader) -> Result<(), PefError>
 pub fn read_loader(bytes: &[u8], k: u16) -> Result<Loader, PefError>
     requires header { section_header k + 28 ≤ length bytes.now }
     requires within { offset_of bytes.now k + packed_of bytes.now k ≤ length bytes.now }
-    requires small { length bytes.now ≤ 2 ^ 24 }
+    requires small { length bytes.now ≤ MOST_BYTES }
     ensures refusal { result_err result ≡ tables_refusal (loader_in bytes.now k) }
     ensures is { IfOk result (λ l. l ≡ loader_in bytes.now k) }
     ensures tables { IfOk result (HasTables bytes.now) }

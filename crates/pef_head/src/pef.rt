@@ -29,8 +29,9 @@ impl<'a> Model for Pef<'a> {
 }
 
 impl<'a> Pef<'a> {
-    ghost use Rattle.std.specs.Prelude.{◌≡◌, ℕ, ◌^◌, ◌≤◌, ◌<◌, ◌*◌, ◌%◌, length, slice_index, slice_index_or, None, IfOk, OnOk, OnErr};
+    ghost use Rattle.std.specs.Prelude.{◌≡◌, ℕ, ◌≤◌, ◌<◌, ◌*◌, ◌%◌, length, slice_index, slice_index_or, None, IfOk, OnOk, OnErr};
     ghost use Rattle.std.specs.Result.{result_err};
+    ghost use Rattle.mix_bits.specs.declared.file.TheConstants.{MOST_BYTES};
     ghost use Rattle.pef_head.specs.Container.{instantiated_count};
     ghost use Rattle.pef_head.specs.PartsClauses.{IsLoadable, names, parts};
     ghost use Rattle.pef_head.specs.inner.Parts.{cut, library_of, reloc_header_of};
@@ -42,7 +43,7 @@ impl<'a> Pef<'a> {
     /// broken: of the header, of the sections in turn, of the loader section and its tables, of their
     /// entries, of the names, and of the initialization routine. No bytes are copied.
     pub fn read(bytes: &'a [u8]) -> Result<Pef<'a>, PefError>
-        requires { length bytes.now ≤ 2 ^ 24 }
+        requires { length bytes.now ≤ MOST_BYTES }
         ensures refusal { result_err result ≡ refusal_of bytes.now }
         ensures same { IfOk result (λ pef. pef ≡ bytes.now) }
 
@@ -86,7 +87,7 @@ impl<'a> Pef<'a> {
     /// How many symbols are imported.
     pub fn imports(&self) -> u32
         ensures is { result ≡ import_count self.now }
-        ensures few { 4 * result ≤ 2 ^ 24 }
+        ensures few { 4 * result ≤ MOST_BYTES }
     {
         self.loader.symbols
     }
@@ -124,7 +125,7 @@ impl<'a> Pef<'a> {
         requires { k < instantiated_count self.now }
         ensures is { result.now ≡ relocs_of self.now k }
         ensures even { length result.now % 2 ≡ 0 }
-        ensures small { length result.now ≤ 2 ^ 24 }
+        ensures small { length result.now ≤ MOST_BYTES }
     {
         self.relocs_by(k, header_for(self.bytes, self.loader, k))
     }
@@ -146,7 +147,7 @@ impl<'a> Pef<'a> {
         requires header { header ≡ reloc_header_of self.now k }
         ensures is { result.now ≡ relocs_of self.now k }
         ensures even { length result.now % 2 ≡ 0 }
-        ensures small { length result.now ≤ 2 ^ 24 }
+        ensures small { length result.now ≤ MOST_BYTES }
     {
         relocs_at(self.bytes, self.loader, k, header)
     }

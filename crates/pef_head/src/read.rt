@@ -1,5 +1,6 @@
 //! The tests that a container must pass, in order.
-ghost use Rattle.std.specs.Prelude.{◌≡◌, ◌+◌, ◌^◌, ◌≤◌, ◌<◌, length, Some, OnOk, IfOk};
+ghost use Rattle.std.specs.Prelude.{◌≡◌, ◌+◌, ◌≤◌, ◌<◌, length, Some, OnOk, IfOk};
+ghost use Rattle.mix_bits.specs.declared.file.TheConstants.{MOST_BYTES};
 ghost use Rattle.std.specs.Result.{result_err};
 ghost use Rattle.pef_head.specs.ContainerClauses.{HasHeaders, HasSections};
 ghost use Rattle.pef_head.specs.Container.{offset_of, packed_of, section_header};
@@ -51,7 +52,7 @@ fn test_init(bytes: &[u8], l: Loader) -> Result<(), PefError>
 fn test_loader(bytes: &[u8], k: u16) -> Result<Loader, PefError>
     requires header { section_header k + 28 ≤ length bytes.now }
     requires within { offset_of bytes.now k + packed_of bytes.now k ≤ length bytes.now }
-    requires small { length bytes.now ≤ 2 ^ 24 }
+    requires small { length bytes.now ≤ MOST_BYTES }
     ensures refusal { result_err result ≡ loader_refusal bytes.now (Some k) }
     ensures is { IfOk result (λ l. l ≡ loader_in bytes.now k) }
     ensures tables { IfOk result (HasTables bytes.now) }
@@ -65,7 +66,7 @@ fn test_loader(bytes: &[u8], k: u16) -> Result<Loader, PefError>
 
 /// Tests a container whole, and gives what its loader section names.
 pub fn read_head(bytes: &[u8]) -> Result<Loader, PefError>
-    requires { length bytes.now ≤ 2 ^ 24 }
+    requires { length bytes.now ≤ MOST_BYTES }
     ensures refusal { result_err result ≡ refusal_of bytes.now }
     ensures is { IfOk result (λ l. l ≡ loader_of bytes.now) }
     ensures headers { OnOk result (HasHeaders bytes.now) }

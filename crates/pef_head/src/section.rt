@@ -1,4 +1,5 @@
-ghost use Rattle.std.specs.Prelude.{◌≡◌, ◌^◌, ◌≤◌, length};
+ghost use Rattle.std.specs.Prelude.{◌≡◌, ◌≤◌, length};
+ghost use Rattle.mix_bits.specs.declared.file.TheConstants.{MOST_BYTES};
 ghost use Rattle.pef_head.specs.ContainerClauses.{IsSection};
 ghost use Rattle.pef_head.specs.PartsClauses.{parts};
 ghost use Rattle.pef_head.specs.Parts.{section_at};
@@ -36,7 +37,7 @@ impl<'a> Section<'a> {
 /// The section with this number.
 pub fn section_at<'a>(bytes: &'a [u8], k: u32) -> Section<'a>
     requires section { IsSection bytes.now k }
-    requires small { length bytes.now ≤ 2 ^ 24 }
+    requires small { length bytes.now ≤ MOST_BYTES }
     ensures { parts result ≡ section_at bytes.now k }
 {
     let header = section_header(k);

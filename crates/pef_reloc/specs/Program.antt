@@ -3,6 +3,7 @@
 --
 -- Repeats, the limit of work and the order of refusals are this project's own.
 use Rattle.std.specs.Prelude.{ℕ, zero, suc, ◌+◌, ◌-◌, ◌*◌, nat_lt, nat_le, Bool, true, false, if◌then◌else◌, List, length, slice_index, Option, Some, None, Result, Ok, Err}
+use Rattle.pef_reloc.specs.declared.program.TheConstants.{WORK_LIMIT}
 use Rattle.std.specs.Result.{is_ok}
 use Rattle.big_memory.specs.Lists.{part}
 use Rattle.mix_bits.specs.Fields.{word_at}
@@ -113,7 +114,7 @@ start bases =
       index = 0;
       c = slice_index bases 0;
       d = slice_index bases 1;
-      left = 16777216;
+      left = WORK_LIMIT;
       over = false;
     }
 

@@ -1,3 +1,4 @@
 pub mod Additions
 pub mod Held
 pub mod Pieces
+pub mod Repeating

@@ -1,5 +1,6 @@
 // Unpacking pattern data.
-ghost use Rattle.std.specs.Prelude.{◌≡◌, ◌^◌, ◌≤◌, length, OnOk};
+ghost use Rattle.std.specs.Prelude.{◌≡◌, ◌≤◌, length, OnOk};
+ghost use Rattle.mix_bits.specs.declared.file.TheConstants.{MOST_BYTES};
 ghost use Rattle.std.specs.Result.{result_err};
 ghost use Rattle.big_memory.specs.Lists.{put};
 ghost use Rattle.pef_reloc.specs.Pattern.{unpacked};
@@ -12,7 +13,7 @@ use crate::writing::{size_of, write_piece};
 ///
 /// The one refusal is [`RelocError::Pattern`]. After it `to` begins with what was written so far.
 pub fn unpack(from: &[u8], to: &mut [u8]) -> Result<(), RelocError>
-    requires { length from.now ≤ 2 ^ 24 }
+    requires { length from.now ≤ MOST_BYTES }
     ensures refusal { result_err result ≡ (unpacked from.now (length to.old)).refusal }
     ensures written { to.new ≡ put 0 (unpacked from.now (length to.old)).written to.old }
     ensures whole { OnOk result (to.new ≡ (unpacked from.now (length to.old)).written) }

@@ -1,5 +1,6 @@
 // What an instruction of pattern data writes.
-ghost use Rattle.std.specs.Prelude.{◌≡◌, ◌^◌, ◌<◌, ◌≤◌, length, IfSome};
+ghost use Rattle.std.specs.Prelude.{◌≡◌, ◌<◌, ◌≤◌, length, IfSome};
+ghost use Rattle.mix_bits.specs.declared.file.TheConstants.{MOST_BYTES};
 ghost use Rattle.std.specs.Option.{option_map};
 ghost use Rattle.pef_reloc.specs.Pattern.{bytes_in, mixed_in, mixed_zeros_in, opcode_in, piece_in, repeated_in, with_rest};
 ghost use Rattle.pef_reloc.specs.inner.Pieces.{IsSmall, bytes_of};
@@ -47,7 +48,7 @@ fn read_bytes(n: u64, from: &[u8]) -> Option<(&[u8], &[u8])>
 }
 
 fn read_block(count: u32, from: &[u8]) -> Option<Read<'_>>
-    requires { length from.now < 2 ^ 24 }
+    requires { length from.now < MOST_BYTES }
     ensures is { option_map (λ read. with_rest (bytes_of read.0) read.1.now) result ≡ bytes_in count from.now }
     ensures small { IfSome result (λ read. IsSmall read.0) }
     ensures less { IfSome result (λ read. length read.1.now ≤ length from.now) }
@@ -57,7 +58,7 @@ fn read_block(count: u32, from: &[u8]) -> Option<Read<'_>>
 }
 
 fn read_again(count: u32, from: &[u8]) -> Option<Read<'_>>
-    requires { length from.now < 2 ^ 24 }
+    requires { length from.now < MOST_BYTES }
     ensures is { option_map (λ read. with_rest (bytes_of read.0) read.1.now) result ≡ repeated_in count from.now }
     ensures small { IfSome result (λ read. IsSmall read.0) }
     ensures less { IfSome result (λ read. length read.1.now ≤ length from.now) }
@@ -68,7 +69,7 @@ fn read_again(count: u32, from: &[u8]) -> Option<Read<'_>>
 }
 
 fn read_mixed(common: u32, from: &[u8]) -> Option<Read<'_>>
-    requires { length from.now < 2 ^ 24 }
+    requires { length from.now < MOST_BYTES }
     ensures is { option_map (λ read. with_rest (bytes_of read.0) read.1.now) result ≡ mixed_in common from.now }
     ensures small { IfSome result (λ read. IsSmall read.0) }
     ensures less { IfSome result (λ read. length read.1.now ≤ length from.now) }
@@ -81,7 +82,7 @@ fn read_mixed(common: u32, from: &[u8]) -> Option<Read<'_>>
 }
 
 fn read_mixed_zeros(common: u32, from: &[u8]) -> Option<Read<'_>>
-    requires { length from.now < 2 ^ 24 }
+    requires { length from.now < MOST_BYTES }
     ensures is { option_map (λ read. with_rest (bytes_of read.0) read.1.now) result ≡ mixed_zeros_in common from.now }
     ensures small { IfSome result (λ read. IsSmall read.0) }
     ensures less { IfSome result (λ read. length read.1.now ≤ length from.now) }
@@ -96,7 +97,7 @@ fn read_mixed_zeros(common: u32, from: &[u8]) -> Option<Read<'_>>
 }
 
 fn read_opcode(opcode: u8, count: u32, from: &[u8]) -> Option<Read<'_>>
-    requires { length from.now < 2 ^ 24 }
+    requires { length from.now < MOST_BYTES }
     ensures is { option_map (λ read. with_rest (bytes_of read.0) read.1.now) result ≡ opcode_in opcode count from.now }
     ensures small { IfSome result (λ read. IsSmall read.0) }
     ensures less { IfSome result (λ read. length read.1.now ≤ length from.now) }
@@ -113,7 +114,7 @@ fn read_opcode(opcode: u8, count: u32, from: &[u8]) -> Option<Read<'_>>
 
 /// What the first instruction writes, and the pattern data behind it.
 pub fn read_piece(from: &[u8]) -> Option<Read<'_>>
-    requires { length from.now ≤ 2 ^ 24 }
+    requires { length from.now ≤ MOST_BYTES }
     ensures is { option_map (λ read. with_rest (bytes_of read.0) read.1.now) result ≡ piece_in from.now }
     ensures small { IfSome result (λ read. IsSmall read.0) }
     ensures less { IfSome result (λ read. length read.1.now < length from.now) }

@@ -1,10 +1,12 @@
 // Running relocation words.
-ghost use Rattle.std.specs.Prelude.{◌≡◌, ◌+◌, ◌*◌, ◌%◌, ◌^◌, ◌<◌, ◌≤◌, ◌==◌, true, length, slice_index, if◌then◌else◌, Some, None, OnOk};
+ghost use Rattle.std.specs.Prelude.{◌≡◌, ◌+◌, ◌*◌, ◌%◌, ◌^◌, ◌<◌, ◌≤◌, ◌==◌, true, length, slice_index, if◌then◌else◌, Some, None, IfSome, OnOk};
+ghost use Rattle.mix_bits.specs.declared.file.TheConstants.{MOST_BYTES};
 ghost use Rattle.std.specs.Option.{option_copied};
 ghost use Rattle.std.specs.Result.{result_err};
 ghost use Rattle.big_memory.specs.Memory.{in_memory, with_bytes};
 ghost use Rattle.pef_reloc.specs.inner.Held.{Fits, budget, outcome_of, outside_of, section_of, sources_of, state_of};
-ghost use Rattle.pef_reloc.specs.Program.{can_repeat, relocated, repeated, run_at, run_in_span, run_span, run_times, run_words, span_at, start};
+ghost use Rattle.pef_reloc.specs.inner.Repeating.{repeated_span};
+ghost use Rattle.pef_reloc.specs.Program.{can_repeat, relocated, run_at, run_in_span, run_span, run_times, run_words, span_at, start};
 ghost use Rattle.pef_reloc.specs.ProgramClauses.{relocated_in};
 
 use crate::additions::execute;
@@ -29,7 +31,7 @@ fn run_in_span(
     requires fits { Fits target ram.old }
     requires near { budget cursor.old ≤ 2 ^ 60 }
     requires within { place + 2 ≤ length span.now }
-    requires small { length span.now ≤ 2 ^ 24 }
+    requires small { length span.now ≤ MOST_BYTES }
     ensures is { outcome_of target.entry result ram.new cursor.new ≡ run_in_span (sources_of target.entry) span.now place (state_of target.entry ram.old cursor.old) }
     ensures outside { outside_of target.entry ram.new ≡ outside_of target.entry ram.old }
     ensures len { length ram.new.bytes ≡ length ram.old.bytes }
@@ -51,7 +53,7 @@ fn run_span(
 ) -> Result<(), RelocError>
     requires fits { Fits target ram.old }
     requires near { budget cursor.old ≤ 2 ^ 60 }
-    requires small { length span.now ≤ 2 ^ 24 }
+    requires small { length span.now ≤ MOST_BYTES }
     ensures is { outcome_of target.entry result ram.new cursor.new ≡ run_span (sources_of target.entry) span.now (state_of target.entry ram.old cursor.old) }
     ensures outside { outside_of target.entry ram.new ≡ outside_of target.entry ram.old }
     ensures len { length ram.new.bytes ≡ length ram.old.bytes }
@@ -75,7 +77,7 @@ fn run_times(
 ) -> Result<(), RelocError>
     requires fits { Fits target ram.old }
     requires near { budget cursor.old ≤ 2 ^ 60 }
-    requires small { length span.now ≤ 2 ^ 24 }
+    requires small { length span.now ≤ MOST_BYTES }
     ensures is { outcome_of target.entry result ram.new cursor.new ≡ run_times (sources_of target.entry) span.now times (state_of target.entry ram.old cursor.old) }
     ensures outside { outside_of target.entry ram.new ≡ outside_of target.entry ram.old }
     ensures len { length ram.new.bytes ≡ length ram.old.bytes }
@@ -90,8 +92,9 @@ fn run_times(
 /// The words that a repeat at a place goes back over, if they can be repeated.
 fn span_at(words: &[u8], place: usize, count: u32) -> Option<&[u8]>
     requires within { place ≤ length words.now }
-    requires small { length words.now ≤ 2 ^ 24 }
-    ensures { option_copied result ≡ (if can_repeat words.now place count then Some (span_at words.now place count) else None) }
+    requires small { length words.now ≤ MOST_BYTES }
+    ensures is { option_copied result ≡ (if can_repeat words.now place count then Some (span_at words.now place count) else None) }
+    ensures small { IfSome result (λ span. length span.now ≤ MOST_BYTES) }
 {
     let len = 2 * count as usize;
     if len > place {
@@ -101,28 +104,22 @@ fn span_at(words: &[u8], place: usize, count: u32) -> Option<&[u8]>
     if is_span(span) { Some(span) } else { None }
 }
 
-/// Runs a repeat.
+/// Runs the span of a repeat so many times more. The repeat counts as an instruction.
 fn repeat(
     ram: &mut Ram,
     cursor: &mut Cursor,
     target: Target,
-    words: &[u8],
-    place: usize,
-    count: u32,
+    span: &[u8],
     further: u32,
 ) -> Result<(), RelocError>
     requires fits { Fits target ram.old }
     requires near { budget cursor.old ≤ 2 ^ 60 }
-    requires within { place ≤ length words.now }
-    requires small { length words.now ≤ 2 ^ 24 }
-    ensures is { outcome_of target.entry result ram.new cursor.new ≡ repeated (sources_of target.entry) words.now place count further (state_of target.entry ram.old cursor.old) }
+    requires small { length span.now ≤ MOST_BYTES }
+    ensures is { outcome_of target.entry result ram.new cursor.new ≡ repeated_span (sources_of target.entry) span.now further (state_of target.entry ram.old cursor.old) }
     ensures outside { outside_of target.entry ram.new ≡ outside_of target.entry ram.old }
     ensures len { length ram.new.bytes ≡ length ram.old.bytes }
     ensures bound { OnOk result (budget cursor.new ≤ budget cursor.old) }
 {
-    let Some(span) = span_at(words, place, count) else {
-        return Err(RelocError::RepeatFront(place as u32));
-    };
     cursor.begin();
     cursor.finish()?;
     run_times(ram, cursor, target, span, further)
@@ -139,7 +136,7 @@ fn run_at(
     requires fits { Fits target ram.old }
     requires near { budget cursor.old ≤ 2 ^ 60 }
     requires within { place + 2 ≤ length words.now }
-    requires small { length words.now ≤ 2 ^ 24 }
+    requires small { length words.now ≤ MOST_BYTES }
     ensures is { outcome_of target.entry result ram.new cursor.new ≡ run_at (sources_of target.entry) words.now place (state_of target.entry ram.old cursor.old) }
     ensures outside { outside_of target.entry ram.new ≡ outside_of target.entry ram.old }
     ensures len { length ram.new.bytes ≡ length ram.old.bytes }
@@ -147,9 +144,10 @@ fn run_at(
 {
     match reading_at(words, place) {
         Ok(Reading::Whole(instruction)) => execute(ram, cursor, target, instruction),
-        Ok(Reading::Again(count, further)) => repeat(
-            ram, cursor, target, words, place, count, further,
-        ),
+        Ok(Reading::Again(count, further)) => match span_at(words, place, count) {
+            Some(span) => repeat(ram, cursor, target, span, further),
+            None => Err(RelocError::RepeatFront(place as u32)),
+        },
         Err(e) => Err(e),
     }
 }
@@ -163,7 +161,7 @@ fn run_words(
 ) -> Result<(), RelocError>
     requires fits { Fits target ram.old }
     requires near { budget cursor.old ≤ 2 ^ 60 }
-    requires small { length words.now ≤ 2 ^ 24 }
+    requires small { length words.now ≤ MOST_BYTES }
     ensures is { outcome_of target.entry result ram.new cursor.new ≡ run_words (sources_of target.entry) words.now (state_of target.entry ram.old cursor.old) }
     ensures outside { outside_of target.entry ram.new ≡ outside_of target.entry ram.old }
     ensures len { length ram.new.bytes ≡ length ram.old.bytes }
@@ -199,7 +197,7 @@ fn start(bases: &[u32]) -> Cursor
 /// Relocates a section.
 fn relocate_target(ram: &mut Ram, target: Target, words: &[u8]) -> Result<(), RelocError>
     requires fits { Fits target ram.old }
-    requires small { length words.now ≤ 2 ^ 24 }
+    requires small { length words.now ≤ MOST_BYTES }
     ensures refusal { result_err result ≡ (relocated (sources_of target.entry) words.now (section_of target.entry ram.old)).refusal }
     ensures section { section_of target.entry ram.new ≡ (relocated (sources_of target.entry) words.now (section_of target.entry ram.old)).section }
     ensures memory { ram.new ≡ with_bytes target.entry.base (section_of target.entry ram.new) ram.old }
@@ -230,7 +228,7 @@ pub fn relocate(
     totals: &[u32],
     imports: &[u32],
 ) -> Result<(), RelocError>
-    requires small { length words.now ≤ 2 ^ 24 }
+    requires small { length words.now ≤ MOST_BYTES }
     requires even { length words.now % 2 ≡ 0 }
     requires few { length imports.now < 2 ^ 32 }
     requires paired { length bases.now ≡ length totals.now }

@@ -1,5 +1,6 @@
 // Relocation words, and what stands at a place among them.
-ghost use Rattle.std.specs.Prelude.{◌≡◌, ◌+◌, ◌^◌, ◌≤◌, length};
+ghost use Rattle.std.specs.Prelude.{◌≡◌, ◌+◌, ◌≤◌, length};
+ghost use Rattle.mix_bits.specs.declared.file.TheConstants.{MOST_BYTES};
 ghost use Rattle.pef_reloc.specs.Program.{fits_in, is_span, reading_at, width_at};
 
 use crate::error::RelocError;
@@ -10,7 +11,7 @@ use mix_bits::word_at;
 /// How many bytes the instruction has that begins at a place.
 pub fn width_at(words: &[u8], place: usize) -> usize
     requires within { place + 2 ≤ length words.now }
-    requires small { length words.now ≤ 2 ^ 24 }
+    requires small { length words.now ≤ MOST_BYTES }
     ensures is { result ≡ width_at words.now place }
     ensures some { 2 ≤ result }
     ensures few { result ≤ 4 }
@@ -24,7 +25,7 @@ pub fn width_at(words: &[u8], place: usize) -> usize
 /// The instruction that begins at a place.
 pub fn reading_at(words: &[u8], place: usize) -> Result<Reading, RelocError>
     requires within { place + 2 ≤ length words.now }
-    requires small { length words.now ≤ 2 ^ 24 }
+    requires small { length words.now ≤ MOST_BYTES }
     ensures { result ≡ reading_at words.now place }
 {
     let word = word_at(words, place as u32);
@@ -45,7 +46,7 @@ pub fn reading_at(words: &[u8], place: usize) -> Result<Reading, RelocError>
 /// Whether no repeat stands at a place, and what stands there ends within the span.
 fn fits_in(span: &[u8], place: usize) -> bool
     requires within { place + 2 ≤ length span.now }
-    requires small { length span.now ≤ 2 ^ 24 }
+    requires small { length span.now ≤ MOST_BYTES }
     ensures { result ≡ fits_in span.now place }
 {
     match first_of(word_at(span, place as u32)) {
@@ -56,7 +57,7 @@ fn fits_in(span: &[u8], place: usize) -> bool
 
 /// Whether instructions, none of them a repeat, fill a span.
 pub fn is_span(span: &[u8]) -> bool
-    requires { length span.now ≤ 2 ^ 24 }
+    requires { length span.now ≤ MOST_BYTES }
     ensures { result ≡ is_span span.now }
 {
     let mut place = 0;

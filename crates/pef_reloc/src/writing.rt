@@ -1,5 +1,6 @@
 // Writing a piece.
 ghost use Rattle.std.specs.Prelude.{◌≡◌, ℕ, suc, ◌+◌, ◌*◌, ◌^◌, ◌<◌, ◌≤◌, List, length, replicate, take};
+ghost use Rattle.mix_bits.specs.declared.file.TheConstants.{MOST_BYTES};
 ghost use Rattle.pef_reloc.specs.Lists.{times};
 ghost use Rattle.big_memory.specs.Lists.{put};
 ghost use Rattle.pef_reloc.specs.inner.Pieces.{AreWhole, IsSmall, bytes_of, mixed};
@@ -23,7 +24,7 @@ pub fn size_of(piece: Piece) -> u64
 
 #[tactic(auto, using(crate::proofs::Written::length_again))]
 fn again_size(block: &[u8], further: u32) -> u64
-    requires { length block.now ≤ 2 ^ 24 }
+    requires { length block.now ≤ MOST_BYTES }
     ensures { result ≡ length (times (suc further) block.now) }
 {
     block.len() as u64 * (u64::from(further) + 1)

@@ -1,12 +1,13 @@
 -- The next greater id of a type.
-use Rattle.std.specs.Prelude.{◌≡◌, ℕ, ℤ, ◌<ℤ◌, ◌≤ℤ◌, pos, Bool, true, ◌&&◌, nat_eq, int_lt, IsSome, All, length, ◌≤◌, ◌^◌, if◌then◌else◌, List, map, fold, Option, Some, None}
+use Rattle.std.specs.Prelude.{◌≡◌, ℕ, ℤ, ◌<ℤ◌, ◌≤ℤ◌, pos, Bool, true, ◌&&◌, nat_eq, int_lt, IsSome, All, length, ◌≤◌, if◌then◌else◌, List, map, fold, Option, Some, None}
+use Rattle.mix_bits.specs.declared.file.TheConstants.{MOST_BYTES}
 use denote.Ref.{Bor}
 use Rattle.rsrc_fork.specs.declared.name.Name.{Name}
 use Rattle.rsrc_fork.specs.Resources.{Resource, named, bytes_of}
 
 -- no resource is longer than a file may be, and each id is a signed word's at most
 abbrev pub IsSmall : Resource → Type 0
-IsSmall resource = (length resource.1 ≤ 2 ^ 24) × (resource.0.id ≤ℤ pos 32767)
+IsSmall resource = (length resource.1 ≤ MOST_BYTES) × (resource.0.id ≤ℤ pos 32767)
 
 abbrev pub AreSmall : List Resource → Type 0
 AreSmall resources = All IsSmall resources

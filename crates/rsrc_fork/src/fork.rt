@@ -25,7 +25,8 @@ impl<'a> Model for Fork<'a> {
 }
 
 impl<'a> Fork<'a> {
-    ghost use Rattle.std.specs.Prelude.{◌≡◌, ◌≢◌, ◌^◌, ◌≤◌, ◌<◌, List, length, option_map, IfOk, IfErr, IfSome};
+    ghost use Rattle.std.specs.Prelude.{◌≡◌, ◌≢◌, ◌≤◌, ◌<◌, List, length, option_map, IfOk, IfErr, IfSome};
+    ghost use Rattle.mix_bits.specs.declared.file.TheConstants.{MOST_BYTES};
     ghost use Rattle.rsrc_fork.specs.OutcomeClauses.{Gives};
     ghost use Rattle.rsrc_fork.specs.Listing.{IsFork};
     ghost use Rattle.rsrc_fork.specs.ReferencesClauses.{reference_count, reference_limit};
@@ -39,7 +40,7 @@ impl<'a> Fork<'a> {
     /// each resource, and copies no bytes. Where the type list says that there are more than 1398101 references, it
     /// is out of memory before it keeps any.
     pub fn read(alloc: Global, bytes: &'a [u8]) -> Result<Fork<'a>, RsrcError>
-        requires { length bytes.now ≤ 2 ^ 24 }
+        requires { length bytes.now ≤ MOST_BYTES }
         ensures is { Gives (λ fork. fork) result (resources_of bytes.now) }
 
         // The same by the list of the references: a file that is a fork is read, and no other.
@@ -57,7 +58,7 @@ impl<'a> Fork<'a> {
     /// The bytes of a resource. They stand in the file that was read.
     pub fn get(&self, kind: u32, id: i16) -> Option<&'a [u8]>
         ensures is { option_map (λ piece. piece.now) result ≡ bytes_of self.now (named kind id) }
-        ensures small { IfSome result (λ piece. length piece.now ≤ 2 ^ 24) }
+        ensures small { IfSome result (λ piece. length piece.now ≤ MOST_BYTES) }
     {
         find(&self.resources, Name { kind, id })
     }

@@ -1,4 +1,5 @@
-ghost use Rattle.std.specs.Prelude.{◌≡◌, ◌+◌, ◌^◌, ◌≤◌, length, IfOk};
+ghost use Rattle.std.specs.Prelude.{◌≡◌, ◌+◌, ◌≤◌, length, IfOk};
+ghost use Rattle.mix_bits.specs.declared.file.TheConstants.{MOST_BYTES};
 ghost use Rattle.rsrc_fork.specs.Header.{areas_of, list_of};
 ghost use Rattle.rsrc_fork.specs.inner.Header.{IsWithin};
 
@@ -16,7 +17,7 @@ pub struct Areas {
 
 /// The areas that the header names.
 pub fn areas_of(bytes: &[u8]) -> Result<Areas, RsrcError>
-    requires { length bytes.now ≤ 2 ^ 24 }
+    requires { length bytes.now ≤ MOST_BYTES }
     ensures is { result ≡ areas_of bytes.now }
     ensures within { IfOk result (λ areas. IsWithin areas (length bytes.now)) }
 {

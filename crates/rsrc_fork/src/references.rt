@@ -1,4 +1,5 @@
 ghost use Rattle.std.specs.Prelude.{◌≡◌, ◌+◌, ◌^◌, ◌≤◌, ◌<◌, [], length, IfOk};
+ghost use Rattle.mix_bits.specs.declared.file.TheConstants.{MOST_BYTES};
 ghost use Rattle.std.specs.Result.{result_map_both};
 ghost use Rattle.rsrc_fork.specs.inner.Header.{IsWithin};
 ghost use Rattle.rsrc_fork.specs.OutcomeClauses.{Gives};
@@ -120,8 +121,8 @@ fn add_references<'a>(
 /// A type's entry, which stands at a place.
 fn entry_at(bytes: &[u8], list: u32, place: u32) -> TypeEntry
     requires room { place + 8 ≤ length bytes.now }
-    requires small { length bytes.now ≤ 2 ^ 24 }
-    requires near { list ≤ 2 ^ 24 }
+    requires small { length bytes.now ≤ MOST_BYTES }
+    requires near { list ≤ MOST_BYTES }
     ensures is { result ≡ entry_at bytes.now list place }
     ensures few { result.count ≤ 65536 }
     ensures within { result.first < 2 ^ 25 }
@@ -142,7 +143,7 @@ fn add_type<'a>(
     k: u16,
 ) -> Result<(), RsrcError>
     requires within { IsWithin areas (length bytes.now) }
-    requires near { list ≤ 2 ^ 24 }
+    requires near { list ≤ MOST_BYTES }
     ensures { Gives (λ _. seen resources.new.entries) result
         (with_type bytes.now areas list (seen resources.old.entries) k) }
 {
@@ -162,7 +163,7 @@ fn add_types<'a>(
     count: u16,
 ) -> Result<(), RsrcError>
     requires within { IsWithin areas (length bytes.now) }
-    requires near { list ≤ 2 ^ 24 }
+    requires near { list ≤ MOST_BYTES }
     requires empty { resources.old.entries ≡ [] }
     ensures { Gives (λ _. seen resources.new.entries) result
         (with_types bytes.now areas list count) }
@@ -176,7 +177,7 @@ fn add_types<'a>(
 /// How many references a type has, as its entry says. An entry that leaves the map says nothing.
 fn count_in(bytes: &[u8], areas: Areas, list: u32, k: u16) -> u32
     requires within { IsWithin areas (length bytes.now) }
-    requires near { list ≤ 2 ^ 24 }
+    requires near { list ≤ MOST_BYTES }
     ensures is { result ≡ count_in_lem bytes.now areas list k }
     ensures few { result ≤ 65536 }
 {
@@ -190,7 +191,7 @@ fn count_in(bytes: &[u8], areas: Areas, list: u32, k: u16) -> u32
 /// How many references the first types have together.
 fn count_below(bytes: &[u8], areas: Areas, list: u32, count: u16) -> u32
     requires within { IsWithin areas (length bytes.now) }
-    requires near { list ≤ 2 ^ 24 }
+    requires near { list ≤ MOST_BYTES }
     ensures { result ≡ count_below_lem bytes.now areas list count }
 {
     let mut total = 0;
@@ -202,7 +203,7 @@ fn count_below(bytes: &[u8], areas: Areas, list: u32, count: u16) -> u32
 
 /// The resources of the fork in a file's bytes.
 pub fn resources_of<'a>(alloc: Global, bytes: &'a [u8]) -> Result<Resources<'a>, RsrcError>
-    requires { length bytes.now ≤ 2 ^ 24 }
+    requires { length bytes.now ≤ MOST_BYTES }
     ensures is { Gives (λ resources. seen resources.entries) result (resources_of bytes.now) }
     ensures few { IfOk result (λ resources. length resources.entries ≤ reference_limit) }
     ensures many { IfOk (reference_count bytes.now) (λ count. reference_limit < count → result ≡ Err RsrcError.NoMemory) }

@@ -3,6 +3,7 @@ use Rattle.std.proofs.Common.{◌≡◌, ◌≢◌, refl, sym, ap, ◌∙◌, su
 use Rattle.std.proofs.lemmas.Bool.{and_parts}
 use Rattle.std.specs.List.{position_from}
 use Rattle.std.proofs.lemmas.Slice.Eq.{bytes_eq-Decides}
+use Rattle.big_memory.specs.Map.{host_functions}
 use Rattle.toolbox.specs.declared.function.Function.{Function}
 use Rattle.toolbox.specs.declared.function.Function.TheVariants.{NewRoutineDescriptor, NewFatRoutineDescriptor, DisposeRoutineDescriptor, CallUniversalProc, NewPtr, NewPtrClear, DisposePtr, BlockMove, ExitToShell, PutByte, GetByte, PutBlock, AskDevice, EjectDevice, ExitWith, UnloadSeg}
 use Rattle.toolbox.specs.Table.{imports, number_of}
@@ -31,8 +32,8 @@ abbrev index_of : Option (List ℕ × List ℕ) → Option ℕ
 index_of None = None
 index_of (Some both) = import_index both.0 both.1
 
--- each function that is imported has its number by its own library and name, below 15
-numbers : (f : Function) → import_of f ≢ None → (Some (number_of f) ≡ index_of (import_of f)) × (number_of f < 15)
+-- each function that is imported has its number by its own library and name
+numbers : (f : Function) → import_of f ≢ None → (Some (number_of f) ≡ index_of (import_of f)) × (number_of f < host_functions)
 unfolding import_index
 numbers NewRoutineDescriptor is = (refl, lit< tt)
 numbers NewFatRoutineDescriptor is = (refl, lit< tt)
@@ -100,7 +101,7 @@ index_is library name None none = none-found library name (import_index library 
 index_is library name (Some k) found =
     ap (λ n. Some n) found.2 ∙ ((numbers found.0 (is_some_from _ _ found.1)).0 ∙ ap index_of found.1)
 
-index_below : (library name : List ℕ) (r : Option ℕ) → IsImportIndex library name r → IfSome r (λ k. k < 15)
+index_below : (library name : List ℕ) (r : Option ℕ) → IsImportIndex library name r → IfSome r (λ k. k < host_functions)
 index_below library name None none = tt
 index_below library name (Some k) found = rw found.2 (numbers found.0 (is_some_from _ _ found.1)).1
 

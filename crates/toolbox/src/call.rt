@@ -7,6 +7,7 @@ ghost use Rattle.toolbox.specs.Calls.{Outside};
 ghost use Rattle.toolbox.specs.Effects.{Around};
 ghost use Rattle.toolbox.specs.Performs.{resources};
 ghost use Rattle.toolbox.specs.Puts.{puts_of, said_in};
+ghost use Rattle.toolbox.specs.declared.table.TheConstants.{FUNCTIONS};
 
 use crate::HostOut;
 use crate::blocks::{dispose, new_block};
@@ -60,7 +61,7 @@ pub fn host_call<I: Source, O: Sink, D: Devices>(
     input: &mut I,
     out: &mut O,
 ) -> HostOut
-    requires index { index < 16 }
+    requires index { index < FUNCTIONS }
     requires heap { HeapLies heap.old ram.old }
     ensures does { Hosts index result active.old active.new
         (place ram.old heap.old (outside (I.left input.old) (I.faults input.old) (D.state rack.old) (O.held out.old) (O.faults out.old)))

@@ -2,7 +2,7 @@ ghost use Rattle.std.specs.Prelude.{◌≡◌, ◌<◌};
 ghost use Rattle.toolbox.specs.Functions.{function_at};
 ghost use Rattle.toolbox.specs.Table.{number_of, row};
 
-use crate::table::{NOWHERE, ROWS, Row};
+use crate::table::{FUNCTIONS, NOWHERE, ROWS, Row};
 
 /// A function of the host table.
 #[derive(Clone, Copy)]
@@ -32,7 +32,7 @@ impl Function {
     pub fn at(index: u32) -> Function
         ensures { result ≡ function_at index }
     {
-        if index < 16 {
+        if (index as usize) < FUNCTIONS {
             ROWS[index as usize].function
         } else {
             NOWHERE.function
@@ -43,7 +43,7 @@ impl Function {
     #[inline(always)]
     pub fn number(self) -> u8
         ensures is { result ≡ number_of self }
-        ensures below { result < 16 }
+        ensures below { result < FUNCTIONS }
     {
         self as u8
     }

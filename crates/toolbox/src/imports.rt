@@ -1,6 +1,7 @@
 ghost use Rattle.std.specs.Prelude.{◌≡◌, ◌^◌, ◌<◌, ◌≤◌, ◌+◌, IfSome, length, map};
 ghost use Rattle.std.specs.List.{position_from};
 ghost use Rattle.std.specs.Option.{option_map};
+ghost use Rattle.big_memory.specs.Map.{host_functions};
 ghost use Rattle.toolbox.specs.NamesClauses.{IsImportIndex};
 ghost use Rattle.toolbox.specs.Names.{import_index, is_named as is_named_so};
 
@@ -10,7 +11,7 @@ use crate::table::{IMPORTS, Import};
 pub fn import_index(library: &[u8], name: &[u8]) -> Option<u32>
     ensures is { IsImportIndex library.now name.now result }
     ensures value { result ≡ import_index library.now name.now }
-    ensures below { IfSome result (λ k. k < 15) }
+    ensures below { IfSome result (λ k. k < host_functions) }
 {
     import_number(library, name)
 }

@@ -26,4 +26,5 @@ pub use function::Function;
 pub use imports::import_index;
 pub use laws::{blame_laws, table_laws};
 pub use out::HostOut;
+pub use table::FUNCTIONS;
 pub use traps::{trap_index, trap_laws};

@@ -2,6 +2,9 @@
 use crate::function::Function;
 use Register::{A0, A1, D0, D1};
 
+/// How many functions there are.
+pub const FUNCTIONS: usize = 16;
+
 /// A register of 68K code.
 #[derive(Clone, Copy)]
 pub enum Register {
@@ -39,7 +42,7 @@ pub struct Row {
 pub type Import = Option<(&'static str, &'static str)>;
 
 /// The rows. UnloadSeg, which no PowerPC code reaches, has the last number.
-pub static ROWS: [Row; 16] = [
+pub static ROWS: [Row; FUNCTIONS] = [
     Row {
         function: Function::NewRoutineDescriptor,
         trap: Some(0xAA86),
@@ -187,7 +190,7 @@ pub static ROWS: [Row; 16] = [
 ];
 
 /// What each function is imported by, from the toolbox of the Power Macintosh or a library of this project's own.
-pub static IMPORTS: [Import; 16] = [
+pub static IMPORTS: [Import; FUNCTIONS] = [
     Some(("InterfaceLib", "NewRoutineDescriptor")),
     Some(("InterfaceLib", "NewFatRoutineDescriptor")),
     Some(("InterfaceLib", "DisposeRoutineDescriptor")),

@@ -19,6 +19,7 @@ use Rattle.mix_debug.specs.inner.Entries.{block_between, frame_between}
 use Rattle.mix_debug.specs.Pasts.{entries_in}
 use Rattle.mix_debug.specs.Machines.{earlier}
 use Rattle.mix_debug.specs.CostsClauses.{cost_between, fitting}
+use Rattle.mix_debug.specs.Trails.{history_room}
 use Rattle.mix_debug.specs.TrailsClauses.{is_done}
 use Rattle.mix_debug.specs.Histories.{IsHistory}
 
@@ -41,7 +42,7 @@ entry_of file top bytes blocks new =
 -- done changes neither the machine nor what is kept
 abbrev pub KeepsBeside : Bool → Machine → Machine → History → History → Type 0
 KeepsBeside true old new before after =
-    earlier new (entries_in after.past) ≡ fitting 1048576 (record { machine = old; cost = cost_between old new } ∷ earlier old (entries_in before.past))
+    earlier new (entries_in after.past) ≡ fitting history_room (record { machine = old; cost = cost_between old new } ∷ earlier old (entries_in before.past))
 KeepsBeside false old new before after = (new ≡ old) × (entries_in after.past ≡ entries_in before.past)
 
 -- a step of a machine, with what is kept beside it; how it stopped, and what the outside tells before and after

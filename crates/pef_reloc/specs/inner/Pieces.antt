@@ -1,5 +1,6 @@
 -- The bytes of a piece as the program holds it.
 use Rattle.std.specs.Prelude.{◌≡◌, ℕ, suc, ◌*◌, ◌^◌, ◌<◌, ◌≤◌, List, ◌++◌, length, replicate}
+use Rattle.mix_bits.specs.declared.file.TheConstants.{MOST_BYTES}
 use Rattle.pef_reloc.specs.declared.piece.Parts.{Parts}
 use Rattle.pef_reloc.specs.declared.piece.Piece.{Piece}
 use Rattle.pef_reloc.specs.declared.piece.Piece.TheVariants.{Zeros, Block, Again, Mixed, MixedZeros}
@@ -19,12 +20,12 @@ bytes_of (MixedZeros n parts) = mixed (replicate n 0) parts
 -- the parts fill their bytes, of which there are few
 pub record AreWhole (parts : Parts) : Type 0 where
   pub whole : length parts.bytes.now ≡ parts.count * parts.size
-  pub few : length parts.bytes.now ≤ 2 ^ 24
+  pub few : length parts.bytes.now ≤ MOST_BYTES
 
 -- what stands in pattern data of at most 16 MiB
 abbrev pub IsSmall : Piece → Type 0
 IsSmall (Zeros n) = n < 2 ^ 32
-IsSmall (Block block) = length block.now ≤ 2 ^ 24
-IsSmall (Again block further) = length block.now ≤ 2 ^ 24
-IsSmall (Mixed common parts) = (length common.now ≤ 2 ^ 24) × AreWhole parts
+IsSmall (Block block) = length block.now ≤ MOST_BYTES
+IsSmall (Again block further) = length block.now ≤ MOST_BYTES
+IsSmall (Mixed common parts) = (length common.now ≤ MOST_BYTES) × AreWhole parts
 IsSmall (MixedZeros n parts) = (n < 2 ^ 32) × AreWhole parts

@@ -1,5 +1,6 @@
 -- What holds of pattern data, of the table of relocations, and of runs of them as a whole.
 use Rattle.std.specs.Prelude.{◌≡◌, ℕ, zero, suc, ◌+◌, ◌-◌, ◌*◌, ◌/◌, ◌<◌, ◌≤◌, ◌==◌, ◌↔◌, ◌⊎◌, nat_le, ◌&&◌, Bool, true, false, if◌then◌else◌, List, [], ◌∷◌, ◌++◌, length, slice_index, All, Option, Some, None, Result, Ok, Err}
+use Rattle.pef_reloc.specs.declared.program.TheConstants.{WORK_LIMIT}
 use Rattle.std.specs.Int.{from_bool}
 use Rattle.pef_reloc.specs.declared.error.RelocError.{RelocError}
 use Rattle.pef_reloc.specs.declared.error.RelocError.TheVariants.{RepeatFront, Work}
@@ -161,13 +162,13 @@ repeat_work words place count further = 1 + further * span_work (span_at words p
 abbrev pub work_of : List ℕ → ℕ
 work_of words = summed words (λ place. work_by (repeat_work words place) (first_of (word_at words place)))
 
--- a run that is not refused takes at most 16777216 instructions
+-- a run that is not refused takes no more instructions than the limit
 abbrev pub IsWithinLimit : Type 0
-IsWithinLimit = (sources : Sources) (words section : List ℕ) → (relocated sources words section).refusal ≡ None → work_of words ≤ 16777216
+IsWithinLimit = (sources : Sources) (words section : List ℕ) → (relocated sources words section).refusal ≡ None → work_of words ≤ WORK_LIMIT
 
 -- and the limit refuses none that takes no more
 abbrev pub IsBeyondLimit : Type 0
-IsBeyondLimit = (sources : Sources) (words section : List ℕ) → (relocated sources words section).refusal ≡ Some Work → 16777216 < work_of words
+IsBeyondLimit = (sources : Sources) (words section : List ℕ) → (relocated sources words section).refusal ≡ Some Work → WORK_LIMIT < work_of words
 
 -- an operation in an instruction that is one too many, or in one that is not
 abbrev pub when_over : Bool → State → State

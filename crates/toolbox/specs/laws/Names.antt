@@ -1,5 +1,6 @@
 -- Numbers of traps and imports are their own.
 use Rattle.std.specs.Prelude.{ℕ, ◌≡◌, ◌<◌, ◌↔◌, List, Option, IfSome}
+use Rattle.big_memory.specs.Map.{host_functions}
 use Rattle.toolbox.specs.Functions.{trap_number}
 use Rattle.toolbox.specs.NamesClauses.{IsTrapIndex, IsImportIndex}
 use Rattle.toolbox.specs.Names.{import_index}
@@ -18,4 +19,4 @@ ImportsHaveOneNumber = (library name : List ℕ) (index : Option ℕ) → (index
 
 -- the function that has no name has the last number
 abbrev pub ImportsAreNumbered : Type 0
-ImportsAreNumbered = (library name : List ℕ) → IfSome (import_index library name) (λ k. k < 15)
+ImportsAreNumbered = (library name : List ℕ) → IfSome (import_index library name) (λ k. k < host_functions)
