@@ -2,7 +2,7 @@
 use Rattle.std.specs.Prelude.{ℕ, ◌≡◌, ◌≢◌, ◌+◌, ◌<◌, ◌≤◌, ◌⊎◌, ◌↔◌, List as ListOf, [], length, take, slice_index_or, Option, Some, IfNone, IsSome}
 use Rattle.mix_bits.specs.declared.isa.Isa.{Isa}
 use Rattle.mix_bits.specs.declared.file.File.TheVariants.{Flat, Rsrc, Pef}
-use Rattle.job_words.specs.Settings.{verb_of, setting_of, key_in, setting}
+use Rattle.job_words.specs.Settings.{verb_of, setting_of, key_in, setting, value_in}
 use Rattle.job_words.specs.SettingsClauses.{named, file, numbered}
 use Rattle.job_words.specs.Jobs.{main_file, usual_set}
 use Rattle.job_words.specs.declared.job.Command.{Command}
@@ -17,6 +17,10 @@ use Rattle.job_words.specs.declared.setting.Verb.TheVariants.{ToRun, ToList, ToS
 
 abbrev pub word_at : ListOf (ListOf ℕ) → ℕ → ListOf ℕ
 word_at words place = slice_index_or words place []
+
+-- what stands behind the first equals sign of the word at a place
+abbrev pub name_at : ListOf (ListOf ℕ) → ℕ → ListOf ℕ
+name_at words place = value_in (word_at words place)
 
 -- the word at a place behind the command's name sets this
 pub record Sets (verb : Verb) (words : ListOf (ListOf ℕ)) (place : ℕ) (setting : Setting) : Type 0 where

@@ -1,8 +1,8 @@
 -- What a command line asks for.
-use Rattle.std.specs.Prelude.{ℕ, ◌+◌, List, [], ◌∷◌, length, slice_index_or, Result, Ok, Err}
+use Rattle.std.specs.Prelude.{ℕ, ◌+◌, List, [], ◌∷◌, length, Result, Ok, Err}
 use Rattle.std.specs.Option.{ok_or, option_and_then}
 use Rattle.mix_bits.specs.Results.{◌>>=◌}
-use Rattle.job_words.specs.Settings.{verb_of, setting_of, value_in}
+use Rattle.job_words.specs.Settings.{verb_of, setting_of}
 use Rattle.job_words.specs.Drafts.{nothing, with_setting, made}
 use Rattle.job_words.specs.declared.job.BadWord.{BadWord}
 use Rattle.job_words.specs.declared.job.Command.{Command}
@@ -29,7 +29,3 @@ command_by verb words = draft_of verb 1 words nothing >>= (λ draft. ok_or (made
 abbrev pub command_of : List (List ℕ) → Result Command BadWord
 command_of [] = Err (bad_at 0)
 command_of (command ∷ words) = ok_or (verb_of command) (bad_at 0) >>= (λ verb. command_by verb words)
-
--- what stands behind the first equals sign of the word at a place
-abbrev pub name_at : List (List ℕ) → ℕ → List ℕ
-name_at words place = value_in (slice_index_or words place [])

@@ -1,9 +1,9 @@
 ghost use Rattle.std.specs.Prelude.{◌≡◌, ◌+◌, ◌<◌, IfErr, IfOk, map, length};
 ghost use Rattle.std.specs.String.{string_bytes};
-ghost use Rattle.job_words.specs.Asks.{Asks, IsFirstBad};
+ghost use Rattle.job_words.specs.Asks.{Asks, IsFirstBad, name_at};
 ghost use Rattle.job_words.specs.inner.Drafts.{settings_in};
 ghost use Rattle.job_words.specs.JobsClauses.{IsProper};
-ghost use Rattle.job_words.specs.Words.{name_at, draft_of, command_by, command_of};
+ghost use Rattle.job_words.specs.Words.{draft_of, command_by, command_of};
 
 use super::draft::{Draft, make};
 use super::job::{BadWord, Command};

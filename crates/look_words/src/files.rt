@@ -2,7 +2,7 @@
 ghost use Rattle.std.specs.Prelude.{◌≡◌, ◌≤◌, IfErr, IfOk, length, map};
 ghost use Rattle.std.specs.String.{string_bytes};
 ghost use Rattle.job_words.specs.Jobs.{limit_of};
-ghost use Rattle.job_words.specs.Words.{name_at as name_of};
+ghost use Rattle.job_words.specs.Asks.{name_at as name_of};
 ghost use Rattle.look_words.specs.inner.Requests.{IsLost};
 
 use crate::failure::Failure;

@@ -1,4 +1,5 @@
 pub mod Fields
+pub mod Refusing
 pub mod Restoring
 pub mod Spelling
 pub mod laws

@@ -1,14 +1,14 @@
 -- What `restore` answers: the machine of an image's fields once its gate page and its frames are right, or the first refusal.
-use Rattle.std.specs.Prelude.{◌≡◌, ◌⊎◌, ℕ, Bool, List, Result, Ok, Err, MatchResult}
+use Rattle.std.specs.Prelude.{◌≡◌, ◌⊎◌, Bool, ℕ, List, Result, Ok, Err, MatchResult}
 use Rattle.switch_frame.specs.Calls.{IsOutermost, active_set}
 use Rattle.switch_frame.specs.Chain.{Chain, records}
-use Rattle.switch_frame.specs.Checks.{IsFirstWrong, checked}
 use Rattle.switch_frame.specs.Program.{HasGatePage}
 use Rattle.switch_frame.specs.Records.{isa_of}
 use Rattle.mix_engine.specs.declared.machine.Machine.{Machine}
 use Rattle.mix_image.specs.declared.error.ImageError.{ImageError}
-use Rattle.mix_image.specs.declared.error.ImageError.TheVariants.{NoMemory, Short, Magic, Ram, Main, StartSp, Heap, Block, Active, Ccr, Page, Extra, Gate, Frame}
+use Rattle.mix_image.specs.declared.error.ImageError.TheVariants.{NoMemory}
 use Rattle.mix_image.specs.Fields.{fields_of}
+use Rattle.mix_image.specs.Refusing.{IsWrong}
 
 -- the machine with other marks
 abbrev pub with_guard : List Bool → Machine → Machine
@@ -25,20 +25,7 @@ pub record IsGuarded (m result : Machine) : Type 0 where
 -- the tests behind the fields: the gate page, and the frames
 abbrev pub IsTested : Machine → Result Machine ImageError → Type 0
 IsTested m (Ok result) = IsGuarded m result
-IsTested m (Err (Gate a)) = IsFirstWrong m.body.a5 m.body.ram.bytes a
-IsTested m (Err (Frame lo)) = HasGatePage m.body.a5 m.body.ram.bytes × (checked m.body.ram m.body.top (isa_of m.active) m.body.main ≡ Err lo)
-IsTested m (Err NoMemory) = ⊥
-IsTested m (Err (Short n)) = ⊥
-IsTested m (Err Magic) = ⊥
-IsTested m (Err (Ram n)) = ⊥
-IsTested m (Err (Main n)) = ⊥
-IsTested m (Err (StartSp n)) = ⊥
-IsTested m (Err Heap) = ⊥
-IsTested m (Err (Block n)) = ⊥
-IsTested m (Err (Active n)) = ⊥
-IsTested m (Err (Ccr n)) = ⊥
-IsTested m (Err (Page n)) = ⊥
-IsTested m (Err (Extra n)) = ⊥
+IsTested m (Err error) = IsWrong m error
 
 -- what an image is restored to; once each field is right, want of memory may come instead
 abbrev pub IsRestored : List ℕ → Result Machine ImageError → Type 0

@@ -7,7 +7,7 @@ use Rattle.mix_io.specs.Counts.{CountsStay, CountRose, Rose}
 use Rattle.mix_io.specs.declared.errors.FetchError.{FetchError}
 use Rattle.mix_io.specs.declared.errors.FetchError.TheVariants.{NoMemory, Failed, TooLong}
 use Rattle.job_words.specs.Jobs.{keys_in_order, limit_of, place_in, wanted_among, wanted_at}
-use Rattle.job_words.specs.Words.{name_at}
+use Rattle.job_words.specs.Asks.{name_at}
 use Rattle.job_words.specs.declared.job.Command.{Command}
 use Rattle.job_words.specs.declared.job.Key.{Key}
 use Rattle.job_words.specs.declared.job.Key.TheVariants.{Program, Image, Text, Script}

@@ -1,5 +1,5 @@
 -- How the answers of the parts make up a way to end.
-use Rattle.std.proofs.Common.{◌≡◌, ◌≢◌, ℕ, ◌-◌, ◌≤◌, inl, inr, List, [], ◌++◌, length, Option, Some, None, Ok, Err, arith, sym, ap, subst, ◌∙◌, refl, append-nil}
+use Rattle.std.proofs.Common.{◌≡◌, ◌≢◌, ℕ, ◌-◌, ◌≤◌, inl, inr, List, [], ◌++◌, length, Option, Some, None, Result, Ok, Err, ◌⊎◌, arith, sym, ap, subst, ◌∙◌, refl, append-nil}
 use Rattle.mix_bits.specs.declared.isa.Isa.{Isa}
 use Rattle.mix_bits.specs.declared.isa.Isa.TheVariants.{M68, Ppc}
 use Rattle.mix_bits.specs.declared.file.File.TheVariants.{Flat, Rsrc, Pef}
@@ -24,18 +24,19 @@ use Rattle.mixed_machine.specs.RunsClauses.{Runs}
 use Rattle.toolbox.specs.declared.broken.Broken.TheVariants.{Input, Output as BrokenOutput, Trace}
 use Rattle.mixed_machine.specs.declared.stop.Stop.{Stop}
 use Rattle.mixed_machine.specs.declared.stop.Stop.TheVariants.{Exit, Fault, Limit, ReadFault, OutFault, TraceFault}
-use Rattle.std.specs.Prelude.{IfNone, IfSome, IsSome}
+use Rattle.std.specs.Prelude.{IfNone, IfSome, IsSome, MatchResult}
 use Rattle.job_words.specs.Jobs.{main_file}
 use Rattle.job_words.specs.JobsClauses.{IsProperJob, job_in}
 use Rattle.job_words.specs.Jobs.{keys_in_order, limit_of, place_in}
-use Rattle.job_words.specs.Words.{bad_at, command_of, name_at}
+use Rattle.job_words.specs.Asks.{Asks, name_at}
+use Rattle.job_words.specs.Words.{bad_at, command_of}
+use Rattle.job_words.proofs.Requested.{command-asked, refusal-first}
 use Rattle.job_words.specs.declared.job.Command.{Command}
 use Rattle.job_words.specs.declared.job.Command.TheVariants.{Run, List as Lists, Sample, Assemble, Continue, Debug}
 use Rattle.call_trace.specs.declared.end.End.{End}
 use Rattle.call_trace.specs.declared.end.End.TheVariants.{Exit as ExitEnd, Fault as FaultEnd, Limit as LimitEnd}
 use Rattle.mix_top.specs.declared.sampled.Sampled.{Sampled}
-use Rattle.std.specs.Option.{option_and_then, option_map}
-use Rattle.std.specs.Result.{result_ok}
+use Rattle.std.specs.Option.{option_map}
 use Rattle.job_words.specs.declared.job.Job.{Job}
 use Rattle.job_words.specs.declared.job.Key.{Key}
 use Rattle.job_words.specs.declared.job.Key.TheVariants.{Program as OfProgram, Image, Text, Script}
@@ -48,7 +49,10 @@ use Rattle.mix_load.specs.declared.error.LoadError.TheVariants.{NoMemory}
 use Rattle.dev_rack.specs.Accounts.{Accounts}
 use Rattle.mix_io.specs.declared.errors.Failed.{Failed as Failure}
 use Rattle.mix_engine.specs.declared.machine.Machine.{Machine}
-use Rattle.mix_image.specs.Restoring.{IsRestored}
+use Rattle.mix_image.specs.declared.error.ImageError.TheVariants.{NoMemory as NoImageMemory}
+use Rattle.mix_image.specs.Fields.{fields_of}
+use Rattle.mix_image.specs.Refusing.{IsWrong}
+use Rattle.mix_image.specs.Restoring.{IsRestored, IsTested}
 use Rattle.mix_image.specs.Spelling.{HasSpelling, spell}
 use Rattle.mix_image.specs.declared.error.ImageError.{ImageError}
 use Rattle.mix_top.specs.Lines.{Refusal, load_line, load_refusal, memory_line, words_line}
@@ -70,7 +74,7 @@ use Rattle.mixed_machine.specs.Endings.{end_of}
 use Rattle.mix_top.specs.Running.RunWay.{broke, ended, keep_failed}
 use Rattle.mix_top.specs.Continuing.{ContinueWay, image_refusal}
 use Rattle.mix_top.specs.Continuing.ContinueWay.{image_refused, no_memory as no_machine_memory}
-use Rattle.mix_top.specs.Ends.{Ends, FilesWay, IsNext, LoadWay, PutsSample, Way, saved_by, saved_name}
+use Rattle.mix_top.specs.Ends.{Ends, FilesWay, IsNext, IsSaved, LoadWay, PutsSample, Way, saved_by}
 use Rattle.mix_top.specs.Ends.LoadWay.{no_memory, refused}
 use Rattle.mix_top.specs.Ends.Way.{bad_words, fetched, long_file, no_file, no_memory_for_file}
 use Rattle.mix_top.specs.inner.Parts.{AreFor, AreShort, Finishes, IsCause, Keeps, MissesFirst, due_at, unfetched_line, unfetched_status}
@@ -223,11 +227,20 @@ pub ends-memory : (save : Option (List ℕ)) (Way : Beside → Beside → ℕ �
 ends-memory save Way way old new result same kept closes =
     let early : Early old new memory_line 9 result = record { outside = same; keep = kept; trace = closes } in record { accounted = accounted-memory save old new result early; way = way old new result early }
 
--- an image that was not restored
+-- an image that was not restored, and not for want of memory
+abbrev unrestored : ImageError → Result Machine ImageError
+unrestored error = Err error
+
+refused-fields : (fields : Result Machine ImageError) (error : ImageError) (why : Refusal) → image_refusal error ≡ Some why
+    → MatchResult fields (λ m. (unrestored error ≡ Err NoImageMemory) ⊎ IsTested m (unrestored error)) (λ e. unrestored error ≡ Err e) → MatchResult fields (λ m. IsWrong m error) (λ e. error ≡ e)
+refused-fields (Ok m) error why is (inl none) = absurd (let same : error ≡ NoImageMemory = cc in let no : image_refusal NoImageMemory ≡ Some why = subst (λ e. image_refusal e ≡ Some why) same is in cc)
+refused-fields (Ok m) error why is (inr wrong) = wrong
+refused-fields (Err e) error why is same = cc
+
 way-of_image : (save : Option (List ℕ)) (steps : ℕ) (image : List ℕ) (old new : Beside) (error : ImageError) (why : Option Refusal) (result : ℕ)
     → image_refusal error ≡ why → IsRestored image (Err error) → Early old new (refused_line why) (refused_status why) result → ContinueWay save steps image old new result
 way-of_image save steps image old new error None result why_is is early = no_machine_memory early
-way-of_image save steps image old new error (Some why) result why_is is early = image_refused error why why_is is early
+way-of_image save steps image old new error (Some why) result why_is is early = image_refused error why why_is (refused-fields (fields_of image) error why why_is is) early
 
 pub ends-unrestored : (save : Option (List ℕ)) (steps : ℕ) (image : List ℕ) (old new : Beside) (error : ImageError) (result : ℕ) → IsRestored image (Err error) → new.outside ≡ old.outside → new.keep ≡ old.keep
     → Closes old.trace new.trace [] (refused_line (image_refusal error)) (refused_status (image_refusal error)) result → EndsIn save (ContinueWay save steps image) old new result
@@ -269,6 +282,22 @@ ends-run save given stop steps a b m keep new set result done due m_is set_is sa
       way = ran-of_run save steps a b m keep new set stop result done set_is m_is same (subst (λ name. Keeps name m keep new.keep (Ok done)) due keeps) runs finishes;
     }
 
+-- the name under which the command of the words keeps what it runs
+saved-of : (words : List (List ℕ)) (command : Command) → command_of words ≡ Ok command → IsSaved words (saved_by words command)
+saved-of words command is =
+    record {
+      asked = λ other asks. let own : command_of words ≡ Ok other = (command-asked words other).1 asks in let same : command ≡ other = cc in ap (saved_by words) same;
+      bad = λ place first. let own : command_of words ≡ Err (bad_at place) = (refusal-first words place).1 first in cc;
+    }
+
+-- words that ask for none
+none-saved : (words : List (List ℕ)) (place : ℕ) → command_of words ≡ Err (bad_at place) → IsSaved words None
+none-saved words place bad =
+    record {
+      asked = λ command asks. let own : command_of words ≡ Ok command = (command-asked words command).1 asks in cc;
+      bad = λ other first. refl;
+    }
+
 -- a file that was not fetched
 unfetched-plain : (error : FetchError) → IsPlain (unfetched_status error)
 unfetched-plain NoRoom = nine-plain
@@ -276,7 +305,7 @@ unfetched-plain Failed = record { input = refl; out = refl; trace = refl; keep =
 unfetched-plain (TooLong limit) = record { input = refl; out = refl; trace = refl; keep = refl }
 
 way-of_cause : (words : List (List ℕ)) (old new : World) (command : Command) (key : Key) (place : ℕ) (error : FetchError) (result : ℕ)
-    → command_of words ≡ Ok command → IsNext words old.shelf.contents command key place → IsCause old.shelf.contents (limit_of key) (name_at words place) old.shelf.counts new.shelf.counts error
+    → Asks words command → IsNext words old.shelf.contents command key place → IsCause old.shelf.contents (limit_of key) (name_at words place) old.shelf.counts new.shelf.counts error
     → Early old.beside new.beside (unfetched_line key error) (unfetched_status error) result → Way words old new result
 way-of_cause words old new command key place NoRoom result is next cause early = no_memory_for_file command key place is next cause.0 cause.1 early
 way-of_cause words old new command key place Failed result is next cause early = no_file command key place is next cause early
@@ -289,8 +318,10 @@ ends-of_missing words old new command missing result is kept misses same held cl
     let early : Early old.beside new.beside (unfetched_line missing.key missing.error) (unfetched_status missing.error) result = record { outside = same; keep = held; trace = closes } in
     record {
       contents = kept;
-      accounted = accounted-early (saved_name words) old.beside new.beside (unfetched_line missing.key missing.error) (unfetched_status missing.error) result (unfetched-plain missing.error) early;
-      way = way-of_cause words old new command missing.key missing.place missing.error result is
+      save = saved_by words command;
+      saved = saved-of words command is;
+      accounted = accounted-early (saved_by words command) old.beside new.beside (unfetched_line missing.key missing.error) (unfetched_status missing.error) result (unfetched-plain missing.error) early;
+      way = way-of_cause words old new command missing.key missing.place missing.error result ((command-asked words command).0 is)
           (record { before = misses.before; after = misses.after; order = misses.order; fetched = misses.fetched }) misses.cause early;
     }
 
@@ -299,13 +330,14 @@ pub ends-done : (words : List (List ℕ)) (old new : World) (command : Command) 
     → new.shelf.contents ≡ old.shelf.contents → AreFiles words old.shelf.contents command files → NoneRose old.shelf.counts new.shelf.counts
     → EndsIn save (FilesWay save command files) old.beside new.beside result → Ends words old new result
 ends-done words old new command files save result is save_is kept are stay ends =
-    let named : saved_name words ≡ saved_by words command = ap (λ r. option_and_then (saved_by words) (result_ok r)) is in
     let own : EndsIn (saved_by words command) (FilesWay (saved_by words command) command files) old.beside new.beside result =
     subst (λ o. EndsIn o (FilesWay o command files) old.beside new.beside result) save_is ends in
     record {
       contents = kept;
-      accounted = subst (λ o. Accounted o old.beside new.beside result) (sym named) own.accounted;
-      way = fetched command files is are stay own.way;
+      save = saved_by words command;
+      saved = saved-of words command is;
+      accounted = own.accounted;
+      way = fetched command files ((command-asked words command).0 is) are stay own.way;
     }
 
 -- a command that keeps nothing
@@ -322,8 +354,10 @@ ends-of_words words old new place line result bad line_is shelf same kept closes
     record { outside = same; keep = kept; trace = subst (λ l. Closes old.beside.trace new.beside.trace [] l 2 result) line_is closes } in
     record {
       contents = ap (λ s. s.contents) shelf;
-      accounted = accounted-early (saved_name words) old.beside new.beside (words_line place) 2 result (record { input = refl; out = refl; trace = refl; keep = refl }) told;
-      way = bad_words place bad (record { faults = λ n. ap (λ s. s.counts.faults n) shelf; excesses = λ n. ap (λ s. s.counts.excesses n) shelf }) told;
+      save = None;
+      saved = none-saved words place bad;
+      accounted = accounted-early None old.beside new.beside (words_line place) 2 result (record { input = refl; out = refl; trace = refl; keep = refl }) told;
+      way = bad_words place ((refusal-first words place).0 bad) (record { faults = λ n. ap (λ s. s.counts.faults n) shelf; excesses = λ n. ap (λ s. s.counts.excesses n) shelf }) told;
     }
 
 pub accounted-sample : (old new : Beside) (calls depth : ℕ) (sampled : Sampled) (end : End) (result : ℕ) → OnlyPuts old new

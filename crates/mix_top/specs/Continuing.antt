@@ -1,8 +1,8 @@
 -- The ways in which a machine that was kept is continued.
-use Rattle.std.specs.Prelude.{◌≡◌, ℕ, pos, List, codes, Option, None, Some, Err}
+use Rattle.std.specs.Prelude.{◌≡◌, ℕ, pos, List, codes, Option, None, Some}
 use Rattle.mixed_machine.specs.Machine.{flat}
 use Rattle.mix_engine.specs.declared.machine.Machine.{Machine}
-use Rattle.mix_image.specs.Restoring.{IsRestored}
+use Rattle.mix_image.specs.Refusing.{IsRefused}
 use Rattle.mix_image.specs.Spelling.{HasSpelling, spell}
 use Rattle.mix_image.specs.declared.error.ImageError.{ImageError}
 use Rattle.mix_image.specs.declared.error.ImageError.TheVariants.{NoMemory, Short, Magic, Ram, Main, StartSp, Heap, Block, Active, Ccr, Page, Extra, Gate, Frame}
@@ -33,7 +33,7 @@ pub data ContinueWay (save : Option (List ℕ)) (steps : ℕ) (image : List ℕ)
   -- there was no memory for the machine
   no_memory : Early old new memory_line 9 result → ContinueWay save steps image old new result
   -- the bytes are no image, by the first test that they fail
-  image_refused : (error : ImageError) (why : Refusal) → image_refusal error ≡ Some why → IsRestored image (Err error)
+  image_refused : (error : ImageError) (why : Refusal) → image_refusal error ≡ Some why → IsRefused image error
       → Early old new (load_line why) 3 result
       → ContinueWay save steps image old new result
   -- the machine of which they are the spelling ran on

@@ -1,9 +1,8 @@
 -- The ways in which a call of the program ends, each with its cause. This is the whole promise of the public call:
 -- whatever the words, the files, the input, the answers of the devices and the failures of the outside are, one of
 -- these holds.
-use Rattle.std.specs.Prelude.{◌≡◌, ℕ, List, ◌∷◌, ◌++◌, Option, Some, Ok, Err}
-use Rattle.std.specs.Option.{option_and_then, option_map}
-use Rattle.std.specs.Result.{result_ok}
+use Rattle.std.specs.Prelude.{◌≡◌, ℕ, List, ◌∷◌, ◌++◌, Option, Some, None, Ok, Err}
+use Rattle.std.specs.Option.{option_map}
 use Rattle.mix_io.specs.Streams.{Output}
 use Rattle.switch_frame.specs.declared.program.Program.{Program}
 use Rattle.mix_engine.specs.Start.{start_of}
@@ -18,7 +17,7 @@ use Rattle.mix_top.specs.declared.sampled.Sampled.{Sampled}
 use Rattle.mix_top.specs.Scripts.{script_of}
 use Rattle.mix_top.specs.declared.command.ScriptCommand.{ScriptCommand}
 use Rattle.job_words.specs.Jobs.{limit_of, save_in, wants}
-use Rattle.job_words.specs.Words.{bad_at, command_of, name_at}
+use Rattle.job_words.specs.Asks.{Asks, IsFirstBad, name_at}
 use Rattle.job_words.specs.declared.job.Command.{Command}
 use Rattle.job_words.specs.declared.job.Command.TheVariants.{Run, List as Lists, Sample, Assemble, Continue, Debug}
 use Rattle.job_words.specs.declared.job.Job.{Job}
@@ -92,8 +91,10 @@ ListsWay job address count files = LoadWay job files (λ program. Listed (listin
 abbrev pub saved_by : List (List ℕ) → Command → Option (List ℕ)
 saved_by words command = option_map (name_at words) (save_in command)
 
-abbrev pub saved_name : List (List ℕ) → Option (List ℕ)
-saved_name words = option_and_then (saved_by words) (result_ok (command_of words))
+-- it is the name of the command that words ask for; words that ask for none keep nothing
+pub record IsSaved (words : List (List ℕ)) (save : Option (List ℕ)) : Type 0 where
+  pub asked : (command : Command) → Asks words command → save ≡ saved_by words command
+  pub bad : (place : ℕ) → IsFirstBad words place → save ≡ None
 
 -- the ways to end once the files of a command were fetched
 abbrev pub FilesWay : Option (List ℕ) → Command → Fetched → Beside → Beside → ℕ → Type 0
@@ -113,26 +114,26 @@ pub record IsNext (words : List (List ℕ)) (contents : Contents) (command : Com
 
 -- the ways to end
 pub data Way (words : List (List ℕ)) (old new : World) (result : ℕ) : Type 0 where
-  -- the words are no command, and this is the place of the first bad one
-  bad_words : (place : ℕ) → command_of words ≡ Err (bad_at place)
+  -- the words ask for no command, and this is the place of the first bad one
+  bad_words : (place : ℕ) → IsFirstBad words place
       → NoneRose old.shelf.counts new.shelf.counts → Early old.beside new.beside (words_line place) 2 result
       → Way words old new result
   -- the shelf failed at the file of a key
-  no_file : (command : Command) (key : Key) (place : ℕ) → command_of words ≡ Ok command → IsNext words old.shelf.contents command key place
+  no_file : (command : Command) (key : Key) (place : ℕ) → Asks words command → IsNext words old.shelf.contents command key place
       → HasFailed old.shelf.counts new.shelf.counts (name_at words place) → Early old.beside new.beside (fetch_line key) 4 result
       → Way words old new result
   -- the file of a key is above its limit, where the shelf tells it; and the shelf counts that it is
-  long_file : (command : Command) (key : Key) (place : ℕ) → command_of words ≡ Ok command → IsNext words old.shelf.contents command key place
+  long_file : (command : Command) (key : Key) (place : ℕ) → Asks words command → IsNext words old.shelf.contents command key place
       → IsLong old.shelf.contents (limit_of key) (name_at words place)
       → HasExceeded old.shelf.counts new.shelf.counts (name_at words place) → Early old.beside new.beside (load_line (long_refusal key)) 3 result
       → Way words old new result
   -- there was no memory for the file of a key, which is not above its limit
-  no_memory_for_file : (command : Command) (key : Key) (place : ℕ) → command_of words ≡ Ok command → IsNext words old.shelf.contents command key place
+  no_memory_for_file : (command : Command) (key : Key) (place : ℕ) → Asks words command → IsNext words old.shelf.contents command key place
       → IsNotLong old.shelf.contents (limit_of key) (name_at words place)
       → NoneRose old.shelf.counts new.shelf.counts → Early old.beside new.beside memory_line 9 result
       → Way words old new result
   -- the files that the command wants were fetched; a sample wants none
-  fetched : (command : Command) (files : Fetched) → command_of words ≡ Ok command → AreFiles words old.shelf.contents command files
+  fetched : (command : Command) (files : Fetched) → Asks words command → AreFiles words old.shelf.contents command files
       → NoneRose old.shelf.counts new.shelf.counts → FilesWay (saved_by words command) command files old.beside new.beside result
       → Way words old new result
 
@@ -140,5 +141,7 @@ pub data Way (words : List (List ℕ)) (old new : World) (result : ℕ) : Type 0
 -- in one of the ways
 pub record Ends (words : List (List ℕ)) (old new : World) (result : ℕ) : Type 0 where
   pub contents : new.shelf.contents ≡ old.shelf.contents
-  pub accounted : Accounted (saved_name words) old.beside new.beside result
+  pub save : Option (List ℕ)
+  pub saved : IsSaved words save
+  pub accounted : Accounted save old.beside new.beside result
   pub way : Way words old new result

@@ -1,5 +1,6 @@
 // A text of lines, from its lines to the last byte.
 ghost use Rattle.std.specs.Prelude.{◌≤◌, length};
+ghost use Rattle.mix_bits.specs.declared.file.TheConstants.{MOST_BYTES};
 ghost use Rattle.mix_engine.specs.inner.Beside.{AreSame};
 ghost use Rattle.mix_io.specs.StreamsClauses.{output};
 ghost use Rattle.mix_text.specs.inner.Assembling.{HasBytes};
@@ -25,7 +26,7 @@ pub fn assemble_text<'i, 'o, 't, 'd, I: Source, O: Sink, T: Sink, D: Devices>(
     text: &[u8],
     outside: &mut Outside<'i, 'o, 't, 'd, I, O, T, D>,
 ) -> u8
-    requires { length text.now ≤ 16777216 }
+    requires { length text.now ≤ MOST_BYTES }
     ensures ends { (k : Keep) → EndsIn None (AssembleWay set at text.now)
         (beside_lent I.left I.faults O.held O.faults T.held T.faults D.state outside.old k)
         (beside_lent I.left I.faults O.held O.faults T.held T.faults D.state outside.new k)

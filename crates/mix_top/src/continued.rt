@@ -1,5 +1,6 @@
 // A machine that was kept, from its image to its end.
 ghost use Rattle.std.specs.Prelude.{◌≤◌, length, option_copied};
+ghost use Rattle.mix_bits.specs.declared.file.TheConstants.{IMAGE_BYTES};
 ghost use Rattle.mix_engine.specs.inner.Beside.{AreSame};
 ghost use Rattle.mix_top.specs.inner.World.{EndsIn};
 ghost use Rattle.mix_top.specs.WorldClauses.{keeping};
@@ -23,7 +24,7 @@ pub fn continue_image<'i, 'o, 't, 'd, I: Source, O: Sink, T: Sink, D: Devices, K
     outside: &mut Outside<'i, 'o, 't, 'd, I, O, T, D>,
     keep: &mut K,
 ) -> u8
-    requires { length image.now ≤ 17825792 }
+    requires { length image.now ≤ IMAGE_BYTES }
     ensures ends { EndsIn (option_copied save.entry) (ContinueWay (option_copied save.entry) steps image.now)
         (beside_lent I.left I.faults O.held O.faults T.held T.faults D.state outside.old (keeping (K.kept keep.old) (K.faults keep.old)))
         (beside_lent I.left I.faults O.held O.faults T.held T.faults D.state outside.new (keeping (K.kept keep.new) (K.faults keep.new)))

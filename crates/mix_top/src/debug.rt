@@ -1,5 +1,6 @@
 // A script of the debugger over a program, from its first line to its last one.
 ghost use Rattle.std.specs.Prelude.{◌≡◌, ◌≤◌, None, Some, length};
+ghost use Rattle.mix_bits.specs.declared.file.TheConstants.{MOST_BYTES};
 ghost use Rattle.mix_load.specs.LoadClauses.{AreLoadable};
 ghost use Rattle.job_words.specs.JobsClauses.{IsProperJob};
 ghost use Rattle.switch_frame.specs.ProgramClauses.{IsProgram};
@@ -37,7 +38,7 @@ pub fn debug_files<'i, 'o, 't, 'd, I: Source, O: Sink, T: Sink, D: Devices>(
 ) -> u8
     requires files { AreLoadable files.now job.main }
     requires job { IsProperJob job }
-    requires text { length text.now ≤ 16777216 }
+    requires text { length text.now ≤ MOST_BYTES }
     ensures ends { (k : Keep) → EndsIn None (DebugWay job files.now text.now)
         (beside_lent I.left I.faults O.held O.faults T.held T.faults D.state outside.old k)
         (beside_lent I.left I.faults O.held O.faults T.held T.faults D.state outside.new k)

@@ -1,5 +1,6 @@
 -- What the parts of the public call answer.
 use Rattle.std.specs.Prelude.{◌≡◌, ℕ, ◌≤◌, List, [], ◌∷◌, ◌++◌, length, Option, Some, None, Result, Ok, Err, IfSome}
+use Rattle.mix_bits.specs.declared.file.TheConstants.{IMAGE_BYTES, MOST_BYTES}
 use Rattle.mix_bits.specs.declared.isa.Isa.{Isa}
 use Rattle.mix_bits.specs.declared.file.File.TheVariants.{Flat, Rsrc, Pef}
 use Rattle.mix_io.specs.Streams.{Output}
@@ -15,7 +16,7 @@ use Rattle.mix_engine.specs.declared.outside.Outside.{Outside}
 use Rattle.call_trace.specs.Lines.{end_line}
 use Rattle.job_words.specs.JobsClauses.{job_in}
 use Rattle.job_words.specs.Jobs.{limit_of, place_in, wanted_among}
-use Rattle.job_words.specs.Words.{name_at}
+use Rattle.job_words.specs.Asks.{name_at}
 use Rattle.job_words.specs.declared.job.Command.{Command}
 use Rattle.job_words.specs.declared.job.Key.{Key}
 use Rattle.job_words.specs.declared.job.Key.TheVariants.{Program, Image, Text, Script}
@@ -76,9 +77,9 @@ AreFor command files = IfSome (job_in command) (λ job. AreLoadable files job.ma
 
 -- files that are no longer than their limits
 pub record AreShort (files : Fetched) : Type 0 where
-  pub image : length (bytes_in files.image) ≤ 17825792
-  pub text : length (bytes_in files.text) ≤ 16777216
-  pub script : length (bytes_in files.script) ≤ 16777216
+  pub image : length (bytes_in files.image) ≤ IMAGE_BYTES
+  pub text : length (bytes_in files.text) ≤ MOST_BYTES
+  pub script : length (bytes_in files.script) ≤ MOST_BYTES
 
 -- the line and the status for a file that was not fetched
 abbrev pub unfetched_line : Key → FetchError → List ℕ
