@@ -95,7 +95,7 @@ fn cross_from_68k<T: Sink>(
 }
 
 /// The trap with this word.
-#[inline(never)]
+#[inline(always)]
 fn trap<'i, 'o, 't, 'd, I: Source, O: Sink, T: Sink, D: Devices>(
     word: u32,
     body: &mut Body,
