@@ -79,7 +79,7 @@ answer_text scene NoMoreThreads = codes "l"
 answer_text scene (Current name) = codes "QC" ++ thread_text name
 answer_text scene IsAttached = codes "1"
 answer_text scene (Stopped name reason) = stop_text name reason
-answer_text scene (Exited code) = exit_text code
+answer_text scene (Exited name code) = exit_text name code
 
 -- the data of a packet with text for gdb's console
 abbrev pub console_text : List ℕ → List ℕ

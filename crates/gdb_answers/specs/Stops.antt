@@ -56,6 +56,12 @@ reason_text Interrupted = []
 abbrev pub stop_text : ThreadName → Reason → List ℕ
 stop_text name reason = codes "T" ++ pair_of (signal_of reason) ++ codes "thread:" ++ thread_text name ++ codes ";" ++ reason_text reason
 
+-- the process, which is told only to a gdb that knows processes
+abbrev pub process_text : ThreadName → List ℕ
+process_text Only = []
+process_text (Of M68) = codes ";process:1"
+process_text (Of Ppc) = codes ";process:2"
+
 -- the program ended with this code, of which gdb gets the low byte
-abbrev pub exit_text : ℕ → List ℕ
-exit_text code = codes "W" ++ pair_of (code % 256)
+abbrev pub exit_text : ThreadName → ℕ → List ℕ
+exit_text name code = codes "W" ++ pair_of (code % 256) ++ process_text name

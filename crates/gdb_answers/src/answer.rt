@@ -34,6 +34,6 @@ pub enum Answer {
     IsAttached,
     /// Who stopped, and why.
     Stopped(ThreadName, Reason),
-    /// The program ended with this code.
-    Exited(u32),
+    /// Whose program ended, and with which code.
+    Exited(ThreadName, u32),
 }

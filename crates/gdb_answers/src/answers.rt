@@ -46,7 +46,7 @@ pub fn append_answer(
         Answer::Current(name) => append_named(buffer, b"QC", name),
         Answer::IsAttached => append_text(buffer, b"1"),
         Answer::Stopped(name, reason) => append_stop(buffer, name, reason),
-        Answer::Exited(code) => append_exit(buffer, code),
+        Answer::Exited(name, code) => append_exit(buffer, name, code),
     }
 }
 

@@ -1,9 +1,9 @@
 ghost use Rattle.std.specs.Prelude.{◌≡◌, ◌≤◌, ◌<◌, ◌++◌, OnOk};
-ghost use Rattle.gdb_answers.specs.Stops.{exit_text, reason_text, signal_by, signal_of, stop_text};
+ghost use Rattle.gdb_answers.specs.Stops.{exit_text, process_text, reason_text, signal_by, signal_of, stop_text};
 
 use crate::threads::{ThreadName, append_thread};
 use gdb_packets::{append_hex, append_number};
-use mix_bits::{Fault, FaultKind, NoMemory};
+use mix_bits::{Fault, FaultKind, Isa, NoMemory};
 
 /// Why a run stands.
 #[derive(Clone, Copy, Debug, PartialEq, Eq)]
@@ -91,9 +91,22 @@ fn append_watch(buffer: &mut Vec<u8>, address: u32) -> Result<(), NoMemory>
     Ok(())
 }
 
-pub fn append_exit(buffer: &mut Vec<u8>, code: u32) -> Result<(), NoMemory>
-    ensures { OnOk result (buffer.new.items ≡ buffer.old.items ++ exit_text code) }
+#[tactic(auto, using(std::proofs::Common::append_assoc))]
+pub fn append_exit(buffer: &mut Vec<u8>, name: ThreadName, code: u32) -> Result<(), NoMemory>
+    ensures { OnOk result (buffer.new.items ≡ buffer.old.items ++ exit_text name code) }
 {
     buffer.push(b'W')?;
-    append_hex(buffer, &[(code % 256) as u8])
+    append_hex(buffer, &[(code % 256) as u8])?;
+    append_process(buffer, name)
+}
+
+fn append_process(buffer: &mut Vec<u8>, name: ThreadName) -> Result<(), NoMemory>
+    ensures { OnOk result (buffer.new.items ≡ buffer.old.items ++ process_text name) }
+{
+    match name {
+        ThreadName::Only => {}
+        ThreadName::Of(Isa::M68) => buffer.extend_from_slice(b";process:1")?,
+        ThreadName::Of(Isa::Ppc) => buffer.extend_from_slice(b";process:2")?,
+    }
+    Ok(())
 }

@@ -1,2 +1,2 @@
-pub mod Features
 pub mod Texts
+pub mod Words

@@ -4,15 +4,24 @@ use Rattle.std.specs.Prelude.{ℕ, ◌||◌, Bool, false, List, [], ◌∷◌, d
 use Rattle.gdb_requests.specs.Actions.{resume_said}
 use Rattle.gdb_requests.specs.Parts.{begins, pair_said}
 use Rattle.gdb_requests.specs.Threads.{id_said}
+use Rattle.gdb_requests.specs.declared.request.Features.{Features}
 use Rattle.gdb_requests.specs.declared.request.Id.{Id}
 use Rattle.gdb_requests.specs.declared.request.Id.TheVariants.{Any}
 use Rattle.gdb_requests.specs.declared.request.Request.{Request}
 use Rattle.gdb_requests.specs.declared.request.Request.TheVariants.{Supported, NoAcknowledgements, Description, ResumeWords, FirstThreads, MoreThreads, CurrentThread, IsAttached, Attach, Monitor, Kill, Unknown}
 
--- whether the features that gdb says have `multiprocess+` among them
-unfoldable pub knows_processes : List ℕ → Bool
-knows_processes [] = false
-knows_processes (b ∷ bs) = begins (codes "multiprocess+") (b ∷ bs) || knows_processes bs
+-- whether a word begins somewhere in a text
+unfoldable pub has_word : List ℕ → List ℕ → Bool
+has_word word [] = false
+has_word word (b ∷ bs) = begins word (b ∷ bs) || has_word word bs
+
+-- what gdb knows of, by the features that it says
+abbrev pub features_said : List ℕ → Features
+features_said text =
+    record {
+      processes = has_word (codes "multiprocess+") text;
+      breakpoints = has_word (codes "swbreak+") text;
+    }
 
 abbrev pub range_of : Option (ℕ × ℕ) → Request
 range_of None = Unknown
@@ -42,7 +51,7 @@ general_said text =
 
 unfoldable pub query_said : List ℕ → Request
 query_said text =
-    if begins (codes "Supported") text then Supported (knows_processes text)
+    if begins (codes "Supported") text then Supported (features_said text)
     else (if begins (codes "Xfer:features:read:target.xml:") text then range_said (drop 30 text)
     else (if begins (codes "Attached:") text then of_process (id_said (drop 9 text))
     else (if begins (codes "Rcmd,") text then Monitor else general_said text)))

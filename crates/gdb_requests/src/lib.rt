@@ -12,5 +12,5 @@ mod tests;
 mod threads;
 
 pub use laws::request_laws;
-pub use request::{Action, Id, Point, Request, Thread};
+pub use request::{Action, Features, Id, Point, Request, Thread};
 pub use requests::read_request;

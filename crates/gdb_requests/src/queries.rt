@@ -1,10 +1,10 @@
 //! Packets that begin with `q`, `Q` or `v`.
 ghost use Rattle.std.specs.Prelude.{◌≡◌};
-ghost use Rattle.gdb_requests.specs.Queries.{attaching, general_said, killing, knows_processes, of_process, query_said, range_said, setting_said, verbose_said};
+ghost use Rattle.gdb_requests.specs.Queries.{attaching, features_said, general_said, has_word, killing, of_process, query_said, range_said, setting_said, verbose_said};
 
 use super::actions::read_actions;
 use super::parts::{does_begin, is_word, read_pair, skip};
-use super::request::{Id, Request};
+use super::request::{Features, Id, Request};
 use super::threads::read_id;
 
 /// The request behind `q`.
@@ -13,7 +13,7 @@ pub fn query(text: &[u8]) -> Request
     ensures { result ≡ query_said text.now }
 {
     if does_begin(text, b"Supported") {
-        Request::Supported(has_processes(text))
+        Request::Supported(features(text))
     } else if does_begin(text, b"Xfer:features:read:target.xml:") {
         description(skip(text, 30))
     } else if does_begin(text, b"Attached:") {
@@ -25,13 +25,23 @@ pub fn query(text: &[u8]) -> Request
     }
 }
 
-/// Whether gdb knows of several processes.
-#[tactic(auto, unfolding(crate::specs::Queries::knows_processes))]
-fn has_processes(text: &[u8]) -> bool
-    ensures { result ≡ knows_processes text.now }
+/// What gdb knows of.
+fn features(text: &[u8]) -> Features
+    ensures { result ≡ features_said text.now }
+{
+    Features {
+        processes: has_word(text, b"multiprocess+"),
+        breakpoints: has_word(text, b"swbreak+"),
+    }
+}
+
+/// Whether a word begins somewhere in a text.
+#[tactic(auto, unfolding(crate::specs::Queries::has_word))]
+fn has_word(text: &[u8], word: &[u8]) -> bool
+    ensures { result ≡ has_word word.now text.now }
 {
     for i in 0..text.len() {
-        if does_begin(skip(text, i), b"multiprocess+") {
+        if does_begin(skip(text, i), word) {
             return true;
         }
     }

@@ -29,11 +29,20 @@ pub enum Point {
     Write,
 }
 
+/// What gdb says that it knows of.
+#[derive(Clone, Copy, Debug, PartialEq, Eq)]
+pub struct Features {
+    /// `multiprocess+`: several processes.
+    pub processes: bool,
+    /// `swbreak+`: that a stop says that a breakpoint is there.
+    pub breakpoints: bool,
+}
+
 /// What gdb asks for.
 #[derive(Clone, Copy, Debug, PartialEq, Eq)]
 pub enum Request {
-    /// `qSupported`, and whether gdb knows of several processes.
-    Supported(bool),
+    /// `qSupported`, and what gdb knows of.
+    Supported(Features),
     /// `QStartNoAckMode`.
     NoAcknowledgements,
     /// `!`.

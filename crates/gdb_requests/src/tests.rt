@@ -1,9 +1,16 @@
 // Packets that gdb sends, and what they ask for.
-use crate::{Action, Id, Point, Request, Thread, read_request};
+use crate::{Action, Features, Id, Point, Request, Thread, read_request};
 use std::process::Abort;
 
 fn check(rt: &impl Abort, text: &[u8], wanted: Request) {
     assert_eq!(rt; read_request(text), wanted);
+}
+
+fn knowing(processes: bool, breakpoints: bool) -> Request {
+    Request::Supported(Features {
+        processes,
+        breakpoints,
+    })
 }
 
 #[test]
@@ -27,9 +34,10 @@ fn packets_are_requests(rt: HostRuntime) {
     check(
         &rt,
         b"qSupported:multiprocess+;swbreak+",
-        Request::Supported(true),
+        knowing(true, true),
     );
-    check(&rt, b"qSupported:swbreak+", Request::Supported(false));
+    check(&rt, b"qSupported:swbreak+", knowing(false, true));
+    check(&rt, b"qSupported:hwbreak+", knowing(false, false));
     check(&rt, b"Hgp1.1", Request::SelectForRegisters(first));
     check(&rt, b"Hc-1", Request::SelectForRunning(any));
     check(&rt, b"p40", Request::Register(0x40));

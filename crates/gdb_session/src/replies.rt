@@ -3,7 +3,7 @@ ghost use Rattle.std.specs.Prelude.{◌≡◌, ◌++◌, [], IfOk, OnOk};
 ghost use Rattle.gdb_session.specs.Replies.{DoneBy, Replies, console_packet, said};
 ghost use Rattle.gdb_session.specs.Replies.{Allowed, command_text, placed as placed_by};
 ghost use Rattle.gdb_session.specs.Commands.{budget_of};
-ghost use Rattle.gdb_session.specs.Stops.{exit_answer, halt_answer as halt_told, halt_talk, is_end as is_end_told};
+ghost use Rattle.gdb_session.specs.Stops.{halt_answer as halt_told, halt_talk, is_end as is_end_told};
 ghost use Rattle.gdb_answers.specs.declared.answer.Answer.TheVariants.{Done as done};
 
 use crate::commands::{help, read_budget};
@@ -124,7 +124,7 @@ fn walk<T: Target>(
     requires sent { sent.old.items ≡ [] }
     ensures { IfOk result (λ outcome. DoneBy T.scene T.walks T.inserts T.removes T.allows [] talk.old talk.new target.old target.new console.new.items sent.new.items (Deed.Walk way) outcome) }
 {
-    let halt = target.walk(way, console);
+    let halt = target.walk(way, console)?;
     put_console(alloc, console, sent)?;
     let active = target.set();
     let answer = halt_answer(talk, active, halt);
@@ -140,7 +140,7 @@ fn halt_answer(talk: &Talk, active: Isa, halt: Halt) -> Answer
         Halt::Stopped(reason) => talk.stop_answer(active, reason),
         Halt::Exit(code) => {
             if is_end(talk.reason) {
-                Answer::Exited(code)
+                talk.exit_answer(active, code)
             } else {
                 talk.stop_answer(active, Reason::Ends)
             }
@@ -162,6 +162,7 @@ fn note_halt(talk: &mut Talk, active: Isa, halt: Halt)
 {
     match halt {
         Halt::Stopped(reason) => talk.stop(active, reason),
+        Halt::Exit(_) if is_end(talk.reason) => talk.exit(active),
         Halt::Exit(_) => talk.stop(active, Reason::Ends),
     }
 }

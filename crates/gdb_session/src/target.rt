@@ -1,5 +1,5 @@
 //! What a debugger needs of a machine.
-ghost use Rattle.std.specs.Prelude.{◌≡◌, ℕ, ◌++◌, List, OnOk, Bool, [], Option, Some};
+ghost use Rattle.std.specs.Prelude.{◌≡◌, ℕ, ◌++◌, List, IfOk, OnOk, Bool, []};
 ghost use Rattle.switch_frame.specs.Records.{isa_of};
 ghost use Rattle.gdb_answers.specs.Answers.{Scene, answer_text};
 ghost use Rattle.gdb_requests.specs.declared.request.Point.{Point as PointOf};
@@ -45,9 +45,9 @@ pub trait Target {
         ensures { OnOk result (buffer.new.items ≡ buffer.old.items ++ answer_text (scene self.now) answer) };
 
     /// Walks, and puts what comes to the console into an empty buffer.
-    fn walk(&mut self, walk: Walk, console: &mut Vec<u8>) -> Halt
+    fn walk(&mut self, walk: Walk, console: &mut Vec<u8>) -> Result<Halt, NoMemory>
         requires { console.old.items ≡ [] }
-        ensures { walks self.old walk console.new.items result self.new };
+        ensures { IfOk result (λ halt. walks self.old walk console.new.items halt self.new) };
 
     /// Sets a point to stop at, and says whether there was room for it.
     fn insert(&mut self, point: Point, address: u32, count: u32) -> bool

@@ -1,11 +1,12 @@
 -- What a server does at a request: an answer, a walk of the machine, a point set or taken away, a command, or the end.
 -- Source: GDB manual, appendix 'GDB Remote Serial Protocol', sections 'Packets' and 'General Query Packets'.
-use Rattle.std.specs.Prelude.{◌||◌, Bool, true, false, Option, Some, None, if◌then◌else◌}
+use Rattle.std.specs.Prelude.{ℕ, ◌||◌, Bool, true, false, Option, Some, None, if◌then◌else◌}
 use Rattle.mix_bits.specs.declared.isa.Isa.{Isa}
 use Rattle.mix_bits.specs.declared.isa.Isa.TheVariants.{M68, Ppc}
 use Rattle.gdb_answers.specs.declared.answer.Answer.{Answer as Said}
 use Rattle.gdb_answers.specs.declared.answer.Answer.TheVariants as Says
 use Rattle.gdb_answers.specs.declared.stops.Reason.{Reason}
+use Rattle.gdb_answers.specs.declared.stops.Reason.TheVariants.{Breakpoint, Stepped}
 use Rattle.gdb_answers.specs.declared.threads.ThreadName.TheVariants as Names
 use Rattle.gdb_requests.specs.declared.request.Action.{Action}
 use Rattle.gdb_requests.specs.declared.request.Id.{Id}
@@ -21,9 +22,18 @@ use Rattle.gdb_talk.specs.declared.who.Who.{Who}
 use Rattle.gdb_talk.specs.declared.who.Who.TheVariants.{Anyone, One, Nobody}
 use Rattle.gdb_talk.specs.Talks.{attached_by, detached, name_of, stopped_set, who_is, who_of}
 
+-- that a breakpoint is there is told only to a gdb that wants to know it
+abbrev pub told_reason : Talk → Reason → Reason
+told_reason t Breakpoint = if t.breakpoints then Breakpoint else Stepped
+told_reason t reason = reason
+
 -- a stop, while code of a set is active
 abbrev pub stop_answer : Isa → Talk → Reason → Said
-stop_answer active t reason = Says.Stopped (name_of t (stopped_set t active)) reason
+stop_answer active t reason = Says.Stopped (name_of t (stopped_set t active)) (told_reason t reason)
+
+-- the end of the program, with this code, of the process that a stop names
+abbrev pub exit_answer : Isa → Talk → ℕ → Said
+exit_answer active t code = Says.Exited (name_of t (stopped_set t active)) code
 
 -- whoever is there is accepted
 abbrev pub accepted : Who → Said
@@ -67,7 +77,7 @@ threads t = if t.processes then threads_by t.has_68k t.has_ppc else Says.Thread 
 
 abbrev pub attaching : Talk → Option Isa → Deed
 attaching t None = Answer Says.Refused
-attaching t (Some set) = Answer (Says.Stopped (name_of t set) t.reason)
+attaching t (Some set) = Answer (Says.Stopped (name_of t set) (told_reason t t.reason))
 
 -- the last process that goes takes the program with it
 abbrev pub leaving : Talk → Deed
@@ -84,7 +94,7 @@ killing t (Number n) = detaching t (who_is t (Number n))
 
 -- what is done at a request, while code of a set is active. Registers and memory are changed by none
 abbrev pub deed_of : Isa → Talk → Request → Deed
-deed_of active t (Asks.Supported processes) = Answer (Says.Supported processes)
+deed_of active t (Asks.Supported features) = Answer (Says.Supported features.processes)
 deed_of active t Asks.NoAcknowledgements = Answer Says.Done
 deed_of active t Asks.Extended = Answer Says.Done
 deed_of active t Asks.Reason = Answer (stop_answer active t t.reason)

@@ -86,7 +86,7 @@ running t Nobody = t
 
 -- what a request leaves agreed, while code of a set is active
 abbrev pub after : Isa → Talk → Request → Talk
-after active t (Asks.Supported processes) = record t { processes = processes }
+after active t (Asks.Supported features) = record t { processes = features.processes; breakpoints = features.breakpoints }
 after active t Asks.NoAcknowledgements = record t { acknowledges = false }
 after active t Asks.Reason = record t { looked_at = stopped_set t active }
 after active t (Asks.SelectForRegisters thread) = looking t (who_of t thread)
@@ -100,11 +100,16 @@ after active t _ = t
 abbrev pub stopped : Isa → Reason → Talk → Talk
 stopped active reason t = record t { looked_at = stopped_set t active; reason = reason }
 
+-- what the end of the program leaves, once gdb was told: the process that a stop names is gone
+abbrev pub exited : Isa → Talk → Talk
+exited active t = detached t (One (stopped_set t active))
+
 -- at the beginning gdb is attached to the process of the active set
 abbrev pub first_talk : Isa → Talk
 first_talk active =
     record {
       processes = false;
+      breakpoints = false;
       has_68k = is_isa active M68;
       has_ppc = is_isa active Ppc;
       looked_at = active;

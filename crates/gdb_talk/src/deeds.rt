@@ -1,6 +1,6 @@
 ghost use Rattle.std.specs.Prelude.{◌≡◌};
 ghost use Rattle.gdb_talk.specs.Talks.{detached as detached_of};
-ghost use Rattle.gdb_talk.specs.Deeds.{accepted as accepted_by, any_step, attaching as attaching_by, chosen as chosen_by, deed_of, detaching as detaching_by, going as going_by, killing as killing_by, leaving as leaving_by, resumed as resumed_by, second_action as second_by, stepping as stepping_by, stop_answer, threads as threads_told, threads_by};
+ghost use Rattle.gdb_talk.specs.Deeds.{accepted as accepted_by, any_step, attaching as attaching_by, chosen as chosen_by, deed_of, detaching as detaching_by, exit_answer, going as going_by, killing as killing_by, leaving as leaving_by, resumed as resumed_by, second_action as second_by, stepping as stepping_by, stop_answer, threads as threads_told, threads_by, told_reason};
 
 use crate::deed::{Deed, Goal, Walk};
 use crate::talk::{Talk, attachable};
@@ -15,7 +15,7 @@ impl Talk {
         ensures { result ≡ deed_of active self.now request }
     {
         match request {
-            Request::Supported(processes) => Deed::Answer(Answer::Supported(processes)),
+            Request::Supported(features) => Deed::Answer(Answer::Supported(features.processes)),
             Request::NoAcknowledgements => Deed::Answer(Answer::Done),
             Request::Extended => Deed::Answer(Answer::Done),
             Request::Reason => Deed::Answer(self.stop_answer(active, self.reason)),
@@ -53,7 +53,30 @@ impl Talk {
     pub fn stop_answer(&self, active: Isa, reason: Reason) -> Answer
         ensures { result ≡ stop_answer active self.now reason }
     {
-        Answer::Stopped(self.name_of(self.stopped_set(active)), reason)
+        Answer::Stopped(self.name_of(self.stopped_set(active)), self.told(reason))
+    }
+
+    /// Why the machine stands, as gdb wants to be told it.
+    fn told(&self, reason: Reason) -> Reason
+        ensures { result ≡ told_reason self.now reason }
+    {
+        match reason {
+            Reason::Breakpoint => {
+                if self.breakpoints {
+                    Reason::Breakpoint
+                } else {
+                    Reason::Stepped
+                }
+            }
+            _ => reason,
+        }
+    }
+
+    /// How the end of the program is told, while code of a set is active.
+    pub fn exit_answer(&self, active: Isa, code: u32) -> Answer
+        ensures { result ≡ exit_answer active self.now code }
+    {
+        Answer::Exited(self.name_of(self.stopped_set(active)), code)
     }
 
     fn resume(&self, first: Action, second: Option<Action>) -> Deed
@@ -115,7 +138,7 @@ impl Talk {
         ensures { result ≡ attaching_by self.now set }
     {
         match set {
-            Some(set) => Deed::Answer(Answer::Stopped(self.name_of(set), self.reason)),
+            Some(set) => Deed::Answer(Answer::Stopped(self.name_of(set), self.told(self.reason))),
             None => Deed::Answer(Answer::Refused),
         }
     }

@@ -1,5 +1,5 @@
 ghost use Rattle.std.specs.Prelude.{◌≡◌};
-ghost use Rattle.gdb_talk.specs.Talks.{after, attached as attached_of, attached_by, attached_one, detached as detached_of, first_talk, id_of, is_attached, looking as looking_of, name_of, numbered as numbered_by, other_set, running as running_of, set_numbered, stopped as stopped_of, stopped_set, who_is, who_of};
+ghost use Rattle.gdb_talk.specs.Talks.{after, attached as attached_of, attached_by, attached_one, detached as detached_of, exited, first_talk, id_of, is_attached, looking as looking_of, name_of, numbered as numbered_by, other_set, running as running_of, set_numbered, stopped as stopped_of, stopped_set, who_is, who_of};
 
 use crate::who::Who;
 use gdb_answers::{Reason, ThreadName};
@@ -11,6 +11,8 @@ use mix_bits::{Isa, is_isa};
 pub struct Talk {
     /// Whether gdb knows several processes.
     pub processes: bool,
+    /// Whether gdb wants to be told that a breakpoint is where the machine stopped.
+    pub breakpoints: bool,
     /// Whether gdb is attached to the process of the 68K side.
     pub has_68k: bool,
     /// Whether gdb is attached to that of the PowerPC side.
@@ -32,6 +34,7 @@ impl Talk {
     {
         Talk {
             processes: false,
+            breakpoints: false,
             has_68k: is_isa(active, Isa::M68),
             has_ppc: is_isa(active, Isa::Ppc),
             looked_at: active,
@@ -46,7 +49,10 @@ impl Talk {
         ensures { self.new ≡ after active self.old request }
     {
         match request {
-            Request::Supported(processes) => self.processes = processes,
+            Request::Supported(features) => {
+                self.processes = features.processes;
+                self.breakpoints = features.breakpoints;
+            }
             Request::NoAcknowledgements => self.acknowledges = false,
             Request::Reason => self.looked_at = self.stopped_set(active),
             Request::SelectForRegisters(thread) => self.look_at(self.who(thread)),
@@ -64,6 +70,14 @@ impl Talk {
     {
         self.looked_at = self.stopped_set(active);
         self.reason = reason;
+    }
+
+    /// Takes note that gdb was told of the end of the program, while code of a set is active: the process that a stop names
+    /// is gone.
+    pub fn exit(&mut self, active: Isa)
+        ensures { self.new ≡ exited active self.old }
+    {
+        self.detach(Who::One(self.stopped_set(active)));
     }
 
     /// Whether gdb is attached to the process of a set.

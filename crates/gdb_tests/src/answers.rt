@@ -33,7 +33,18 @@ fn words_are_answered(rt: HostRuntime) {
         Answer::Current(ThreadName::Of(Isa::Ppc)),
         b"QCp2.2",
     );
-    check(&rt, alloc, Answer::Exited(0x1_0002), b"W02");
+    check(
+        &rt,
+        alloc,
+        Answer::Exited(ThreadName::Only, 0x1_0002),
+        b"W02",
+    );
+    check(
+        &rt,
+        alloc,
+        Answer::Exited(ThreadName::Of(Isa::Ppc), 0x1_0002),
+        b"W02;process:2",
+    );
     let fault = Fault {
         kind: FaultKind::Odd,
         pc: 1,

@@ -53,15 +53,15 @@ impl Target for Still {
         append_answer(buffer, answer, &self.active, &self.ram, 0)
     }
 
-    fn walk(&mut self, walk: Walk, console: &mut Vec<u8>) -> Halt {
-        match walk.goal {
+    fn walk(&mut self, walk: Walk, console: &mut Vec<u8>) -> Result<Halt, NoMemory> {
+        Ok(match walk.goal {
             Goal::Stop if walk.is_back => Halt::Stopped(Reason::Begins),
             Goal::Stop => Halt::Exit(0x102),
             _ => {
-                let _told = console.extend_from_slice(b"hi\n");
-                Halt::Stopped(Reason::Stepped)
+                console.extend_from_slice(b"hi\n")?;
+                Halt::Stopped(Reason::Breakpoint)
             }
-        }
+        })
     }
 
     fn insert(&mut self, _point: Point, address: u32, _count: u32) -> bool {

@@ -162,7 +162,7 @@ fn sums_and_acknowledgements_are_kept(rt: HostRuntime) {
 const TALK: &[u8] = b"$qSupported:swbreak+#8b$?#3f$g#67$s#73$mX#c5";
 
 const SAID: &[u8] =
-    b"+$PacketSize=4000;QStartNoAckMode+;qXfer:features:read+;ReverseStep+;ReverseContinue+;swbreak+;hwbreak+;vContSupported+#1f+$T05thread:1;#d7+$000000000102030400000000000000000000000000000000000000000000000000000000000000000000000000000000000000000000000000000000000000000000000500010000#10+$O68690a#bd$T05thread:1;#d7+$#00";
+    b"+$PacketSize=4000;QStartNoAckMode+;qXfer:features:read+;ReverseStep+;ReverseContinue+;swbreak+;hwbreak+;vContSupported+#1f+$T05thread:1;#d7+$000000000102030400000000000000000000000000000000000000000000000000000000000000000000000000000000000000000000000000000000000000000000000500010000#10+$O68690a#bd$T05thread:1;swbreak:;#3b+$#00";
 
 /// What is sent for a talk that ends early.
 fn sent_for(rt: &impl Abort, alloc: Global, asked: Vec<u8>) -> MemSink {
