@@ -1,0 +1,4 @@
+pub mod Advanced
+pub mod Called
+pub mod Looks
+pub mod Told
