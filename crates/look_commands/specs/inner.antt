@@ -1,3 +1,5 @@
 pub mod Counted
+pub mod Forks
+pub mod Puts
 pub mod Statuses
 pub mod Told

@@ -3,12 +3,15 @@
 //! `answer` does what words ask for: it opens the files that they name, reads the input of a run, writes texts to the
 //! output, and sentences and traces to the errors. Words that are refused have status 2, and files and machines are
 //! handed on only as the other crates want them: the files of a proper job, and machines that are whole. `write_fork` and
-//! `write_map` are its `fork` and `map` over bytes and files that are given.
+//! `write_map` are its `fork`, `data` and `map` over bytes and files that are given.
 //!
-//! `run_keeping` is one run of the machine, a step at a time, that keeps its last steps.
+//! `run_keeping` is one run of the machine, a step at a time, that keeps its last steps and
+//! its last jump.
 #![tactic(auto)]
 
 mod commands;
+mod counted;
+mod forks;
 mod images;
 mod maps;
 mod run;
@@ -17,7 +20,8 @@ mod said;
 mod streams;
 mod traces;
 
-pub use commands::{answer, write_fork};
+pub use commands::answer;
+pub use forks::write_fork;
 pub use maps::write_map;
 pub use run::run_keeping;
 pub use said::{print, tell};

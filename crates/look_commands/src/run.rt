@@ -11,19 +11,18 @@ ghost use Rattle.mixed_machine.specs.OutsideClauses.{at};
 ghost use Rattle.mix_io.specs.StreamsClauses.{output};
 ghost use Rattle.look_commands.specs.inner.Counted.{RanSteps, ends as ends_at, is_done as is_done_at};
 
-use circular_buffer::HeapCircularBuffer;
 use dev_rack::Devices;
-use look_report::{Ending, Step, step_at};
+use look_report::{Ending, History, step_at};
 use mix_engine::{Machine, Stop, run};
 use mix_io::{Sink, Source};
 
-/// Runs at most `steps` steps, and puts each that is done behind those that are kept. The lines of calls, returns and asks
+/// Runs at most `steps` steps, and tells each that is done to the history. The lines of calls, returns and asks
 /// go to the trace, as in any run.
 ///
 /// The machine, the output and the trace are those of one run of at most so many steps.
 pub fn run_keeping<I: Source, O: Sink, T: Sink, D: Devices>(
     machine: &mut Machine,
-    kept: &mut HeapCircularBuffer<Step>,
+    history: &mut History,
     input: &mut I,
     out: &mut O,
     trace: &mut T,
@@ -40,9 +39,10 @@ pub fn run_keeping<I: Source, O: Sink, T: Sink, D: Devices>(
 {
     'steps: for done in 0..steps {
         let step = step_at(machine);
+        let sp = machine.active.sp();
         let stop = run(machine, input, out, trace, rack, 1);
         if is_done(stop) {
-            let _oldest = kept.push_back(step);
+            history.follow(step, done + 1, sp, next_of(machine, stop));
         }
         if ends(stop) {
             return ended(stop, done);
@@ -51,6 +51,14 @@ pub fn run_keeping<I: Source, O: Sink, T: Sink, D: Devices>(
     Ending {
         stop: Stop::Limit,
         done: steps,
+    }
+}
+
+/// Where a program goes on behind a step that is done, unless that ended it.
+fn next_of(machine: &Machine, stop: Stop) -> Option<u32> {
+    match stop {
+        Stop::Exit(_) => None,
+        _ => Some(machine.active.pc()),
     }
 }
 

@@ -12,15 +12,15 @@ ghost use Rattle.look_commands.specs.inner.Statuses.{status_at};
 ghost use Rattle.look_commands.specs.inner.Told.{Loads};
 
 use super::run_keeping;
+use crate::counted::Counted;
 use crate::maps::refuse;
 use crate::said::fail;
 use crate::streams::Streams;
 use call_trace::{End, put_end};
-use circular_buffer::HeapCircularBuffer;
 use dev_rack::{Devices, Rack};
-use look_report::{Ending, Step, report};
+use look_report::{History, Outcome, run_report};
 use look_words::status::{INPUT_FAILED, NO_MEMORY, OUTPUT_FAILED, SUCCESS, TRACE_FAILED};
-use look_words::{Request, requested};
+use look_words::{Frames, Request, requested};
 use mix_bits::NoMemory;
 use mix_engine::{Machine, Stop};
 use mix_io::{Counter, Device, Failed, Sink, StdSink, StdSource, Tape};
@@ -29,19 +29,26 @@ use std::alloc::Global;
 use std::io::{BufReader, Read, Write};
 use std::rt::Files;
 
+/// What is told of a run: how many of its last steps, and which frames.
+#[derive(Clone, Copy)]
+pub struct Shown {
+    pub last: u32,
+    pub frames: Frames,
+}
+
 /// Runs the program that words name, and writes how it ended behind its trace.
 #[tactic(auto, using(crate::proofs::Loading::unloaded))]
 pub fn end<F: Files, R: Read + Drop, W: Write + Drop, E: Write + Drop>(
     alloc: Global,
     files: &F,
     words: &[String],
-    last: u32,
+    shown: Shown,
     streams: &mut Streams<R, W, E>,
 ) -> u8
     ensures { Loads (is_run (command_of (run_words_of (map string_bytes words.now)))) (W.contents streams.old.out) (W.contents streams.new.out) result }
 {
     match requested(alloc, files, words) {
-        Ok(request) => end_job(alloc, &request, last, streams),
+        Ok(request) => end_job(alloc, &request, shown, streams),
         Err(failure) => fail(&mut streams.errors, failure),
     }
 }
@@ -50,7 +57,7 @@ pub fn end<F: Files, R: Read + Drop, W: Write + Drop, E: Write + Drop>(
 fn end_job<R: Read + Drop, W: Write + Drop, E: Write + Drop>(
     alloc: Global,
     request: &Request,
-    last: u32,
+    shown: Shown,
     streams: &mut Streams<R, W, E>,
 ) -> u8
     requires job { IsProperJob request.now.job }
@@ -61,7 +68,7 @@ fn end_job<R: Read + Drop, W: Write + Drop, E: Write + Drop>(
     match load(alloc, program, job.main, job.kib) {
         Ok(loaded) => match Machine::start(alloc, loaded) {
             Ok(mut machine) => {
-                run(alloc, &mut machine, job.steps, last, streams).unwrap_or(NO_MEMORY)
+                run(alloc, &mut machine, job.steps, shown, streams).unwrap_or(NO_MEMORY)
             }
             Err(NoMemory) => NO_MEMORY,
         },
@@ -75,7 +82,7 @@ fn run<R: Read + Drop, W: Write + Drop, E: Write + Drop>(
     alloc: Global,
     machine: &mut Machine,
     steps: u32,
-    last: u32,
+    shown: Shown,
     streams: &mut Streams<R, W, E>,
 ) -> Result<u8, NoMemory>
     requires { IsWhole machine.old.body (isa_of machine.old.active) }
@@ -89,7 +96,7 @@ fn run<R: Read + Drop, W: Write + Drop, E: Write + Drop>(
         alloc,
         machine,
         steps,
-        last,
+        shown,
         &mut streams.input,
         &mut streams.out,
         &mut streams.errors,
@@ -102,7 +109,7 @@ fn run_beside<R: Read, W: Write, E: Write, D: Devices>(
     alloc: Global,
     machine: &mut Machine,
     steps: u32,
-    last: u32,
+    shown: Shown,
     input: &mut R,
     out: &mut W,
     errors: &mut E,
@@ -111,38 +118,58 @@ fn run_beside<R: Read, W: Write, E: Write, D: Devices>(
     requires { IsWhole machine.old.body (isa_of machine.old.active) }
     ensures { result ≢ 2 }
 {
-    let Ok(mut kept) = HeapCircularBuffer::with_capacity(alloc, last as usize) else {
+    let Ok(mut history) = History::new(alloc, shown.last) else {
         return NO_MEMORY;
     };
     let Ok(reader) = BufReader::new(alloc, input) else {
         return NO_MEMORY;
     };
-    let mut input = StdSource::new(reader);
-    let mut out = StdSink::new(out);
+    let mut input = Counted::new(StdSource::new(reader));
+    let mut out = Counted::new(StdSink::new(out));
     let mut trace = StdSink::new(errors);
     let ending = run_keeping(
-        machine, &mut kept, &mut input, &mut out, &mut trace, rack, steps,
+        machine,
+        &mut history,
+        &mut input,
+        &mut out,
+        &mut trace,
+        rack,
+        steps,
     );
-    finish(alloc, machine, ending, kept.make_contiguous(), &mut trace)
+    let outcome = Outcome {
+        ending,
+        taken: input.bytes(),
+        put: out.bytes(),
+    };
+    finish(
+        alloc,
+        machine,
+        outcome,
+        &mut history,
+        shown.frames,
+        &mut trace,
+    )
 }
 
 /// Puts the last line of a trace and the report behind it, and answers the status.
 fn finish<T: Sink>(
     alloc: Global,
     machine: &Machine,
-    ending: Ending,
-    steps: &[Step],
+    outcome: Outcome,
+    history: &mut History,
+    frames: Frames,
     trace: &mut T,
 ) -> u8
     requires { IsWhole machine.now.body (isa_of machine.now.active) }
     ensures { result ≢ 2 }
 {
-    let ended = put_last_line(trace, machine, ending.stop);
-    let Ok(text) = report(alloc, machine, Some(ending), steps) else {
+    let stop = outcome.ending.stop;
+    let ended = put_last_line(trace, machine, stop);
+    let Ok(text) = run_report(alloc, machine, outcome, history, frames) else {
         return NO_MEMORY;
     };
     let reported = ended.and(trace.put(&text));
-    status(ending.stop, reported.is_ok())
+    status(stop, reported.is_ok())
 }
 
 /// Puts the last line of a trace, if the run came to one.

@@ -30,7 +30,7 @@ fn add_row(text: &mut Vec<u8>, ram: &Ram, from: u32) -> Result<(), NoMemory> {
 }
 
 /// Appends the byte at an address, if there is one.
-fn add_byte(text: &mut Vec<u8>, ram: &Ram, at: u32) -> Result<(), NoMemory> {
+pub fn add_byte(text: &mut Vec<u8>, ram: &Ram, at: u32) -> Result<(), NoMemory> {
     match ram.load_byte(at) {
         Ok(byte) => add_line(text, &[Piece::Text(" "), Piece::Byte(byte)]),
         Err(_) => add(text, " --"),

@@ -16,6 +16,24 @@ pub struct Step {
     pub words: ArrayVec<u16, MOST_WORDS>,
 }
 
+impl Step {
+    /// The same step once more.
+    pub fn copy(&self) -> Step {
+        let mut words = ArrayVec::new();
+        let _fits = words.try_extend_from_slice(self.words.as_slice());
+        Step {
+            set: self.set,
+            at: self.at,
+            words,
+        }
+    }
+
+    /// Whether another step is in the same set and has the same words, wherever it stands.
+    pub fn is_like(&self, other: &Step) -> bool {
+        self.set == other.set && self.words.as_slice() == other.words.as_slice()
+    }
+}
+
 /// The step that a machine is about to do.
 pub fn step_at(machine: &Machine) -> Step {
     let at = machine.active.pc();

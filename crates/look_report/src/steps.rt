@@ -1,6 +1,7 @@
 // Steps as text.
 ghost use Rattle.std.specs.Prelude.{◌≡◌, []};
 
+use crate::history::{Jump, Run};
 use crate::step::Step;
 use big_memory::{host_code, in_gate_page};
 use look_text::{Piece, add, add_line};
@@ -8,11 +9,22 @@ use mix_bits::{Isa, Line, NoMemory};
 use mix_text::write_words;
 use ppc_text::text_ppc;
 
-/// Appends `NUMBER SET ADDRESS: TEXT` for each of the last steps, the last of which has the number `last`.
-pub fn add_steps(text: &mut Vec<u8>, steps: &[Step], last: u32) -> Result<(), NoMemory> {
-    for (i, step) in steps.iter().enumerate() {
-        let behind = steps.len() - i - 1;
-        let number = last.saturating_sub(behind.min(1_000_000) as u32);
+/// Appends a line for each run of the last steps, the last of which has the number `last`.
+pub fn add_runs(text: &mut Vec<u8>, runs: &[Run], last: u32) -> Result<(), NoMemory> {
+    let mut behind = runs
+        .iter()
+        .fold(0, |sum: u32, run| sum.saturating_add(run.times));
+    for run in runs {
+        let before = last.saturating_sub(behind);
+        add_run(text, run, before.saturating_add(1))?;
+        behind = behind.saturating_sub(run.times);
+    }
+    Ok(())
+}
+
+/// Appends `step NUMBER: SET ADDRESS: TEXT`, or the same of several equal steps, the first of which has this number.
+fn add_run(text: &mut Vec<u8>, run: &Run, number: u32) -> Result<(), NoMemory> {
+    if run.times <= 1 {
         add_line(
             text,
             &[
@@ -21,9 +33,36 @@ pub fn add_steps(text: &mut Vec<u8>, steps: &[Step], last: u32) -> Result<(), No
                 Piece::Text(": "),
             ],
         )?;
-        add_step(text, step)?;
+        return add_step(text, &run.first);
     }
-    Ok(())
+    add_line(
+        text,
+        &[
+            Piece::Text("steps "),
+            Piece::Number(number),
+            Piece::Text(" to "),
+            Piece::Number(number.saturating_add(run.times - 1)),
+            Piece::Text(", up to "),
+            Piece::Long(run.last_at),
+            Piece::Text(": "),
+        ],
+    )?;
+    add_step(text, &run.first)
+}
+
+/// Appends where the program went on elsewhere at last.
+pub fn add_jump(text: &mut Vec<u8>, jump: &Jump) -> Result<(), NoMemory> {
+    add_line(
+        text,
+        &[
+            Piece::Text("last jump: to "),
+            Piece::Long(jump.to),
+            Piece::Text(", by step "),
+            Piece::Number(jump.number),
+            Piece::Text(": "),
+        ],
+    )?;
+    add_step(text, &jump.from)
 }
 
 /// Appends the set, the address and the text of a step.

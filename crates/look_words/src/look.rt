@@ -1,10 +1,16 @@
 // The words of mixedlook.
 ghost use Rattle.std.specs.Prelude.{◌≡◌, ◌+◌, ◌^◌, ◌<◌, length, map};
 ghost use Rattle.std.specs.String.{string_bytes};
-ghost use Rattle.look_words.specs.inner.Looks.{by_verb, command_by, draft_of, is_given as is_given_in, key_for, key_text, keys_of, look_of, made, verb_for, with_value as draft_with, with_word};
+ghost use Rattle.look_words.specs.inner.Looks.{by_verb, command_by, count_in, draft_of, image_of, is_given as is_given_in, key_for, key_text, keys_of, look_of, made, verb_for, with_file, with_own, with_value as draft_with, with_word};
 
-use crate::program::{read_end, read_map};
-use mix_bits::read_hexadecimal;
+use crate::program::{UNTOLD, read_end, read_map};
+use mix_bits::{read_decimal, read_hexadecimal};
+
+/// How many bytes of memory are told, if nothing is said of it.
+const FEW_BYTES: u32 = 256;
+
+/// How many of them can be told.
+const MOST_BYTES: u32 = 65536;
 
 /// What the words ask for. A file is named by the place of its word.
 #[derive(Clone, Copy)]
@@ -17,14 +23,33 @@ pub enum Look {
     Picture(usize, Option<usize>),
     /// The raw resource fork in a file.
     Fork(usize),
+    /// The data fork in a file.
+    Data(usize),
     /// Where the pieces of the program lie that the other words name.
     Map,
+    /// What the program would ask for that the other words name.
+    Scan,
     /// The end of a run of the program that the other words name, with so many of its last steps.
-    End(u32),
-    /// The state of a machine that was kept.
-    Image(usize),
+    End(u32, Frames),
+    /// The state of a machine that was kept, or a part of its memory.
+    Image(usize, Option<Span>, Frames),
     /// Why mixedrun refuses the words behind the first one.
     Words,
+}
+
+/// How many of the suspended callers are told.
+#[derive(Clone, Copy, Debug, PartialEq, Eq)]
+pub enum Frames {
+    /// The first and the last ones, where there are many.
+    Few,
+    All,
+}
+
+/// A part of memory: the address of its first byte, and how many there are.
+#[derive(Clone, Copy, Debug, PartialEq, Eq)]
+pub struct Span {
+    pub at: u32,
+    pub count: u32,
 }
 
 /// Why words ask for nothing.
@@ -52,6 +77,9 @@ pub enum Key {
     Names,
     Image,
     Last,
+    At,
+    Count,
+    Frames,
 }
 
 /// A command whose words give a draft.
@@ -61,6 +89,7 @@ pub enum Topic {
     ToTrace,
     ToPicture,
     ToFork,
+    ToData,
     ToImage,
 }
 
@@ -74,17 +103,22 @@ impl Topic {
             Topic::ToTrace => &[Key::File, Key::Names],
             Topic::ToPicture => &[Key::File, Key::Names],
             Topic::ToFork => &[Key::File],
-            Topic::ToImage => &[Key::Image],
+            Topic::ToData => &[Key::File],
+            Topic::ToImage => &[Key::Image, Key::At, Key::Count, Key::Frames],
         }
     }
 }
 
-/// What the words so far have given: a procInfo word, and the places of words that name files.
+/// What the words so far have given: a procInfo word, the places of words that name files, a part of memory, and whether
+/// all frames are told.
 #[derive(Clone, Copy)]
 pub struct Draft {
     pub word: Option<u32>,
     pub file: Option<usize>,
     pub names: Option<usize>,
+    pub at: Option<u32>,
+    pub count: Option<u32>,
+    pub frames: Frames,
 }
 
 /// Reads the words of a command line.
@@ -107,9 +141,11 @@ fn read_behind(command: &str, words: &[String]) -> Result<Look, Refusal>
         "trace" => read_command(Topic::ToTrace, words),
         "picture" => read_command(Topic::ToPicture, words),
         "fork" => read_command(Topic::ToFork, words),
+        "data" => read_command(Topic::ToData, words),
         "image" => read_command(Topic::ToImage, words),
-        "map" => read_map(1, words),
-        "end" => read_end(1, words, None),
+        "map" => read_map(Look::Map, 1, words),
+        "scan" => read_map(Look::Scan, 1, words),
+        "end" => read_end(1, words, UNTOLD),
         "words" => Ok(Look::Words),
         _ => Err(Refusal::Command),
     }
@@ -124,6 +160,9 @@ fn read_command(topic: Topic, words: &[String]) -> Result<Look, Refusal>
         word: None,
         file: None,
         names: None,
+        at: None,
+        count: None,
+        frames: Frames::Few,
     };
     make(topic, read_settings(topic, 1, words, nothing)?)
 }
@@ -184,6 +223,9 @@ impl Key {
             Key::Names => "names",
             Key::Image => "image",
             Key::Last => "last",
+            Key::At => "at",
+            Key::Count => "count",
+            Key::Frames => "frames",
         }
     }
 }
@@ -196,27 +238,66 @@ fn is_given(draft: &Draft, key: Key) -> bool
         Key::File | Key::Image => draft.file.is_some(),
         Key::Names => draft.names.is_some(),
         Key::Last => false,
+        Key::At => draft.at.is_some(),
+        Key::Count => draft.count.is_some(),
+        Key::Frames => draft.frames == Frames::All,
     }
 }
 
-/// The draft with a value for a key that it has none for: a procInfo word, or the name of a file, which is not empty.
-fn set(mut draft: Draft, place: usize, key: Key, value: &str) -> Result<Draft, Refusal>
+/// The draft with a value for a key that it has none for.
+fn set(draft: Draft, place: usize, key: Key, value: &str) -> Result<Draft, Refusal>
     ensures { result ≡ draft_with draft place key value.now }
 {
     if is_given(&draft, key) {
         return Err(Refusal::Twice(place));
     }
     match key {
-        Key::Word => match read_hexadecimal(value.as_bytes(), 8) {
-            Some(word) => draft.word = Some(word),
-            None => return Err(Refusal::Value(place, key)),
-        },
-        Key::Last => return Err(Refusal::Unknown(place)),
-        _ if value.is_empty() => return Err(Refusal::Value(place, key)),
-        Key::File | Key::Image => draft.file = Some(place),
+        Key::Word | Key::At | Key::Count | Key::Frames => set_value(draft, place, key, value),
+        Key::File | Key::Image | Key::Names => set_file(draft, place, key, value),
+        Key::Last => Err(Refusal::Unknown(place)),
+    }
+}
+
+/// The same of the name of a file, which is not empty.
+fn set_file(mut draft: Draft, place: usize, key: Key, value: &str) -> Result<Draft, Refusal>
+    ensures { result ≡ with_file draft place key value.now }
+{
+    if value.is_empty() {
+        return Err(Refusal::Value(place, key));
+    }
+    match key {
         Key::Names => draft.names = Some(place),
+        _ => draft.file = Some(place),
     }
     Ok(draft)
+}
+
+/// The same of a value that stands in the word itself.
+fn set_value(mut draft: Draft, place: usize, key: Key, value: &str) -> Result<Draft, Refusal>
+    ensures { result ≡ with_own draft place key value.now }
+{
+    match (
+        key,
+        read_hexadecimal(value.as_bytes(), 8),
+        read_count(value),
+    ) {
+        (Key::Word, Some(word), _) => draft.word = Some(word),
+        (Key::At, Some(at), _) => draft.at = Some(at),
+        (Key::Count, _, Some(count)) => draft.count = Some(count),
+        (Key::Frames, _, _) if value == "all" => draft.frames = Frames::All,
+        _ => return Err(Refusal::Value(place, key)),
+    }
+    Ok(draft)
+}
+
+/// How many bytes are told.
+fn read_count(value: &str) -> Option<u32>
+    ensures { result ≡ count_in value.now }
+{
+    match read_decimal(value.as_bytes()) {
+        Some(count) if 1 <= count && count <= MOST_BYTES => Some(count),
+        _ => None,
+    }
 }
 
 /// The command of a draft.
@@ -229,8 +310,23 @@ fn make(topic: Topic, draft: Draft) -> Result<Look, Refusal>
         (Topic::ToTrace, _, Some(file)) => Ok(Look::Trace(file, draft.names)),
         (Topic::ToPicture, _, Some(file)) => Ok(Look::Picture(file, draft.names)),
         (Topic::ToFork, _, Some(file)) => Ok(Look::Fork(file)),
-        (Topic::ToImage, _, Some(file)) => Ok(Look::Image(file)),
+        (Topic::ToData, _, Some(file)) => Ok(Look::Data(file)),
+        (Topic::ToImage, _, Some(file)) => make_image(file, draft),
         (Topic::ToImage, _, None) => Err(Refusal::Missing(Key::Image)),
         (_, _, None) => Err(Refusal::Missing(Key::File)),
+    }
+}
+
+/// The command of a draft that has a kept machine.
+fn make_image(file: usize, draft: Draft) -> Result<Look, Refusal>
+    ensures { result ≡ image_of file draft }
+{
+    match (draft.at, draft.count) {
+        (Some(at), count) => {
+            let count = count.unwrap_or(FEW_BYTES);
+            Ok(Look::Image(file, Some(Span { at, count }), draft.frames))
+        }
+        (None, Some(_)) => Err(Refusal::Missing(Key::At)),
+        (None, None) => Ok(Look::Image(file, None, draft.frames)),
     }
 }

@@ -2,9 +2,9 @@
 ghost use Rattle.std.specs.Prelude.{◌≡◌, ◌+◌, ◌^◌, ◌<◌, ◌++◌, [], not, IfOk, OnOk, filter, length, map};
 ghost use Rattle.std.specs.String.{string_bytes};
 ghost use Rattle.job_words.specs.Settings.{value_in};
-ghost use Rattle.look_words.specs.inner.Looks.{end_of, has_key as has_key_by, is_last as is_last_by, is_unmapped as is_unmapped_by, last_by, map_of, run_words as run_words_of};
+ghost use Rattle.look_words.specs.inner.Looks.{end_of, has_key as has_key_by, is_frames as is_frames_by, is_last as is_last_by, is_own as is_own_by, is_unmapped as is_unmapped_by, map_of, run_words as run_words_of, told_by, with_frames, with_last};
 
-use crate::look::{Key, Look, Refusal};
+use crate::look::{Frames, Key, Look, Refusal};
 use mix_bits::{NoMemory, read_decimal};
 use std::alloc::Global;
 
@@ -13,6 +13,19 @@ const FEW: u32 = 16;
 
 /// How many of them can be told.
 const MOST: u32 = 1000;
+
+/// What the words of `end` say of what is told: how many of the last steps, and which frames.
+#[derive(Clone, Copy)]
+pub struct Told {
+    pub last: Option<u32>,
+    pub frames: Frames,
+}
+
+/// That nothing was said of it.
+pub const UNTOLD: Told = Told {
+    last: None,
+    frames: Frames::Few,
+};
 
 /// The words with which mixedrun runs the program that the words of `map` or `end` name.
 pub fn run_words(alloc: Global, words: &[String]) -> Result<Vec<String>, NoMemory>
@@ -25,14 +38,14 @@ pub fn run_words(alloc: Global, words: &[String]) -> Result<Vec<String>, NoMemor
     Ok(run)
 }
 
-/// Appends the words but those with the key `last`.
+/// Appends the words but those with a key of `end` itself.
 fn add_words(run: &mut Vec<String>, words: &[String]) -> Result<(), NoMemory>
-    ensures { OnOk result (map string_bytes run.new.items ≡ map string_bytes run.old.items ++ filter (λ word. not (is_last_by word)) (map string_bytes words.now)) }
+    ensures { OnOk result (map string_bytes run.new.items ≡ map string_bytes run.old.items ++ filter (λ word. not (is_own_by word)) (map string_bytes words.now)) }
 {
     match words {
         [] => Ok(()),
         [word, rest @ ..] => {
-            if !is_last(word.as_str()) {
+            if !is_own(word.as_str()) {
                 run.push(word.clone()?)?;
             }
             add_words(run, rest)
@@ -40,51 +53,77 @@ fn add_words(run: &mut Vec<String>, words: &[String]) -> Result<(), NoMemory>
     }
 }
 
-/// Reads the words of `map` from a place on.
-pub fn read_map(place: usize, words: &[String]) -> Result<Look, Refusal>
+/// Reads the words of `map`, or of another command that takes the same ones, from a place on.
+pub fn read_map(look: Look, place: usize, words: &[String]) -> Result<Look, Refusal>
     requires { place + length words.now < 2 ^ 64 }
-    ensures { result ≡ map_of place (map string_bytes words.now) }
+    ensures { result ≡ map_of look place (map string_bytes words.now) }
 {
     match words {
-        [] => Ok(Look::Map),
+        [] => Ok(look),
         [word, rest @ ..] => {
             if is_unmapped(word.as_str()) {
                 Err(Refusal::Unknown(place))
             } else {
-                read_map(place + 1, rest)
+                read_map(look, place + 1, rest)
             }
         }
     }
 }
 
-/// Reads the words of `end` from a place on, where those before gave a number of steps or none.
-pub fn read_end(place: usize, words: &[String], last: Option<u32>) -> Result<Look, Refusal>
+/// Reads the words of `end` from a place on, where those before said what is told.
+pub fn read_end(place: usize, words: &[String], told: Told) -> Result<Look, Refusal>
     requires { place + length words.now < 2 ^ 64 }
-    ensures { result ≡ end_of place (map string_bytes words.now) last }
+    ensures { result ≡ end_of place (map string_bytes words.now) told }
 {
     match words {
-        [] => Ok(Look::End(last.unwrap_or(FEW))),
-        [word, rest @ ..] => match read_last(place, word.as_str(), last) {
-            Ok(last) => read_end(place + 1, rest, last),
+        [] => Ok(Look::End(told.last.unwrap_or(FEW), told.frames)),
+        [word, rest @ ..] => match read_told(place, word.as_str(), told) {
+            Ok(told) => read_end(place + 1, rest, told),
             Err(refusal) => Err(refusal),
         },
     }
 }
 
-/// The number of steps behind a word of `end`.
-fn read_last(place: usize, word: &str, last: Option<u32>) -> Result<Option<u32>, Refusal>
-    ensures { result ≡ last_by place word.now last }
+/// What is told behind a word of `end`.
+fn read_told(place: usize, word: &str, told: Told) -> Result<Told, Refusal>
+    ensures { result ≡ told_by place word.now told }
 {
     if has_key(word, "save") {
-        return Err(Refusal::Unknown(place));
+        Err(Refusal::Unknown(place))
+    } else if is_last(word) {
+        read_last(place, word, told)
+    } else if is_frames(word) {
+        read_frames(place, word, told)
+    } else {
+        Ok(told)
     }
-    if !is_last(word) {
-        return Ok(last);
-    }
-    match (last, read_decimal(value(word).as_bytes())) {
+}
+
+/// The number of steps behind a word.
+fn read_last(place: usize, word: &str, told: Told) -> Result<Told, Refusal>
+    ensures { result ≡ with_last place word.now told }
+{
+    match (told.last, read_decimal(value(word).as_bytes())) {
         (Some(_), _) => Err(Refusal::Twice(place)),
-        (None, Some(count)) if count <= MOST => Ok(Some(count)),
+        (None, Some(count)) if count <= MOST => Ok(Told {
+            last: Some(count),
+            frames: told.frames,
+        }),
         (None, _) => Err(Refusal::Value(place, Key::Last)),
+    }
+}
+
+/// That all frames are told.
+fn read_frames(place: usize, word: &str, told: Told) -> Result<Told, Refusal>
+    ensures { result ≡ with_frames place word.now told }
+{
+    match told.frames {
+        Frames::All => Err(Refusal::Twice(place)),
+        Frames::Few if value(word) == "all" => Ok(Told {
+            last: told.last,
+            frames: Frames::All,
+        }),
+        Frames::Few => Err(Refusal::Value(place, Key::Frames)),
     }
 }
 
@@ -102,7 +141,20 @@ pub fn value(word: &str) -> &str
 fn is_unmapped(word: &str) -> bool
     ensures { result ≡ is_unmapped_by word.now }
 {
-    has_key(word, "steps") || has_key(word, "save") || is_last(word)
+    has_key(word, "steps") || has_key(word, "save") || is_own(word)
+}
+
+/// Whether a word is `end`'s alone, and none of a run's.
+fn is_own(word: &str) -> bool
+    ensures { result ≡ is_own_by word.now }
+{
+    is_last(word) || is_frames(word)
+}
+
+fn is_frames(word: &str) -> bool
+    ensures { result ≡ is_frames_by word.now }
+{
+    has_key(word, "frames")
 }
 
 fn is_last(word: &str) -> bool

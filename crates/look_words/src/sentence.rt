@@ -36,7 +36,7 @@ fn refused<'a>(words: &'a [String], refusal: Refusal) -> (&'a str, &'a str, &'a 
 }
 
 /// What a key of mixedlook wants.
-#[tactic(auto, using(crate::proofs::Ranges::wants_last))]
+#[tactic(auto, using(crate::proofs::Ranges::wants_last, crate::proofs::Ranges::wants_count))]
 fn key_wants(key: Key) -> &'static str
     ensures { result.now ≡ key_wants_text key }
 {
@@ -46,6 +46,9 @@ fn key_wants(key: Key) -> &'static str
         Key::Names => "the name of a file with the output of nm",
         Key::Image => "the name of a file that mixedrun kept",
         Key::Last => "a number from 0 to 1000, in decimal without a leading zero",
+        Key::At => "eight upper-case hexadecimal digits",
+        Key::Count => "a number from 1 to 65536, in decimal without a leading zero",
+        Key::Frames => "all",
     }
 }
 

@@ -8,36 +8,52 @@ use std::env;
 use std::io::{self, ErrorKind};
 use std::process::ExitCode;
 
-/// What `--help` prints, and what stands behind a refusal of words.
+/// What stands behind a refusal of words.
+const USAGE: &str = "usage: mixedlook COMMAND WORD.., and mixedlook --help says which\n";
+
+/// What `--help` prints.
 const HELP: &str = "\
 mixedlook explains programs that mix 68K and PowerPC code, and their traces.
 
 usage: mixedlook map FILES [main=68k|ppc] [ram=KIB]
+       mixedlook scan FILES [main=68k|ppc] [ram=KIB]
        mixedlook end FILES [main=68k|ppc] [ram=KIB] [steps=N] [last=K]
-       mixedlook image image=IMAGE
+                     [frames=all]
+       mixedlook image image=IMAGE [frames=all]
+       mixedlook image image=IMAGE at=HHHHHHHH [count=N]
        mixedlook info word=HHHHHHHH
        mixedlook trace file=TRACE [names=NAMES]
        mixedlook picture file=TRACE [names=NAMES]
        mixedlook fork file=FILE
+       mixedlook data file=FILE
        mixedlook words WORD..
 
 FILES is flat=FILE, rsrc=FILE, pef=FILE, or rsrc=FILE pef=FILE, as mixedrun's.
 
 map says where the pieces of a program lie once it is loaded, or why it is not;
-end runs a program as mixedrun does, and writes behind its trace how it ended,
-its last steps, the registers, the suspended callers, the stack and the heap;
-image writes the same of a machine that was kept; info says what a procInfo
-word declares, and where 68K code and PowerPC code have each value; trace
-writes a trace as an indented tree and counts the calls across; picture writes
-it as an SVG file; fork writes the raw resource fork of a MacBinary,
-AppleSingle or AppleDouble file; words says why mixedrun refuses these words.
+scan says what a program would ask for, by its files alone: the traps in its
+68K code and how often each stands there, routine descriptors, and what its
+container imports; end runs a program as mixedrun does, and writes behind its
+trace how it ended, in words, its last steps and its last jump, how low each
+stack pointer came, the registers, the suspended callers, the stack and the
+heap; image writes the same of a machine that was kept, or a part of its
+memory; info says what a procInfo word declares, and where 68K code and PowerPC
+code have each value; trace writes a trace as an indented tree and counts the
+calls across; picture writes it as an SVG file; fork writes the raw resource
+fork of a MacBinary, AppleSingle, AppleDouble or BinHex 4.0 file, and data the
+data fork; words says why mixedrun refuses these words.
 
-  last=K         how many of the last steps are told, 0 to 1000 (default 16)
+  last=K         how many of the last steps are told, 0 to 1000 (default 16);
+                 equal ones behind each other count as one
+  frames=all     all suspended callers are told, and not the first and the last
+                 eight alone
   image=IMAGE    a machine that mixedrun kept
+  at=HHHHHHHH    the address of the first byte that is written
+  count=N        how many are written, 1 to 65536 (default 256)
   word=HHHHHHHH  a procInfo word, eight upper-case hexadecimal digits
   file=TRACE     the trace of a run of mixedrun
   names=NAMES    the output of nm, by which routines are named
-  file=FILE      a file with a resource fork
+  file=FILE      a file with forks
 
 Status:
   0  done                              2  bad words
@@ -74,7 +90,7 @@ fn explain(rt: &HostRuntime, words: &[String]) -> u8 {
         out: rt.stdout(),
         errors: rt.stderr(),
     };
-    answer(rt.alloc(), rt, words, HELP, &mut streams)
+    answer(rt.alloc(), rt, words, USAGE, &mut streams)
 }
 
 /// The status where there are no words: for want of memory, or since one of them is no text.

@@ -6,7 +6,7 @@ use look_commands::{Streams, answer};
 use std::alloc::Global;
 use std::io;
 
-/// What stands behind a refusal of words here, in place of what `mixedlook --help` prints.
+/// What stands behind a refusal of words here, in place of mixedlook's own line.
 const USAGE: &str = "usage: mixedlook COMMAND WORD..\n";
 
 /// The words of mixedlook, and its streams.
@@ -62,10 +62,15 @@ fn told_of(rt: &HostRuntime, case: &mut Case) -> io::Result<String> {
 fn output(alloc: Global, case: &Case) -> io::Result<String> {
     let bytes = case.streams.out.held();
     match case.words.first() {
-        Some(word) if word.as_str() == "fork" || word.as_str() == "end" => {
+        Some(word) if is_of_bytes(word.as_str()) => {
             let digits = hexadecimal(alloc, bytes)?;
             Ok(format!(in alloc; "output {digits}\n")?)
         }
         _ => text_of(alloc, bytes),
     }
+}
+
+/// Whether the output of a command is bytes and no text.
+fn is_of_bytes(command: &str) -> bool {
+    command == "fork" || command == "data" || command == "end"
 }

@@ -22,7 +22,8 @@
 //! A line `look WORDS` has the words of mixedlook, whose files lie where this program is run, and among them words that
 //! speak of the streams, `@KEY=VALUE`: `@input=TEXT` is what the input has, and `@in=N`, `@out=N` and `@errors=N` have the
 //! number of the read of the input, or of the write to the output or the errors, that fails, counted from 1. The input
-//! gives a byte at each read. Of each such case the output is written, for `fork` and `end` in hexadecimal digits, then
+//! gives a byte at each read. Of each such case the output is written, for `fork`, `data` and `end` in hexadecimal
+//! digits, then
 //! the errors, and the status.
 //!
 //! The answers that are stored beside this program were not made by it. They were worked out from the rules

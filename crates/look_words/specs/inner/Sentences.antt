@@ -2,13 +2,13 @@
 use Rattle.std.specs.Prelude.{ℕ, ◌++◌, List, codes, decimal, if◌then◌else◌}
 use Rattle.std.specs.Str.{bytes_eq}
 use Rattle.look_text.specs.inner.Labels.{text_of}
-use Rattle.look_words.specs.inner.Looks.{key_text, most_told}
+use Rattle.look_words.specs.inner.Looks.{key_text, most_bytes, most_told}
 use Rattle.look_text.specs.inner.Wants.{range_text, wants_text}
 use Rattle.look_text.specs.inner.Whys.{at_place}
 use Rattle.look_text.specs.declared.label.Label.{Label}
 use Rattle.look_text.specs.declared.label.Label.TheVariants.{Flat, Rsrc, Pef}
 use Rattle.look_words.specs.declared.look.Key.{Key}
-use Rattle.look_words.specs.declared.look.Key.TheVariants.{Word, File, Names, Image, Last}
+use Rattle.look_words.specs.declared.look.Key.TheVariants.{Word, File, Names, Image, Last, At, Count, Frames}
 use Rattle.look_words.specs.declared.look.Refusal.{Refusal}
 use Rattle.look_words.specs.declared.look.Refusal.TheVariants.{Empty as no_word, Command as no_command, Unknown, Twice, Value as bad_value, Missing as missing_key}
 use Rattle.look_text.specs.declared.why.Why.{Why}
@@ -21,6 +21,9 @@ key_wants File = codes "the name of a file"
 key_wants Names = codes "the name of a file with the output of nm"
 key_wants Image = codes "the name of a file that mixedrun kept"
 key_wants Last = codes "a number from " ++ range_text 0 most_told
+key_wants At = codes "eight upper-case hexadecimal digits"
+key_wants Count = codes "a number from " ++ range_text 1 most_bytes
+key_wants Frames = codes "all"
 
 -- why mixedlook refuses words
 abbrev pub refusal_text : List (List ℕ) → Refusal → List ℕ
