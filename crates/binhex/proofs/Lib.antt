@@ -1,2 +1,4 @@
 pub mod Steps
 pub mod Numbers
+pub mod Packed
+pub mod Wholes

@@ -4,4 +4,5 @@ pub mod Packing
 pub mod Parts
 pub mod Runs
 pub mod Text
+pub mod laws
 pub mod inner

@@ -7,6 +7,7 @@
 
 mod error;
 mod file;
+mod laws;
 mod packing;
 mod parts;
 mod runs;
@@ -14,3 +15,4 @@ mod text;
 
 pub use error::{BinHexError, Part};
 pub use file::{Forks, read};
+pub use laws::{forks_law, packed_law};

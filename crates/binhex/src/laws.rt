@@ -1,0 +1,12 @@
+ghost use Rattle.binhex.specs.laws.Packed.{GivesBackPacked};
+ghost use Rattle.binhex.specs.laws.Wholes.{GivesForksBack};
+
+/// That bytes which were packed are given back. It does nothing: the clause is its point.
+pub fn packed_law()
+    ensures { GivesBackPacked }
+{}
+
+/// The same of the forks of a file.
+pub fn forks_law()
+    ensures { GivesForksBack }
+{}
