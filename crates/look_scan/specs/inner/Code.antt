@@ -1,5 +1,5 @@
 -- The words at even places of code, and the traps among them.
-use Rattle.std.specs.Prelude.{ℕ, zero, suc, ◌+◌, ◌*◌, ◌/◌, ◌==◌, ◌&&◌, not, ◌++◌, Bool, if◌then◌else◌, List, [], ◌∷◌, length, is_none}
+use Rattle.std.specs.Prelude.{ℕ, zero, suc, ◌*◌, ◌/◌, ◌==◌, ◌&&◌, not, ◌++◌, Bool, if◌then◌else◌, List, [], ◌∷◌, length, is_none}
 use Rattle.mix_bits.specs.Fields.{word_at}
 use Rattle.routine_desc.specs.Layout.{mixed_mode_magic}
 use Rattle.toolbox.specs.Functions.{trap_number as host_number}
