@@ -1,0 +1,26 @@
+-- How a walker begins, and what a walk back leaves.
+use Rattle.std.specs.Prelude.{◌≡◌, ℕ, ◌+◌, ◌-◌, ◌≤◌, List, []}
+use Rattle.mix_engine.specs.declared.machine.Machine.{Machine}
+use Rattle.dev_rack.specs.declared.devices.Devices.{Ghosts}
+use Rattle.gdb_steps.specs.Backs.{walk_back}
+use Rattle.gdb_steps.specs.Places.{IsRun, Run}
+use Rattle.gdb_steps.specs.Points.{Points}
+use Rattle.gdb_steps.specs.Walkers.{begin_of, run_of}
+use Rattle.gdb_steps.specs.declared.halt.Halt.{Halt}
+use Rattle.gdb_steps.specs.declared.halt.Until.{Until}
+use Rattle.gdb_steps.specs.declared.walker.Walker.{Walker}
+
+-- before the first step, with nothing to stop at
+pub record Begins {D : Type 0} {G : Ghosts D} (first : Machine) (input : List ℕ) (devices : ℕ) (w : Walker D G) : Type 0 where
+  pub run : IsRun (begin_of first input devices) (run_of w)
+  pub machine : w.debug.machine ≡ first
+  pub steps : w.steps ≡ 0
+  pub furthest : w.furthest ≡ 0
+  pub breaks : w.breakpoints ≡ []
+  pub watches : w.watches ≡ []
+
+-- a walk back from one place of a run to another, in which nothing is told and no device asked
+pub record Backs (p : Points) (until : Until) (n : ℕ) (halt : Halt) (r s : Run) : Type 0 where
+  pub earlier : s.steps ≤ r.steps
+  pub walk : walk_back p until n r.here r.past ≡ record { left = n + s.steps - r.steps; here = s.here; past = s.past; halt = halt }
+  pub same : s ≡ record r { here = s.here; past = s.past; steps = s.steps }

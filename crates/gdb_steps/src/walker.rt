@@ -1,0 +1,34 @@
+// What a walker holds.
+ghost use Rattle.std.specs.Prelude.{All};
+ghost use Rattle.gdb_steps.specs.inner.Held.{IsCounted, IsHeld, IsWithin};
+
+use crate::breakpoints::Breakpoints;
+use crate::real::Real;
+use crate::replay::Replay;
+use crate::used::Used;
+use crate::watches::Watches;
+use circular_buffer::HeapCircularBuffer;
+use dev_rack::Devices;
+use mix_debug::Debug;
+
+/// How many steps can be taken back at most: each takes 98 of the 1048576 bytes of history at least.
+pub(crate) const MOST_STEPS: usize = 10_700;
+
+/// A machine that walks forward and back, with what lies outside.
+#[derive(Drop)]
+pub struct Walker<D: Devices + Drop> {
+    pub(crate) debug: Debug,
+    pub(crate) input: Vec<u8>,
+    pub(crate) real: Real<D>,
+    pub(crate) replay: Replay,
+    pub(crate) used: Used,
+    /// What was used up before the steps that can be taken back, the newest first.
+    pub(crate) past: HeapCircularBuffer<Used>,
+    pub(crate) steps: u64,
+    pub(crate) furthest: u64,
+    pub(crate) breakpoints: Breakpoints,
+    pub(crate) watches: Watches,
+    ghost held: { IsHeld input.items real replay used },
+    ghost kept: { All (IsWithin input.items real) past.items },
+    ghost counted: { IsCounted past.items steps furthest },
+}
