@@ -1,0 +1,4 @@
+pub mod Halts
+pub mod Notes
+pub mod Views
+pub mod Walks

@@ -1,0 +1,17 @@
+//! gdb's view of a run: a mixed machine, with its input and its devices, that walks forward and back as gdb asks for it.
+//!
+//! `Served` is a target of gdb_session over a walker of gdb_steps. What the program writes comes to gdb's console in front
+//! of the stop at which it is known, and so do, where that is wanted, the lines of calls across.
+#![tactic(auto)]
+
+mod halts;
+mod heard;
+mod notes;
+mod served;
+mod serving;
+mod start;
+mod walks;
+
+pub use served::Served;
+pub use serving::{serve_beside, serve_machine};
+pub use start::Start;

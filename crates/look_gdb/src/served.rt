@@ -1,0 +1,187 @@
+ghost use Rattle.std.specs.Prelude.{◌≡◌, ◌≤◌, ◌++◌, ◌∷◌, [], IfOk, false, if◌then◌else◌, length, nat_lt};
+ghost use Rattle.mixed_machine.specs.Machine.{IsWhole};
+ghost use Rattle.switch_frame.specs.Records.{isa_of};
+ghost use Rattle.gdb_steps.specs.Walkers.{IsFresh};
+
+use crate::halts::{does_end, halt_for, steps_for, until_for};
+use crate::notes::{Ending, append_note};
+use crate::start::Start;
+use crate::walks::{Bounds, go_on};
+use dev_rack::Devices;
+use gdb_answers::{Answer, append_answer};
+use gdb_requests::Point;
+use gdb_session::{Halt, Target};
+use gdb_steps::{Halt as Came, Walker};
+use gdb_talk::Walk;
+use mix_bits::{Isa, NoMemory};
+use std::alloc::Global;
+use std::marker::Model;
+
+/// How many steps a walk has at most, until that is changed.
+const BUDGET: u32 = 100_000_000;
+
+/// A run with which gdb is served.
+#[derive(Drop)]
+pub struct Served<D: Devices + Drop> {
+    alloc: Global,
+    walker: Walker<D>,
+    budget: u32,
+    is_traced: bool,
+    is_end_told: bool,
+}
+
+impl<D: Devices + Drop> Model for Served<D> {
+    ghost use Rattle.gdb_steps.specs.Walkers.{points_of, run_of};
+    ghost use Rattle.look_gdb.specs.Views.{View};
+
+    ghost Value = { View };
+
+    ghost view = { λ s. record {
+      run = run_of s.walker;
+      points = points_of s.walker;
+      budget = s.budget;
+      is_traced = s.is_traced;
+      is_end_told = s.is_end_told;
+    } };
+}
+
+impl<D: Devices + Drop> Served<D> {
+    ghost use Rattle.look_gdb.specs.Views.{Starts};
+    ghost use Rattle.look_gdb.specs.Walks.{Goes, has_room, other_breaks, other_watches, range, without};
+
+    /// With devices in so many slots from 0 on, none of which was asked.
+    pub fn new(alloc: Global, start: Start, devices: D, slots: usize) -> Result<Served<D>, NoMemory>
+        requires whole { IsWhole start.machine.body (isa_of start.machine.active) }
+        requires few { slots ≤ 8 }
+        requires fresh { IsFresh slots (D.state devices) }
+        ensures { IfOk result (λ v. Starts start.machine start.input.items (D.state devices) slots start.is_traced v) }
+    {
+        let Start {
+            machine,
+            input,
+            is_traced,
+        } = start;
+        Ok(Served {
+            alloc,
+            walker: Walker::new(alloc, machine, input, devices, slots)?,
+            budget: BUDGET,
+            is_traced,
+            is_end_told: false,
+        })
+    }
+
+    /// Walks, and puts what is told by the way into an empty buffer.
+    fn go(&mut self, walk: Walk, console: &mut Vec<u8>) -> Result<Came, NoMemory>
+        requires { console.old.items ≡ [] }
+        ensures goes { IfOk result (λ came. Goes walk.is_back walk.goal came console.new.items self.old self.new) }
+        ensures same { self.new ≡ record self.old { run = self.new.run } }
+    {
+        let bounds = Bounds {
+            until: until_for(walk.goal),
+            steps: steps_for(walk.goal, self.budget),
+        };
+        if walk.is_back {
+            Ok(self.walker.back(bounds.until, bounds.steps))
+        } else {
+            go_on(
+                self.alloc,
+                &mut self.walker,
+                bounds,
+                self.is_traced,
+                console,
+            )
+        }
+    }
+
+    /// Sets an address to stop at, behind all others, if there is room.
+    fn place_break(&mut self, address: u32) -> bool
+        ensures exact { result ≡ nat_lt (length (other_breaks self.old.points address)) 256 }
+        ensures after { self.new ≡ record self.old { points = record self.old.points { breaks = if result then other_breaks self.old.points address ++ address ∷ [] else other_breaks self.old.points address } } }
+    {
+        let _was_set = self.walker.clear_break(address);
+        self.walker.set_break(address)
+    }
+
+    /// Watches a range, behind all others, if there is room.
+    fn place_watch(&mut self, address: u32, count: u32) -> bool
+        ensures exact { result ≡ has_room Point.Write count (without Point.Write address count self.old.points) }
+        ensures after { self.new ≡ record self.old { points = record self.old.points { watches = if result then other_watches self.old.points address count ++ range address count ∷ [] else other_watches self.old.points address count } } }
+    {
+        let _was_set = self.walker.clear_watch(address, count);
+        self.walker.set_watch(address, count)
+    }
+
+    /// Takes a point away, if it is there.
+    fn clear(&mut self, point: Point, address: u32, count: u32)
+        ensures { self.new ≡ record self.old { points = without point address count self.old.points } }
+    {
+        match point {
+            Point::Software | Point::Hardware => {
+                let _was_set = self.walker.clear_break(address);
+            }
+            Point::Write => {
+                let _was_set = self.walker.clear_watch(address, count);
+            }
+        }
+    }
+}
+
+impl<D: Devices + Drop> Target for Served<D> {
+    ghost use Rattle.look_gdb.specs.Views.{scene_at};
+    ghost use Rattle.look_gdb.specs.Walks.{Allows, Inserts, Removes, Walks};
+
+    ghost scene = { λ v. scene_at v.run };
+
+    ghost walks = { λ v way console halt w. Walks v way console halt w };
+
+    ghost inserts = { λ v point address count set w. Inserts v point address count set w };
+
+    ghost removes = { λ v point address count w. Removes v point address count w };
+
+    ghost allows = { λ v budget w. Allows v budget w };
+
+    fn set(&self) -> Isa {
+        self.walker.machine().active.isa()
+    }
+
+    fn tell(&self, answer: Answer, buffer: &mut Vec<u8>) -> Result<(), NoMemory> {
+        let machine = self.walker.machine();
+        append_answer(
+            buffer,
+            answer,
+            &machine.active,
+            &machine.body.ram,
+            machine.body.top,
+        )
+    }
+
+    fn walk(&mut self, walk: Walk, console: &mut Vec<u8>) -> Result<Halt, NoMemory> {
+        let came = self.go(walk, console)?;
+        let ending = Ending {
+            is_told: self.is_end_told,
+            set: self.walker.machine().active.isa(),
+            goal: walk.goal,
+            budget: self.budget,
+            came,
+        };
+        append_note(self.alloc, console, ending)?;
+        self.is_end_told = self.is_end_told || does_end(came);
+        halt_for(walk.goal, came)
+    }
+
+    fn insert(&mut self, point: Point, address: u32, count: u32) -> bool {
+        match point {
+            Point::Software => self.place_break(address),
+            Point::Hardware => self.place_break(address),
+            Point::Write => self.place_watch(address, count),
+        }
+    }
+
+    fn remove(&mut self, point: Point, address: u32, count: u32) {
+        self.clear(point, address, count);
+    }
+
+    fn allow(&mut self, budget: u32) {
+        self.budget = budget;
+    }
+}
