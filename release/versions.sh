@@ -21,6 +21,6 @@ differs() { echo "versions.sh: $1 says '$2', and not '$3'" >&2; result=1; }
 for other in "mixedlook $(text_of mixedlook mixedlook/src/main.rt)" "slice_runs $library" "mixedrun.h $stated"; do
     [ "${other#* }" = "$version" ] || differs "${other%% *}" "${other#* }" "$version"
 done
-[ -n "$written" ] && [ "$magic_bytes" = "$written" ] || differs mixedrun.h "$magic_bytes" "$written"
+if [ -z "$written" ] || [ "$magic_bytes" != "$written" ]; then differs mixedrun.h "$magic_bytes" "$written"; fi
 [ "$result" = 0 ] && echo "$version, checkpoints $magic"
 exit "$result"
