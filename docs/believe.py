@@ -57,7 +57,7 @@ class Module:
                 operator = False
             elif line.startswith(('--', 'use ', 'pub use ')):
                 continue
-            elif operator or line[0].isspace():
+            elif operator or line[0].isspace() or line[0] in '})':
                 self.bodies[current].append(line)
             elif line.startswith('infix'):
                 # the lines of an operator begin with its first argument
