@@ -1,0 +1,5 @@
+//! Tests of a machine that walks forward and back until something stops it.
+#![tactic(auto)]
+
+#[cfg(test)]
+mod walks;
