@@ -7,6 +7,7 @@ ghost use Rattle.look_words.specs.inner.Sentences.{why_text as why_of};
 ghost use Rattle.look_commands.specs.inner.Told.{Answers, WritesWhy, behind};
 
 use crate::forks::fork;
+use crate::gdb::{Program, gdb};
 use crate::images::image;
 use crate::maps::{map, scan};
 use crate::runs::{Shown, end};
@@ -71,6 +72,16 @@ fn obey<F: Files, R: Read + Drop, W: Write + Drop, E: Write + Drop>(
         ),
         Ok(Look::Fork(file)) => fork(alloc, files, name_at(words, file), Fork::Resource, streams),
         Ok(Look::Data(file)) => fork(alloc, files, name_at(words, file), Fork::Data, streams),
+        Ok(Look::Gdb(input, is_traced)) => gdb(
+            alloc,
+            files,
+            words,
+            Program {
+                input: input.map(|place| name_at(words, place)),
+                is_traced,
+            },
+            streams,
+        ),
         Ok(Look::Words) => why(alloc, words, &mut streams.out),
         Ok(Look::Map) => map(alloc, files, words, streams),
         Ok(Look::Scan) => scan(alloc, files, words, streams),

@@ -12,6 +12,7 @@
 mod commands;
 mod counted;
 mod forks;
+mod gdb;
 mod images;
 mod maps;
 mod run;

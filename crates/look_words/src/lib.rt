@@ -15,6 +15,7 @@ mod look;
 mod program;
 mod request;
 mod sentence;
+mod session;
 /// The statuses of a call.
 pub mod status;
 mod unmade;

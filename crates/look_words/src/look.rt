@@ -4,6 +4,7 @@ ghost use Rattle.std.specs.String.{string_bytes};
 ghost use Rattle.look_words.specs.inner.Looks.{by_verb, command_by, count_in, draft_of, image_of, is_given as is_given_in, key_for, key_text, keys_of, look_of, made, verb_for, with_file, with_own, with_value as draft_with, with_word};
 
 use crate::program::{UNTOLD, read_end, read_map};
+use crate::session::{UNSAID, read_gdb};
 use mix_bits::{read_decimal, read_hexadecimal};
 
 /// How many bytes of memory are told, if nothing is said of it.
@@ -33,6 +34,9 @@ pub enum Look {
     End(u32, Frames),
     /// The state of a machine that was kept, or a part of its memory.
     Image(usize, Option<Span>, Frames),
+    /// A server for gdb of the program that the other words name, with the place of the word that names its input, and
+    /// whether lines of calls across are told.
+    Gdb(Option<usize>, bool),
     /// Why mixedrun refuses the words behind the first one.
     Words,
 }
@@ -80,6 +84,8 @@ pub enum Key {
     At,
     Count,
     Frames,
+    Input,
+    Trace,
 }
 
 /// A command whose words give a draft.
@@ -146,6 +152,7 @@ fn read_behind(command: &str, words: &[String]) -> Result<Look, Refusal>
         "map" => read_map(Look::Map, 1, words),
         "scan" => read_map(Look::Scan, 1, words),
         "end" => read_end(1, words, UNTOLD),
+        "gdb" => read_gdb(1, words, UNSAID),
         "words" => Ok(Look::Words),
         _ => Err(Refusal::Command),
     }
@@ -226,6 +233,8 @@ impl Key {
             Key::At => "at",
             Key::Count => "count",
             Key::Frames => "frames",
+            Key::Input => "input",
+            Key::Trace => "trace",
         }
     }
 }
@@ -237,7 +246,7 @@ fn is_given(draft: &Draft, key: Key) -> bool
         Key::Word => draft.word.is_some(),
         Key::File | Key::Image => draft.file.is_some(),
         Key::Names => draft.names.is_some(),
-        Key::Last => false,
+        Key::Last | Key::Input | Key::Trace => false,
         Key::At => draft.at.is_some(),
         Key::Count => draft.count.is_some(),
         Key::Frames => draft.frames == Frames::All,
@@ -254,7 +263,7 @@ fn set(draft: Draft, place: usize, key: Key, value: &str) -> Result<Draft, Refus
     match key {
         Key::Word | Key::At | Key::Count | Key::Frames => set_value(draft, place, key, value),
         Key::File | Key::Image | Key::Names => set_file(draft, place, key, value),
-        Key::Last => Err(Refusal::Unknown(place)),
+        Key::Last | Key::Input | Key::Trace => Err(Refusal::Unknown(place)),
     }
 }
 

@@ -2,7 +2,7 @@
 ghost use Rattle.std.specs.Prelude.{◌≡◌, ◌+◌, ◌^◌, ◌<◌, ◌++◌, [], not, IfOk, OnOk, filter, length, map};
 ghost use Rattle.std.specs.String.{string_bytes};
 ghost use Rattle.job_words.specs.Settings.{value_in};
-ghost use Rattle.look_words.specs.inner.Looks.{end_of, has_key as has_key_by, is_frames as is_frames_by, is_last as is_last_by, is_own as is_own_by, is_unmapped as is_unmapped_by, map_of, run_words as run_words_of, told_by, with_frames, with_last};
+ghost use Rattle.look_words.specs.inner.Looks.{end_of, has_key as has_key_by, is_frames as is_frames_by, is_last as is_last_by, is_own as is_own_by, is_session as is_session_by, is_unmapped as is_unmapped_by, map_of, run_words as run_words_of, told_by, with_frames, with_last};
 
 use crate::look::{Frames, Key, Look, Refusal};
 use mix_bits::{NoMemory, read_decimal};
@@ -27,7 +27,7 @@ pub const UNTOLD: Told = Told {
     frames: Frames::Few,
 };
 
-/// The words with which mixedrun runs the program that the words of `map` or `end` name.
+/// The words with which mixedrun runs the program that the words of `map`, `end` or `gdb` name.
 pub fn run_words(alloc: Global, words: &[String]) -> Result<Vec<String>, NoMemory>
     ensures { IfOk result (λ run. map string_bytes run.items ≡ run_words_of (map string_bytes words.now)) }
 {
@@ -38,7 +38,7 @@ pub fn run_words(alloc: Global, words: &[String]) -> Result<Vec<String>, NoMemor
     Ok(run)
 }
 
-/// Appends the words but those with a key of `end` itself.
+/// Appends the words but those with a key of `end` or `gdb` itself.
 fn add_words(run: &mut Vec<String>, words: &[String]) -> Result<(), NoMemory>
     ensures { OnOk result (map string_bytes run.new.items ≡ map string_bytes run.old.items ++ filter (λ word. not (is_own_by word)) (map string_bytes words.now)) }
 {
@@ -88,7 +88,7 @@ pub fn read_end(place: usize, words: &[String], told: Told) -> Result<Look, Refu
 fn read_told(place: usize, word: &str, told: Told) -> Result<Told, Refusal>
     ensures { result ≡ told_by place word.now told }
 {
-    if has_key(word, "save") {
+    if has_key(word, "save") || is_session(word) {
         Err(Refusal::Unknown(place))
     } else if is_last(word) {
         read_last(place, word, told)
@@ -138,17 +138,24 @@ pub fn value(word: &str) -> &str
 }
 
 /// Whether a word is none of `map`'s, though of a run's.
-fn is_unmapped(word: &str) -> bool
+pub fn is_unmapped(word: &str) -> bool
     ensures { result ≡ is_unmapped_by word.now }
 {
     has_key(word, "steps") || has_key(word, "save") || is_own(word)
 }
 
-/// Whether a word is `end`'s alone, and none of a run's.
+/// Whether a word is `end`'s or `gdb`'s alone, and none of a run's.
 fn is_own(word: &str) -> bool
     ensures { result ≡ is_own_by word.now }
 {
-    is_last(word) || is_frames(word)
+    is_last(word) || is_frames(word) || is_session(word)
+}
+
+/// Whether a word is `gdb`'s alone.
+fn is_session(word: &str) -> bool
+    ensures { result ≡ is_session_by word.now }
+{
+    has_key(word, "input") || has_key(word, "trace")
 }
 
 fn is_frames(word: &str) -> bool
@@ -164,7 +171,7 @@ fn is_last(word: &str) -> bool
 }
 
 /// Whether a word has a key.
-fn has_key(word: &str, key: &str) -> bool
+pub fn has_key(word: &str, key: &str) -> bool
     ensures { result ≡ has_key_by key.now word.now }
 {
     match word.split_once('=') {

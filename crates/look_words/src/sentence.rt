@@ -49,6 +49,8 @@ fn key_wants(key: Key) -> &'static str
         Key::At => "eight upper-case hexadecimal digits",
         Key::Count => "a number from 1 to 65536, in decimal without a leading zero",
         Key::Frames => "all",
+        Key::Input => "the name of a file",
+        Key::Trace => "yes or no",
     }
 }
 

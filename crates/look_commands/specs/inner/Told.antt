@@ -24,7 +24,7 @@ use Rattle.look_words.specs.inner.Looks.{look_of, run_words}
 use Rattle.look_words.specs.inner.Requests.{IsLost, is_run}
 use Rattle.look_words.specs.inner.Sentences.{why_text}
 use Rattle.look_words.specs.declared.look.Look.{Look}
-use Rattle.look_words.specs.declared.look.Look.TheVariants.{Info, Trace, Picture, Fork, Data, Map, Scan, End, Image, Words}
+use Rattle.look_words.specs.declared.look.Look.TheVariants.{Info, Trace, Picture, Fork, Data, Map, Scan, End, Image, Gdb, Words}
 use Rattle.look_words.specs.declared.look.Refusal.{Refusal}
 
 -- the words behind the first one
@@ -77,6 +77,7 @@ Tells words (Ok (Data file)) old new status = WritesFork data_fork old new statu
 Tells words (Ok Map) old new status = WritesMap (command_of (run_words words)) old new status
 Tells words (Ok Scan) old new status = Loads (is_run (command_of (run_words words))) old new status
 Tells words (Ok (End last frames)) old new status = Loads (is_run (command_of (run_words words))) old new status
+Tells words (Ok (Gdb input traced)) old new status = Loads (is_run (command_of (run_words words))) old new status
 Tells words (Ok (Trace file names)) old new status = status ≢ 2
 Tells words (Ok (Picture file names)) old new status = status ≢ 2
 Tells words (Ok (Image file span frames)) old new status = status ≢ 2

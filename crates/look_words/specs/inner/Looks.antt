@@ -9,12 +9,13 @@ use Rattle.look_words.specs.declared.look.Draft.{Draft}
 use Rattle.look_words.specs.declared.look.Frames.{Frames}
 use Rattle.look_words.specs.declared.look.Frames.TheVariants.{Few, All}
 use Rattle.look_words.specs.declared.look.Key.{Key}
-use Rattle.look_words.specs.declared.look.Key.TheVariants.{Word, File, Names, Image as image_key, Last, At, Count, Frames as frames_key}
+use Rattle.look_words.specs.declared.look.Key.TheVariants.{Word, File, Names, Image as image_key, Last, At, Count, Frames as frames_key, Input as input_key, Trace as trace_key}
 use Rattle.look_words.specs.declared.look.Look.{Look}
-use Rattle.look_words.specs.declared.look.Look.TheVariants.{Info, Trace, Picture, Fork, Data, Map, Scan, End, Image, Words}
+use Rattle.look_words.specs.declared.look.Look.TheVariants.{Info, Trace, Picture, Fork, Data, Map, Scan, End, Image, Gdb, Words}
 use Rattle.look_words.specs.declared.look.Refusal.{Refusal}
 use Rattle.look_words.specs.declared.look.Refusal.TheVariants.{Empty, Command, Unknown, Twice, Value, Missing}
 use Rattle.look_words.specs.declared.program.Told.{Told}
+use Rattle.look_words.specs.declared.session.Session.{Session}
 use Rattle.look_words.specs.declared.look.Topic.{Topic}
 use Rattle.look_words.specs.declared.look.Topic.TheVariants.{ToInfo, ToTrace, ToPicture, ToFork, ToData, ToImage}
 
@@ -24,6 +25,7 @@ pub data Verb : Type 0 where
   ToMap : Verb
   ToScan : Verb
   ToEnd : Verb
+  ToGdb : Verb
   ToWords : Verb
 
 abbrev pub topic_text : Topic → List ℕ
@@ -39,10 +41,11 @@ verb_text (Of topic) = topic_text topic
 verb_text ToMap = codes "map"
 verb_text ToScan = codes "scan"
 verb_text ToEnd = codes "end"
+verb_text ToGdb = codes "gdb"
 verb_text ToWords = codes "words"
 
 abbrev pub all_verbs : List Verb
-all_verbs = Of ToInfo ∷ (Of ToTrace ∷ (Of ToPicture ∷ (Of ToFork ∷ (Of ToData ∷ (Of ToImage ∷ (ToMap ∷ (ToScan ∷ (ToEnd ∷ (ToWords ∷ [])))))))))
+all_verbs = Of ToInfo ∷ (Of ToTrace ∷ (Of ToPicture ∷ (Of ToFork ∷ (Of ToData ∷ (Of ToImage ∷ (ToMap ∷ (ToScan ∷ (ToEnd ∷ (ToGdb ∷ (ToWords ∷ []))))))))))
 
 -- the first of some commands with this word
 abbrev pub verb_in : List Verb → List ℕ → Option Verb
@@ -70,6 +73,8 @@ key_text Last = codes "last"
 key_text At = codes "at"
 key_text Count = codes "count"
 key_text frames_key = codes "frames"
+key_text input_key = codes "input"
+key_text trace_key = codes "trace"
 
 -- the first of some keys with this text
 abbrev pub key_for : List Key → List ℕ → Option Key
@@ -96,6 +101,8 @@ is_given draft File = is_some draft.file
 is_given draft Names = is_some draft.names
 is_given draft image_key = is_some draft.file
 is_given draft Last = false
+is_given draft input_key = false
+is_given draft trace_key = false
 is_given draft At = is_some draft.at
 is_given draft Count = is_some draft.count
 is_given draft frames_key = is_all draft.frames
@@ -134,6 +141,8 @@ with_given draft place File value = with_file draft place File value
 with_given draft place image_key value = with_file draft place image_key value
 with_given draft place Names value = with_file draft place Names value
 with_given draft place Last value = Err (Unknown place)
+with_given draft place input_key value = Err (Unknown place)
+with_given draft place trace_key value = Err (Unknown place)
 with_given draft place key value = with_own draft place key value
 
 abbrev pub with_value : Draft → ℕ → Key → List ℕ → Result Draft Refusal
@@ -187,9 +196,13 @@ is_last word = has_key (codes "last") word
 abbrev pub is_frames : List ℕ → Bool
 is_frames word = has_key (codes "frames") word
 
--- whether a word is `end`'s own
+-- whether a word is `gdb`'s own
+abbrev pub is_session : List ℕ → Bool
+is_session word = has_key (codes "input") word || has_key (codes "trace") word
+
+-- whether a word is `end`'s or `gdb`'s own
 abbrev pub is_own : List ℕ → Bool
-is_own word = is_last word || is_frames word
+is_own word = is_last word || (is_frames word || is_session word)
 
 -- `map` and `scan` take the words of a run that say what is loaded, whose values mixedrun judges
 abbrev pub is_unmapped : List ℕ → Bool
@@ -226,7 +239,7 @@ with_frames place word told = frames_given place word told told.frames
 -- frames are
 abbrev pub told_by : ℕ → List ℕ → Told → Result Told Refusal
 told_by place word told =
-    if has_key (codes "save") word then Err (Unknown place)
+    if has_key (codes "save") word || is_session word then Err (Unknown place)
     else (if is_last word then with_last place word told
     else (if is_frames word then with_frames place word told else Ok told))
 
@@ -240,7 +253,44 @@ abbrev pub end_of : ℕ → List (List ℕ) → Told → Result Look Refusal
 end_of place [] told = Ok (End (unwrap_or told.last 16) told.frames)
 end_of place (word ∷ words) told = told_by place word told >>= end_of (place + 1) words
 
--- the words of mixedrun for those of `map`, `scan` and `end`
+abbrev pub input_given : ℕ → List ℕ → Session → Option ℕ → Result Session Refusal
+input_given place word session (Some old) = Err (Twice place)
+input_given place word session None =
+    if length (value_in word) == 0 then Err (Value place input_key) else Ok (record session { input = Some place })
+
+abbrev pub with_input : ℕ → List ℕ → Session → Result Session Refusal
+with_input place word session = input_given place word session session.input
+
+abbrev pub trace_said : List ℕ → Option Bool
+trace_said value = if bytes_eq value (codes "yes") then Some true else (if bytes_eq value (codes "no") then Some false else None)
+
+abbrev pub trace_given : ℕ → List ℕ → Session → Option Bool → Result Session Refusal
+trace_given place word session (Some old) = Err (Twice place)
+trace_given place word session None =
+    ok_or (trace_said (value_in word)) (Value place trace_key) >>= λ trace. Ok (record session { trace = Some trace })
+
+abbrev pub with_trace : ℕ → List ℕ → Session → Result Session Refusal
+with_trace place word session = trace_given place word session session.trace
+
+-- `gdb` takes the words of a run that say what is loaded, and two of its own: which file is the input, and whether lines of
+-- calls across are told
+abbrev pub session_by : ℕ → List ℕ → Session → Result Session Refusal
+session_by place word session =
+    if has_key (codes "input") word then with_input place word session
+    else (if has_key (codes "trace") word then with_trace place word session
+    else (if is_unmapped word then Err (Unknown place) else Ok session))
+
+abbrev pub unsaid : Session
+unsaid = record {
+  input = None;
+  trace = None;
+}
+
+abbrev pub gdb_of : ℕ → List (List ℕ) → Session → Result Look Refusal
+gdb_of place [] session = Ok (Gdb session.input (unwrap_or session.trace false))
+gdb_of place (word ∷ words) session = session_by place word session >>= gdb_of (place + 1) words
+
+-- the words of mixedrun for those of `map`, `scan`, `end` and `gdb`
 abbrev pub run_words : List (List ℕ) → List (List ℕ)
 run_words [] = codes "run" ∷ []
 run_words (command ∷ words) = codes "run" ∷ filter (λ word. not (is_own word)) words
@@ -251,6 +301,7 @@ by_verb (Some (Of topic)) words = command_by topic words
 by_verb (Some ToMap) words = map_of Map 1 words
 by_verb (Some ToScan) words = map_of Scan 1 words
 by_verb (Some ToEnd) words = end_of 1 words untold
+by_verb (Some ToGdb) words = gdb_of 1 words unsaid
 by_verb (Some ToWords) words = Ok Words
 by_verb None words = Err Command
 

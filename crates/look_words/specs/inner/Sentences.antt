@@ -8,7 +8,7 @@ use Rattle.look_text.specs.inner.Whys.{at_place}
 use Rattle.look_text.specs.declared.label.Label.{Label}
 use Rattle.look_text.specs.declared.label.Label.TheVariants.{Flat, Rsrc, Pef}
 use Rattle.look_words.specs.declared.look.Key.{Key}
-use Rattle.look_words.specs.declared.look.Key.TheVariants.{Word, File, Names, Image, Last, At, Count, Frames}
+use Rattle.look_words.specs.declared.look.Key.TheVariants.{Word, File, Names, Image, Last, At, Count, Frames, Input, Trace}
 use Rattle.look_words.specs.declared.look.Refusal.{Refusal}
 use Rattle.look_words.specs.declared.look.Refusal.TheVariants.{Empty as no_word, Command as no_command, Unknown, Twice, Value as bad_value, Missing as missing_key}
 use Rattle.look_text.specs.declared.why.Why.{Why}
@@ -24,6 +24,8 @@ key_wants Last = codes "a number from " ++ range_text 0 most_told
 key_wants At = codes "eight upper-case hexadecimal digits"
 key_wants Count = codes "a number from " ++ range_text 1 most_bytes
 key_wants Frames = codes "all"
+key_wants Input = codes "the name of a file"
+key_wants Trace = codes "yes or no"
 
 -- why mixedlook refuses words
 abbrev pub refusal_text : List (List ℕ) → Refusal → List ℕ
