@@ -37,4 +37,27 @@ for words in samples/*/words; do
     [ "$result" = ok ] || failed=$((failed + 1))
 done
 
+# The sample for gdb is made anew, and gdb follows its script with the program mixedlook of the same folder.
+talk_with_gdb() {
+    make -C samples/gdb >"$kept/make" 2>&1 || return 1
+    sed "s,\./mixedlook,$looker," samples/gdb/script >"$kept/script"
+    gdb-multiarch -nx -batch -x "$kept/script" 2>&1 | sed "s,$looker,./mixedlook,; s,$PWD/,," >"$kept/stdout"
+    make -C samples/gdb clean >"$kept/make"
+    cmp -s "$kept/stdout" samples/gdb/expected/stdout
+}
+
+looker=$(echo "$program" | sed 's,mixedrun\([^/]*\)$,mixedlook\1,')
+missing=
+for tool in gdb-multiarch make m68k-linux-gnu-gcc powerpc-linux-gnu-gcc "$looker"; do
+    command -v "$tool" >"$kept/tool" || missing=$tool
+done
+if [ -n "$missing" ]; then
+    echo "gdb: skipped, without $missing"
+elif talk_with_gdb; then
+    echo "gdb: ok"
+else
+    echo "gdb: stdout differs"
+    failed=$((failed + 1))
+fi
+
 [ "$failed" = 0 ] || { echo "$failed samples failed"; exit 1; }

@@ -19,6 +19,7 @@ usage: mixedlook map FILES [main=68k|ppc] [ram=KIB]
        mixedlook scan FILES [main=68k|ppc] [ram=KIB]
        mixedlook end FILES [main=68k|ppc] [ram=KIB] [steps=N] [last=K]
                      [frames=all]
+       mixedlook gdb FILES [main=68k|ppc] [ram=KIB] [input=F] [trace=yes|no]
        mixedlook image image=IMAGE [frames=all]
        mixedlook image image=IMAGE at=HHHHHHHH [count=N]
        mixedlook info word=HHHHHHHH
@@ -36,7 +37,8 @@ scan says what a program would ask for, by its files alone: the traps in its
 container imports; end runs a program as mixedrun does, and writes behind its
 trace how it ended, in words, its last steps and its last jump, how low each
 stack pointer came, the registers, the suspended callers, the stack and the
-heap; image writes the same of a machine that was kept, or a part of its
+heap; gdb lets gdb walk the program forward and back, over standard input and
+output; image writes the same of a machine that was kept, or a part of its
 memory; info says what a procInfo word declares, and where 68K code and PowerPC
 code have each value; trace writes a trace as an indented tree and counts the
 calls across; picture writes it as an SVG file; fork writes the raw resource
@@ -47,6 +49,8 @@ data fork; words says why mixedrun refuses these words.
                  equal ones behind each other count as one
   frames=all     all suspended callers are told, and not the first and the last
                  eight alone
+  input=F        the file that is the program's input (default: none)
+  trace=yes      the lines of calls across come to gdb's console, too
   image=IMAGE    a machine that mixedrun kept
   at=HHHHHHHH    the address of the first byte that is written
   count=N        how many are written, 1 to 65536 (default 256)
