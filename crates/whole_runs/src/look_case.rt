@@ -1,4 +1,5 @@
 // Cases of mixedlook: its words, and the streams that they ask for.
+use crate::packets::{append_packets, packet_lines};
 use crate::streams::{Input, Output};
 use crate::text::{hexadecimal, text_of};
 use crate::words::{no_memory, numbers, value_of};
@@ -17,11 +18,15 @@ struct Case {
 }
 
 fn read_case(alloc: Global, line: &str) -> io::Result<Case> {
-    let input = value_of(line, "@input").unwrap_or("").as_bytes();
+    let mut input = value_of(line, "@input")
+        .unwrap_or("")
+        .as_bytes()
+        .to_vec(alloc)?;
+    append_packets(&mut input, line)?;
     Ok(Case {
         words: words_of(alloc, line)?,
         streams: Streams {
-            input: Input::new(input.to_vec(alloc)?, numbers(alloc, line, "@in")?),
+            input: Input::new(input, numbers(alloc, line, "@in")?),
             out: writer(alloc, line, "@out")?,
             errors: writer(alloc, line, "@errors")?,
         },
@@ -66,6 +71,7 @@ fn output(alloc: Global, case: &Case) -> io::Result<String> {
             let digits = hexadecimal(alloc, bytes)?;
             Ok(format!(in alloc; "output {digits}\n")?)
         }
+        Some(word) if word.as_str() == "gdb" => packet_lines(alloc, bytes),
         _ => text_of(alloc, bytes),
     }
 }

@@ -23,8 +23,8 @@
 //! speak of the streams, `@KEY=VALUE`: `@input=TEXT` is what the input has, and `@in=N`, `@out=N` and `@errors=N` have the
 //! number of the read of the input, or of the write to the output or the errors, that fails, counted from 1. The input
 //! gives a byte at each read. Of each such case the output is written, for `fork`, `data` and `end` in hexadecimal
-//! digits, then
-//! the errors, and the status.
+//! digits, then the errors, and the status. What gdb sends stands as `@send=DATA`, a packet each, of which the sum is made
+//! here; what `gdb` answers is written with a line for each packet.
 //!
 //! The answers that are stored beside this program were not made by it. They were worked out from the rules
 //! in `docs/`: by hand the addresses, steps and lines of each small program, and by a reader of forks and
@@ -39,6 +39,7 @@ mod cut;
 mod images;
 mod look_case;
 mod outside;
+mod packets;
 mod run;
 mod streams;
 mod sweep;
