@@ -5,7 +5,7 @@
  * docs/machine.md says what the machine is, docs/files.md what files and images are. What a call ends with is proved
  * (docs/library.md); what follows here is owed by the caller, and nothing checks it:
  *
- * - Each pointer points to as many bytes as the length behind it says. It is never NULL, also where that length is 0:
+ * - Each pointer points to as many bytes, `longs` to as many longs, as the length behind it says. It is never NULL, also where that length is 0:
  *   pass the address of any byte then.
  * - A buffer that is written, and `told`, meet no other bytes of the same call. Slices that are only read may meet.
  * - No other thread writes these bytes during the call, or reads what is written. Several calls at once, each over its own
@@ -67,8 +67,8 @@ typedef struct mixedrun_told {
  * devices: a counter in slot 0 and a tape in slot 1. `kib` is the size of RAM, 128 to 16384. `second` is used with
  * MIXEDRUN_FORK_AND_CONTAINER alone. A file has at most 16 MiB.
  *
- * Where `kept` has room and all steps were done, the machine is kept there: an image, which has at most 17825792 bytes and
- * at least 165. With `steps` 0 that is the machine at its start.
+ * Where `kept` has room and all steps were done, the machine is kept there: an image, which has at most 17825792
+ * bytes. With `steps` 0 that is the machine at its start.
  */
 uint8_t mixedrun_run(uint32_t kind, uint32_t main_set, uint32_t kib, uint32_t steps,
                      const uint8_t *first, size_t first_length,
