@@ -1,5 +1,5 @@
 ghost use Rattle.std.specs.Prelude.{◌≡◌, ◌<◌};
-ghost use Rattle.proc_info.specs.Codes.{conv_among as conv_among_of, conv_at, dispatch_of, is_dispatched, number_of, row as row_of, shape_of, stack_shape as stack_shape_of};
+ghost use Rattle.proc_info.specs.Codes.{conv_at, dispatch_of, is_dispatched, number_of, row as row_of, shape_of, stack_shape as stack_shape_of};
 ghost use Rattle.proc_info.specs.CodesClauses.{conv_code};
 ghost use Rattle.proc_info.specs.Routes.{route_of};
 
@@ -75,11 +75,20 @@ pub enum Shape {
 }
 
 impl Conv {
-    /// The convention with this number in bits 0 to 3.
+    /// The convention with this number in bits 0 to 3: the rows' numbers as a match, which takes no walk at each call.
     pub fn at(code: u32) -> Result<Conv, BadInfo>
         ensures { result ≡ conv_at code }
     {
-        conv_among(&CONVENTIONS, code)
+        match code {
+            0 => Ok(Conv::Pascal),
+            1 => Ok(Conv::C),
+            2 => Ok(Conv::Register),
+            8 => Ok(Conv::D0Pascal),
+            9 => Ok(Conv::D0C),
+            12 => Ok(Conv::D1Pascal),
+            14 => Ok(Conv::StackPascal),
+            _ => Err(BadInfo::Convention),
+        }
     }
 
     /// Its place in the table.
@@ -138,22 +147,6 @@ impl Conv {
             Shape::Stack => false,
             Shape::Dispatched => true,
             Shape::Registers => false,
-        }
-    }
-}
-
-/// The first convention with this number among some.
-fn conv_among(rows: &[Row], code: u32) -> Result<Conv, BadInfo>
-    ensures { result ≡ conv_among_of code rows.now }
-{
-    match rows {
-        [] => Err(BadInfo::Convention),
-        [row, rest @ ..] => {
-            if code == row.1 {
-                Ok(row.0)
-            } else {
-                conv_among(rest, code)
-            }
         }
     }
 }
