@@ -12,7 +12,7 @@ use Rattle.m68_isa.specs.declared.found.Found.TheVariants.{Made, Privileged as R
 use Rattle.m68_isa.specs.declared.op.Op68.{Op68}
 use Rattle.m68_isa.specs.First.{First, first_of}
 use Rattle.m68_isa.specs.Made.{made}
-use Rattle.m68_isa.specs.Decode.{operation}
+use Rattle.m68_isa.specs.Operations.{operation}
 use Rattle.m68_text.specs.declared.operand.Operand.{Operand}
 use Rattle.m68_text.specs.declared.operand.Operand.TheVariants.{Data, Pair, Address, Indirect, PostIncrement, PreDecrement, Displaced, Indexed, ShortAddress, LongAddress, PcDisplaced, PcIndexed, Byte, Word, Long, Number, ConditionCodes, StatusRegister, Target}
 use Rattle.m68_text.specs.Names.{name}

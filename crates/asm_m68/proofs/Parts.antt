@@ -9,7 +9,7 @@ use Rattle.mix_bits.proofs.Every.{every_at}
 use Rattle.m68_isa.specs.declared.op.Op68.{Op68}
 use Rattle.m68_isa.specs.declared.op.Op68.TheVariants.{BraByte, BraWord, BraLong, BsrByte, BsrWord, BsrLong, BccByte, BccWord, BccLong, Illegal}
 use Rattle.m68_isa.specs.Branches.{is_short}
-use Rattle.m68_isa.specs.Decode.{operation}
+use Rattle.m68_isa.specs.Operations.{operation}
 use Rattle.m68_isa.specs.First.{First, first_of, low_byte}
 
 abbrev pub first : ℕ → ℕ → ℕ → ℕ → ℕ → ℕ → First

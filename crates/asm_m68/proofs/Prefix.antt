@@ -1,5 +1,5 @@
 -- The words behind an instruction say nothing of it.
-use Rattle.std.proofs.Common.{◌≡◌, ℕ, zero, suc, ◌<◌, ◌≤◌, nat_lt, List, [], ◌∷◌, length, take, slice_index, Bool, true, false, if◌then◌else◌, arith, refl, ap, subst, ◌∙◌}
+use Rattle.std.proofs.Common.{◌≡◌, ℕ, zero, suc, ◌<◌, ◌≤◌, nat_lt, List, [], ◌∷◌, length, take, slice_index, Bool, true, false, if◌then◌else◌, arith, refl, ap, subst, sym, ◌∙◌}
 use Rattle.std.proofs.lemmas.Bool.Decides.{nat_tests}
 use Rattle.m68_isa.specs.declared.found.Found.{Found}
 use Rattle.m68_isa.specs.declared.found.Found.TheVariants.{Made, Privileged as RowPrivileged, Illegal as RowIllegal}
@@ -8,10 +8,12 @@ use Rattle.m68_isa.specs.declared.instructions.Decoded68.TheVariants.{Op, LineA,
 use Rattle.m68_isa.specs.declared.instructions.Instr68.{Instr68}
 use Rattle.m68_isa.specs.declared.op.Op68.{Op68}
 use Rattle.m68_isa.specs.declared.op.Op68.TheVariants.{LineA as OpLineA, LineF as OpLineF}
-use Rattle.m68_isa.specs.Decode.{decoded, ended, operation, read}
+use Rattle.m68_isa.specs.Decode.{decoded, ended}
+use Rattle.m68_isa.specs.Operations.{operation, read}
 use Rattle.m68_isa.specs.First.{First, first_of}
 use Rattle.m68_isa.specs.inner.First.{IsFirst}
 use Rattle.m68_isa.specs.Made.{made}
+use Rattle.m68_isa.proofs.ByOperation.{by_operation}
 use Rattle.m68_text.specs.Operands.{operands}
 use Rattle.asm_m68.specs.laws.Assembly.{count_of}
 use Rattle.asm_m68.specs.laws.AssemblyLaws.{NoneIsMissing}
@@ -91,7 +93,7 @@ taken_alone at w ws i (suc m) is fits same =
     let count : length (take (suc m) (w ∷ ws)) ≡ suc m = take_length (w ∷ ws) (suc m) fits in
     record {
       count = count;
-      decodes = read_of (operation f) f (w ∷ ws) (w ∷ take m ws) i (suc m) is same.made count;
+      decodes = by_operation w (take m ws) ∙ read_of (operation f) f (w ∷ ws) (w ∷ take m ws) i (suc m) (sym (by_operation w ws) ∙ is) same.made count;
       told = same.told;
     }
 
@@ -99,14 +101,14 @@ pub alone : (at : ℕ) (ws : List ℕ) (i : Instr68) (used : ℕ) → slice_inde
 alone at [] i used below is = cc
 alone at (w ∷ ws) i used below is =
     let f : First = first_of w in
-    let whole : Whole (made (operation f) f (w ∷ ws)) (length (w ∷ ws)) i used = read_whole (operation f) f (w ∷ ws) i used is in
+    let whole : Whole (made (operation f) f (w ∷ ws)) (length (w ∷ ws)) i used = read_whole (operation f) f (w ∷ ws) i used (sym (by_operation w ws) ∙ is) in
     taken_alone at w ws i used is whole.fits
     (made_same at (w ∷ ws) (take used (w ∷ ws)) (made (operation f) f (w ∷ ws)) (made (operation f) f (take used (w ∷ ws))) i used true (same at (w ∷ ws) (take used (w ∷ ws)) f (first_is w below) (operation f)) whole.made (record { same = λ k h. take_same (w ∷ ws) used k h }))
 
 -- No word of an instruction is missing.
 
 op_whole : (w : ℕ) (ws : List ℕ) (i : Instr68) (used : ℕ) → decoded (w ∷ ws) ≡ Op i used → used ≤ length (w ∷ ws)
-op_whole w ws i used is = let f = first_of w in (read_whole (operation f) f (w ∷ ws) i used is).fits
+op_whole w ws i used is = let f = first_of w in (read_whole (operation f) f (w ∷ ws) i used (sym (by_operation w ws) ∙ is)).fits
 
 count_whole : (d : Decoded68) (w : ℕ) (ws : List ℕ) → decoded (w ∷ ws) ≡ d → count_of d ≤ length (w ∷ ws)
 count_whole (Op i used) w ws is = op_whole w ws i used is

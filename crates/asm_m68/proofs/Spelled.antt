@@ -1,5 +1,5 @@
 -- The text of an instruction spells its words.
-use Rattle.std.proofs.Common.{◌≡◌, ℕ, zero, suc, ◌+◌, ◌-◌, ◌%◌, ◌<◌, nat_lt, List, [], ◌∷◌, ◌++◌, map, length, take, drop, slice_index, Bool, true, false, Some, if◌then◌else◌, arith, refl, ap, subst, ◌∙◌}
+use Rattle.std.proofs.Common.{◌≡◌, ℕ, zero, suc, ◌+◌, ◌-◌, ◌%◌, ◌<◌, nat_lt, List, [], ◌∷◌, ◌++◌, map, length, take, drop, slice_index, Bool, true, false, Some, if◌then◌else◌, arith, refl, ap, subst, sym, ◌∙◌}
 use Rattle.std.proofs.Math.Seq.{take-append_seam}
 use Rattle.mix_bits.specs.laws.Names.{ends_name, rest_of}
 use Rattle.mix_bits.specs.Names.{name_of}
@@ -11,9 +11,11 @@ use Rattle.m68_isa.specs.declared.instructions.Decoded68.TheVariants.{Op, Illega
 use Rattle.m68_isa.specs.declared.op.Op68.{Op68}
 use Rattle.m68_isa.specs.declared.op.Op68.TheVariants.{LineA, LineF}
 use Rattle.m68_isa.specs.declared.instructions.Instr68.{Instr68}
-use Rattle.m68_isa.specs.Decode.{ended, operation, read as read_by}
+use Rattle.m68_isa.specs.Decode.{ended}
+use Rattle.m68_isa.specs.Operations.{operation, read as read_by}
 use Rattle.m68_isa.specs.First.{first_of, low_byte}
 use Rattle.m68_isa.specs.Made.{made}
+use Rattle.m68_isa.proofs.ByOperation.{by_operation}
 use Rattle.m68_text.specs.declared.operand.Operand.{Operand}
 use Rattle.m68_text.specs.declared.operand.Operand.TheVariants.{Word}
 use Rattle.m68_text.specs.Names.{name}
@@ -211,6 +213,6 @@ pub texts_spell : TextsSpell
 texts_spell at [] i fits are is = cc
 texts_spell at (w ∷ ws) i fits are is =
     let f : First = first_of w in
-    let by : IsMade (made (operation f) f (w ∷ ws)) i (length (w ∷ ws)) = read_made (operation f) f (w ∷ ws) i (length (w ∷ ws)) is in
+    let by : IsMade (made (operation f) f (w ∷ ws)) i (length (w ∷ ws)) = read_made (operation f) f (w ∷ ws) i (length (w ∷ ws)) (sym (by_operation w ws) ∙ is) in
     spelled_text at w ws i (first_spelled w ws at i (length (w ∷ ws)) true are.0 by) are.0
     (made_tells at (w ∷ ws) (made (operation f) f (w ∷ ws)) i (length (w ∷ ws)) (tells at (w ∷ ws) f (given at w ws fits are) (operation f) (asked w are.0)) by)

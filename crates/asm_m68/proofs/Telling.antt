@@ -13,7 +13,7 @@ use Rattle.m68_isa.specs.Arithmetic.{exchange}
 use Rattle.m68_isa.specs.Branches.{branch_byte}
 use Rattle.m68_isa.specs.Classes.{in_class}
 use Rattle.m68_isa.specs.Classes.Class.{DataAlterable, Control, ControlAlterable}
-use Rattle.m68_isa.specs.Decode.{operation}
+use Rattle.m68_isa.specs.Operations.{operation}
 use Rattle.m68_isa.specs.First.{First, condition_of, first_of, long_or_word, low_byte, one_to_eight, size_of}
 use Rattle.m68_isa.specs.Immediates.{bit_class, bit_op, immediate_with, is_immediate}
 use Rattle.m68_isa.specs.Made.{made}

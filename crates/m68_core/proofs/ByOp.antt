@@ -1,5 +1,5 @@
 -- What a step does is what the operation of its first word does, where no word is missing.
-use Rattle.std.proofs.Common.{◌≡◌, ℕ, ◌≢◌, ◌*◌, ◌%◌, ◌<◌, ◌≤◌, ◌⊎◌, ◌∙◌, Bool, true, false, List, [], ◌∷◌, length, take, drop, slice_index, refl, sym, ap, subst, arith}
+use Rattle.std.proofs.Common.{◌≡◌, ℕ, zero, suc, ◌≢◌, ◌*◌, ◌%◌, ◌<◌, ◌≤◌, ◌⊎◌, ◌∙◌, Bool, true, false, List, [], ◌∷◌, length, take, drop, slice_index, refl, sym, ap, subst, arith}
 use Rattle.std.proofs.lemmas.List.{length-take-le}
 use Rattle.mix_bits.specs.Addresses.{onward}
 use Rattle.mix_bits.specs.declared.fault.FaultKind.TheVariants.{Odd, Outside}
@@ -9,7 +9,8 @@ use Rattle.m68_isa.specs.declared.instructions.Decoded68.TheVariants.{Short, Lin
 use Rattle.m68_isa.specs.declared.found.Found.{Found}
 use Rattle.m68_isa.specs.declared.found.Found.TheVariants.{Made, Privileged as NotAllowed, Illegal as NoInstruction}
 use Rattle.m68_isa.specs.First.{first_of}
-use Rattle.m68_isa.specs.Decode.{ended, operation, read, decoded}
+use Rattle.m68_isa.specs.Decode.{ended, decoded}
+use Rattle.m68_isa.specs.Operations.{operation, read}
 use Rattle.m68_isa.specs.declared.op.Op68.{Op68}
 use Rattle.m68_isa.specs.declared.op.Op68.TheVariants.{Ori, Andi, Subi, Addi, Eori, Cmpi, LogicToCcr, BitByNumber, BitByRegister, Movep, MoveByte, MoveWord, MoveLong, MoveaWord, MoveaLong, Negx, Clr, Neg, Not, MoveFromSr, MoveToCcr, Nbcd, Swap, Pea, Ext, ExtByte, MovemToMemory, MovemFromMemory, MulLong, DivLong, Tst, Tas, Trap, Link, LinkLong, Unlk, Nop, Rtd, Rts, Trapv, Rtr, Jsr, Jmp, Chk, Lea, Addq, Subq, Scc, Dbcc, BraByte, BraWord, BraLong, BsrByte, BsrWord, BsrLong, BccByte, BccWord, BccLong, Moveq, OrToRegister, OrToMemory, Divu, Divs, Sbcd, SubToRegister, SubToMemory, Suba, Subx, Cmp, Cmpa, Eor, Cmpm, AndToRegister, AndToMemory, Mulu, Muls, Abcd, Exg, AddToRegister, AddToMemory, Adda, Addx, Shift, ShiftMemory, Illegal, Privileged, LineA, LineF}
 use Rattle.m68_isa.specs.Made.{made}
@@ -129,8 +130,8 @@ list-of : (w : ℕ) (ws : List ℕ) → 0 < length ws → w ≡ slice_index ws 0
 list-of w [] some first = absurd (omega (arith, some))
 list-of w (v ∷ vs) some first = ap (λ x. x ∷ vs) (sym first)
 
-is-read : (op : Op68) (w : ℕ) (ws : List ℕ) → op ≡ operation (first_of w) → ws ≡ w ∷ drop 1 ws → decoded ws ≡ read op (first_of w) ws
-is-read op w ws its is = ap decoded is ∙ (ap (λ o. read o (first_of w) (w ∷ drop 1 ws)) (sym its) ∙ ap (read op (first_of w)) (sym is))
+is-read : (laws : OpLaws) (op : Op68) (w : ℕ) (ws : List ℕ) → op ≡ operation (first_of w) → ws ≡ w ∷ drop 1 ws → decoded ws ≡ read op (first_of w) ws
+is-read laws op w ws its is = ap decoded is ∙ laws.by_operation w (drop 1 ws) ∙ (ap (λ o. read o (first_of w) (w ∷ drop 1 ws)) (sym its) ∙ ap (read op (first_of w)) (sym is))
 
 now-there : (ws : List ℕ) (d : Decoded68) → decoded ws ≡ d → IsThere ws → (5 ≤ length ws) ⊎ (d ≢ Short)
 now-there ws d is there = subst (λ x. (5 ≤ length ws) ⊎ (x ≢ Short)) is there
@@ -142,7 +143,7 @@ even-goes r m even = rw even refl
 pub step_by_op : (laws : OpLaws) (r : Regs68) (m : Memory) (w : ℕ) (op : Op68) → r.pc % 2 ≡ 0 → IsFirst w (words_at m r.pc) → IsThere (words_at m r.pc) → op ≡ operation (first_of w)
     → stepped r m ≡ by_op op r m w
 step_by_op laws r m w op even (some, first) there its =
-    let is : decoded (words_at m r.pc) ≡ read op (first_of w) (words_at m r.pc) = is-read op w (words_at m r.pc) its (list-of w (words_at m r.pc) some first) in
+    let is : decoded (words_at m r.pc) ≡ read op (first_of w) (words_at m r.pc) = is-read laws op w (words_at m r.pc) its (list-of w (words_at m r.pc) some first) in
     even-goes r m even ∙ (ap (runs_decoded r m (words_at m r.pc)) is ∙ read-runs laws r m w op first (now-there (words_at m r.pc) _ is there))
 
 -- a step that is none of an operation: the program is at an odd address, or a word of its instruction is missing
@@ -160,3 +161,24 @@ step_short r m count words short even most are is tells =
     let none : decoded (words_at m r.pc) ≡ Short = ap decoded (sym are) ∙ short-is short _ is tells in
     let long : length (words_at m r.pc) ≡ count = ap length (sym are) ∙ length-take-le count words most in
     even-goes r m even ∙ (ap (runs_decoded r m (words_at m r.pc)) none ∙ ap (λ k. stops r Outside (onward r.pc (2 * k))) long)
+
+-- the words that were read are all of the instruction where they do not end too early
+not-short : (short : Bool) (d : Decoded68) → short ≡ false → TellsShort short d → d ≢ Short
+not-short true d is tells = cc
+not-short false d is tells = tells
+
+pub none_missing : (count : ℕ) (words ws : List ℕ) (short : Bool) → take count words ≡ ws → short ≡ false → TellsShort short (decoded (take count words)) → decoded ws ≢ Short
+none_missing count words ws short are is tells = subst (λ (vs : List ℕ). decoded vs ≢ Short) are (not-short short _ is tells)
+
+some-word : (ws : List ℕ) → decoded ws ≢ Short → 0 < length ws
+some-word [] there = absurd (there refl)
+some-word (w ∷ ws) there = omega arith
+
+front : (count : ℕ) (words ws : List ℕ) → take count words ≡ ws → 0 < length ws → slice_index words 0 ≡ slice_index ws 0
+front zero words ws are some = absurd (let none : 0 ≡ length ws = ap length are in omega (arith, some, none))
+front (suc n) [] ws are some = absurd (let none : 0 ≡ length ws = ap length are in omega (arith, some, none))
+front (suc n) (w ∷ words) ws are some = ap (λ (vs : List ℕ). slice_index vs 0) are
+
+-- and the first of them is the program's
+pub first_there : (count : ℕ) (words ws : List ℕ) (word : ℕ) → word ≡ slice_index words 0 → take count words ≡ ws → decoded ws ≢ Short → IsFirst word ws
+first_there count words ws word is are there = let some = some-word ws there in (some, is ∙ front count words ws are some)

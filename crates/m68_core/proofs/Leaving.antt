@@ -10,7 +10,9 @@ use Rattle.m68_isa.specs.declared.op.Op68.{Op68}
 use Rattle.m68_isa.specs.declared.op.Op68.TheVariants.{LineA as OpLineA, LineF as OpLineF}
 use Rattle.m68_isa.specs.First.{First, first_of}
 use Rattle.m68_isa.specs.Made.{made}
-use Rattle.m68_isa.specs.Decode.{ended, operation, read, decoded}
+use Rattle.m68_isa.specs.Decode.{ended, decoded}
+use Rattle.m68_isa.specs.Operations.{operation, read}
+use Rattle.m68_isa.proofs.ByOperation.{by_operation}
 use Rattle.big_memory.specs.declared.steps.Did.{Did}
 use Rattle.big_memory.specs.declared.steps.Did.TheVariants.{Leave}
 use Rattle.big_memory.specs.Memory.{Memory}
@@ -50,7 +52,7 @@ read-leaves op f ws n is = absurd (ended-stays (made op f ws) (length ws) n is)
 
 decoded-leaves : (ws : List ℕ) (n : ℕ) → decoded ws ≡ LineA n → n ≡ slice_index ws 0
 decoded-leaves [] n is = cc
-decoded-leaves (w ∷ ws) n is = let f = first_of w in read-leaves (operation f) f (w ∷ ws) n is
+decoded-leaves (w ∷ ws) n is = let f = first_of w in read-leaves (operation f) f (w ∷ ws) n (sym (by_operation w ws) ∙ is)
 
 odd-or : (odd : Bool) (fault : Fault) (x : After Regs68) (n : ℕ) → (if odd then Stops fault else x) ≡ Leaves n → x ≡ Leaves n
 odd-or true fault x n is = cc

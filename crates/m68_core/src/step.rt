@@ -2,7 +2,7 @@ ghost use Rattle.std.specs.Prelude.{◌≡◌, ◌%◌, ◌<◌, ◌^◌};
 ghost use Rattle.big_memory.specs.StepsClauses.{Does};
 ghost use Rattle.m68_ea.specs.Words.{words_at};
 ghost use Rattle.m68_effects.specs.Step.{stepped};
-ghost use Rattle.m68_isa.specs.Decode.{operation};
+ghost use Rattle.m68_isa.specs.Operations.{operation};
 ghost use Rattle.m68_isa.specs.First.{first_of};
 ghost use Rattle.m68_isa.specs.laws.Fits.{Fits};
 ghost use Rattle.m68_core.specs.laws.Edge.{IsFirst, IsThere};

@@ -4,7 +4,7 @@ use Rattle.std.proofs.lemmas.Bool.Decides.{nat_tests}
 use Rattle.m68_isa.specs.declared.op.Op68.TheVariants.{Illegal}
 use Rattle.m68_isa.specs.First.{first_of}
 use Rattle.m68_isa.specs.Immediates.{has_logic, is_immediate, is_sized_alterable}
-use Rattle.m68_isa.specs.Decode.{operation}
+use Rattle.m68_isa.specs.Operations.{operation}
 
 pub apart : (n k : ℕ) → n ≢ k → (n == k) ≡ false
 apart n k other = grind (arith, nat_tests, other)

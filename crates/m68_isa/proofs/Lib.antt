@@ -6,5 +6,6 @@ pub mod Absent
 pub mod ClassBits
 mod Words
 mod Used
+pub mod ByOperation
 pub mod Whole
 pub mod ByLetter

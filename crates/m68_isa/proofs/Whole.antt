@@ -1,17 +1,19 @@
 -- An operation with all its words is what it makes of them.
-use Rattle.std.proofs.Common.{ℕ, ◌≡◌, ◌≢◌, ◌≤◌, ◌⊎◌, inl, inr, nat_lt, Bool, true, false, if◌then◌else◌, List, ◌∷◌, length, refl, ap, ◌∙◌, arith}
+use Rattle.std.proofs.Common.{ℕ, ◌≡◌, ◌≢◌, ◌≤◌, ◌⊎◌, inl, inr, nat_lt, Bool, true, false, if◌then◌else◌, List, ◌∷◌, length, refl, ap, sym, ◌∙◌, arith}
 use Rattle.std.proofs.lemmas.Bool.Decides.{nat_tests}
 use Rattle.m68_isa.specs.declared.instructions.Instr68.{Instr68}
 use Rattle.m68_isa.specs.declared.instructions.Decoded68.TheVariants.{Op, Short, Illegal as NoInstruction}
 use Rattle.m68_isa.specs.declared.found.Found.{Found}
 use Rattle.m68_isa.specs.declared.found.Found.TheVariants.{Made, Privileged, Illegal}
-use Rattle.m68_isa.specs.Decode.{ended, operation, read}
+use Rattle.m68_isa.specs.Decode.{ended}
+use Rattle.m68_isa.specs.Operations.{operation, read}
 use Rattle.m68_isa.specs.First.{First, first_of}
 use Rattle.m68_isa.specs.declared.op.Op68.{Op68}
 use Rattle.m68_isa.specs.declared.op.Op68.TheVariants.{LineA, LineF}
 use Rattle.m68_isa.specs.Made.{made}
 use Rattle.m68_isa.specs.laws.Needs.{used_by, HasUsed, AreSame, whole, IsKept}
 use Rattle.m68_isa.proofs.Used.{keeps}
+use Rattle.m68_isa.proofs.ByOperation.{by_operation}
 
 enough : (used count : ℕ) → used ≤ count → nat_lt count used ≡ false
 enough used count many = grind (arith, nat_tests)
@@ -59,4 +61,5 @@ read_again LineF f ws us i used is same many = cc
 read_again op f ws us i used is same many = ended_again (made op f ws) (made op f us) (length ws) (length us) ws us i used (keeps op f ws us).1 is same many
 
 pub kept : (w : ℕ) → IsKept w
-kept w ws us i used is same many = let f = first_of w in read_again (operation f) f (w ∷ ws) (w ∷ us) i used is same many
+kept w ws us i used is same many =
+    let f = first_of w in by_operation w us ∙ read_again (operation f) f (w ∷ ws) (w ∷ us) i used (sym (by_operation w ws) ∙ is) same many

@@ -4,14 +4,14 @@
 use Rattle.std.specs.Prelude.{ℕ, ◌==◌, ◌&&◌, ◌||◌, not, nat_lt, Bool, List, [], ◌∷◌}
 use Rattle.mix_bits.specs.Sizes.{sign_extended}
 use Rattle.mix_bits.specs.declared.size.Size.TheVariants.{One}
-use Rattle.m68_isa.specs.declared.instructions.Instr68.TheVariants.{Bcc, BccLong}
+use Rattle.m68_isa.specs.declared.instructions.QuickOp.TheVariants as QuickBy
+use Rattle.m68_isa.specs.declared.instructions.Instr68.TheVariants.{Quick, Scc, Dbcc, Bcc, BccLong, Moveq}
 use Rattle.m68_isa.specs.declared.found.Found.{Found}
-use Rattle.m68_isa.specs.declared.op.Op68.TheVariants.{Addq, Subq, Scc, Dbcc, BraByte, BraWord, BraLong, BsrByte, BsrWord, BsrLong, BccByte, BccWord, BccLong, Moveq}
 use Rattle.m68_isa.specs.Classes.{in_class, is_source}
 use Rattle.m68_isa.specs.Classes.Class.{Alterable, DataAlterable}
-use Rattle.m68_isa.specs.First.{First, size_of, low_byte, condition_of}
+use Rattle.m68_isa.specs.First.{First, size_of, low_byte, condition_of, one_to_eight}
 use Rattle.m68_isa.specs.Operands.{extended_word, long_at}
-use Rattle.m68_isa.specs.Rows.{Row, row, words}
+use Rattle.m68_isa.specs.Rows.{Row, row, words, one, sized}
 
 -- what can be changed, but no address register at byte size
 abbrev pub is_changed : First → Bool
@@ -21,10 +21,10 @@ is_changed f = nat_lt f.size 3 && is_source Alterable (size_of f.size) f.mode f.
 -- 0101 cccc 11ee eeee: scc; 0101 cccc 1100 1yyy: dbcc
 abbrev pub rows_5 : List Row
 rows_5 =
-    row (λ f. (f.bit8 == 0) && is_changed f) Addq
-    ∷ row (λ f. (f.bit8 == 1) && is_changed f) Subq
-    ∷ row (λ f. (f.size == 3) && in_class DataAlterable f.mode f.lower) Scc
-    ∷ row (λ f. (f.size == 3) && (f.mode == 1)) Dbcc
+    row (λ f. (f.bit8 == 0) && is_changed f) (λ f. sized (λ s e. Quick QuickBy.Addq s (one_to_eight f.upper) e) f)
+    ∷ row (λ f. (f.bit8 == 1) && is_changed f) (λ f. sized (λ s e. Quick QuickBy.Subq s (one_to_eight f.upper) e) f)
+    ∷ row (λ f. (f.size == 3) && in_class DataAlterable f.mode f.lower) (λ f. one (Scc (condition_of f)) One f)
+    ∷ row (λ f. (f.size == 3) && (f.mode == 1)) (λ f ws. words 2 (Dbcc (condition_of f) f.lower (extended_word ws 1)))
     ∷ []
 
 -- a branch with its displacement in the low byte, in the word behind, or in the long behind
@@ -45,17 +45,17 @@ is_short f = not ((low_byte f == 0) || (low_byte f == 255))
 -- where the byte is 0 a word follows, where it is 255 a long
 abbrev pub rows_6 : List Row
 rows_6 =
-    row (λ f. (condition_of f == 0) && is_short f) BraByte
-    ∷ row (λ f. (condition_of f == 0) && (low_byte f == 0)) BraWord
-    ∷ row (λ f. (condition_of f == 0) && (low_byte f == 255)) BraLong
-    ∷ row (λ f. (condition_of f == 1) && is_short f) BsrByte
-    ∷ row (λ f. (condition_of f == 1) && (low_byte f == 0)) BsrWord
-    ∷ row (λ f. (condition_of f == 1) && (low_byte f == 255)) BsrLong
-    ∷ row (λ f. nat_lt 1 (condition_of f) && is_short f) BccByte
-    ∷ row (λ f. nat_lt 1 (condition_of f) && (low_byte f == 0)) BccWord
-    ∷ row (λ f. nat_lt 1 (condition_of f) && (low_byte f == 255)) BccLong
+    row (λ f. (condition_of f == 0) && is_short f) (λ f ws. branch_byte 0 f)
+    ∷ row (λ f. (condition_of f == 0) && (low_byte f == 0)) (λ f ws. branch_word 0 ws)
+    ∷ row (λ f. (condition_of f == 0) && (low_byte f == 255)) (λ f ws. branch_long 0 ws)
+    ∷ row (λ f. (condition_of f == 1) && is_short f) (λ f ws. branch_byte 1 f)
+    ∷ row (λ f. (condition_of f == 1) && (low_byte f == 0)) (λ f ws. branch_word 1 ws)
+    ∷ row (λ f. (condition_of f == 1) && (low_byte f == 255)) (λ f ws. branch_long 1 ws)
+    ∷ row (λ f. nat_lt 1 (condition_of f) && is_short f) (λ f ws. branch_byte (condition_of f) f)
+    ∷ row (λ f. nat_lt 1 (condition_of f) && (low_byte f == 0)) (λ f ws. branch_word (condition_of f) ws)
+    ∷ row (λ f. nat_lt 1 (condition_of f) && (low_byte f == 255)) (λ f ws. branch_long (condition_of f) ws)
     ∷ []
 
 -- 0111 rrr0 dddd dddd: moveq
 abbrev pub rows_7 : List Row
-rows_7 = row (λ f. f.bit8 == 0) Moveq ∷ []
+rows_7 = row (λ f. f.bit8 == 0) (λ f ws. words 1 (Moveq (sign_extended (low_byte f) One) f.upper)) ∷ []

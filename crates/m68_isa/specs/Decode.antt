@@ -1,12 +1,10 @@
 -- The table of the 68000's instructions, and what the words of one are
 -- (M68000 Family Programmer's Reference Manual, section 8).
-use Rattle.std.specs.Prelude.{ℕ, ◌==◌, ◌&&◌, ◌||◌, nat_lt, Bool, true, if◌then◌else◌, List, [], ◌∷◌, length, slice_index}
+use Rattle.std.specs.Prelude.{ℕ, ◌==◌, ◌&&◌, ◌||◌, nat_lt, Bool, true, if◌then◌else◌, List, [], ◌∷◌, length}
 use Rattle.m68_isa.specs.declared.instructions.Decoded68.{Decoded68}
 use Rattle.m68_isa.specs.declared.instructions.Decoded68.TheVariants as Decoded
 use Rattle.m68_isa.specs.declared.found.Found.{Found}
 use Rattle.m68_isa.specs.declared.found.Found.TheVariants.{Made, Privileged, Illegal}
-use Rattle.m68_isa.specs.declared.op.Op68.{Op68}
-use Rattle.m68_isa.specs.declared.op.Op68.TheVariants.{LineA, LineF}
 use Rattle.m68_isa.specs.First.{First, first_of}
 use Rattle.m68_isa.specs.Rows.{Section, section, chosen, rows_in}
 use Rattle.m68_isa.specs.Immediates.{rows_0_even, rows_0_odd}
@@ -15,7 +13,6 @@ use Rattle.m68_isa.specs.Miscellaneous.{rows_4_one, rows_4_8, rows_4_test, rows_
 use Rattle.m68_isa.specs.Branches.{rows_5, rows_6, rows_7}
 use Rattle.m68_isa.specs.Arithmetic.{rows_8, rows_9, rows_B, rows_C, rows_D}
 use Rattle.m68_isa.specs.Shifts.{rows_E}
-use Rattle.m68_isa.specs.Made.{made}
 
 abbrev pub all : First → Bool
 all f = true
@@ -45,22 +42,15 @@ table =
     ∷ section 14 all rows_E
     ∷ []
 
--- the operation of a first word: that of its row, but for lines A and F
-abbrev pub operation : First → Op68
-operation f = if f.line == 10 then LineA else if f.line == 15 then LineF else chosen (rows_in table f) f
-
--- an operation needs all its words first, and good index words then
+-- an instruction needs all its words first, and good index words then
 abbrev pub ended : Found → ℕ → Decoded68
 ended (Made i used good) count = if nat_lt count used then Decoded.Short else if good then Decoded.Op i used else Decoded.Illegal
 ended Privileged count = Decoded.Privileged
 ended Illegal count = Decoded.Illegal
 
--- what the words of an operation are; the words of lines A and F need no further word
-abbrev pub read : Op68 → First → List ℕ → Decoded68
-read LineA f ws = Decoded.LineA (slice_index ws 0)
-read LineF f ws = Decoded.LineF
-read op f ws = ended (made op f ws) (length ws)
-
+-- what the first word's row makes of the words; the words of lines A and F need no further word
 abbrev pub decoded : List ℕ → Decoded68
 decoded [] = Decoded.Short
-decoded (w ∷ ws) = let f = first_of w in read (operation f) f (w ∷ ws)
+decoded (w ∷ ws) =
+    let f = first_of w in
+    if f.line == 10 then Decoded.LineA w else if f.line == 15 then Decoded.LineF else ended (chosen (rows_in table f) f (w ∷ ws)) (length (w ∷ ws))

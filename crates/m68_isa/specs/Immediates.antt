@@ -3,18 +3,19 @@
 use Rattle.std.specs.Prelude.{ℕ, ◌+◌, ◌%◌, ◌==◌, ◌&&◌, ◌||◌, not, nat_lt, Bool, if◌then◌else◌, List, [], ◌∷◌, slice_index}
 use Rattle.mix_bits.specs.declared.size.Size.TheVariants.{One}
 use Rattle.m68_isa.specs.declared.instructions.ImmediateOp.{ImmediateOp}
+use Rattle.m68_isa.specs.declared.instructions.ImmediateOp.TheVariants as ImmediateBy
 use Rattle.m68_isa.specs.declared.instructions.LogicOp.{LogicOp}
 use Rattle.m68_isa.specs.declared.instructions.LogicOp.TheVariants.{And, Or, Eor}
 use Rattle.m68_isa.specs.declared.instructions.BitOp.{BitOp}
 use Rattle.m68_isa.specs.declared.instructions.BitOp.TheVariants.{Btst, Bchg, Bclr, Bset}
 use Rattle.m68_isa.specs.declared.instructions.Instr68.TheVariants as Instr
 use Rattle.m68_isa.specs.declared.found.Found.{Found}
-use Rattle.m68_isa.specs.declared.op.Op68.TheVariants.{Ori, Andi, Subi, Addi, Eori, Cmpi, LogicToCcr, BitByNumber, BitByRegister, Movep, Privileged}
+use Rattle.m68_isa.specs.declared.found.Found.TheVariants.{Privileged}
 use Rattle.m68_isa.specs.Classes.{Class, in_class}
 use Rattle.m68_isa.specs.Classes.Class.{Data, DataAlterable}
-use Rattle.m68_isa.specs.First.{First, size_of}
-use Rattle.m68_isa.specs.Operands.{immediate_at, immediate_words, operand_at}
-use Rattle.m68_isa.specs.Rows.{Row, row, taken}
+use Rattle.m68_isa.specs.First.{First, size_of, long_or_word}
+use Rattle.m68_isa.specs.Operands.{extended_word, immediate_at, immediate_words, operand_at}
+use Rattle.m68_isa.specs.Rows.{Row, row, words, taken}
 
 abbrev pub logic_op : ℕ → LogicOp
 logic_op upper = if upper == 0 then Or else if upper == 1 then And else Eor
@@ -56,15 +57,15 @@ is_sized_alterable f = nat_lt f.size 3 && in_class DataAlterable f.mode f.lower
 -- 0000 1000 00ee eeee to 11ee eeee: btst, bchg, bclr, bset, the number in a word
 abbrev pub rows_0_even : List Row
 rows_0_even =
-    row (λ f. (f.upper == 0) && is_sized_alterable f) Ori
-    ∷ row (λ f. (f.upper == 1) && is_sized_alterable f) Andi
-    ∷ row (λ f. (f.upper == 2) && is_sized_alterable f) Subi
-    ∷ row (λ f. (f.upper == 3) && is_sized_alterable f) Addi
-    ∷ row (λ f. (f.upper == 5) && is_sized_alterable f) Eori
-    ∷ row (λ f. (f.upper == 6) && is_sized_alterable f) Cmpi
-    ∷ row (λ f. has_logic f.upper && (f.size == 0) && is_immediate f) LogicToCcr
-    ∷ row (λ f. has_logic f.upper && (f.size == 1) && is_immediate f) Privileged
-    ∷ row (λ f. (f.upper == 4) && in_class (bit_class f.size) f.mode f.lower && not (is_immediate f)) BitByNumber
+    row (λ f. (f.upper == 0) && is_sized_alterable f) (immediate_with ImmediateBy.Ori)
+    ∷ row (λ f. (f.upper == 1) && is_sized_alterable f) (immediate_with ImmediateBy.Andi)
+    ∷ row (λ f. (f.upper == 2) && is_sized_alterable f) (immediate_with ImmediateBy.Subi)
+    ∷ row (λ f. (f.upper == 3) && is_sized_alterable f) (immediate_with ImmediateBy.Addi)
+    ∷ row (λ f. (f.upper == 5) && is_sized_alterable f) (immediate_with ImmediateBy.Eori)
+    ∷ row (λ f. (f.upper == 6) && is_sized_alterable f) (immediate_with ImmediateBy.Cmpi)
+    ∷ row (λ f. has_logic f.upper && (f.size == 0) && is_immediate f) (λ f ws. words 2 (Instr.ImmediateToCcr (logic_op f.upper) (immediate_at ws 1 One)))
+    ∷ row (λ f. has_logic f.upper && (f.size == 1) && is_immediate f) (λ f ws. Privileged)
+    ∷ row (λ f. (f.upper == 4) && in_class (bit_class f.size) f.mode f.lower && not (is_immediate f)) bit_by_number
     ∷ []
 
 abbrev pub bit_by_register : First → List ℕ → Found
@@ -75,6 +76,6 @@ bit_by_register f ws =
 -- 0000 rrr1 0000 1yyy, 0100 1yyy: movep of a word, a long to Dr; 1000 1yyy, 1100 1yyy: from Dr
 abbrev pub rows_0_odd : List Row
 rows_0_odd =
-    row (λ f. in_class (bit_class f.size) f.mode f.lower) BitByRegister
-    ∷ row (λ f. f.mode == 1) Movep
+    row (λ f. in_class (bit_class f.size) f.mode f.lower) bit_by_register
+    ∷ row (λ f. f.mode == 1) (λ f ws. words 2 (Instr.Movep (long_or_word (f.size % 2)) (nat_lt 1 f.size) f.upper f.lower (extended_word ws 1)))
     ∷ []

@@ -13,6 +13,7 @@ pub mod Made
 pub mod Miscellaneous
 pub mod Moves
 pub mod Operands
+pub mod Operations
 pub mod Products
 pub mod Registers
 pub mod Rows

@@ -1,4 +1,4 @@
--- What each operation makes of a first word's parts and of the words
+-- What each operation makes of a first word's parts and of the words: what its row makes
 -- (M68000 Family Programmer's Reference Manual, section 8).
 use Rattle.std.specs.Prelude.{ℕ, ◌+◌, ◌*◌, ◌%◌, ◌==◌, nat_lt, true, false, List}
 use Rattle.mix_bits.specs.Sizes.{sign_extended}
@@ -14,13 +14,13 @@ use Rattle.m68_isa.specs.declared.op.Op68.{Op68}
 use Rattle.m68_isa.specs.declared.op.Op68.TheVariants.{Ori, Andi, Subi, Addi, Eori, Cmpi, LogicToCcr, BitByNumber, BitByRegister, Movep, MoveByte, MoveWord, MoveLong, MoveaWord, MoveaLong, Negx, Clr, Neg, Not, MoveFromSr, MoveToCcr, Nbcd, Swap, Pea, Ext, ExtByte, MovemToMemory, MovemFromMemory, MulLong, DivLong, Tst, Tas, Trap, Link, LinkLong, Unlk, Nop, Rtd, Rts, Trapv, Rtr, Jsr, Jmp, Chk, Lea, Addq, Subq, Scc, Dbcc, BraByte, BraWord, BraLong, BsrByte, BsrWord, BsrLong, BccByte, BccWord, BccLong, Moveq, OrToRegister, OrToMemory, Divu, Divs, Sbcd, SubToRegister, SubToMemory, Suba, Subx, Cmp, Cmpa, Eor, Cmpm, AndToRegister, AndToMemory, Mulu, Muls, Abcd, Exg, AddToRegister, AddToMemory, Adda, Addx, Shift, ShiftMemory, Privileged}
 use Rattle.m68_isa.specs.First.{First, size_of, long_or_word, low_byte, condition_of, one_to_eight}
 use Rattle.m68_isa.specs.Operands.{extended_word, immediate_at, long_at}
-use Rattle.m68_isa.specs.Rows.{words, one}
+use Rattle.m68_isa.specs.Rows.{words, one, sized}
 use Rattle.m68_isa.specs.Immediates.{logic_op, immediate_with, bit_by_number, bit_by_register}
 use Rattle.m68_isa.specs.Moves.{moved_of}
-use Rattle.m68_isa.specs.Miscellaneous.{sized, masked}
+use Rattle.m68_isa.specs.Miscellaneous.{masked}
 use Rattle.m68_isa.specs.Products.{by_registers}
 use Rattle.m68_isa.specs.Branches.{branch_byte, branch_word, branch_long}
-use Rattle.m68_isa.specs.Arithmetic.{at_size, at_long_or_word, exchange}
+use Rattle.m68_isa.specs.Arithmetic.{at_long_or_word, exchange}
 use Rattle.m68_isa.specs.Shifts.{shift_op, shift_count}
 
 -- an operation without a row makes nothing
@@ -70,8 +70,8 @@ made Jsr f ws = one (Instr.Jump JumpBy.Jsr) Four f ws
 made Jmp f ws = one (Instr.Jump JumpBy.Jmp) Four f ws
 made Chk f ws = one (λ e. Instr.Chk e f.upper) Two f ws
 made Lea f ws = one (λ e. Instr.Lea e f.upper) Four f ws
-made Addq f ws = at_size (λ s e. Instr.Quick QuickBy.Addq s (one_to_eight f.upper) e) f ws
-made Subq f ws = at_size (λ s e. Instr.Quick QuickBy.Subq s (one_to_eight f.upper) e) f ws
+made Addq f ws = sized (λ s e. Instr.Quick QuickBy.Addq s (one_to_eight f.upper) e) f ws
+made Subq f ws = sized (λ s e. Instr.Quick QuickBy.Subq s (one_to_eight f.upper) e) f ws
 made Scc f ws = one (Instr.Scc (condition_of f)) One f ws
 made Dbcc f ws = words 2 (Instr.Dbcc (condition_of f) f.lower (extended_word ws 1))
 made BraByte f ws = branch_byte 0 f
@@ -84,27 +84,27 @@ made BccByte f ws = branch_byte (condition_of f) f
 made BccWord f ws = branch_word (condition_of f) ws
 made BccLong f ws = branch_long (condition_of f) ws
 made Moveq f ws = words 1 (Instr.Moveq (sign_extended (low_byte f) One) f.upper)
-made OrToRegister f ws = at_size (λ s e. Instr.Or s false f.upper e) f ws
-made OrToMemory f ws = at_size (λ s e. Instr.Or s true f.upper e) f ws
+made OrToRegister f ws = sized (λ s e. Instr.Or s false f.upper e) f ws
+made OrToMemory f ws = sized (λ s e. Instr.Or s true f.upper e) f ws
 made Divu f ws = one (λ e. Instr.Div false e f.upper) Two f ws
 made Divs f ws = one (λ e. Instr.Div true e f.upper) Two f ws
 made Sbcd f ws = words 1 (Instr.Sbcd (f.mode == 1) f.lower f.upper)
-made SubToRegister f ws = at_size (λ s e. Instr.Sub s false f.upper e) f ws
-made SubToMemory f ws = at_size (λ s e. Instr.Sub s true f.upper e) f ws
+made SubToRegister f ws = sized (λ s e. Instr.Sub s false f.upper e) f ws
+made SubToMemory f ws = sized (λ s e. Instr.Sub s true f.upper e) f ws
 made Suba f ws = at_long_or_word (λ s e. Instr.Suba s e f.upper) f ws
 made Subx f ws = words 1 (Instr.Subx (size_of f.size) (f.mode == 1) f.lower f.upper)
-made Cmp f ws = at_size (λ s e. Instr.Cmp s e f.upper) f ws
+made Cmp f ws = sized (λ s e. Instr.Cmp s e f.upper) f ws
 made Cmpa f ws = at_long_or_word (λ s e. Instr.Cmpa s e f.upper) f ws
-made Eor f ws = at_size (λ s e. Instr.Eor s f.upper e) f ws
+made Eor f ws = sized (λ s e. Instr.Eor s f.upper e) f ws
 made Cmpm f ws = words 1 (Instr.Cmpm (size_of f.size) f.lower f.upper)
-made AndToRegister f ws = at_size (λ s e. Instr.And s false f.upper e) f ws
-made AndToMemory f ws = at_size (λ s e. Instr.And s true f.upper e) f ws
+made AndToRegister f ws = sized (λ s e. Instr.And s false f.upper e) f ws
+made AndToMemory f ws = sized (λ s e. Instr.And s true f.upper e) f ws
 made Mulu f ws = one (λ e. Instr.Mul false e f.upper) Two f ws
 made Muls f ws = one (λ e. Instr.Mul true e f.upper) Two f ws
 made Abcd f ws = words 1 (Instr.Abcd (f.mode == 1) f.lower f.upper)
 made Exg f ws = words 1 (Instr.Exg (exchange f) f.upper f.lower)
-made AddToRegister f ws = at_size (λ s e. Instr.Add s false f.upper e) f ws
-made AddToMemory f ws = at_size (λ s e. Instr.Add s true f.upper e) f ws
+made AddToRegister f ws = sized (λ s e. Instr.Add s false f.upper e) f ws
+made AddToMemory f ws = sized (λ s e. Instr.Add s true f.upper e) f ws
 made Adda f ws = at_long_or_word (λ s e. Instr.Adda s e f.upper) f ws
 made Addx f ws = words 1 (Instr.Addx (size_of f.size) (f.mode == 1) f.lower f.upper)
 made Shift f ws = words 1 (Instr.Shift (shift_op (f.mode % 4)) (f.bit8 == 1) (size_of f.size) (shift_count f) f.lower)

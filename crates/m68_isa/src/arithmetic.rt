@@ -1,7 +1,7 @@
 ghost use Rattle.std.specs.Prelude.{◌≡◌};
 ghost use Rattle.m68_isa.specs.First.{first_of};
 ghost use Rattle.m68_isa.specs.Arithmetic.{is_exchange};
-ghost use Rattle.m68_isa.specs.Decode.{operation};
+ghost use Rattle.m68_isa.specs.Operations.{operation};
 ghost use Rattle.m68_isa.specs.laws.Fits.{Fits};
 
 use super::fields::{mode_of, size_bits_of};

@@ -3,7 +3,8 @@ ghost use Rattle.m68_isa.specs.inner.Fields.{HasFound};
 ghost use Rattle.m68_isa.specs.Fields.{HasDecoded, HasWords};
 ghost use Rattle.m68_isa.specs.inner.Extended.{IsExtendedFound};
 ghost use Rattle.m68_isa.specs.Extended.{IsExtendedDecoded};
-ghost use Rattle.m68_isa.specs.Decode.{ended, read as read_lem, decoded};
+ghost use Rattle.m68_isa.specs.Decode.{ended, decoded};
+ghost use Rattle.m68_isa.specs.Operations.{read as read_lem};
 ghost use Rattle.m68_isa.specs.First.{first_of};
 ghost use Rattle.m68_isa.specs.laws.Fits.{Fits};
 

@@ -3,7 +3,7 @@ ghost use Rattle.m68_isa.specs.First.{first_of};
 ghost use Rattle.m68_isa.specs.Immediates.{has_logic};
 ghost use Rattle.m68_isa.specs.Classes.{in_class};
 ghost use Rattle.m68_isa.specs.Classes.Class.{DataAlterable};
-ghost use Rattle.m68_isa.specs.Decode.{operation};
+ghost use Rattle.m68_isa.specs.Operations.{operation};
 ghost use Rattle.m68_isa.specs.laws.Fits.{Fits};
 
 use super::fields::{bit8_of, mode_of, size_bits_of, upper_of};

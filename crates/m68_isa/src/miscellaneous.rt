@@ -1,6 +1,6 @@
 ghost use Rattle.std.specs.Prelude.{◌≡◌, ◌≢◌, ◌<◌};
 ghost use Rattle.m68_isa.specs.First.{first_of};
-ghost use Rattle.m68_isa.specs.Decode.{operation};
+ghost use Rattle.m68_isa.specs.Operations.{operation};
 ghost use Rattle.m68_isa.specs.laws.Fits.{Fits};
 
 use super::fields::{bit8_of, lower_of, mode_of, size_bits_of, upper_of};

@@ -1,6 +1,6 @@
 // The operation of a first word, read from a constant.
 ghost use Rattle.std.specs.Prelude.{◌≡◌, ◌<◌, ◌^◌, length};
-ghost use Rattle.m68_isa.specs.Decode.{operation};
+ghost use Rattle.m68_isa.specs.Operations.{operation};
 ghost use Rattle.m68_isa.specs.First.{first_of};
 ghost use Rattle.m68_isa.specs.laws.Fits.{Fits};
 ghost use Rattle.m68_isa.specs.inner.Letters.{letters, lettered};

@@ -1,6 +1,6 @@
 ghost use Rattle.std.specs.Prelude.{◌≡◌, ◌<◌};
 ghost use Rattle.m68_isa.specs.First.{condition_of as condition_of_first, first_of, low_byte};
-ghost use Rattle.m68_isa.specs.Decode.{operation};
+ghost use Rattle.m68_isa.specs.Operations.{operation};
 ghost use Rattle.m68_isa.specs.laws.Fits.{Fits};
 
 use super::arithmetic::{line_8, line_9, line_b, line_c, line_d};

@@ -8,8 +8,10 @@ use Rattle.m68_isa.specs.declared.op.Op68.{Op68}
 use Rattle.m68_isa.specs.declared.op.Op68.TheVariants.{LineA, LineF, Privileged}
 use Rattle.m68_isa.specs.First.{First, first_of}
 use Rattle.m68_isa.specs.Made.{made}
+use Rattle.m68_isa.proofs.ByOperation.{by_operation}
 use Rattle.m68_table.specs.laws.Laws.{rows_with, how_many, is_privileged}
-use Rattle.m68_isa.specs.Decode.{table, decoded, ended, operation, read}
+use Rattle.m68_isa.specs.Decode.{table, decoded, ended}
+use Rattle.m68_isa.specs.Operations.{operation, read}
 use Rattle.m68_table.proofs.Fields.{of_parts}
 use Rattle.m68_table.proofs.Totals.{is_same, counted, count_is}
 
@@ -57,5 +59,6 @@ refused = refl
 
 pub privileged : how_many 16 0 (λ w. is_privileged (decoded (w ∷ []))) ≡ 75
 privileged =
-    (λ i. how_many 16 0 (λ w. in_read (operation (first_of w)) (first_of w) (w ∷ []) i))
+    (λ i. how_many 16 0 (λ w. is_privileged (by_operation w [] i)))
+    ∙ (λ i. how_many 16 0 (λ w. in_read (operation (first_of w)) (first_of w) (w ∷ []) i))
     ∙ count_is (λ f. is_refused (operation f)) refused_same ∙ refused

@@ -11,9 +11,11 @@ use Rattle.m68_isa.specs.declared.op.Op68.{Op68}
 use Rattle.m68_isa.specs.declared.op.Op68.TheVariants.{LineA as OpLineA, LineF as OpLineF}
 use Rattle.m68_isa.specs.First.{First, first_of}
 use Rattle.m68_isa.specs.Made.{made}
-use Rattle.m68_isa.specs.Decode.{operation, read, decoded, ended}
+use Rattle.m68_isa.specs.Decode.{decoded, ended}
+use Rattle.m68_isa.specs.Operations.{operation, read}
 use Rattle.m68_isa.specs.laws.Modes.{has_modes}
 use Rattle.m68_isa.specs.laws.Widths.{has_size}
+use Rattle.m68_isa.proofs.ByOperation.{by_operation}
 use Rattle.m68_table.proofs.Fields.{of_parts, at_word}
 
 abbrev is_good : Instr68 → Bool
@@ -56,7 +58,7 @@ in_read op f ws is = in_ended (made op f ws) (length ws) is
 in_decoded : (w : ℕ) (ws : List ℕ) → is_decoded_good (decoded (w ∷ ws)) ≡ true
 in_decoded w ws =
     let f = first_of w in
-    in_read (operation f) f (w ∷ ws) (at_word (is_first_good (w ∷ ws)) w (all_good (w ∷ ws)))
+    ap is_decoded_good (by_operation w ws) ∙ in_read (operation f) f (w ∷ ws) (at_word (is_first_good (w ∷ ws)) w (all_good (w ∷ ws)))
 
 good : (w : ℕ) (ws : List ℕ) (i : Instr68) (used : ℕ) → w < 2 ^ 16 → decoded (w ∷ ws) ≡ Op i used → is_good i ≡ true
 good w ws i used below is = sym (ap is_decoded_good is) ∙ in_decoded w ws

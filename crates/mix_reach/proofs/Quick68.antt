@@ -2,7 +2,6 @@
 use Rattle.std.proofs.Common.{◌≡◌, ℕ, ◌+◌, ◌%◌, ◌≤◌, ◌==◌, ◌&&◌, nat_lt, Bool, true, false, if◌then◌else◌, List, [], ◌∷◌, length, slice_index, Option, Some, None, arith, ap, sym, subst, ◌∙◌, refl}
 use Rattle.std.specs.Prelude.{IfSome}
 use Rattle.std.proofs.lemmas.Bool.{eqb-true, le-ltb, ne_eqb}
-use Rattle.mix_bits.specs.Sizes.{sign_extended}
 use Rattle.mix_bits.specs.declared.size.Size.{Size}
 use Rattle.mix_bits.specs.declared.size.Size.TheVariants.{One, Two, Four}
 use Rattle.m68_isa.specs.declared.registers.Regs68.{Regs68}
@@ -19,15 +18,16 @@ use Rattle.m68_isa.specs.declared.instructions.Decoded68.TheVariants as Decoded
 use Rattle.m68_isa.specs.declared.op.Op68.{Op68}
 use Rattle.m68_isa.specs.declared.op.Op68.TheVariants.{Ori, Andi, Subi, Addi, Eori, Cmpi, LogicToCcr, BitByNumber, BitByRegister, Movep, MoveByte, MoveWord, MoveLong, MoveaWord, MoveaLong, Negx, Clr, Neg, Not, MoveFromSr, MoveToCcr, Nbcd, Swap, Pea, Ext, ExtByte, MovemToMemory, MovemFromMemory, MulLong, DivLong, Tst, Tas, Trap, Link, LinkLong, Unlk, Nop, Rtd, Rts, Trapv, Rtr, Jsr, Jmp, Chk, Lea, Addq, Subq, Scc, Dbcc, BraByte, BraWord, BraLong, BsrByte, BsrWord, BsrLong, BccByte, BccWord, BccLong, Moveq, OrToRegister, OrToMemory, Divu, Divs, Sbcd, SubToRegister, SubToMemory, Suba, Subx, Cmp, Cmpa, Eor, Cmpm, AndToRegister, AndToMemory, Mulu, Muls, Abcd, Exg, AddToRegister, AddToMemory, Adda, Addx, Shift, ShiftMemory, Illegal, Privileged, LineA, LineF}
 use Rattle.m68_isa.specs.declared.operand.Operand.{Operand}
-use Rattle.m68_isa.specs.Arithmetic.{at_size}
-use Rattle.m68_isa.specs.Decode.{decoded, ended, operation, read}
-use Rattle.m68_isa.specs.First.{First, condition_of, first_of, long_or_word, low_byte, one_to_eight, size_of}
+use Rattle.m68_isa.specs.Decode.{decoded, ended}
+use Rattle.m68_isa.specs.Operations.{operation, read}
+use Rattle.m68_isa.specs.First.{First, condition_of, first_of, long_or_word, one_to_eight, size_of}
 use Rattle.m68_isa.specs.laws.Fits.{Fits}
 use Rattle.m68_isa.specs.Made.{made}
+use Rattle.m68_isa.proofs.ByOperation.{by_operation}
 use Rattle.m68_isa.specs.Miscellaneous.{masked}
 use Rattle.m68_isa.specs.Moves.{move_mode, moved_of}
-use Rattle.m68_isa.specs.Operands.{extended_word, immediate_at, immediate_words, long_at, operand_at, plain as plain_operand}
-use Rattle.m68_isa.specs.Rows.{taken}
+use Rattle.m68_isa.specs.Operands.{extended_word, immediate_at, immediate_words, operand_at, plain as plain_operand}
+use Rattle.m68_isa.specs.Rows.{sized, taken}
 use Rattle.mix_bits.specs.declared.fault.Fault.{Fault}
 use Rattle.m68_ea.specs.declared.operands.Target.{Target}
 use Rattle.m68_ea.specs.declared.places.Place68.{Place68}
@@ -181,7 +181,7 @@ none_told LineF word r ws keeps fits = refl
 
 -- one operand is changed
 pub changed_told : (r : Regs68) (ws : List ℕ) (f : First) (make : Size → Ea → Instr68) (w : Reach) → 5 ≤ length ws
-    → ((e : Ea) → stores r (make (size_of f.size) e) ≡ into r (size_of f.size) e) → Changes r ws f w → decoded_stores r (ended (at_size make f ws) (length ws)) ≡ plain w
+    → ((e : Ea) → stores r (make (size_of f.size) e) ≡ into r (size_of f.size) e) → Changes r ws f w → decoded_stores r (ended (sized make f ws) (length ws)) ≡ plain w
 changed_told r ws f make w few each told =
     let e : Operand = operand_at ws 1 (size_of f.size) f.mode f.lower in
     let ends : e.next ≤ 5 = told.1 in
@@ -225,7 +225,7 @@ linked_told r register disp count few = ended-told r (Instr.Link register disp) 
 -- the words that begin with a first word
 first-read : (ws : List ℕ) → 5 ≤ length ws → decoded ws ≡ read (operation (first_of (slice_index ws 0))) (first_of (slice_index ws 0)) ws
 first-read [] few = absurd (omega (arith, few))
-first-read (w ∷ ws) few = refl
+first-read (w ∷ ws) few = by_operation w ws
 
 pub told : (r : Regs68) (ws : List ℕ) (word : ℕ) (op : Op68) (w : Reach) → 5 ≤ length ws → word ≡ slice_index ws 0 → operation (first_of word) ≡ op
     → decoded_stores r (read op (first_of word) ws) ≡ plain w → decoded_stores r (decoded ws) ≡ plain w

@@ -1,5 +1,5 @@
--- How many words an operation needs, and that it looks at no others. Behind the last word of a
--- list stand zeros (M68000 Family Programmer's Reference Manual, section 2.1).
+-- That words are read by the operation of the first one's row, how many words an operation needs, and that it looks at
+-- no others. Behind the last word of a list stand zeros (M68000 Family Programmer's Reference Manual, section 2.1).
 use Rattle.std.specs.Prelude.{ℕ, ◌≡◌, ◌≢◌, ◌<◌, ◌≤◌, ◌⊎◌, if◌then◌else◌, List, ◌∷◌, length, slice_index}
 use Rattle.m68_isa.specs.declared.instructions.Instr68.{Instr68}
 use Rattle.m68_isa.specs.declared.instructions.Decoded68.{Decoded68}
@@ -8,8 +8,13 @@ use Rattle.m68_isa.specs.declared.found.Found.{Found}
 use Rattle.m68_isa.specs.declared.found.Found.TheVariants.{Made, Privileged, Illegal}
 use Rattle.m68_isa.specs.Decode.{ended, decoded}
 use Rattle.m68_isa.specs.declared.op.Op68.{Op68}
-use Rattle.m68_isa.specs.First.{First}
+use Rattle.m68_isa.specs.First.{First, first_of}
 use Rattle.m68_isa.specs.Made.{made}
+use Rattle.m68_isa.specs.Operations.{operation, read}
+
+-- what a first word's row makes of the words is what the row's operation makes of them
+abbrev pub IsByOperation : Type 0
+IsByOperation = (w : ℕ) (ws : List ℕ) → decoded (w ∷ ws) ≡ read (operation (first_of w)) (first_of w) (w ∷ ws)
 
 -- how many words an instruction has; a refusal looks at none
 abbrev pub used_by : Found → ℕ
@@ -34,6 +39,8 @@ whole Privileged = NotAllowed
 whole Illegal = NoInstruction
 
 pub record OpLaws : Type 0 where
+  -- words are read by the operation of the first one's row
+  pub by_operation : IsByOperation
   -- an operation makes an instruction of one to five words
   pub most_used : (op : Op68) (f : First) (ws : List ℕ) → HasUsed (made op f ws)
   -- it depends on no word behind those

@@ -12,7 +12,7 @@ use Rattle.m68_isa.specs.laws.Widths.{has_size}
 -- how many of these rows have a first word
 abbrev pub matches : List Row → First → ℕ
 matches [] f = 0
-matches (row has op ∷ rows) f = if has f then suc (matches rows f) else matches rows f
+matches (row has make ∷ rows) f = if has f then suc (matches rows f) else matches rows f
 
 -- how many sections have it
 abbrev pub sections_with : List Section → First → ℕ

@@ -3,7 +3,8 @@ use Rattle.std.specs.Prelude.{◌≡◌, ℕ, List}
 use Rattle.m68_isa.specs.declared.registers.Regs68.{Regs68}
 use Rattle.m68_isa.specs.declared.op.Op68.{Op68}
 use Rattle.m68_isa.specs.First.{First}
-use Rattle.m68_isa.specs.Decode.{decoded as decoded_68k, read}
+use Rattle.m68_isa.specs.Decode.{decoded as decoded_68k}
+use Rattle.m68_isa.specs.Operations.{read}
 use Rattle.mix_reach.specs.declared.reach.Reach.{Reach}
 use Rattle.mix_reach.specs.laws.Ranges.{plain}
 use Rattle.mix_reach.specs.laws.Steps.{decoded_stores}

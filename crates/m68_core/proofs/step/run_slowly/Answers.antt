@@ -1,8 +1,11 @@
-use Rattle.std.proofs.Common.{◌≡◌, ◌%◌, ◌≤◌, ◌∙◌, length, ap, subst, sym, arith}
+use Rattle.std.proofs.Common.{◌≡◌, ◌≢◌, inr, slice_index, rules, ◌%◌, ◌≤◌, ◌∙◌, length, ap, subst, sym, arith}
 use Rattle.mix_bits.specs.declared.fault.FaultKind.TheVariants.{Outside}
 use Rattle.big_memory.specs.StepsClauses.{Does}
+use Rattle.m68_isa.specs.declared.instructions.Decoded68.TheVariants.{Short}
+use Rattle.m68_isa.specs.Decode.{decoded}
+use Rattle.m68_ea.specs.Words.{words_at}
 use Rattle.m68_effects.specs.Step.{stops}
-use Rattle.m68_core.proofs.ByOp.{step_odd, step_short}
+use Rattle.m68_core.proofs.ByOp.{first_there, none_missing, step_odd, step_short}
 use Rattle.m68_core.proofs.Leaving.{stop_stays}
 use Rattle.m68_core.proofs.step.run_slowly.Goals as goal
 
@@ -28,3 +31,15 @@ returns-then-pc-eq1-clause-does c =
 pub returns-then-pc-eq1-clause-line : goal.returns-then-pc-eq1-clause-line
 returns-then-pc-eq1-clause-line c =
     stop_stays c.args.regs.now c.args.regs.now c.args.ram.now c.args.ram.now c.stop.result _ c.stop.new.fault (c.stop.ensures c.args.regs.now c.args.ram.now)
+
+pub run_word-requires-clause-first : goal.run_word-requires-clause-first
+run_word-requires-clause-first c =
+    let ws = words_at c.args.ram.now c.args.regs.now.pc in
+    let there : decoded ws ≢ Short = none_missing c.read_words-count.result c.read_words-count.new.words ws c.is_short.result c.read_words-count.ensures.words c.if-is_short.false c.is_short.ensures in
+    let first : c.from-word.result ≡ slice_index c.read_words-count.new.words 0 = search rules in
+    first_there c.read_words-count.result c.read_words-count.new.words ws c.from-word.result first c.read_words-count.ensures.words there
+
+pub run_word-requires-clause-there : goal.run_word-requires-clause-there
+run_word-requires-clause-there c =
+    let ws = words_at c.args.ram.now c.args.regs.now.pc in
+    inr (none_missing c.read_words-count.result c.read_words-count.new.words ws c.is_short.result c.read_words-count.ensures.words c.if-is_short.false c.is_short.ensures)

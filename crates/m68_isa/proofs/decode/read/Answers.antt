@@ -1,7 +1,8 @@
 use Rattle.std.proofs.Common.{◌≡◌, length, sym, ap, ◌∙◌}
 use Rattle.m68_isa.specs.First.{first_of}
 use Rattle.m68_isa.specs.Made.{made}
-use Rattle.m68_isa.specs.Decode.{ended, read}
+use Rattle.m68_isa.specs.Decode.{ended}
+use Rattle.m68_isa.specs.Operations.{read}
 use Rattle.m68_isa.proofs.Whole.{read_other}
 use Rattle.m68_isa.proofs.decode.read.Goals as goal
 
