@@ -1,5 +1,5 @@
 -- What is read of words, and printed of it, is the same of other words that agree on those it has.
-use Rattle.std.proofs.Common.{◌≡◌, ℕ, zero, suc, ◌+◌, ◌*◌, ◌%◌, ◌<◌, ◌≤◌, ◌&&◌, List, [], ◌∷◌, slice_index, Bool, true, false, if◌then◌else◌, arith, refl, sym, ap, subst, ◌∙◌}
+use Rattle.std.proofs.Common.{◌≡◌, ℕ, zero, suc, ◌+◌, ◌*◌, ◌%◌, ◌<◌, ◌≤◌, ◌&&◌, List, [], ◌∷◌, slice_index, Bool, true, if◌then◌else◌, arith, refl, sym, ap, subst, ◌∙◌}
 use Rattle.mix_bits.specs.Sizes.{sign_extended}
 use Rattle.mix_bits.specs.declared.size.Size.{Size}
 use Rattle.mix_bits.specs.declared.size.Size.TheVariants.{Zero, One, Two, Four}
@@ -20,7 +20,8 @@ use Rattle.m68_isa.specs.Products.{by_registers, high_of, is_register_word, is_s
 use Rattle.m68_isa.specs.laws.Widths.{is_any}
 use Rattle.m68_text.specs.declared.operand.Operand.{Operand}
 use Rattle.m68_text.specs.declared.operand.Operand.TheVariants.{Data, Word, Long, ConditionCodes, Pair}
-use Rattle.m68_text.specs.Operands.{immediate, operands, place, with_registers}
+use Rattle.m68_text.specs.Instructions.{operands}
+use Rattle.m68_text.specs.Operands.{immediate, place, with_registers}
 use Rattle.asm_m68.proofs.Places.{special_immediate}
 
 -- two lists agree on so many words

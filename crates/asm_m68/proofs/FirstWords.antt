@@ -15,8 +15,7 @@ use Rattle.m68_isa.specs.Made.{made}
 use Rattle.m68_isa.specs.Operations.{operation}
 use Rattle.m68_text.specs.declared.operand.Operand.{Operand}
 use Rattle.m68_text.specs.declared.operand.Operand.TheVariants.{Data, Pair, Address, Indirect, PostIncrement, PreDecrement, Displaced, Indexed, ShortAddress, LongAddress, PcDisplaced, PcIndexed, Byte, Word, Long, Number, ConditionCodes, StatusRegister, Target}
-use Rattle.m68_text.specs.Names.{name}
-use Rattle.m68_text.specs.Operands.{operands}
+use Rattle.m68_text.specs.Instructions.{name, operands}
 use Rattle.asm_m68.specs.declared.form.Form.{Form}
 use Rattle.asm_m68.specs.declared.form.Form.TheVariants.{Always, Chosen, Data as DataWord, Far, Near, Registers}
 use Rattle.asm_m68.specs.declared.form.Place.{Place}

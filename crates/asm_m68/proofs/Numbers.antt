@@ -6,7 +6,6 @@ use Rattle.mix_bits.specs.declared.size.Size.TheVariants.{Zero, One, Two, Four}
 use Rattle.m68_isa.specs.declared.instructions.Exchange.{Exchange}
 use Rattle.m68_isa.specs.declared.instructions.Exchange.TheVariants.{Data as ExchangeData, Address as ExchangeAddress, DataAddress}
 use Rattle.m68_isa.specs.declared.instructions.Instr68.{Instr68}
-use Rattle.m68_isa.specs.declared.instructions.Instr68.TheVariants as Instr
 use Rattle.m68_isa.specs.declared.instructions.ShiftCount.TheVariants.{Number as CountNumber, Register as CountRegister}
 use Rattle.m68_isa.specs.declared.found.Found.{Found}
 use Rattle.m68_isa.specs.declared.found.Found.TheVariants.{Made, Privileged as RowPrivileged, Illegal as RowIllegal}
@@ -22,7 +21,8 @@ use Rattle.m68_isa.specs.Operands.{immediate_words, operand_at, special_at}
 use Rattle.m68_isa.specs.Products.{is_wide}
 use Rattle.m68_text.specs.declared.operand.Operand.{Operand}
 use Rattle.m68_text.specs.declared.operand.Operand.TheVariants.{Data, Address, Indirect, PostIncrement, PreDecrement, Displaced, Indexed}
-use Rattle.m68_text.specs.Operands.{counted, directed, exchanged, immediate, operands, paired, place, with_registers}
+use Rattle.m68_text.specs.Instructions.{operands}
+use Rattle.m68_text.specs.Operands.{counted, directed, exchanged, immediate, paired, place, with_registers}
 use Rattle.asm_m68.specs.declared.operands.Parsed.{Parsed}
 use Rattle.asm_m68.specs.Reading.{nothing}
 use Rattle.asm_m68.proofs.Texts.{cut}

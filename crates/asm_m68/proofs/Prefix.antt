@@ -14,7 +14,7 @@ use Rattle.m68_isa.specs.First.{First, first_of}
 use Rattle.m68_isa.specs.inner.First.{IsFirst}
 use Rattle.m68_isa.specs.Made.{made}
 use Rattle.m68_isa.proofs.ByOperation.{by_operation}
-use Rattle.m68_text.specs.Operands.{operands}
+use Rattle.m68_text.specs.Instructions.{operands}
 use Rattle.asm_m68.specs.laws.Assembly.{count_of}
 use Rattle.asm_m68.specs.laws.AssemblyLaws.{NoneIsMissing}
 use Rattle.asm_m68.proofs.Alike.{Agree, IsSame, MakesSame}

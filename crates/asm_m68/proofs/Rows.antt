@@ -27,7 +27,8 @@ use Rattle.m68_isa.specs.Targets.{branch_target}
 use Rattle.m68_isa.specs.laws.Widths.{is_any}
 use Rattle.m68_text.specs.declared.operand.Operand.{Operand}
 use Rattle.m68_text.specs.declared.operand.Operand.TheVariants.{Data, Word}
-use Rattle.m68_text.specs.Operands.{counted, exchanged, immediate, operands, paired, place, with_registers}
+use Rattle.m68_text.specs.Instructions.{operands}
+use Rattle.m68_text.specs.Operands.{counted, exchanged, immediate, paired, place, with_registers}
 use Rattle.asm_m68.specs.laws.Spelling.{long_words}
 use Rattle.asm_m68.specs.laws.Spelling.{content, contents, following, way}
 use Rattle.asm_m68.specs.laws.Spelling.Ending.{Extended, Paired}

@@ -17,7 +17,8 @@ use Rattle.m68_isa.specs.Operands.{operand_at, special_at}
 use Rattle.m68_isa.specs.Rows.{one}
 use Rattle.m68_isa.specs.laws.Widths.{is_any}
 use Rattle.m68_text.specs.declared.operand.Operand.{Operand}
-use Rattle.m68_text.specs.Operands.{operands, place}
+use Rattle.m68_text.specs.Instructions.{operands}
+use Rattle.m68_text.specs.Operands.{place}
 use Rattle.asm_m68.specs.Reading.{nothing}
 use Rattle.asm_m68.specs.laws.Spelling.{content, contents, following, is_word, way_of}
 use Rattle.asm_m68.specs.laws.Spelling.Ending.{Extended}

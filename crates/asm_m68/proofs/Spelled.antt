@@ -18,8 +18,8 @@ use Rattle.m68_isa.specs.Made.{made}
 use Rattle.m68_isa.proofs.ByOperation.{by_operation}
 use Rattle.m68_text.specs.declared.operand.Operand.{Operand}
 use Rattle.m68_text.specs.declared.operand.Operand.TheVariants.{Word}
-use Rattle.m68_text.specs.Names.{name}
-use Rattle.m68_text.specs.Operands.{hex, operand_text, operands, operands_text}
+use Rattle.m68_text.specs.Instructions.{name, operands}
+use Rattle.m68_text.specs.Operands.{hex, operand_text, operands_text}
 use Rattle.asm_m68.specs.declared.form.Form.{Form}
 use Rattle.asm_m68.specs.declared.form.Form.TheVariants.{Always, Chosen, Data as DataWord, Far, Near, Registers}
 use Rattle.asm_m68.specs.laws.Table.{form_of}

@@ -4,7 +4,7 @@ use Rattle.m68_isa.specs.declared.instructions.Decoded68.{Decoded68}
 use Rattle.m68_isa.specs.declared.instructions.Decoded68.TheVariants.{Op, LineA, LineF, Privileged, Illegal, Short}
 use Rattle.m68_isa.specs.declared.instructions.Instr68.{Instr68}
 use Rattle.m68_isa.specs.Decode.{decoded}
-use Rattle.m68_text.specs.Names.{name}
+use Rattle.m68_text.specs.Instructions.{name}
 use Rattle.m68_text.specs.Operands.{operands_text}
 use Rattle.m68_text.specs.Text.{text_of}
 use Rattle.asm_m68.specs.Assembly.{AreWords}

@@ -12,7 +12,8 @@ use Rattle.m68_isa.specs.declared.instructions.QuickOp.TheVariants.{Addq, Subq}
 use Rattle.m68_isa.specs.declared.instructions.Instr68.{Instr68}
 use Rattle.m68_isa.specs.declared.instructions.Instr68.TheVariants.{Immediate, ImmediateToCcr, BitByRegister, BitByNumber, Movep, Move, Movea, Negx, Clr, Neg, Not, MoveFromSr, MoveToCcr, Nbcd, Swap, Pea, Ext, ExtByte, MovemToMemory, MovemFromMemory, MulLong, DivLong, Tst, Tas, Trap, Link, LinkLong, Unlk, Plain, Rtd, Trapv, Rtr, Jump, Chk, Lea, Quick, Scc, Dbcc, Bcc, BccLong, Moveq, Or, Div, Sbcd, Sub, Suba, Subx, Cmp, Cmpa, Eor, Cmpm, And, Mul, Abcd, Exg, Add, Adda, Addx, Shift, ShiftMemory}
 use Rattle.m68_isa.specs.laws.Widths.{has_size, is_any, is_wide}
-use Rattle.m68_text.specs.Names.{suffix, condition_name, branch_name, branch_suffix, name}
+use Rattle.m68_text.specs.Instructions.{name}
+use Rattle.m68_text.specs.Names.{suffix, condition_name, branch_name, branch_suffix}
 use Rattle.m68_text.specs.Listed.{stems, wide_stems, plain_names, tested, conditions, names, is_name}
 
 pub all_names : length names ≡ 234

@@ -1,3 +1,4 @@
+pub mod Instructions
 pub mod Listed
 pub mod Names
 pub mod Operands

@@ -1,10 +1,10 @@
--- The kinds of operands, each with its text, and the operands of each instruction, the source
+-- The kinds of operands, each with its text, and what several instructions have as operands, the source
 -- first (M68000 Family Programmer's Reference Manual, sections 2 and 4).
 use Rattle.std.specs.Prelude.{ℕ, List, [], ◌∷◌, ◌++◌, ◌==◌, codes, decimal, map, slice_index, Bool, if◌then◌else◌}
 use Rattle.std.specs.List.{join_with_byte}
 use Rattle.mix_bits.specs.Text.{hexadecimal}
 use Rattle.mix_bits.specs.declared.size.Size.{Size}
-use Rattle.mix_bits.specs.declared.size.Size.TheVariants.{One, Two, Four}
+use Rattle.mix_bits.specs.declared.size.Size.TheVariants.{Four}
 use Rattle.m68_isa.specs.declared.ea.Ea.{Ea}
 use Rattle.m68_isa.specs.declared.ea.Ea.TheVariants.{Dn, An, Ind, Post, Pre, Disp, Indexed as EaIndexed, AbsWord, AbsLong, PcDisp, PcIndexed as EaPcIndexed, Imm}
 use Rattle.m68_isa.specs.declared.ea.Index.{Index}
@@ -12,10 +12,7 @@ use Rattle.m68_isa.specs.declared.instructions.ShiftCount.{ShiftCount}
 use Rattle.m68_isa.specs.declared.instructions.ShiftCount.TheVariants.{Number as CountNumber, Register as CountRegister}
 use Rattle.m68_isa.specs.declared.instructions.Exchange.{Exchange}
 use Rattle.m68_isa.specs.declared.instructions.Exchange.TheVariants.{Data as ExchangeData, Address as ExchangeAddress, DataAddress}
-use Rattle.m68_isa.specs.declared.instructions.Instr68.{Instr68}
-use Rattle.m68_isa.specs.declared.instructions.Instr68.TheVariants.{Immediate, ImmediateToCcr, BitByRegister, BitByNumber, Movep, Move, Movea, Negx, Clr, Neg, Not, MoveFromSr, MoveToCcr, Nbcd, Swap, Pea, Ext, ExtByte, MovemToMemory, MovemFromMemory, MulLong, DivLong, Tst, Tas, Trap, Link, LinkLong, Unlk, Plain, Rtd, Trapv, Rtr, Jump, Chk, Lea, Quick, Scc, Dbcc, Bcc, BccLong, Moveq, Or, Div, Sbcd, Sub, Suba, Subx, Cmp, Cmpa, Eor, Cmpm, And, Mul, Abcd, Exg, Add, Adda, Addx, Shift, ShiftMemory}
 use Rattle.m68_isa.specs.Operands.{long_at}
-use Rattle.m68_isa.specs.Targets.{branch_target}
 use Rattle.m68_text.specs.declared.operand.Operand.{Operand}
 use Rattle.m68_text.specs.declared.operand.Operand.TheVariants.{Data, Pair, Address, Indirect, PostIncrement, PreDecrement, Displaced, Indexed, ShortAddress, LongAddress, PcDisplaced, PcIndexed, Byte, Word, Long, Number, ConditionCodes, StatusRegister, Target}
 
@@ -114,67 +111,3 @@ with_registers wide high low ws by =
 abbrev pub counted : ShiftCount → Operand
 counted (CountNumber n) = Number n
 counted (CountRegister n) = Data n
-
--- the operands of an instruction with these words at an address; an immediate begins with word 1, unless
--- that is the word of the registers
-abbrev pub operands : Instr68 → List ℕ → ℕ → List Operand
-operands (Immediate op size value to) ws at = immediate size ws 1 ∷ place size ws 1 to ∷ []
-operands (ImmediateToCcr op value) ws at = immediate One ws 1 ∷ ConditionCodes ∷ []
-operands (BitByRegister op register to) ws at = Data register ∷ place One ws 1 to ∷ []
-operands (BitByNumber op bit to) ws at = immediate One ws 1 ∷ place One ws 1 to ∷ []
-operands (Movep size to_memory register base disp) ws at = directed to_memory register (Displaced base disp)
-operands (Move size from to) ws at = place size ws 1 from ∷ place size ws 1 to ∷ []
-operands (Movea size from to) ws at = place size ws 1 from ∷ Address to ∷ []
-operands (Negx size to) ws at = place size ws 1 to ∷ []
-operands (Clr size to) ws at = place size ws 1 to ∷ []
-operands (Neg size to) ws at = place size ws 1 to ∷ []
-operands (Not size to) ws at = place size ws 1 to ∷ []
-operands (MoveFromSr to) ws at = StatusRegister ∷ place Two ws 1 to ∷ []
-operands (MoveToCcr from) ws at = place Two ws 1 from ∷ ConditionCodes ∷ []
-operands (Nbcd to) ws at = place One ws 1 to ∷ []
-operands (Swap register) ws at = Data register ∷ []
-operands (Pea from) ws at = place Four ws 1 from ∷ []
-operands (Ext size register) ws at = Data register ∷ []
-operands (ExtByte register) ws at = Data register ∷ []
-operands (MovemToMemory size mask to) ws at = Word mask ∷ place size ws 1 to ∷ []
-operands (MovemFromMemory size mask from) ws at = place size ws 1 from ∷ Word mask ∷ []
-operands (MulLong signed wide by high low) ws at = with_registers wide high low ws by
-operands (DivLong signed wide by high low) ws at = with_registers wide high low ws by
-operands (Tst size of) ws at = place size ws 1 of ∷ []
-operands (Tas to) ws at = place One ws 1 to ∷ []
-operands (Trap number) ws at = Number number ∷ []
-operands (Link register disp) ws at = Address register ∷ Word disp ∷ []
-operands (LinkLong register disp) ws at = Address register ∷ Long disp ∷ []
-operands (Unlk register) ws at = Address register ∷ []
-operands (Plain op) ws at = []
-operands (Rtd disp) ws at = Word disp ∷ []
-operands Trapv ws at = []
-operands Rtr ws at = []
-operands (Jump op to) ws at = place Four ws 1 to ∷ []
-operands (Chk bound register) ws at = place Two ws 1 bound ∷ Data register ∷ []
-operands (Lea from to) ws at = place Four ws 1 from ∷ Address to ∷ []
-operands (Quick op size number to) ws at = Number number ∷ place size ws 1 to ∷ []
-operands (Scc condition to) ws at = place One ws 1 to ∷ []
-operands (Dbcc condition register disp) ws at = Data register ∷ Target (branch_target at disp) ∷ []
-operands (Bcc condition disp) ws at = Target (branch_target at disp) ∷ []
-operands (BccLong condition disp) ws at = Target (branch_target at disp) ∷ []
-operands (Moveq value to) ws at = Byte value ∷ Data to ∷ []
-operands (Or size to_memory register operand) ws at = directed to_memory register (place size ws 1 operand)
-operands (Div signed by register) ws at = place Two ws 1 by ∷ Data register ∷ []
-operands (Sbcd memory from to) ws at = paired memory from to
-operands (Sub size to_memory register operand) ws at = directed to_memory register (place size ws 1 operand)
-operands (Suba size from to) ws at = place size ws 1 from ∷ Address to ∷ []
-operands (Subx size memory from to) ws at = paired memory from to
-operands (Cmp size with register) ws at = place size ws 1 with ∷ Data register ∷ []
-operands (Cmpa size with register) ws at = place size ws 1 with ∷ Address register ∷ []
-operands (Eor size register to) ws at = Data register ∷ place size ws 1 to ∷ []
-operands (Cmpm size from to) ws at = PostIncrement from ∷ PostIncrement to ∷ []
-operands (And size to_memory register operand) ws at = directed to_memory register (place size ws 1 operand)
-operands (Mul signed by register) ws at = place Two ws 1 by ∷ Data register ∷ []
-operands (Abcd memory from to) ws at = paired memory from to
-operands (Exg kind upper lower) ws at = exchanged kind upper lower
-operands (Add size to_memory register operand) ws at = directed to_memory register (place size ws 1 operand)
-operands (Adda size from to) ws at = place size ws 1 from ∷ Address to ∷ []
-operands (Addx size memory from to) ws at = paired memory from to
-operands (Shift op left size count register) ws at = counted count ∷ Data register ∷ []
-operands (ShiftMemory op left to) ws at = place Two ws 1 to ∷ []

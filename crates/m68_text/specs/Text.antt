@@ -2,8 +2,8 @@
 use Rattle.std.specs.Prelude.{ℕ, List, ◌++◌, codes, slice_index}
 use Rattle.m68_isa.specs.declared.instructions.Decoded68.{Decoded68}
 use Rattle.m68_isa.specs.declared.instructions.Decoded68.TheVariants.{Op}
-use Rattle.m68_text.specs.Names.{name}
-use Rattle.m68_text.specs.Operands.{operands, operands_text, hex}
+use Rattle.m68_text.specs.Instructions.{name, operands}
+use Rattle.m68_text.specs.Operands.{operands_text, hex}
 
 -- the name and the operands; where the words are no instruction of a program, the first one alone
 abbrev pub text_of : Decoded68 → List ℕ → ℕ → List ℕ

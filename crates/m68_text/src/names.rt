@@ -1,5 +1,6 @@
 ghost use Rattle.std.specs.Prelude.{◌≡◌, ◌+◌, ◌≤◌, ◌++◌, codes, length};
-ghost use Rattle.m68_text.specs.Names.{bit_name as bit_name_of, branch_name as branch_name_of, branch_suffix as branch_suffix_of, condition_name as condition_name_of, immediate_name as immediate_name_of, logic_name as logic_name_of, name, shift_name as shift_name_of, suffix as suffix_of};
+ghost use Rattle.m68_text.specs.Instructions.{name};
+ghost use Rattle.m68_text.specs.Names.{bit_name as bit_name_of, branch_name as branch_name_of, branch_suffix as branch_suffix_of, condition_name as condition_name_of, immediate_name as immediate_name_of, logic_name as logic_name_of, shift_name as shift_name_of, suffix as suffix_of};
 
 use m68_isa::{BitOp, ImmediateOp, Instr68, JumpOp, LogicOp, PlainOp, QuickOp, ShiftOp};
 use mix_bits::Size;

@@ -1,5 +1,6 @@
 ghost use Rattle.std.specs.Prelude.{◌≡◌, ◌<◌};
-ghost use Rattle.m68_text.specs.Operands.{counted as counted_of, directed as directed_of, exchanged as exchanged_of, immediate as immediate_of, operands, paired as paired_of, place as place_of, with_registers as with_registers_of};
+ghost use Rattle.m68_text.specs.Instructions.{operands};
+ghost use Rattle.m68_text.specs.Operands.{counted as counted_of, directed as directed_of, exchanged as exchanged_of, immediate as immediate_of, paired as paired_of, place as place_of, with_registers as with_registers_of};
 ghost use Rattle.m68_text.specs.inner.Operands.{listed};
 
 use super::operand::Operand::{

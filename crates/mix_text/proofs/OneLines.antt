@@ -18,8 +18,8 @@ use Rattle.m68_text.specs.declared.operand.Operand.{Operand as Operand68}
 use Rattle.m68_text.specs.declared.operand.Operand.TheVariants.{Data, Pair, Address, Indirect, PostIncrement, PreDecrement, Displaced, Indexed, ShortAddress, LongAddress, PcDisplaced, PcIndexed, Byte, Word, Long, Number, ConditionCodes, StatusRegister, Target}
 use Rattle.m68_text.specs.laws.Laws.{NamesAreListed}
 use Rattle.m68_text.specs.Listed.{conditions as conditions_m68, names as names_m68, plain_names as plain_m68, stems as stems_m68, tested as tested_m68, wide_stems as wide_m68}
-use Rattle.m68_text.specs.Names.{name as name_m68}
-use Rattle.m68_text.specs.Operands.{address_register, data_register, hex, index_text, indirect, operand_text as text_m68, operands as operands_m68, operands_text as operands_text_m68, scale_text}
+use Rattle.m68_text.specs.Instructions.{name as name_m68, operands as operands_m68}
+use Rattle.m68_text.specs.Operands.{address_register, data_register, hex, index_text, indirect, operand_text as text_m68, operands_text as operands_text_m68, scale_text}
 use Rattle.m68_text.specs.Text.{text_of as text_of_m68}
 use Rattle.ppc_isa.specs.declared.instruction.InstrPpc.{InstrPpc}
 use Rattle.ppc_isa.specs.Rows.{decoded as decoded_ppc}

@@ -5,8 +5,8 @@ use Rattle.mix_bits.specs.laws.Names.{rest_of}
 use Rattle.m68_isa.specs.declared.instructions.Instr68.{Instr68}
 use Rattle.m68_isa.specs.declared.instructions.Decoded68.TheVariants.{Op}
 use Rattle.m68_isa.specs.Decode.{decoded}
-use Rattle.m68_text.specs.Names.{name}
-use Rattle.m68_text.specs.Operands.{hex, operands, operands_text}
+use Rattle.m68_text.specs.Instructions.{name, operands}
+use Rattle.m68_text.specs.Operands.{hex, operands_text}
 use Rattle.asm_m68.specs.declared.form.Form.{Form}
 use Rattle.asm_m68.specs.declared.form.Form.TheVariants.{Data}
 use Rattle.asm_m68.specs.laws.Table.{form_of}

@@ -3,7 +3,7 @@ use Rattle.std.specs.Prelude.{ℕ, ◌≡◌, ◌^◌, ◌<◌, true, List, ◌�
 use Rattle.m68_isa.specs.declared.instructions.Decoded68.TheVariants.{Op}
 use Rattle.m68_isa.specs.declared.instructions.Instr68.{Instr68}
 use Rattle.m68_isa.specs.Decode.{decoded}
-use Rattle.m68_text.specs.Names.{name}
+use Rattle.m68_text.specs.Instructions.{name}
 use Rattle.m68_text.specs.Listed.{is_name}
 
 -- the name of each instruction that words can be is in the list
