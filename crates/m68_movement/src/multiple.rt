@@ -2,15 +2,16 @@
 ghost use Rattle.std.specs.Prelude.{◌≡◌, ◌≢◌, ◌-◌, ◌*◌, ◌<◌, ◌≤◌, IsTrue, None, Ok, length, true, map, if◌then◌else◌};
 ghost use Rattle.mix_bits.specs.Addresses.{onward as onward_of};
 ghost use Rattle.mix_bits.specs.declared.size.Size.TheVariants.{Zero};
+ghost use Rattle.mix_bits.specs.Sizes.{bytes_of};
 ghost use Rattle.big_memory.specs.Memory.{in_memory, refusal};
 ghost use Rattle.big_memory.specs.StepsClauses.{Does};
 ghost use Rattle.big_memory.specs.StoresClauses.{OnlyFree};
 ghost use Rattle.mix_bits.specs.Addresses.{backward as backward_of};
-ghost use Rattle.m68_effects.specs.Multiple.{listed, movem_before, movem_onto, register_of, loaded_along, span_of, stored_down, with_register};
+ghost use Rattle.m68_effects.specs.Multiple.{listed, movem_before, movem_onto, register_of, loaded_along, span_of, stored_along, stored_down, with_register};
 ghost use Rattle.m68_effects.specs.laws.Ops.{by_op};
 ghost use Rattle.m68_effects.specs.Parts.{after};
 ghost use Rattle.m68_isa.specs.laws.Fits.{Fits};
-ghost use Rattle.m68_movement.specs.inner.Along.{Loads, StoresOpen};
+ghost use Rattle.m68_movement.specs.inner.Along.{Loads, StoresOpen, StoresUp};
 
 use super::along::{store_along, store_down};
 use arrayvec::ArrayVec;
@@ -130,11 +131,50 @@ fn store_onto(
     requires { words ≤ 5 }
     ensures { Does (after (movem_onto regs.old ram.old (onward_of regs.old.pc (2 * words)) size mask at)) result fault.new regs.old regs.new ram.old ram.new }
 {
+    if store_open_up(regs, ram, size, mask, at) {
+        return go_on(regs, words);
+    }
     let values = values_of(regs, mask, false);
     if store_along(ram, fault, regs.pc, at, size.bytes(), size, &values) {
         go_on(regs, words)
     } else {
         Did::Stop
+    }
+}
+
+/// Stores the registers of a mask upwards from an address, where sixteen longs plainly can be stored, and tells
+/// whether it did; else nothing is changed.
+#[inline(always)]
+fn store_open_up(regs: &Regs68, ram: &mut Ram, size: Size, mask: u32, a: u32) -> bool
+    ensures { StoresUp regs.now ram.old a size mask result ram.new }
+{
+    if !is_open(ram, a) {
+        return false;
+    }
+    match size {
+        Size::Zero => return false,
+        Size::One => return false,
+        Size::Two => put_up(regs, ram, Size::Two, mask, a),
+        Size::Four => put_up(regs, ram, Size::Four, mask, a),
+    }
+    true
+}
+
+/// Stores the registers of a mask upwards from an address, none of which is refused.
+#[inline(always)]
+fn put_up(regs: &Regs68, ram: &mut Ram, size: Size, mask: u32, a: u32)
+    requires { refusal ram.old a 64 ≡ None }
+    ensures is { stored_along regs.now.pc ram.old a (bytes_of size) size (map (register_of regs.now) (listed mask)) ≡ Ok ram.new }
+    ensures free { OnlyFree ram.old ram.new }
+{
+    memory_laws();
+    ram.meets_invariant();
+    let mut at = a;
+    for k in 0..16 {
+        if digit(mask, k, 1) == 1 {
+            ram.put(at, size, register(regs, k as usize));
+            at = onward(at, size.bytes());
+        }
     }
 }
 

@@ -4,6 +4,7 @@ use Rattle.std.specs.Prelude.{◌≡◌, ℕ, ◌-◌, ◌≤◌, Bool, true, fa
 use Rattle.std.specs.Result.{IsOk}
 use Rattle.mix_bits.specs.declared.size.Size.{Size}
 use Rattle.mix_bits.specs.declared.fault.Fault.{Fault}
+use Rattle.mix_bits.specs.Sizes.{bytes_of}
 use Rattle.m68_isa.specs.declared.registers.Regs68.{Regs68}
 use Rattle.big_memory.specs.Memory.{Memory, stored}
 use Rattle.big_memory.specs.StoresClauses.{OnlyFree}
@@ -32,3 +33,8 @@ abbrev pub StoresOpen : Regs68 → Memory → ℕ → Size → ℕ → Option �
 StoresOpen r m base size mask (Some end) n =
     (stored_down r.pc m base size (map (λ k. register_of r (15 - k)) (listed mask)) ≡ Ok n) × OnlyFree m n × (end ≡ backward base (span_of size mask))
 StoresOpen r m base size mask None n = n ≡ m
+
+-- the registers of a mask that are stored upwards from an address; or nothing is changed
+abbrev pub StoresUp : Regs68 → Memory → ℕ → Size → ℕ → Bool → Memory → Type 0
+StoresUp r m a size mask true n = (stored_along r.pc m a (bytes_of size) size (map (register_of r) (listed mask)) ≡ Ok n) × OnlyFree m n
+StoresUp r m a size mask false n = n ≡ m
