@@ -1,6 +1,7 @@
 pub mod Lookups
 pub mod Steps
 pub mod NextId
+pub mod Ids
 pub mod Listing
 pub mod Small
 mod Walk

@@ -10,7 +10,7 @@ use Rattle.rsrc_fork.specs.Resources.{Resource, named, same_name, bytes_of}
 use Rattle.rsrc_fork.specs.ResourcesClauses.{AreSmall, IsSmall, is_nearer, nearer, names_of, next_id, IsNextId}
 
 -- one more resource in front hides none
-later : (resource : Resource) (resources : List Resource) (name : Name)
+pub later : (resource : Resource) (resources : List Resource) (name : Name)
     → IsSome (bytes_of resources name) → IsSome (bytes_of (resource ∷ resources) name)
 later resource resources name h = by (same_name name resource.0)
   where

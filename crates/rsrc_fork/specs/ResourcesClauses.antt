@@ -1,5 +1,5 @@
 -- The next greater id of a type.
-use Rattle.std.specs.Prelude.{◌≡◌, ℕ, ℤ, ◌<ℤ◌, ◌≤ℤ◌, pos, Bool, true, ◌&&◌, nat_eq, int_lt, IsSome, All, length, ◌≤◌, if◌then◌else◌, List, map, fold, Option, Some, None}
+use Rattle.std.specs.Prelude.{◌≡◌, ℕ, ℤ, ◌-◌, ◌<◌, ◌<ℤ◌, ◌≤ℤ◌, pos, Bool, true, ◌&&◌, nat_eq, int_lt, IsSome, All, length, ◌≤◌, if◌then◌else◌, List, map, fold, Option, Some, None}
 use Rattle.mix_bits.specs.declared.file.TheConstants.{MOST_BYTES}
 use denote.Ref.{Bor}
 use Rattle.rsrc_fork.specs.declared.name.Name.{Name}
@@ -39,6 +39,12 @@ IsNextId resources kind after None = (id : ℤ) → after <ℤ id → bytes_of r
 IsNextId resources kind after (Some id) =
     IsSome (bytes_of resources (named kind id)) × (after <ℤ id)
     × ((other : ℤ) → after <ℤ other → other <ℤ id → bytes_of resources (named kind other) ≡ None)
+
+-- where the ids of the type end that are not negative: behind the greatest of them
+pub record IsIdsEnd (resources : List Resource) (kind end : ℕ) : Type 0 where
+  pub behind : (id : ℕ) → end ≤ id → bytes_of resources (named kind (pos id)) ≡ None
+  pub last : 0 < end → IsSome (bytes_of resources (named kind (pos (end - 1))))
+  pub few : end ≤ 32768
 
 -- what the entries of a map of slices show
 abbrev pub seen : List (Name × Bor (List ℕ)) → List Resource

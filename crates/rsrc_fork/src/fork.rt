@@ -1,5 +1,5 @@
 use crate::error::RsrcError;
-use crate::lookup::{find, next_id};
+use crate::lookup::{find, ids_end, next_id};
 use crate::name::Name;
 use crate::references::{Resources, resources_of};
 use std::alloc::Global;
@@ -32,7 +32,7 @@ impl<'a> Fork<'a> {
     ghost use Rattle.rsrc_fork.specs.ReferencesClauses.{reference_count, reference_limit};
     ghost use Rattle.rsrc_fork.specs.References.{resources_of};
     ghost use Rattle.rsrc_fork.specs.Resources.{Resource, bytes_of, named};
-    ghost use Rattle.rsrc_fork.specs.ResourcesClauses.{next_id, IsNextId};
+    ghost use Rattle.rsrc_fork.specs.ResourcesClauses.{next_id, IsIdsEnd, IsNextId};
     ghost use Rattle.rsrc_fork.specs.laws.Walk.{ComesToEnd, FindsAll};
 
     /// Reads the fork in a file's bytes. A refusal is the first in this order: the header, the place
@@ -70,6 +70,13 @@ impl<'a> Fork<'a> {
         ensures next { IsNextId self.now kind after result }
     {
         next_id(&self.resources, kind, after)
+    }
+
+    /// Behind the greatest id of a type, if that is not negative, else 0. It goes over the resources once.
+    pub fn ids_end(&self, kind: u32) -> u16
+        ensures { IsIdsEnd self.now kind result }
+    {
+        ids_end(&self.resources, kind)
     }
 
     /// What holds of a walk by `ids`, each time from the id that it gave. It does nothing: the clauses are
