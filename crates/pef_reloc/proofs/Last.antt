@@ -1,11 +1,11 @@
 -- That an instruction which is one too many is refused for that last of all.
-use Rattle.std.proofs.Common.{◌≡◌, ℕ, ◌+◌, ◌%◌, ◌^◌, nat_lt, Bool, true, false, if◌then◌else◌, List, length, Option, Some, None, Result, Ok, Err, refl}
+use Rattle.std.proofs.Common.{◌≡◌, ℕ, ◌+◌, ◌%◌, ◌^◌, nat_lt, Bool, true, false, if◌then◌else◌, length, Some, Result, Ok, Err, refl}
 use Rattle.mix_bits.specs.Results.{◌>>=◌}
 use Rattle.pef_reloc.specs.declared.error.RelocError.{RelocError}
 use Rattle.pef_reloc.specs.declared.error.RelocError.TheVariants.{OutsideSection, RepeatFront, Work}
 use Rattle.pef_reloc.specs.declared.section.Source.{Source}
 use Rattle.pef_reloc.specs.declared.section.Source.TheVariants.{FromC, FromD, FromImport, FromSection}
-use Rattle.pef_reloc.specs.Additions.{Add, Skip, Place, Import, SetC, SetD, Sources, State, Refused, allowed, base_of, counted, finished, given, import_at, refused, added}
+use Rattle.pef_reloc.specs.Additions.{Add, Skip, Place, Import, SetC, SetD, State, Refused, allowed, base_of, counted, finished, given, import_at, refused, added}
 use Rattle.pef_reloc.specs.Program.{can_repeat, run_times, span_at}
 use Rattle.pef_reloc.specs.laws.Laws.{IsRepeatWorkLast, IsWorkLast, else_work, refusal_of, when_over, without_work}
 

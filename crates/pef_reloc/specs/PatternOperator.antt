@@ -1,5 +1,5 @@
 -- What is read next, where something was read.
-use Rattle.std.specs.Prelude.{ℕ, ◌-◌, List, Option, Some, None}
+use Rattle.std.specs.Prelude.{ℕ, List, Option, Some, None}
 use Rattle.pef_reloc.specs.Reads.{Read}
 
 infixl 30 ◌>>=◌

@@ -1,5 +1,6 @@
 // Running relocation words.
 ghost use Rattle.std.specs.Prelude.{◌≡◌, ◌+◌, ◌*◌, ◌%◌, ◌^◌, ◌<◌, ◌≤◌, ◌==◌, true, length, slice_index, if◌then◌else◌, Some, None, IfSome, OnOk};
+ghost use Rattle.mix_bits.specs.Fields.{word_at};
 ghost use Rattle.mix_bits.specs.declared.file.TheConstants.{MOST_BYTES};
 ghost use Rattle.std.specs.Option.{option_copied};
 ghost use Rattle.std.specs.Result.{result_err};
@@ -8,13 +9,14 @@ ghost use Rattle.pef_reloc.specs.inner.Held.{Fits, budget, outcome_of, outside_o
 ghost use Rattle.pef_reloc.specs.inner.Repeating.{repeated_span};
 ghost use Rattle.pef_reloc.specs.Program.{can_repeat, relocated, run_at, run_in_span, run_span, run_times, run_words, span_at, start};
 ghost use Rattle.pef_reloc.specs.ProgramClauses.{relocated_in};
+ghost use Rattle.pef_reloc.specs.Rows.{first_of};
 
 use crate::additions::execute;
 use crate::cursor::Cursor;
 use crate::error::RelocError;
-use crate::instruction::Reading;
+use crate::instruction::{First, Reading};
 use crate::section::Target;
-use crate::words::{is_span, reading_at, width_at};
+use crate::words::{first_at, is_span, reading_at, width};
 use big_memory::Ram;
 
 /// How many instructions one call may run.
@@ -27,17 +29,19 @@ fn run_in_span(
     target: Target,
     span: &[u8],
     place: usize,
+    first: First,
 ) -> Result<(), RelocError>
     requires fits { Fits target ram.old }
     requires near { budget cursor.old ≤ 2 ^ 60 }
     requires within { place + 2 ≤ length span.now }
     requires small { length span.now ≤ MOST_BYTES }
+    requires first { first ≡ first_of (word_at span.now place) }
     ensures is { outcome_of target.entry result ram.new cursor.new ≡ run_in_span (sources_of target.entry) span.now place (state_of target.entry ram.old cursor.old) }
     ensures outside { outside_of target.entry ram.new ≡ outside_of target.entry ram.old }
     ensures len { length ram.new.bytes ≡ length ram.old.bytes }
     ensures bound { OnOk result (budget cursor.new ≤ budget cursor.old) }
 {
-    match reading_at(span, place) {
+    match reading_at(span, place, first) {
         Ok(Reading::Whole(instruction)) => execute(ram, cursor, target, instruction),
         Ok(Reading::Again(_, _)) => Ok(()),
         Err(e) => Err(e),
@@ -61,8 +65,9 @@ fn run_span(
 {
     let mut place = 0;
     while place + 2 <= span.len() {
-        run_in_span(ram, cursor, target, span, place)?;
-        place += width_at(span, place);
+        let first = first_at(span, place);
+        run_in_span(ram, cursor, target, span, place, first)?;
+        place += width(first);
     }
     Ok(())
 }
@@ -132,17 +137,19 @@ fn run_at(
     target: Target,
     words: &[u8],
     place: usize,
+    first: First,
 ) -> Result<(), RelocError>
     requires fits { Fits target ram.old }
     requires near { budget cursor.old ≤ 2 ^ 60 }
     requires within { place + 2 ≤ length words.now }
     requires small { length words.now ≤ MOST_BYTES }
+    requires first { first ≡ first_of (word_at words.now place) }
     ensures is { outcome_of target.entry result ram.new cursor.new ≡ run_at (sources_of target.entry) words.now place (state_of target.entry ram.old cursor.old) }
     ensures outside { outside_of target.entry ram.new ≡ outside_of target.entry ram.old }
     ensures len { length ram.new.bytes ≡ length ram.old.bytes }
     ensures bound { OnOk result (budget cursor.new ≤ budget cursor.old) }
 {
-    match reading_at(words, place) {
+    match reading_at(words, place, first) {
         Ok(Reading::Whole(instruction)) => execute(ram, cursor, target, instruction),
         Ok(Reading::Again(count, further)) => match span_at(words, place, count) {
             Some(span) => repeat(ram, cursor, target, span, further),
@@ -168,8 +175,9 @@ fn run_words(
 {
     let mut place = 0;
     while place + 2 <= words.len() {
-        run_at(ram, cursor, target, words, place)?;
-        place += width_at(words, place);
+        let first = first_at(words, place);
+        run_at(ram, cursor, target, words, place, first)?;
+        place += width(first);
     }
     Ok(())
 }

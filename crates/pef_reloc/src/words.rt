@@ -1,35 +1,44 @@
 // Relocation words, and what stands at a place among them.
 ghost use Rattle.std.specs.Prelude.{◌≡◌, ◌+◌, ◌≤◌, length};
+ghost use Rattle.mix_bits.specs.Fields.{word_at};
 ghost use Rattle.mix_bits.specs.declared.file.TheConstants.{MOST_BYTES};
-ghost use Rattle.pef_reloc.specs.Program.{fits_in, is_span, reading_at, width_at};
+ghost use Rattle.pef_reloc.specs.Program.{fits_in, is_span, reading_at, width};
+ghost use Rattle.pef_reloc.specs.Rows.{first_of};
 
 use crate::error::RelocError;
 use crate::instruction::{First, Reading};
 use crate::rows::{first_of, whole_of};
 use mix_bits::word_at;
 
-/// How many bytes the instruction has that begins at a place.
-pub fn width_at(words: &[u8], place: usize) -> usize
+/// What the word at a place begins.
+pub fn first_at(words: &[u8], place: usize) -> First
     requires within { place + 2 ≤ length words.now }
     requires small { length words.now ≤ MOST_BYTES }
-    ensures is { result ≡ width_at words.now place }
+    ensures { result ≡ first_of (word_at words.now place) }
+{
+    first_of(word_at(words, place as u32))
+}
+
+/// How many bytes the instruction has that begins so.
+pub fn width(first: First) -> usize
+    ensures is { result ≡ width first }
     ensures some { 2 ≤ result }
     ensures few { result ≤ 4 }
 {
-    match first_of(word_at(words, place as u32)) {
+    match first {
         First::Two(_, _) => 4,
         _ => 2,
     }
 }
 
-/// The instruction that begins at a place.
-pub fn reading_at(words: &[u8], place: usize) -> Result<Reading, RelocError>
+/// The instruction that begins so at a place.
+pub fn reading_at(words: &[u8], place: usize, first: First) -> Result<Reading, RelocError>
     requires within { place + 2 ≤ length words.now }
     requires small { length words.now ≤ MOST_BYTES }
+    requires first { first ≡ first_of (word_at words.now place) }
     ensures { result ≡ reading_at words.now place }
 {
-    let word = word_at(words, place as u32);
-    match first_of(word) {
+    match first {
         First::One(instruction) => Ok(Reading::Whole(instruction)),
         First::Two(large, high) => {
             if words.len() < place + 4 {
@@ -39,19 +48,20 @@ pub fn reading_at(words: &[u8], place: usize) -> Result<Reading, RelocError>
             Ok(Reading::Whole(whole_of(large, high * 65536 + low)))
         }
         First::Repeat(count, further) => Ok(Reading::Again(count, further)),
-        First::NoRow => Err(RelocError::Unsupported(u32::from(word))),
+        First::NoRow => Err(RelocError::Unsupported(u32::from(word_at(words, place as u32)))),
     }
 }
 
-/// Whether no repeat stands at a place, and what stands there ends within the span.
-fn fits_in(span: &[u8], place: usize) -> bool
+/// Whether no repeat begins so at a place, and what does ends within the span.
+fn fits_in(span: &[u8], place: usize, first: First) -> bool
     requires within { place + 2 ≤ length span.now }
     requires small { length span.now ≤ MOST_BYTES }
+    requires first { first ≡ first_of (word_at span.now place) }
     ensures { result ≡ fits_in span.now place }
 {
-    match first_of(word_at(span, place as u32)) {
+    match first {
         First::Repeat(_, _) => false,
-        _ => place + width_at(span, place) <= span.len(),
+        _ => place + width(first) <= span.len(),
     }
 }
 
@@ -62,10 +72,11 @@ pub fn is_span(span: &[u8]) -> bool
 {
     let mut place = 0;
     while place + 2 <= span.len() {
-        if !fits_in(span, place) {
+        let first = first_at(span, place);
+        if !fits_in(span, place, first) {
             return false;
         }
-        place += width_at(span, place);
+        place += width(first);
     }
     true
 }

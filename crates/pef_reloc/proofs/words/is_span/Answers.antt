@@ -1,6 +1,6 @@
 use Rattle.std.proofs.Common.{◌≡◌, ◌+◌, ℕ, List, Result, Bool, true, false, Ok, Err, if◌then◌else◌, arith, refl, ap, sym, ◌∙◌}
 use Rattle.std.specs.Result.{is_ok}
-use Rattle.pef_reloc.specs.Program.{each, fill_span, fits_in}
+use Rattle.pef_reloc.specs.Program.{each, width, fill_span, fits_in}
 use Rattle.pef_reloc.proofs.Each.{each_next, each_end, each_err}
 use Rattle.pef_reloc.proofs.words.is_span.Goals as goal
 
@@ -16,9 +16,9 @@ loop-place-preserved c =
     let fits : fits_in span c.loop-place.place ≡ true = sym c.fits_in.ensures ∙ c.if-not-fits_in.false in
     let done : Ok true ≡ fill_span span c.loop-place.place true = filled span c.loop-place.place fits in
     record {
-      same = ap (λ n. is_ok (each span (fill_span span) (c.loop-place.place + n) true)) c.width_at-place.ensures.is
+      same = ap (λ n. is_ok (each span (fill_span span) (c.loop-place.place + n) true)) (c.width-place.ensures.is ∙ ap width c.first_at-first.ensures)
           ∙ ap is_ok (each_next span (fill_span span) c.loop-place.place true true c.loop-place-test.true done) ∙ c.loop-place.invariant.same;
-      near = omega (arith, c.width_at-place.ensures.few);
+      near = omega (arith, c.width-place.ensures.few);
     }
 
 pub returns : goal.returns
@@ -35,4 +35,4 @@ pub loop-place-init : goal.loop-place-init
 loop-place-init c = record { same = refl; near = omega arith }
 
 pub loop-place-smaller : goal.loop-place-smaller
-loop-place-smaller c = omega (arith, c.width_at-place.ensures.some, c.loop-place-test.true)
+loop-place-smaller c = omega (arith, c.width-place.ensures.some, c.loop-place-test.true)

@@ -22,29 +22,29 @@ pub returns-then-words-place : goal.returns-then-words-place
 returns-then-words-place c =
     let words = c.args.words.now in
     let place = c.args.place in
-    let is : Two c.in-Two.large c.in-Two.high ≡ first_of (word_at words place) = sym c.in-Two.is ∙ c.first_of.ensures ∙ ap first_of c.word_at-word.ensures in
+    let is : Two c.in-Two.large c.in-Two.high ≡ first_of (word_at words place) = sym c.in-Two.is ∙ c.requires.first in
     short (length words) (place + 4) (Err (Short place)) (Ok (Whole (whole_of c.in-Two.large (c.in-Two.high * 65536 + word_at words (place + 2))))) c.if-words-place.true ∙ ap (reading_by words place) is
 
 pub overflow_mul-high : goal.overflow_mul-high
 overflow_mul-high c =
-    let low = is_low c.word_at-word.result c.in-Two.large c.in-Two.high (sym c.in-Two.is ∙ c.first_of.ensures) in
+    let low = is_low (word_at c.args.words.now c.args.place) c.in-Two.large c.in-Two.high (sym c.in-Two.is ∙ c.requires.first) in
     omega (arith, low)
 
 pub overflow_add-high : goal.overflow_add-high
 overflow_add-high c =
-    let low = is_low c.word_at-word.result c.in-Two.large c.in-Two.high (sym c.in-Two.is ∙ c.first_of.ensures) in
+    let low = is_low (word_at c.args.words.now c.args.place) c.in-Two.large c.in-Two.high (sym c.in-Two.is ∙ c.requires.first) in
     omega (arith, low, c.from-low.ensures, c.word_at.type_inv)
 
 pub returns-in-One : goal.returns-in-One
 returns-in-One c =
     let words = c.args.words.now in
-    ap (reading_by words c.args.place) (sym c.in-One.is ∙ c.first_of.ensures ∙ ap first_of c.word_at-word.ensures)
+    ap (reading_by words c.args.place) (sym c.in-One.is ∙ c.requires.first)
 
 pub returns-else-words-place : goal.returns-else-words-place
 returns-else-words-place c =
     let words = c.args.words.now in
     let place = c.args.place in
-    let is : Two c.in-Two.large c.in-Two.high ≡ first_of (word_at words place) = sym c.in-Two.is ∙ c.first_of.ensures ∙ ap first_of c.word_at-word.ensures in
+    let is : Two c.in-Two.large c.in-Two.high ≡ first_of (word_at words place) = sym c.in-Two.is ∙ c.requires.first in
     ap (λ i. Ok (Whole i)) (c.whole_of.ensures ∙ ap (λ n. whole_of c.in-Two.large (c.in-Two.high * 65536 + n)) (c.from-low.ensures ∙ c.word_at.ensures))
     ∙ long (length words) (place + 4) (Err (Short place)) (Ok (Whole (whole_of c.in-Two.large (c.in-Two.high * 65536 + word_at words (place + 2))))) c.if-words-place.false
     ∙ ap (reading_by words place) is
@@ -52,10 +52,10 @@ returns-else-words-place c =
 pub returns-in-Repeat : goal.returns-in-Repeat
 returns-in-Repeat c =
     let words = c.args.words.now in
-    ap (reading_by words c.args.place) (sym c.in-Repeat.is ∙ c.first_of.ensures ∙ ap first_of c.word_at-word.ensures)
+    ap (reading_by words c.args.place) (sym c.in-Repeat.is ∙ c.requires.first)
 
 pub returns-in-NoRow : goal.returns-in-NoRow
 returns-in-NoRow c =
     let words = c.args.words.now in
-    ap (λ w. Err (Unsupported w)) (c.from.ensures ∙ c.word_at-word.ensures)
-    ∙ ap (reading_by words c.args.place) (sym c.in-NoRow.is ∙ c.first_of.ensures ∙ ap first_of c.word_at-word.ensures)
+    ap (λ w. Err (Unsupported w)) (c.from.ensures ∙ c.word_at-in-NoRow.ensures)
+    ∙ ap (reading_by words c.args.place) (sym c.in-NoRow.is ∙ c.requires.first)
