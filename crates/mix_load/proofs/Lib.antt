@@ -15,3 +15,4 @@ pub mod Cuts
 pub mod Lying
 pub mod Jumping
 pub mod Next
+pub mod Behind

@@ -50,24 +50,24 @@ unrefused : (reason : Option LoadError) (x y : Image) → unless reason x ≡ Ok
 unrefused None x y is = (refl, let same : x ≡ y = cc in sym same)
 unrefused (Some e) x y is = absurd (cc)
 
-neither : (a b : Option LoadError) → (a or b) ≡ None → (a ≡ None) × (b ≡ None)
+pub neither : (a b : Option LoadError) → (a or b) ≡ None → (a ≡ None) × (b ≡ None)
 neither None b is = (refl, is)
 neither (Some e) b is = absurd (cc)
 
-not-here : {A : Type 0} (condition : Bool) (x : A) → refused condition x ≡ None → condition ≡ false
+pub not-here : {A : Type 0} (condition : Bool) (x : A) → refused condition x ≡ None → condition ≡ false
 not-here true x is = absurd (cc)
 not-here false x is = refl
 
-unmapped : (f : ℕ → LoadError) (o : Option ℕ) → option_map f o ≡ None → o ≡ None
+pub unmapped : (f : ℕ → LoadError) (o : Option ℕ) → option_map f o ≡ None → o ≡ None
 unmapped f None is = refl
 unmapped f (Some i) is = absurd (cc)
 
 -- parts of tests
-last-of : (a b : Bool) → (a && b) ≡ true → b ≡ true
+pub last-of : (a b : Bool) → (a && b) ≡ true → b ≡ true
 last-of true b is = is
 last-of false b is = absurd (cc)
 
-negated : (b : Bool) → not b ≡ false → b ≡ true
+pub negated : (b : Bool) → not b ≡ false → b ≡ true
 negated true is = refl
 negated false is = absurd (cc)
 
@@ -110,7 +110,7 @@ segments-lie resources start = record {
 }
 
 -- an entry of the table
-reached : (offset : ℕ) (found : Option (List ℕ)) → reaches offset found ≡ true → (segment : List ℕ) × ((found ≡ Some segment) × (4 + offset ≤ length segment))
+pub reached : (offset : ℕ) (found : Option (List ℕ)) → reaches offset found ≡ true → (segment : List ℕ) × ((found ≡ Some segment) × (4 + offset ≤ length segment))
 reached offset None is = absurd (cc)
 reached offset (Some segment) is = (segment, (refl, at-least (4 + offset) (length segment) is))
 

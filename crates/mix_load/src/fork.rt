@@ -11,7 +11,7 @@ ghost use Rattle.mix_load.specs.Segments.{code_at, header_of};
 use crate::error::{LoadError, fork_error};
 use crate::header::{a5_of, read_header, segments_start, table_start};
 use crate::image::{Image, test_end};
-use crate::segments::{code_at, put_segments, segments_end, test_segments};
+use crate::segments::{code_at, code_count, put_segments, segments_end, test_segments};
 use crate::table::{put_table, test_table};
 use big_memory::Ram;
 use rsrc_fork::Fork;
@@ -100,7 +100,7 @@ pub fn add_fork(alloc: Global, bytes: &[u8], image: Image) -> Result<Image, Load
     ensures whole { IfOk result IsImage }
 {
     match Fork::read(alloc, bytes) {
-        Ok(fork) => add_resources(alloc, &fork, ID_COUNT, image),
+        Ok(fork) => add_resources(alloc, &fork, code_count(&fork), image),
         Err(e) => Err(fork_error(e)),
     }
 }

@@ -1,5 +1,5 @@
 //! The segments of a fork: its CODEs above 0.
-ghost use Rattle.std.specs.Prelude.{◌≡◌, ◌+◌, ◌^◌, ◌≤◌, ◌<◌, [], false, length, option_map, IfSome, IfOk};
+ghost use Rattle.std.specs.Prelude.{◌≡◌, ℕ, ◌+◌, ◌^◌, ◌≤◌, ◌<◌, [], false, None, length, option_map, IfSome, IfOk};
 ghost use Rattle.mix_bits.specs.declared.file.TheConstants.{MOST_BYTES};
 ghost use Rattle.std.specs.Result.{result_err};
 ghost use Rattle.std.specs.Option.{option_map_or};
@@ -18,6 +18,14 @@ use std::alloc::{AllocError, Global};
 
 /// 'CODE'.
 const CODE: u32 = 0x434F_4445;
+
+/// How many ids from 0 on there are up to that of the last CODE.
+pub fn code_count(fork: &Fork) -> u16
+    ensures few { result ≤ 32768 }
+    ensures all { (id : ℕ) → result ≤ id → code_at fork.now id ≡ None }
+{
+    fork.ids_end(CODE)
+}
 
 /// The CODE with this id.
 pub fn code_at<'a>(fork: &Fork<'a>, id: u16) -> Option<&'a [u8]>

@@ -1,9 +1,10 @@
-use Rattle.mix_load.proofs.Forks.{fork-gives, fork-refuses, ids-are}
+use Rattle.mix_load.proofs.Behind.{fork-counted}
+use Rattle.mix_load.proofs.Forks.{fork-refuses}
 use Rattle.mix_load.proofs.fork.add_fork.Goals as goal
 
 pub returns-in-Ok-clause-is : goal.returns-in-Ok-clause-is
 returns-in-Ok-clause-is c =
-    fork-gives 32768 c.args.bytes.now c.args.image c.add_resources.result _ ids-are c.in-Ok.ensures.is c.add_resources.ensures.is
+    fork-counted c.code_count.result c.args.bytes.now c.args.image c.add_resources.result _ c.in-Ok.ensures.is c.add_resources.ensures.is c.code_count.ensures.all c.code_count.ensures.few
 
 pub returns-in-Err-clause-is : goal.returns-in-Err-clause-is
 returns-in-Err-clause-is c =
