@@ -1,8 +1,11 @@
 // A sink that stands for a buffer of a caller.
-ghost use Rattle.std.specs.Prelude.{◌≡◌, ◌+◌, ◌<◌, ◌≤◌, ◌++◌, IfOk, length, vec_capacity, vec_len};
+ghost use Rattle.std.specs.Prelude.{◌≡◌, ◌+◌, ◌<◌, ◌≤◌, ◌++◌, IfOk, is_ok, length, vec_capacity, vec_len};
+ghost use Rattle.mix_io.specs.Calls.{one_more};
+ghost use Rattle.mix_io.specs.CountsClauses.{HasCause};
 ghost use Rattle.mix_io.specs.StreamsClauses.{output};
+ghost use Rattle.mix_io.specs.Told.{Puts};
 ghost use Rattle.slice_parts.specs.Buffers.{IsWithin, Shows, buffer, told_of};
-ghost use Rattle.slice_parts.specs.Rooms.{RoomHeld, empty_room};
+ghost use Rattle.slice_parts.specs.Rooms.{RoomHeld, after_put, empty_room, takes_piece};
 
 use super::buffers::copy;
 use mix_io::{Failed, NoMemory, Sink};
@@ -56,7 +59,13 @@ impl Sink for Room {
 
     ghost faults = { λ s. s.faults };
 
-    fn put(&mut self, piece: &[u8]) -> Result<(), Failed> {
+    fn put(&mut self, piece: &[u8]) -> Result<(), Failed>
+        ensures bytes { Puts (told_of self.old.room self.old.bytes) (told_of self.new.room self.new.bytes) piece.now result }
+        ensures cause { HasCause self.old.faults self.new.faults result }
+        ensures count { None ≡ one_more None }
+        ensures exact { is_ok result ≡ takes_piece self.old piece.now }
+        ensures after { self.new ≡ after_put self.old piece.now }
+    {
         let left = self.room - self.bytes.len();
         if piece.len() > left {
             append(&mut self.bytes, &piece[..left]);

@@ -1,7 +1,9 @@
 // A keeper that stands for a buffer of a caller.
-ghost use Rattle.std.specs.Prelude.{◌≡◌, IfOk, Some};
+ghost use Rattle.std.specs.Prelude.{◌≡◌, IfOk, Some, is_err, is_ok};
+ghost use Rattle.mix_io.specs.CountsClauses.{NamedCause};
+ghost use Rattle.mix_io.specs.KeptClauses.{Saves};
 ghost use Rattle.slice_parts.specs.Buffers.{IsWithin, ShowsKept, buffer, kept_of};
-ghost use Rattle.slice_parts.specs.Rooms.{RoomKept, empty_keep, faults_for};
+ghost use Rattle.slice_parts.specs.Rooms.{RoomKept, after_keep, empty_keep, faults_for, keeps_piece};
 
 use super::room::Room;
 use mix_io::{Failed, Keeper, NoMemory, Sink};
@@ -49,7 +51,12 @@ impl Keeper for RoomKeep {
 
     ghost faults = { faults_for };
 
-    fn keep(&mut self, name: &str, piece: &[u8]) -> Result<(), Failed> {
+    fn keep(&mut self, name: &str, piece: &[u8]) -> Result<(), Failed>
+        ensures bytes { Saves (Some (kept_of self.old.pieces.room self.old.pieces.bytes)) (Some (kept_of self.new.pieces.room self.new.pieces.bytes)) name.now piece.now result }
+        ensures cause { NamedCause (faults_for self.old) (faults_for self.new) name.now (is_err result) }
+        ensures exact { is_ok result ≡ keeps_piece self.old name.now piece.now }
+        ensures after { self.new ≡ after_keep self.old name.now piece.now }
+    {
         if name == NAME {
             self.pieces.put(piece)
         } else {

@@ -1,5 +1,5 @@
 // What a call reads and writes.
-ghost use Rattle.std.specs.Prelude.{◌≡◌, Some, IfOk};
+ghost use Rattle.std.specs.Prelude.{◌≡◌, [], Some, IfOk};
 ghost use Rattle.slice_parts.specs.Rooms.{empty_keep, empty_room};
 
 use super::room::Room;
@@ -17,7 +17,7 @@ pub struct Streams {
 }
 
 impl Streams {
-    /// Copies the input, and reserves room for so many bytes of output, of trace and of what is kept.
+    /// Copies the input, which never fails, and reserves room for so many bytes of output, of trace and of what is kept.
     pub fn new(
         alloc: Global,
         input: &[u8],
@@ -27,6 +27,7 @@ impl Streams {
     ) -> Result<Streams, NoMemory>
         ensures left { IfOk result (λ s. ⟦<MemSource as Source>⟧.left s.input ≡ Some input.now) }
         ensures faults { IfOk result (λ s. ⟦<MemSource as Source>⟧.faults s.input ≡ 0) }
+        ensures never { IfOk result (λ s. s.input.calls.fails ≡ []) }
         ensures out { IfOk result (λ s. s.out ≡ empty_room out) }
         ensures trace { IfOk result (λ s. s.trace ≡ empty_room trace) }
         ensures kept { IfOk result (λ s. s.keep ≡ empty_keep kept) }
