@@ -15,6 +15,7 @@ use Rattle.mixed_machine.specs.declared.stop.Stop.{Stop}
 use Rattle.mixed_machine.specs.declared.stop.Stop.TheVariants.{Exit, Fault, Limit, ReadFault, OutFault, TraceFault}
 use Rattle.mix_engine.specs.declared.machine.Machine.{Machine}
 use Rattle.mix_top.specs.World.{Beside, Keep, Accounted, Closes, Early, OnlyPuts, PutsText, RoseAt, RoseFor}
+use Rattle.mix_top.specs.declared.ending.Ending.{Ending}
 use Rattle.mix_top.specs.inner.World.{EndsIn}
 use Rattle.mix_top.specs.Running.{broken_status}
 use Rattle.mix_top.specs.inner.Parts.{Finishes, Keeps}
@@ -98,22 +99,22 @@ accounted-closes save old new mid line status result plain input out trace keep 
     accounted-broke save Trace old new result same (record { input = input; out = out; trace = subst (λ n. Rose n new.trace.faults) trace breaks.rose }) keep devices
 
 -- a call that ended before any step
-pub accounted-early : (save : Option (List ℕ)) (old new : Beside) (line : List ℕ) (status result : ℕ) → IsPlain status → Early old new line status result → Accounted save old new result
+pub accounted-early : (save : Option (List ℕ)) (old new : Beside) (line : List ℕ) (status : ℕ) (result : Ending) → IsPlain status → Early old new line status result → Accounted save old new result.status
 accounted-early save old new line status result plain early =
-    accounted-closes save old new old.trace line status result plain (ap (λ o. o.input.faults) early.outside) (ap (λ o. o.out.faults) early.outside) refl
+    accounted-closes save old new old.trace line status result.status plain (ap (λ o. o.input.faults) early.outside) (ap (λ o. o.out.faults) early.outside) refl
     (same-counts old.keep new.keep early.keep) (subst (λ o. Accounts old.outside.rack o.rack) (sym early.outside) (accounts-none old.outside.rack)) early.trace
 
 same-devices : (old new : Beside) → new.outside.rack ≡ old.outside.rack → Accounts old.outside.rack new.outside.rack
 same-devices old new same = subst (Accounts old.outside.rack) (sym same) (accounts-none old.outside.rack)
 
 -- a text on the output alone
-pub accounted-puts : (old new : Beside) (text : List ℕ) (status result : ℕ) → IsPlain status → OnlyPuts old new
-    → PutsText old.outside.out new.outside.out text status result → Accounted None old new result
+pub accounted-puts : (old new : Beside) (text : List ℕ) (status : ℕ) (result : Ending) → IsPlain status → OnlyPuts old new result
+    → PutsText old.outside.out new.outside.out text status result.status → Accounted None old new result.status
 accounted-puts old new text status result plain only (inl (grows, same)) =
-    accounted-plain None old new status result plain same (record { input = ap (λ i. i.faults) only.input; out = grows.calm; trace = ap (λ t. t.faults) only.trace })
+    accounted-plain None old new status result.status plain same (record { input = ap (λ i. i.faults) only.input; out = grows.calm; trace = ap (λ t. t.faults) only.trace })
     (same-counts old.keep new.keep only.keep) (same-devices old new only.rack)
 accounted-puts old new text status result plain only (inr (stops, same)) =
-    accounted-broke None Output old new result same (record { input = ap (λ i. i.faults) only.input; out = stops.breaks.rose; trace = ap (λ t. t.faults) only.trace })
+    accounted-broke None Output old new result.status same (record { input = ap (λ i. i.faults) only.input; out = stops.breaks.rose; trace = ap (λ t. t.faults) only.trace })
     (same-counts old.keep new.keep only.keep) (same-devices old new only.rack)
 
 -- the put of a line failed
@@ -122,9 +123,9 @@ puts-broke old new line piece status same breaks =
     inr (record { before = []; line = line; rest = []; order = sym (append-nil line); breaks = subst (λ l. Breaks old new [] l) same breaks }, refl)
 
 -- nothing on it
-pub accounted-quiet : (old new : Beside) (status result : ℕ) → IsPlain status → OnlyPuts old new → new.outside.out ≡ old.outside.out → result ≡ status → Accounted None old new result
+pub accounted-quiet : (old new : Beside) (status : ℕ) (result : Ending) → IsPlain status → OnlyPuts old new result → new.outside.out ≡ old.outside.out → result.status ≡ status → Accounted None old new result.status
 accounted-quiet old new status result plain only out same =
-    accounted-plain None old new status result plain same (record { input = ap (λ i. i.faults) only.input; out = ap (λ o. o.faults) out; trace = ap (λ t. t.faults) only.trace })
+    accounted-plain None old new status result.status plain same (record { input = ap (λ i. i.faults) only.input; out = ap (λ o. o.faults) out; trace = ap (λ t. t.faults) only.trace })
     (same-counts old.keep new.keep only.keep) (same-devices old new only.rack)
 
 exit-other : (n : ℕ) (b : Bool) → (0 == n) ≡ false → (1 == n) ≡ false → ((if b then 0 else 1) == n) ≡ false
@@ -163,16 +164,17 @@ pub keeps-calm : (name : Option (List ℕ)) (m : Machine) (old new : Keep) (done
 keeps-calm None m old new done keeps = same-counts old new keeps
 keeps-calm (Some name) m old new done keeps = keeps.1.calm
 
-pub accounted-unkept : (name : List ℕ) (old mid new : Beside) → Blames Limit (counts_at old) (counts_at mid) → Accounts old.outside.rack mid.outside.rack
-    → new.outside ≡ mid.outside → new.trace ≡ mid.trace → CountRose old.keep.faults new.keep.faults name → Accounted (Some name) old new 8
-accounted-unkept name old mid new calm devices same traced rose =
-    record {
+pub accounted-unkept : (name : List ℕ) (old mid new : Beside) (result : ℕ) → result ≡ 8 → Blames Limit (counts_at old) (counts_at mid) → Accounts old.outside.rack mid.outside.rack
+    → new.outside ≡ mid.outside → new.trace ≡ mid.trace → CountRose old.keep.faults new.keep.faults name → Accounted (Some name) old new result
+accounted-unkept name old mid new result eight calm devices same traced rose =
+    subst (Accounted (Some name) old new) (sym eight)
+    (record {
       input = ap (λ o. o.input.faults) same ∙ calm.input;
       out = ap (λ o. o.out.faults) same ∙ calm.out;
       trace = ap (λ o. o.faults) traced ∙ calm.trace;
       keep = rose;
       devices = subst (λ o. Accounts old.outside.rack o.rack) (sym same) devices;
-    }
+    })
 
 -- a call that keeps nothing, among those that may
 quiet-keep : (b : Bool) (save : Option (List ℕ)) (old new : Keep) → MatchBool b (IsSomeAnd None (CountRose old.faults new.faults)) (CountsStay old.faults new.faults)
@@ -180,14 +182,14 @@ quiet-keep : (b : Bool) (save : Option (List ℕ)) (old new : Keep) → MatchBoo
 quiet-keep true save old new rose = absurd rose
 quiet-keep false save old new stay = stay
 
-pub ends-quiet : (save : Option (List ℕ)) (Way : Beside → Beside → ℕ → Type 0) (old new : Beside) (result : ℕ) → EndsIn None Way old new result → EndsIn save Way old new result
+pub ends-quiet : (save : Option (List ℕ)) (Way : Beside → Beside → Ending → Type 0) (old new : Beside) (result : Ending) → EndsIn None Way old new result → EndsIn save Way old new result
 ends-quiet save Way old new result ends =
     record {
       accounted = record {
         input = ends.accounted.input;
         out = ends.accounted.out;
         trace = ends.accounted.trace;
-        keep = quiet-keep (result == 8) save old.keep new.keep ends.accounted.keep;
+        keep = quiet-keep (result.status == 8) save old.keep new.keep ends.accounted.keep;
         devices = ends.accounted.devices;
       };
       way = ends.way;

@@ -19,8 +19,8 @@ use Rattle.mixed_machine.specs.Exec.How.{Limited, Exited, Faulted}
 use Rattle.mixed_machine.specs.OutsideClauses.{At}
 use Rattle.mixed_machine.specs.inner.Outside.{answers_between, state_of}
 use Rattle.toolbox.specs.Calls.{around_at}
-use Rattle.mixed_machine.specs.Runs.{Ran, Stops}
-use Rattle.mixed_machine.specs.RunsClauses.{Runs}
+use Rattle.mixed_machine.specs.Runs.{Ran, SinksTook, Stops}
+use Rattle.mix_engine.specs.Counted.{RunsTo}
 use Rattle.toolbox.specs.declared.broken.Broken.TheVariants.{Input, Output as BrokenOutput, Trace}
 use Rattle.mixed_machine.specs.declared.stop.Stop.{Stop}
 use Rattle.mixed_machine.specs.declared.stop.Stop.TheVariants.{Exit, Fault, Limit, ReadFault, OutFault, TraceFault}
@@ -57,7 +57,7 @@ use Rattle.mix_image.specs.Spelling.{HasSpelling, spell}
 use Rattle.mix_image.specs.declared.error.ImageError.{ImageError}
 use Rattle.mix_top.specs.Lines.{Refusal, load_line, load_refusal, memory_line, words_line}
 use Rattle.mix_top.specs.inner.Lines.{refused_line, refused_status}
-use Rattle.mix_top.specs.World.{Beside, Keep, World, Accounted, Closes, Contents, Early, NoneRose, OnlyPuts, PutsText, beside}
+use Rattle.mix_top.specs.World.{Beside, Keep, World, Accounted, Closes, Contents, Early, Listed, NoneRose, OnlyPuts, PutsText, beside}
 use Rattle.mix_top.specs.inner.World.{EndsIn}
 use Rattle.mix_engine.specs.inner.Does.{beside as sinks_beside}
 use Rattle.mix_top.specs.Files.{AreFiles, IsNamed, bytes_in, ram_size}
@@ -66,6 +66,7 @@ use Rattle.mix_text.specs.inner.Assembling.{OfBytes}
 use Rattle.mix_text.specs.declared.refused.Refused.{Refused}
 use Rattle.mix_top.specs.Assembling.{AssembleWay, line_refusal}
 use Rattle.mix_top.specs.Assembling.AssembleWay.{assembled, line_refused}
+use Rattle.mix_top.specs.declared.ending.Ending.{Ending}
 use Rattle.mix_top.specs.declared.files.Fetched.{Fetched}
 use Rattle.mix_top.specs.Keeping.{KeepsPart, KeptAt, Spells}
 use Rattle.mix_top.specs.Running.{MachineRan, RunWay, sinks_at, status_of}
@@ -74,7 +75,7 @@ use Rattle.mixed_machine.specs.Endings.{end_of}
 use Rattle.mix_top.specs.Running.RunWay.{broke, ended, keep_failed}
 use Rattle.mix_top.specs.Continuing.{ContinueWay, image_refusal}
 use Rattle.mix_top.specs.Continuing.ContinueWay.{image_refused, no_memory as no_machine_memory}
-use Rattle.mix_top.specs.Ends.{Ends, FilesWay, IsNext, IsSaved, LoadWay, PutsSample, Way, saved_by}
+use Rattle.mix_top.specs.Ends.{EndsWith, FilesWay, IsNext, IsSaved, LoadWay, PutsSample, Way, saved_by}
 use Rattle.mix_top.specs.Ends.LoadWay.{no_memory, refused}
 use Rattle.mix_top.specs.Ends.Way.{bad_words, fetched, long_file, no_file, no_memory_for_file}
 use Rattle.mix_top.specs.inner.Parts.{AreFor, AreShort, Finishes, IsCause, Keeps, MissesFirst, due_at, unfetched_line, unfetched_status}
@@ -87,16 +88,18 @@ after-lines a b c lines line status result first (inl (grows, same)) = inl (grow
 after-lines a b c lines line status result first (inr (breaks, same)) =
     inr (subst (λ xs. Breaks a c xs line) (append-nil lines) (breaks-after a b c lines [] line first breaks), same)
 
-ended-way : (save : Option (List ℕ)) (steps left : ℕ) (start last : State) (around : Around) (how : How) (set : Isa) (old mid new : Beside) (result : ℕ)
+ended-way : (save : Option (List ℕ)) (steps : ℕ) (start last : State) (around : Around) (how : How) (set : Isa) (old mid new : Beside) (result : Ending)
     → last.around ≡ around → set ≡ isa_of last.active → new.outside ≡ mid.outside
-    → Ran 0 steps left start last how (sinks_at old) (sinks_at mid)
+    → result.steps ≤ steps → Ran 0 steps (steps - result.steps) start last how (sinks_at old) (sinks_at mid)
     → KeptAt save how last old.keep new.keep
-    → Closes mid.trace new.trace [] (end_line (end_of set how)) (status_of how) result → RunWay save steps start around old new result
-ended-way save steps left start last around how set old mid new result around_is set_is same ran kept closes =
-    ended last how left ran.fewer ran.ends around_is
-    (subst (λ o. Grows old.outside.out o.out (log said_of (steps - left) start)) (sym same) ran.took.said) kept
-    (after-lines old.trace mid.trace new.trace (log line_of (steps - left) start) (end_line (end_of (isa_of last.active) how)) (status_of how) result ran.took.traced
-    (subst (λ s. Closes mid.trace new.trace [] (end_line (end_of s how)) (status_of how) result) set_is closes))
+    → Closes mid.trace new.trace [] (end_line (end_of set how)) (status_of how) result.status → RunWay save steps start around old new result
+ended-way save steps start last around how set old mid new result around_is set_is same few ran kept closes =
+    let all : steps - (steps - result.steps) ≡ result.steps = omega (arith, few) in
+    let took : SinksTook result.steps start (sinks_at old) (sinks_at mid) = subst (λ k. SinksTook k start (sinks_at old) (sinks_at mid)) all ran.took in
+    ended last how few ran.ends around_is
+    (subst (λ o. Grows old.outside.out o.out (log said_of result.steps start)) (sym same) took.said) kept
+    (after-lines old.trace mid.trace new.trace (log line_of result.steps start) (end_line (end_of (isa_of last.active) how)) (status_of how) result.status took.traced
+    (subst (λ s. Closes mid.trace new.trace [] (end_line (end_of s how)) (status_of how) result.status) set_is closes))
 
 -- what is kept of a machine that stands for the last state
 kept-nothing : (save : Option (List ℕ)) (how : How) (last : State) (old new : Keep) → how ≢ Limited → new ≡ old → KeptAt save how last old new
@@ -120,57 +123,58 @@ stops-same steps left start last old mid new stop same traced stops =
     subst (λ sinks. Stops 0 steps left start last (sinks_at old) sinks stop) (sym sinks) stops
 
 -- a run that stopped, and what follows it
-way-of_stop : (save : Option (List ℕ)) (m : Machine) (done : Unit {0}) (steps left : ℕ) (start last : State) (around : Around) (set : Isa) (old mid new : Beside) (stop : Stop) (result : ℕ)
+way-of_stop : (save : Option (List ℕ)) (m : Machine) (done : Unit {0}) (steps : ℕ) (start last : State) (around : Around) (set : Isa) (old mid new : Beside) (stop : Stop) (result : Ending)
     → last.around ≡ around → set ≡ isa_of last.active → new.outside ≡ mid.outside
-    → Stops 0 steps left start last (sinks_at old) (sinks_at mid) stop
+    → result.steps ≤ steps → Stops 0 steps (steps - result.steps) start last (sinks_at old) (sinks_at mid) stop
     → flat m.body m.active last.around ≡ last → Keeps (due_at save stop) m old.keep new.keep (Ok done)
-    → Finishes stop set mid.trace new.trace result → RunWay save steps start around old new result
-way-of_stop save m done steps left start last around set old mid new (Exit code) result around_is set_is same stops stands keeps closes =
-    ended-way save steps left start last around (Exited code) set old mid new result around_is set_is same stops (kept-nothing save (Exited code) last old.keep new.keep (λ is. cc) keeps) closes
-way-of_stop save m done steps left start last around set old mid new (Fault fault) result around_is set_is same stops stands keeps closes =
-    ended-way save steps left start last around (Faulted fault) set old mid new result around_is set_is same stops (kept-nothing save (Faulted fault) last old.keep new.keep (λ is. cc) keeps) closes
-way-of_stop save m done steps left start last around set old mid new Limit result around_is set_is same stops stands keeps closes =
-    ended-way save steps left start last around Limited set old mid new result around_is set_is same stops (kept-machine save m last old.keep new.keep done stands keeps) closes
-way-of_stop save m done steps left start last around set old mid new ReadFault result around_is set_is same stops stands keeps closes =
-    broke ReadFault Input last left refl (stops-same steps left start last old mid new ReadFault same closes.0 stops) around_is keeps closes.1
-way-of_stop save m done steps left start last around set old mid new OutFault result around_is set_is same stops stands keeps closes =
-    broke OutFault BrokenOutput last left refl (stops-same steps left start last old mid new OutFault same closes.0 stops) around_is keeps closes.1
-way-of_stop save m done steps left start last around set old mid new TraceFault result around_is set_is same stops stands keeps closes =
-    broke TraceFault Trace last left refl (stops-same steps left start last old mid new TraceFault same closes.0 stops) around_is keeps closes.1
+    → Finishes stop set mid.trace new.trace result.status → RunWay save steps start around old new result
+way-of_stop save m done steps start last around set old mid new (Exit code) result around_is set_is same few stops stands keeps closes =
+    ended-way save steps start last around (Exited code) set old mid new result around_is set_is same few stops (kept-nothing save (Exited code) last old.keep new.keep (λ is. cc) keeps) closes
+way-of_stop save m done steps start last around set old mid new (Fault fault) result around_is set_is same few stops stands keeps closes =
+    ended-way save steps start last around (Faulted fault) set old mid new result around_is set_is same few stops (kept-nothing save (Faulted fault) last old.keep new.keep (λ is. cc) keeps) closes
+way-of_stop save m done steps start last around set old mid new Limit result around_is set_is same few stops stands keeps closes =
+    ended-way save steps start last around Limited set old mid new result around_is set_is same few stops (kept-machine save m last old.keep new.keep done stands keeps) closes
+way-of_stop save m done steps start last around set old mid new ReadFault result around_is set_is same few stops stands keeps closes =
+    broke ReadFault Input last refl few (stops-same steps (steps - result.steps) start last old mid new ReadFault same closes.0 stops) around_is keeps closes.1
+way-of_stop save m done steps start last around set old mid new OutFault result around_is set_is same few stops stands keeps closes =
+    broke OutFault BrokenOutput last refl few (stops-same steps (steps - result.steps) start last old mid new OutFault same closes.0 stops) around_is keeps closes.1
+way-of_stop save m done steps start last around set old mid new TraceFault result around_is set_is same few stops stands keeps closes =
+    broke TraceFault Trace last refl few (stops-same steps (steps - result.steps) start last old mid new TraceFault same closes.0 stops) around_is keeps closes.1
 
 -- a machine ran, what is to be kept was kept, and the call was closed
-pub ran-of_run : (save : Option (List ℕ)) (steps : ℕ) (a b : At) (m : Machine) (keep : Keep) (new : Beside) (set : Isa) (stop : Stop) (result : ℕ) (done : Unit {0}) → set ≡ isa_of b.active
+pub ran-of_run : (save : Option (List ℕ)) (steps : ℕ) (a b : At) (m : Machine) (keep : Keep) (new : Beside) (set : Isa) (stop : Stop) (result : Ending) (done : Unit {0}) → set ≡ isa_of b.active
     → m ≡ record { active = b.active; body = b.body } → new.outside ≡ b.outside → Keeps (due_at save stop) m keep new.keep (Ok done)
-    → Runs steps a b stop → Finishes stop set b.trace new.trace result → MachineRan save (flat a.body a.active) steps (beside a.outside a.trace keep) new result
-ran-of_run save steps a b m keep new set stop result done set_is m_is same keeps runs closes =
+    → result.steps ≤ steps → RunsTo steps (steps - result.steps) a b stop → Finishes stop set b.trace new.trace result.status → MachineRan save (flat a.body a.active) steps (beside a.outside a.trace keep) new result
+ran-of_run save steps a b m keep new set stop result done set_is m_is same keeps few runs closes =
     subst (λ o. MachineRan save (flat a.body a.active) steps (beside a.outside a.trace keep) (beside o new.trace new.keep) result) (sym same)
     (record {
       taken = runs.run.taken;
       told = runs.run.told;
       each = λ before after rest took.
-          way-of_stop save m done steps runs.left (state_of a before (answers_between a b ++ rest)) (state_of b after rest) (around_at b.outside after rest) set
-          (beside a.outside a.trace keep) (beside b.outside b.trace keep) (beside b.outside new.trace new.keep) stop result refl set_is refl (runs.run.each before after rest took)
+          way-of_stop save m done steps (state_of a before (answers_between a b ++ rest)) (state_of b after rest) (around_at b.outside after rest) set
+          (beside a.outside a.trace keep) (beside b.outside b.trace keep) (beside b.outside new.trace new.keep) stop result refl set_is refl few (runs.run.each before after rest took)
           (ap (λ n. flat n.body n.active (around_at b.outside after rest)) m_is) keeps closes;
     })
 
 -- or the keeper failed
-pub ran-unkept : (name : List ℕ) (steps : ℕ) (a b : At) (m : Machine) (keep : Keep) (new : Beside) → m ≡ record { active = b.active; body = b.body } → new.outside ≡ b.outside → new.trace ≡ b.trace
-    → HasSpelling m → KeepsPart name (spell m) keep new.keep → Runs steps a b Limit → MachineRan (Some name) (flat a.body a.active) steps (beside a.outside a.trace keep) new 8
-ran-unkept name steps a b m keep new m_is same traced is part runs =
-    subst (λ o. MachineRan (Some name) (flat a.body a.active) steps (beside a.outside a.trace keep) (beside o new.trace new.keep) 8) (sym same)
-    (subst (λ t. MachineRan (Some name) (flat a.body a.active) steps (beside a.outside a.trace keep) (beside b.outside t new.keep) 8) (sym traced)
+pub ran-unkept : (name : List ℕ) (steps : ℕ) (a b : At) (m : Machine) (keep : Keep) (new : Beside) (result : Ending) → m ≡ record { active = b.active; body = b.body } → new.outside ≡ b.outside → new.trace ≡ b.trace
+    → HasSpelling m → KeepsPart name (spell m) keep new.keep → result.status ≡ 8 → result.steps ≤ steps → RunsTo steps (steps - result.steps) a b Limit
+    → MachineRan (Some name) (flat a.body a.active) steps (beside a.outside a.trace keep) new result
+ran-unkept name steps a b m keep new result m_is same traced is part eight few runs =
+    subst (λ o. MachineRan (Some name) (flat a.body a.active) steps (beside a.outside a.trace keep) (beside o new.trace new.keep) result) (sym same)
+    (subst (λ t. MachineRan (Some name) (flat a.body a.active) steps (beside a.outside a.trace keep) (beside b.outside t new.keep) result) (sym traced)
     (record {
       taken = runs.run.taken;
       told = runs.run.told;
       each = λ before after rest took.
           let ran = runs.run.each before after rest took in
-          keep_failed name (spell m) (state_of b after rest) runs.left refl ran refl
+          keep_failed name (spell m) (state_of b after rest) refl few ran refl
           (spells m (state_of b after rest) (ap (λ n. flat n.body n.active (around_at b.outside after rest)) m_is) is)
-          part refl;
+          part eight;
     }))
 
 -- and from the same state for each outside it ran too
-pub ran-from : (save : Option (List ℕ)) (start from : Around → State) (steps : ℕ) (old new : Beside) (result : ℕ) → ((around : Around) → start around ≡ from around) → MachineRan save start steps old new result
+pub ran-from : (save : Option (List ℕ)) (start from : Around → State) (steps : ℕ) (old new : Beside) (result : Ending) → ((around : Around) → start around ≡ from around) → MachineRan save start steps old new result
     → MachineRan save from steps old new result
 ran-from save start from steps old new result same ran =
     record {
@@ -199,33 +203,40 @@ refused-plain : (why : Option Refusal) → IsPlain (refused_status why)
 refused-plain None = nine-plain
 refused-plain (Some why) = record { input = refl; out = refl; trace = refl; keep = refl }
 
+-- a call that ended before any step
+pub early-by : (old new : Beside) (line : List ℕ) (status told : ℕ) (result : Ending) → result.status ≡ told → result.steps ≡ 0 → new.outside ≡ old.outside → new.keep ≡ old.keep
+    → Closes old.trace new.trace [] line status told → Early old new line status result
+early-by old new line status told result told_is none same kept closes =
+    record { steps = none; outside = same; keep = kept; trace = subst (λ n. Closes old.trace new.trace [] line status n) (sym told_is) closes }
+
 -- a program that was not loaded
 no-want : (error : LoadError) (why : Refusal) → load_refusal error ≡ Some why → error ≢ NoMemory
 no-want error why some is = let none : load_refusal error ≡ None = ap load_refusal is in cc
 
-way-of_refusal : (job : Job) (files : Files) (Loaded : Program → Beside → Beside → ℕ → Type 0) (old new : Beside) (error : LoadError) (why : Option Refusal) (result : ℕ)
+way-of_refusal : (job : Job) (files : Files) (Loaded : Program → Beside → Beside → Ending → Type 0) (old new : Beside) (error : LoadError) (why : Option Refusal) (result : Ending)
     → load_refusal error ≡ why → Gives (Err error) (load_of files job.main (ram_size job)) → Early old new (refused_line why) (refused_status why) result → LoadWay job files Loaded old new result
 way-of_refusal job files Loaded old new error None result is gives early = no_memory early
 way-of_refusal job files Loaded old new error (Some why) result is gives early = refused error why is (gives (no-want error why is)) early
 
-pub ends-unloaded : (save : Option (List ℕ)) (job : Job) (files : Files) (Loaded : Program → Beside → Beside → ℕ → Type 0) (old new : Beside) (error : LoadError) (result : ℕ)
-    → new.outside ≡ old.outside → new.keep ≡ old.keep
-    → Gives (Err error) (load_of files job.main (ram_size job)) → Closes old.trace new.trace [] (refused_line (load_refusal error)) (refused_status (load_refusal error)) result
+pub ends-unloaded : (save : Option (List ℕ)) (job : Job) (files : Files) (Loaded : Program → Beside → Beside → Ending → Type 0) (old new : Beside) (error : LoadError) (told : ℕ) (result : Ending)
+    → result.status ≡ told → result.steps ≡ 0 → new.outside ≡ old.outside → new.keep ≡ old.keep
+    → Gives (Err error) (load_of files job.main (ram_size job)) → Closes old.trace new.trace [] (refused_line (load_refusal error)) (refused_status (load_refusal error)) told
     → EndsIn save (LoadWay job files Loaded) old new result
-ends-unloaded save job files Loaded old new error result same kept gives closes =
-    let early : Early old new (refused_line (load_refusal error)) (refused_status (load_refusal error)) result = record { outside = same; keep = kept; trace = closes } in
+ends-unloaded save job files Loaded old new error told result told_is none same kept gives closes =
+    let early = early-by old new (refused_line (load_refusal error)) (refused_status (load_refusal error)) told result told_is none same kept closes in
     record {
       accounted = accounted-early save old new _ _ result (refused-plain (load_refusal error)) early;
       way = way-of_refusal job files Loaded old new error (load_refusal error) result refl gives early;
     }
 
-accounted-memory : (save : Option (List ℕ)) (old new : Beside) (result : ℕ) → Early old new memory_line 9 result → Accounted save old new result
+accounted-memory : (save : Option (List ℕ)) (old new : Beside) (result : Ending) → Early old new memory_line 9 result → Accounted save old new result.status
 accounted-memory save old new result early = accounted-early save old new memory_line 9 result nine-plain early
 
-pub ends-memory : (save : Option (List ℕ)) (Way : Beside → Beside → ℕ → Type 0) → ((old new : Beside) (result : ℕ) → Early old new memory_line 9 result → Way old new result)
-    → (old new : Beside) (result : ℕ) → new.outside ≡ old.outside → new.keep ≡ old.keep → Closes old.trace new.trace [] memory_line 9 result → EndsIn save Way old new result
-ends-memory save Way way old new result same kept closes =
-    let early : Early old new memory_line 9 result = record { outside = same; keep = kept; trace = closes } in record { accounted = accounted-memory save old new result early; way = way old new result early }
+pub ends-memory : (save : Option (List ℕ)) (Way : Beside → Beside → Ending → Type 0) → ((old new : Beside) (result : Ending) → Early old new memory_line 9 result → Way old new result)
+    → (old new : Beside) (told : ℕ) (result : Ending) → result.status ≡ told → result.steps ≡ 0 → new.outside ≡ old.outside → new.keep ≡ old.keep
+    → Closes old.trace new.trace [] memory_line 9 told → EndsIn save Way old new result
+ends-memory save Way way old new told result told_is none same kept closes =
+    let early = early-by old new memory_line 9 told result told_is none same kept closes in record { accounted = accounted-memory save old new result early; way = way old new result early }
 
 -- an image that was not restored, and not for want of memory
 abbrev unrestored : ImageError → Result Machine ImageError
@@ -237,49 +248,63 @@ refused-fields (Ok m) error why is (inl none) = absurd (let same : error ≡ NoI
 refused-fields (Ok m) error why is (inr wrong) = wrong
 refused-fields (Err e) error why is same = cc
 
-way-of_image : (save : Option (List ℕ)) (steps : ℕ) (image : List ℕ) (old new : Beside) (error : ImageError) (why : Option Refusal) (result : ℕ)
+way-of_image : (save : Option (List ℕ)) (steps : ℕ) (image : List ℕ) (old new : Beside) (error : ImageError) (why : Option Refusal) (result : Ending)
     → image_refusal error ≡ why → IsRestored image (Err error) → Early old new (refused_line why) (refused_status why) result → ContinueWay save steps image old new result
 way-of_image save steps image old new error None result why_is is early = no_machine_memory early
 way-of_image save steps image old new error (Some why) result why_is is early = image_refused error why why_is (refused-fields (fields_of image) error why why_is is) early
 
-pub ends-unrestored : (save : Option (List ℕ)) (steps : ℕ) (image : List ℕ) (old new : Beside) (error : ImageError) (result : ℕ) → IsRestored image (Err error) → new.outside ≡ old.outside → new.keep ≡ old.keep
-    → Closes old.trace new.trace [] (refused_line (image_refusal error)) (refused_status (image_refusal error)) result → EndsIn save (ContinueWay save steps image) old new result
-ends-unrestored save steps image old new error result is same kept closes =
-    let early : Early old new (refused_line (image_refusal error)) (refused_status (image_refusal error)) result = record { outside = same; keep = kept; trace = closes } in
+pub ends-unrestored : (save : Option (List ℕ)) (steps : ℕ) (image : List ℕ) (old new : Beside) (error : ImageError) (told : ℕ) (result : Ending) → IsRestored image (Err error)
+    → result.status ≡ told → result.steps ≡ 0 → new.outside ≡ old.outside → new.keep ≡ old.keep
+    → Closes old.trace new.trace [] (refused_line (image_refusal error)) (refused_status (image_refusal error)) told → EndsIn save (ContinueWay save steps image) old new result
+ends-unrestored save steps image old new error told result is told_is none same kept closes =
+    let early = early-by old new (refused_line (image_refusal error)) (refused_status (image_refusal error)) told result told_is none same kept closes in
     record {
       accounted = accounted-early save old new _ _ result (refused-plain (image_refusal error)) early;
       way = way-of_image save steps image old new error (image_refusal error) result refl is early;
     }
 
 -- the machine ran, and the keeper failed at its spelling
-unkept : (save : Option (List ℕ)) (stop : Stop) (steps : ℕ) (a b : At) (m : Machine) (keep : Keep) (new : Beside) (failed : Failure) → m ≡ record { active = b.active; body = b.body }
-    → new.outside ≡ b.outside → new.trace ≡ b.trace → Keeps (due_at save stop) m keep new.keep (Err failed) → Runs steps a b stop
+unkept : (save : Option (List ℕ)) (stop : Stop) (steps : ℕ) (a b : At) (m : Machine) (keep : Keep) (new : Beside) (failed : Failure) (result : Ending) → m ≡ record { active = b.active; body = b.body }
+    → new.outside ≡ b.outside → new.trace ≡ b.trace → Keeps (due_at save stop) m keep new.keep (Err failed)
+    → result.status ≡ 8 → result.steps ≤ steps → RunsTo steps (steps - result.steps) a b stop
     → Blames stop (counts_at (beside a.outside a.trace keep)) (counts_at (beside b.outside b.trace keep)) → Accounts a.outside.rack b.outside.rack
-    → EndsIn save (MachineRan save (flat a.body a.active) steps) (beside a.outside a.trace keep) new 8
-unkept None Limit steps a b m keep new failed m_is same traced keeps runs calm devices = absurd keeps
-unkept (Some name) Limit steps a b m keep new failed m_is same traced keeps runs calm devices =
+    → EndsIn save (MachineRan save (flat a.body a.active) steps) (beside a.outside a.trace keep) new result
+unkept None Limit steps a b m keep new failed result m_is same traced keeps eight few runs calm devices = absurd keeps
+unkept (Some name) Limit steps a b m keep new failed result m_is same traced keeps eight few runs calm devices =
     record {
-      accounted = accounted-unkept name (beside a.outside a.trace keep) (beside b.outside b.trace keep) new calm devices same traced keeps.1.rose;
-      way = ran-unkept name steps a b m keep new m_is same traced keeps.0 keeps.1 runs;
+      accounted = accounted-unkept name (beside a.outside a.trace keep) (beside b.outside b.trace keep) new result.status eight calm devices same traced keeps.1.rose;
+      way = ran-unkept name steps a b m keep new result m_is same traced keeps.0 keeps.1 eight few runs;
     }
-unkept save stop steps a b m keep new failed m_is same traced keeps runs calm devices = absurd keeps
+unkept save stop steps a b m keep new failed result m_is same traced keeps eight few runs calm devices = absurd keeps
 
-pub ends-unkept : (save given : Option (List ℕ)) (stop : Stop) (steps : ℕ) (a b : At) (m : Machine) (keep : Keep) (new : Beside) (failed : Failure) → given ≡ due_at save stop
-    → m ≡ record { active = b.active; body = b.body } → new.outside ≡ b.outside → new.trace ≡ b.trace → Keeps given m keep new.keep (Err failed) → Runs steps a b stop
+-- the steps that are left are those that were not done
+steps-done : (steps left done : ℕ) → left ≤ steps → done ≡ steps - left → done ≤ steps
+steps-done steps left done fewer is = omega (arith, fewer, is)
+
+runs-done : (steps left done : ℕ) (a b : At) (stop : Stop) → done ≡ steps - left → RunsTo steps left a b stop → RunsTo steps (steps - done) a b stop
+runs-done steps left done a b stop is runs =
+    let own : left ≡ steps - done = omega (arith, runs.fewer, is) in subst (λ k. RunsTo steps k a b stop) own runs
+
+pub ends-unkept : (save given : Option (List ℕ)) (stop : Stop) (steps left : ℕ) (a b : At) (m : Machine) (keep : Keep) (new : Beside) (failed : Failure) (result : Ending) → given ≡ due_at save stop
+    → m ≡ record { active = b.active; body = b.body } → new.outside ≡ b.outside → new.trace ≡ b.trace → Keeps given m keep new.keep (Err failed)
+    → result.status ≡ 8 → result.steps ≡ steps - left → RunsTo steps left a b stop
     → Blames stop (counts_at (beside a.outside a.trace keep)) (counts_at (beside b.outside b.trace keep)) → Accounts a.outside.rack b.outside.rack
-    → EndsIn save (MachineRan save (flat a.body a.active) steps) (beside a.outside a.trace keep) new 8
-ends-unkept save given stop steps a b m keep new failed due m_is same traced keeps runs calm devices =
-    unkept save stop steps a b m keep new failed m_is same traced (subst (λ name. Keeps name m keep new.keep (Err failed)) due keeps) runs calm devices
+    → EndsIn save (MachineRan save (flat a.body a.active) steps) (beside a.outside a.trace keep) new result
+ends-unkept save given stop steps left a b m keep new failed result due m_is same traced keeps eight done runs calm devices =
+    unkept save stop steps a b m keep new failed result m_is same traced (subst (λ name. Keeps name m keep new.keep (Err failed)) due keeps) eight
+    (steps-done steps left result.steps runs.fewer done) (runs-done steps left result.steps a b stop done runs) calm devices
 
 -- or it was kept, or nothing was to be, and the end line was put
-pub ends-run : (save given : Option (List ℕ)) (stop : Stop) (steps : ℕ) (a b : At) (m : Machine) (keep : Keep) (new : Beside) (set : Isa) (result : ℕ) (done : Unit {0}) → given ≡ due_at save stop
-    → m ≡ record { active = b.active; body = b.body } → set ≡ isa_of b.active → new.outside ≡ b.outside → Keeps given m keep new.keep (Ok done) → Runs steps a b stop
+pub ends-run : (save given : Option (List ℕ)) (stop : Stop) (steps left : ℕ) (a b : At) (m : Machine) (keep : Keep) (new : Beside) (set : Isa) (result : Ending) (done : Unit {0}) → given ≡ due_at save stop
+    → m ≡ record { active = b.active; body = b.body } → set ≡ isa_of b.active → new.outside ≡ b.outside → Keeps given m keep new.keep (Ok done)
+    → result.steps ≡ steps - left → RunsTo steps left a b stop
     → Blames stop (counts_at (beside a.outside a.trace keep)) (counts_at (beside b.outside b.trace keep)) → Accounts a.outside.rack b.outside.rack
-    → Finishes stop set b.trace new.trace result → EndsIn save (MachineRan save (flat a.body a.active) steps) (beside a.outside a.trace keep) new result
-ends-run save given stop steps a b m keep new set result done due m_is set_is same keeps runs blames devices finishes =
+    → Finishes stop set b.trace new.trace result.status → EndsIn save (MachineRan save (flat a.body a.active) steps) (beside a.outside a.trace keep) new result
+ends-run save given stop steps left a b m keep new set result done due m_is set_is same keeps count runs blames devices finishes =
     record {
-      accounted = accounted-stop save (beside a.outside a.trace keep) (beside b.outside b.trace keep) new set stop result blames devices same (keeps-calm given m keep new.keep done keeps) finishes;
-      way = ran-of_run save steps a b m keep new set stop result done set_is m_is same (subst (λ name. Keeps name m keep new.keep (Ok done)) due keeps) runs finishes;
+      accounted = accounted-stop save (beside a.outside a.trace keep) (beside b.outside b.trace keep) new set stop result.status blames devices same (keeps-calm given m keep new.keep done keeps) finishes;
+      way = ran-of_run save steps a b m keep new set stop result done set_is m_is same (subst (λ name. Keeps name m keep new.keep (Ok done)) due keeps)
+          (steps-done steps left result.steps runs.fewer count) (runs-done steps left result.steps a b stop count runs) finishes;
     }
 
 -- the name under which the command of the words keeps what it runs
@@ -304,18 +329,18 @@ unfetched-plain NoRoom = nine-plain
 unfetched-plain Failed = record { input = refl; out = refl; trace = refl; keep = refl }
 unfetched-plain (TooLong limit) = record { input = refl; out = refl; trace = refl; keep = refl }
 
-way-of_cause : (words : List (List ℕ)) (old new : World) (command : Command) (key : Key) (place : ℕ) (error : FetchError) (result : ℕ)
+way-of_cause : (words : List (List ℕ)) (old new : World) (command : Command) (key : Key) (place : ℕ) (error : FetchError) (result : Ending)
     → Asks words command → IsNext words old.shelf.contents command key place → IsCause old.shelf.contents (limit_of key) (name_at words place) old.shelf.counts new.shelf.counts error
     → Early old.beside new.beside (unfetched_line key error) (unfetched_status error) result → Way words old new result
 way-of_cause words old new command key place NoRoom result is next cause early = no_memory_for_file command key place is next cause.0 cause.1 early
 way-of_cause words old new command key place Failed result is next cause early = no_file command key place is next cause early
 way-of_cause words old new command key place (TooLong limit) result is next cause early = long_file command key place is next cause.0 cause.1 early
 
-pub ends-of_missing : (words : List (List ℕ)) (old new : World) (command : Command) (missing : Missing) (result : ℕ) → command_of words ≡ Ok command → new.shelf.contents ≡ old.shelf.contents
+pub ends-of_missing : (words : List (List ℕ)) (old new : World) (command : Command) (missing : Missing) (told : ℕ) (result : Ending) → result.status ≡ told → result.steps ≡ 0 → command_of words ≡ Ok command → new.shelf.contents ≡ old.shelf.contents
     → MissesFirst words old.shelf.contents command keys_in_order old.shelf.counts new.shelf.counts missing → new.beside.outside ≡ old.beside.outside → new.beside.keep ≡ old.beside.keep
-    → Closes old.beside.trace new.beside.trace [] (unfetched_line missing.key missing.error) (unfetched_status missing.error) result → Ends words old new result
-ends-of_missing words old new command missing result is kept misses same held closes =
-    let early : Early old.beside new.beside (unfetched_line missing.key missing.error) (unfetched_status missing.error) result = record { outside = same; keep = held; trace = closes } in
+    → Closes old.beside.trace new.beside.trace [] (unfetched_line missing.key missing.error) (unfetched_status missing.error) told → EndsWith words old new result
+ends-of_missing words old new command missing told result told_is none is kept misses same held closes =
+    let early = early-by old.beside new.beside (unfetched_line missing.key missing.error) (unfetched_status missing.error) told result told_is none same held closes in
     record {
       contents = kept;
       save = saved_by words command;
@@ -326,9 +351,9 @@ ends-of_missing words old new command missing result is kept misses same held cl
     }
 
 -- the files that the command wants were fetched
-pub ends-done : (words : List (List ℕ)) (old new : World) (command : Command) (files : Fetched) (save : Option (List ℕ)) (result : ℕ) → command_of words ≡ Ok command → save ≡ saved_by words command
+pub ends-done : (words : List (List ℕ)) (old new : World) (command : Command) (files : Fetched) (save : Option (List ℕ)) (result : Ending) → command_of words ≡ Ok command → save ≡ saved_by words command
     → new.shelf.contents ≡ old.shelf.contents → AreFiles words old.shelf.contents command files → NoneRose old.shelf.counts new.shelf.counts
-    → EndsIn save (FilesWay save command files) old.beside new.beside result → Ends words old new result
+    → EndsIn save (FilesWay save command files) old.beside new.beside result → EndsWith words old new result
 ends-done words old new command files save result is save_is kept are stay ends =
     let own : EndsIn (saved_by words command) (FilesWay (saved_by words command) command files) old.beside new.beside result =
     subst (λ o. EndsIn o (FilesWay o command files) old.beside new.beside result) save_is ends in
@@ -341,33 +366,46 @@ ends-done words old new command files save result is save_is kept are stay ends 
     }
 
 -- a command that keeps nothing
-pub ends-other : (save : Option (List ℕ)) (command own : Command) (files : Fetched) (old new : Beside) (result : ℕ) → command ≡ own → EndsIn None (FilesWay save own files) old new result
+pub ends-other : (save : Option (List ℕ)) (command own : Command) (files : Fetched) (old new : Beside) (result : Ending) → command ≡ own → EndsIn None (FilesWay save own files) old new result
     → EndsIn save (FilesWay save command files) old new result
 ends-other save command own files old new result is ends =
     subst (λ c. EndsIn save (FilesWay save c files) old new result) (sym is) (ends-quiet save (FilesWay save own files) old new result ends)
 
 -- words that are no command
-pub ends-of_words : (words : List (List ℕ)) (old new : World) (place : ℕ) (line : List ℕ) (result : ℕ) → command_of words ≡ Err (bad_at place) → line ≡ words_line place → new.shelf ≡ old.shelf
-    → new.beside.outside ≡ old.beside.outside → new.beside.keep ≡ old.beside.keep → Closes old.beside.trace new.beside.trace [] line 2 result → Ends words old new result
-ends-of_words words old new place line result bad line_is shelf same kept closes =
-    let told : Early old.beside new.beside (words_line place) 2 result =
-    record { outside = same; keep = kept; trace = subst (λ l. Closes old.beside.trace new.beside.trace [] l 2 result) line_is closes } in
+pub ends-of_words : (words : List (List ℕ)) (old new : World) (place : ℕ) (line : List ℕ) (told : ℕ) (result : Ending) → result.status ≡ told → result.steps ≡ 0 → command_of words ≡ Err (bad_at place) → line ≡ words_line place → new.shelf ≡ old.shelf
+    → new.beside.outside ≡ old.beside.outside → new.beside.keep ≡ old.beside.keep → Closes old.beside.trace new.beside.trace [] line 2 told → EndsWith words old new result
+ends-of_words words old new place line told result told_is none bad line_is shelf same kept closes =
+    let early = early-by old.beside new.beside (words_line place) 2 told result told_is none same kept (subst (λ l. Closes old.beside.trace new.beside.trace [] l 2 told) line_is closes) in
     record {
       contents = ap (λ s. s.contents) shelf;
       save = None;
       saved = none-saved words place bad;
-      accounted = accounted-early None old.beside new.beside (words_line place) 2 result (record { input = refl; out = refl; trace = refl; keep = refl }) told;
-      way = bad_words place ((refusal-first words place).0 bad) (record { faults = λ n. ap (λ s. s.counts.faults n) shelf; excesses = λ n. ap (λ s. s.counts.excesses n) shelf }) told;
+      accounted = accounted-early None old.beside new.beside (words_line place) 2 result (record { input = refl; out = refl; trace = refl; keep = refl }) early;
+      way = bad_words place ((refusal-first words place).0 bad) (record { faults = λ n. ap (λ s. s.counts.faults n) shelf; excesses = λ n. ap (λ s. s.counts.excesses n) shelf }) early;
     }
 
-pub accounted-sample : (old new : Beside) (calls depth : ℕ) (sampled : Sampled) (end : End) (result : ℕ) → OnlyPuts old new
-    → PutsSample calls depth sampled end old.outside.out new.outside.out result → Accounted None old new result
+pub accounted-sample : (old new : Beside) (calls depth : ℕ) (sampled : Sampled) (end : End) (result : Ending) → OnlyPuts old new result
+    → PutsSample calls depth sampled end old.outside.out new.outside.out result.status → Accounted None old new result.status
 accounted-sample old new calls depth sampled (ExitEnd code) result only puts =
     accounted-puts old new _ 0 result (record { input = refl; out = refl; trace = refl; keep = refl }) only puts
 accounted-sample old new calls depth sampled (FaultEnd set fault) result only puts =
     accounted-puts old new _ 10 result (record { input = refl; out = refl; trace = refl; keep = refl }) only puts
 accounted-sample old new calls depth sampled LimitEnd result only puts =
     accounted-quiet old new 11 result (record { input = refl; out = refl; trace = refl; keep = refl }) only puts.0 puts.1
+
+pub sample-told : (calls depth : ℕ) (sampled : Sampled) (end : End) (old new : Output) (told : ℕ) (result : Ending) → result.status ≡ told
+    → PutsSample calls depth sampled end old new told → PutsSample calls depth sampled end old new result.status
+sample-told calls depth sampled end old new told result is puts = subst (PutsSample calls depth sampled end old new) (sym is) puts
+
+-- a text that was put
+pub ends-listed : (Way : Beside → Beside → Ending → Type 0) (text : List ℕ) → ((old new : Beside) (result : Ending) → Listed text old new result → Way old new result)
+    → (old new : Beside) (told : ℕ) (result : Ending) → result.status ≡ told → OnlyPuts old new result → PutsText old.outside.out new.outside.out text 0 told → EndsIn None Way old new result
+ends-listed Way text way old new told result told_is only puts =
+    let out : PutsText old.outside.out new.outside.out text 0 result.status = subst (λ n. PutsText old.outside.out new.outside.out text 0 n) (sym told_is) puts in
+    record {
+      accounted = accounted-puts old new text 0 result (record { input = refl; out = refl; trace = refl; keep = refl }) only out;
+      way = way old new result (record { only = only; out = out });
+    }
 
 -- the files of a job can be loaded
 named-small : (contents : Contents) (name file : Option (List ℕ)) → IsNamed contents 16777216 name file → IsSmall file
@@ -441,15 +479,12 @@ short-files words contents command files are =
     }
 
 -- the ways of a text
-pub ends-assembled : (set : Isa) (at : ℕ) (text : List ℕ) (old new : Beside) (result : ℕ) → OnlyPuts old new
-    → OfBytes set at text (λ bytes. PutsText old.outside.out new.outside.out bytes 0 result) → EndsIn None (AssembleWay set at text) old new result
-ends-assembled set at text old new result only put =
-    record {
-      accounted = accounted-puts old new put.bytes 0 result (record { input = refl; out = refl; trace = refl; keep = refl }) only put.puts;
-      way = assembled put.bytes put.is (record { only = only; out = put.puts });
-    }
+pub ends-assembled : (set : Isa) (at : ℕ) (text : List ℕ) (old new : Beside) (told : ℕ) (result : Ending) → result.status ≡ told → OnlyPuts old new result
+    → OfBytes set at text (λ bytes. PutsText old.outside.out new.outside.out bytes 0 told) → EndsIn None (AssembleWay set at text) old new result
+ends-assembled set at text old new told result told_is only put =
+    ends-listed (AssembleWay set at text) put.bytes (λ old new result listed. assembled put.bytes put.is listed) old new told result told_is only put.puts
 
-pub ends-text : (set : Isa) (at : ℕ) (text own : List ℕ) (old new : Beside) (result : ℕ) → text ≡ own → EndsIn None (AssembleWay set at text) old new result → EndsIn None (AssembleWay set at own) old new result
+pub ends-text : (set : Isa) (at : ℕ) (text own : List ℕ) (old new : Beside) (result : Ending) → text ≡ own → EndsIn None (AssembleWay set at text) old new result → EndsIn None (AssembleWay set at own) old new result
 ends-text set at text own old new result same ends = subst (λ t. EndsIn None (AssembleWay set at t) old new result) same ends
 
 -- the text was put, or not
@@ -459,11 +494,11 @@ put-whole set at text old new put = record { bytes = put.bytes; is = put.is; put
 pub put-part : (set : Isa) (at : ℕ) (text : List ℕ) (old new : Output) → OfBytes set at text (StopsWithin old new) → OfBytes set at text (λ bytes. PutsText old new bytes 0 6)
 put-part set at text old new put = record { bytes = put.bytes; is = put.is; puts = inr (put.puts, refl) }
 
-pub ends-refused : (set : Isa) (at : ℕ) (text : List ℕ) (old new : Beside) (bad : Refused) (line : List ℕ) (result : ℕ) → IsAssembled set at text (Err bad) → line ≡ load_line (line_refusal bad)
-    → new.outside ≡ old.outside → new.keep ≡ old.keep → Closes old.trace new.trace [] line 3 result → EndsIn None (AssembleWay set at text) old new result
-ends-refused set at text old new bad line result is line_is same kept closes =
-    let told : Early old new (load_line (line_refusal bad)) 3 result = record { outside = same; keep = kept; trace = subst (λ l. Closes old.trace new.trace [] l 3 result) line_is closes } in
+pub ends-refused : (set : Isa) (at : ℕ) (text : List ℕ) (old new : Beside) (bad : Refused) (line : List ℕ) (told : ℕ) (result : Ending) → result.status ≡ told → result.steps ≡ 0 → IsAssembled set at text (Err bad) → line ≡ load_line (line_refusal bad)
+    → new.outside ≡ old.outside → new.keep ≡ old.keep → Closes old.trace new.trace [] line 3 told → EndsIn None (AssembleWay set at text) old new result
+ends-refused set at text old new bad line told result told_is none is line_is same kept closes =
+    let early = early-by old new (load_line (line_refusal bad)) 3 told result told_is none same kept (subst (λ l. Closes old.trace new.trace [] l 3 told) line_is closes) in
     record {
-      accounted = accounted-early None old new (load_line (line_refusal bad)) 3 result (record { input = refl; out = refl; trace = refl; keep = refl }) told;
-      way = line_refused bad is told;
+      accounted = accounted-early None old new (load_line (line_refusal bad)) 3 result (record { input = refl; out = refl; trace = refl; keep = refl }) early;
+      way = line_refused bad is early;
     }

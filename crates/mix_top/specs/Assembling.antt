@@ -7,6 +7,7 @@ use Rattle.mix_text.specs.declared.refused.Reason.TheVariants.{Address, Name, Op
 use Rattle.mix_text.specs.declared.refused.Refused.{Refused}
 use Rattle.mix_top.specs.Lines.{Refusal, load_line, refusal}
 use Rattle.mix_top.specs.World.{Beside, Early, Listed}
+use Rattle.mix_top.specs.declared.ending.Ending.{Ending}
 
 -- why a line is refused, and its number
 abbrev pub reason_name : Reason → List ℕ
@@ -18,7 +19,7 @@ abbrev pub line_refusal : Refused → Refusal
 line_refusal refused = refusal (reason_name refused.reason) (pos refused.line)
 
 -- the ways to end once a text was fetched whose first line stands at an address
-pub data AssembleWay (set : Isa) (at : ℕ) (text : List ℕ) (old new : Beside) (result : ℕ) : Type 0 where
+pub data AssembleWay (set : Isa) (at : ℕ) (text : List ℕ) (old new : Beside) (result : Ending) : Type 0 where
   -- the first line that is refused; nothing is on the output
   line_refused : (refused : Refused) → IsAssembled set at text (Err refused)
       → Early old new (load_line (line_refusal refused)) 3 result

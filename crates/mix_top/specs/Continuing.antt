@@ -9,6 +9,7 @@ use Rattle.mix_image.specs.declared.error.ImageError.TheVariants.{NoMemory, Shor
 use Rattle.mix_top.specs.Lines.{Refusal, load_line, memory_line, refusal}
 use Rattle.mix_top.specs.Running.{MachineRan}
 use Rattle.mix_top.specs.World.{Beside, Early}
+use Rattle.mix_top.specs.declared.ending.Ending.{Ending}
 
 -- why an image is refused, and the number that goes with it, 0 where there is none; none for want of memory, which has a
 -- line of its own
@@ -29,7 +30,7 @@ image_refusal (Gate address) = Some (refusal (codes "image-gate") (pos address))
 image_refusal (Frame address) = Some (refusal (codes "image-frame") (pos address))
 
 -- the ways to end once an image was fetched
-pub data ContinueWay (save : Option (List ℕ)) (steps : ℕ) (image : List ℕ) (old new : Beside) (result : ℕ) : Type 0 where
+pub data ContinueWay (save : Option (List ℕ)) (steps : ℕ) (image : List ℕ) (old new : Beside) (result : Ending) : Type 0 where
   -- there was no memory for the machine
   no_memory : Early old new memory_line 9 result → ContinueWay save steps image old new result
   -- the bytes are no image, by the first test that they fail

@@ -13,6 +13,7 @@ use Rattle.toolbox.specs.declared.broken.Broken.{Broken}
 use Rattle.mix_top.specs.Lines.{Refusal, memory_line, refusal}
 use Rattle.mix_top.specs.Running.{broken_status, sinks_at}
 use Rattle.mix_top.specs.World.{Beside, Early}
+use Rattle.mix_top.specs.declared.ending.Ending.{Ending}
 
 -- the number of the first line that is no command
 abbrev pub script_refusal : ℕ → Refusal
@@ -35,20 +36,22 @@ pub record ScriptRan (commands : List ScriptCommand) (start : State) (around : A
   pub around_is : last.state.around ≡ around
   pub status : result ≡ script_status stop
 
--- they were done, for each outside: as the definition says, with the answers that the devices gave
-pub record Scripted (commands : List ScriptCommand) (start : Around → State) (old new : Beside) (result : ℕ) : Type 0 where
+-- they were done, for each outside: as the definition says, with the answers that the devices gave; the steps of a script
+-- are not those of a run
+pub record Scripted (commands : List ScriptCommand) (start : Around → State) (old new : Beside) (result : Ending) : Type 0 where
+  pub steps : result.steps ≡ 0
   pub keep : new.keep ≡ old.keep
-  pub claim : Between (λ from around. ScriptRan commands from around old new result) start (λ around. around) old.outside new.outside
+  pub claim : Between (λ from around. ScriptRan commands from around old new result.status) start (λ around. around) old.outside new.outside
 
 -- the ways to end of a machine that is debugged by these commands
-pub data MachineWay (commands : List ScriptCommand) (start : Around → State) (old new : Beside) (result : ℕ) : Type 0 where
+pub data MachineWay (commands : List ScriptCommand) (start : Around → State) (old new : Beside) (result : Ending) : Type 0 where
   -- there was no memory for the debugger
   no_debugger : Early old new memory_line 9 result → MachineWay commands start old new result
   -- the commands were done
   scripted : Scripted commands start old new result → MachineWay commands start old new result
 
 -- and of a program
-pub data ScriptWay (commands : List ScriptCommand) (program : Program) (old new : Beside) (result : ℕ) : Type 0 where
+pub data ScriptWay (commands : List ScriptCommand) (program : Program) (old new : Beside) (result : Ending) : Type 0 where
   -- there was no memory for the machine
   no_machine : Early old new memory_line 9 result → ScriptWay commands program old new result
   -- it was debugged from its start

@@ -30,17 +30,18 @@ use Rattle.mix_top.specs.Files.{IsLong, IsNotLong, AreFetched, AreFiles, bytes_i
 use Rattle.mix_top.specs.Assembling.{AssembleWay}
 use Rattle.mix_top.specs.Continuing.{ContinueWay}
 use Rattle.mix_top.specs.Debugging.{ScriptWay, script_refusal}
+use Rattle.mix_top.specs.declared.ending.Ending.{Ending}
 use Rattle.mix_top.specs.declared.files.Fetched.{Fetched}
 
 -- the ways to end once a program was loaded
-pub data ProgramWay (save : Option (List ℕ)) (program : Program) (steps : ℕ) (old new : Beside) (result : ℕ) : Type 0 where
+pub data ProgramWay (save : Option (List ℕ)) (program : Program) (steps : ℕ) (old new : Beside) (result : Ending) : Type 0 where
   -- there was no memory for the machine
   no_machine : Early old new memory_line 9 result → ProgramWay save program steps old new result
   -- it ran
   ran : MachineRan save (start_of program) steps old new result → ProgramWay save program steps old new result
 
 -- the ways to end of a command that loads the program of a job, and then ends in one of its own
-pub data LoadWay (job : Job) (files : Files) (Loaded : Program → Beside → Beside → ℕ → Type 0) (old new : Beside) (result : ℕ) : Type 0 where
+pub data LoadWay (job : Job) (files : Files) (Loaded : Program → Beside → Beside → Ending → Type 0) (old new : Beside) (result : Ending) : Type 0 where
   -- there was no memory for the program
   no_memory : Early old new memory_line 9 result → LoadWay job files Loaded old new result
   -- the first rule of the loader that is broken
@@ -52,7 +53,7 @@ pub data LoadWay (job : Job) (files : Files) (Loaded : Program → Beside → Be
       → LoadWay job files Loaded old new result
 
 -- the ways to end of a debugger's script, once it was fetched
-pub data DebugWay (job : Job) (files : Files) (script : List ℕ) (old new : Beside) (result : ℕ) : Type 0 where
+pub data DebugWay (job : Job) (files : Files) (script : List ℕ) (old new : Beside) (result : Ending) : Type 0 where
   -- the first line that is no command; the program is not loaded
   line_refused : (number : ℕ) → script_of script ≡ Err number → Early old new (load_line (script_refusal number)) 3 result
       → DebugWay job files script old new result
@@ -67,24 +68,24 @@ PutsSample calls depth sampled (FaultEnd set fault) old new result = PutsText ol
 PutsSample calls depth sampled LimitEnd old new result = (new ≡ old) × (result ≡ 11)
 
 -- the sample image ran, with no input, no device and no answers, and its line was put
-pub record SampleRan (calls depth : ℕ) (old new : Beside) (result : ℕ) : Type 0 where
+pub record SampleRan (calls depth : ℕ) (old new : Beside) (result : Ending) : Type 0 where
   pub sampled : Sampled
   pub is : IsSample sample_ram sample_steps calls depth sampled
-  pub only : OnlyPuts old new
-  pub out : PutsSample calls depth sampled sampled.end old.outside.out new.outside.out result
+  pub only : OnlyPuts old new result
+  pub out : PutsSample calls depth sampled sampled.end old.outside.out new.outside.out result.status
 
 -- the ways to end of a sample
-pub data SampleWay (calls depth : ℕ) (old new : Beside) (result : ℕ) : Type 0 where
+pub data SampleWay (calls depth : ℕ) (old new : Beside) (result : Ending) : Type 0 where
   -- there was no memory for the program or the machine
   no_room : Early old new memory_line 9 result → SampleWay calls depth old new result
   -- it ran
   sample_ran : SampleRan calls depth old new result → SampleWay calls depth old new result
 
 -- the ways to end of a run, and of a listing
-abbrev pub RunsWay : Option (List ℕ) → Job → Files → Beside → Beside → ℕ → Type 0
+abbrev pub RunsWay : Option (List ℕ) → Job → Files → Beside → Beside → Ending → Type 0
 RunsWay save job files = LoadWay job files (λ program. ProgramWay save program job.steps)
 
-abbrev pub ListsWay : Job → ℕ → ℕ → Files → Beside → Beside → ℕ → Type 0
+abbrev pub ListsWay : Job → ℕ → ℕ → Files → Beside → Beside → Ending → Type 0
 ListsWay job address count files = LoadWay job files (λ program. Listed (listing count job.main program.ram address))
 
 -- the name under which a command keeps what it runs, at the step limit
@@ -97,7 +98,7 @@ pub record IsSaved (words : List (List ℕ)) (save : Option (List ℕ)) : Type 0
   pub bad : (place : ℕ) → IsFirstBad words place → save ≡ None
 
 -- the ways to end once the files of a command were fetched
-abbrev pub FilesWay : Option (List ℕ) → Command → Fetched → Beside → Beside → ℕ → Type 0
+abbrev pub FilesWay : Option (List ℕ) → Command → Fetched → Beside → Beside → Ending → Type 0
 FilesWay save (Run job) files = RunsWay save job files.program
 FilesWay save (Lists job address count) files = ListsWay job address count files.program
 FilesWay save (Sample calls depth) files = SampleWay calls depth
@@ -113,7 +114,7 @@ pub record IsNext (words : List (List ℕ)) (contents : Contents) (command : Com
   pub fetched : AreFetched words contents before
 
 -- the ways to end
-pub data Way (words : List (List ℕ)) (old new : World) (result : ℕ) : Type 0 where
+pub data Way (words : List (List ℕ)) (old new : World) (result : Ending) : Type 0 where
   -- the words ask for no command, and this is the place of the first bad one
   bad_words : (place : ℕ) → IsFirstBad words place
       → NoneRose old.shelf.counts new.shelf.counts → Early old.beside new.beside (words_line place) 2 result
@@ -138,10 +139,19 @@ pub data Way (words : List (List ℕ)) (old new : World) (result : ℕ) : Type 0
       → Way words old new result
 
 -- a call of the program: it leaves the shelf's files as they are, accounts for each failure and each device, and ended
--- in one of the ways
-pub record Ends (words : List (List ℕ)) (old new : World) (result : ℕ) : Type 0 where
+-- in one of the ways, with this status and after so many steps of a run
+pub record EndsWith (words : List (List ℕ)) (old new : World) (result : Ending) : Type 0 where
   pub contents : new.shelf.contents ≡ old.shelf.contents
   pub save : Option (List ℕ)
   pub saved : IsSaved words save
-  pub accounted : Accounted save old.beside new.beside result
+  pub accounted : Accounted save old.beside new.beside result.status
   pub way : Way words old new result
+
+-- something ended with this status, after some number of steps
+pub record WithStatus (Ended : Ending → Type 0) (status : ℕ) : Type 0 where
+  pub ending : Ending
+  pub told : ending.status ≡ status
+  pub ended : Ended ending
+
+abbrev pub Ends : List (List ℕ) → World → World → ℕ → Type 0
+Ends words old new = WithStatus (EndsWith words old new)

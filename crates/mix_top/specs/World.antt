@@ -4,6 +4,7 @@ use Rattle.mix_io.specs.Counts.{CountRose, CountsStay, Rose}
 use Rattle.mix_io.specs.Streams.{Output, Grows, Breaks, StopsWithin}
 use Rattle.dev_rack.specs.Accounts.{Accounts}
 use Rattle.toolbox.specs.Calls.{Outside}
+use Rattle.mix_top.specs.declared.ending.Ending.{Ending}
 
 -- the files of a shelf by their names, where it tells them
 abbrev pub Contents : Type 0
@@ -56,26 +57,28 @@ abbrev pub Closes : Output → Output → List ℕ → List ℕ → ℕ → ℕ 
 Closes old new bytes line status result = (Grows old new (bytes ++ line) × (result ≡ status)) ⊎ (Breaks old new bytes line × (result ≡ 7))
 
 -- a call that ends before any step: nothing was taken, asked, kept or put on the output, and one line is on the trace
-pub record Early (old new : Beside) (line : List ℕ) (status result : ℕ) : Type 0 where
+pub record Early (old new : Beside) (line : List ℕ) (status : ℕ) (result : Ending) : Type 0 where
+  pub steps : result.steps ≡ 0
   pub outside : new.outside ≡ old.outside
   pub keep : new.keep ≡ old.keep
-  pub trace : Closes old.trace new.trace [] line status result
+  pub trace : Closes old.trace new.trace [] line status result.status
 
 -- the output took a text, and the status is this one; or it failed and holds a beginning of it, and the status is 6
 abbrev pub PutsText : Output → Output → List ℕ → ℕ → ℕ → Type 0
 PutsText old new text status result = (Grows old new text × (result ≡ status)) ⊎ (StopsWithin old new text × (result ≡ 6))
 
--- a call that puts something on the output alone: nothing was taken, asked, kept or traced
-pub record OnlyPuts (old new : Beside) : Type 0 where
+-- a call that puts something on the output alone: no step of a run was done, and nothing was taken, asked, kept or traced
+pub record OnlyPuts (old new : Beside) (result : Ending) : Type 0 where
+  pub steps : result.steps ≡ 0
   pub input : new.outside.input ≡ old.outside.input
   pub rack : new.outside.rack ≡ old.outside.rack
   pub trace : new.trace ≡ old.trace
   pub keep : new.keep ≡ old.keep
 
 -- a text was put, or the output failed and holds a beginning of it
-pub record Listed (text : List ℕ) (old new : Beside) (result : ℕ) : Type 0 where
-  pub only : OnlyPuts old new
-  pub out : PutsText old.outside.out new.outside.out text 0 result
+pub record Listed (text : List ℕ) (old new : Beside) (result : Ending) : Type 0 where
+  pub only : OnlyPuts old new result
+  pub out : PutsText old.outside.out new.outside.out text 0 result.status
 
 -- a count rose exactly where the call ended with its status
 abbrev pub RoseAt : ℕ → ℕ → ℕ → ℕ → Type 0

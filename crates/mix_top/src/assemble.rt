@@ -11,6 +11,7 @@ ghost use Rattle.mix_top.specs.Assembling.{AssembleWay};
 ghost use Rattle.mix_top.specs.inner.Parts.{beside_lent};
 
 use super::close::close;
+use super::ending::Ending;
 use super::lines::line_text;
 use super::status::{NOT_LOADED, OUTPUT_FAILED, SUCCESS};
 use dev_rack::Devices;
@@ -25,7 +26,7 @@ pub fn assemble_text<'i, 'o, 't, 'd, I: Source, O: Sink, T: Sink, D: Devices>(
     at: u32,
     text: &[u8],
     outside: &mut Outside<'i, 'o, 't, 'd, I, O, T, D>,
-) -> u8
+) -> Ending
     requires { length text.now ≤ MOST_BYTES }
     ensures ends { (k : Keep) → EndsIn None (AssembleWay set at text.now)
         (beside_lent I.left I.faults O.held O.faults T.held T.faults D.state outside.old k)
@@ -34,8 +35,12 @@ pub fn assemble_text<'i, 'o, 't, 'd, I: Source, O: Sink, T: Sink, D: Devices>(
     ensures same { AreSame outside.old outside.new }
 {
     match check_text(set, text, at) {
-        Ok(()) => put_bytes(set, at, text, outside.out),
-        Err(line) => close(outside.trace, line_text(line).bytes(), NOT_LOADED),
+        Ok(()) => Ending::without_steps(put_bytes(set, at, text, outside.out)),
+        Err(line) => Ending::without_steps(close(
+            outside.trace,
+            line_text(line).bytes(),
+            NOT_LOADED,
+        )),
     }
 }
 

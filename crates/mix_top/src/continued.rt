@@ -8,6 +8,7 @@ ghost use Rattle.mix_top.specs.Continuing.{ContinueWay};
 ghost use Rattle.mix_top.specs.inner.Parts.{beside_lent};
 
 use super::close::close_unrestored;
+use super::ending::Ending;
 use super::run::run_machine_beside;
 use dev_rack::Devices;
 use mix_engine::Outside;
@@ -23,7 +24,7 @@ pub fn continue_image<'i, 'o, 't, 'd, I: Source, O: Sink, T: Sink, D: Devices, K
     save: Option<&str>,
     outside: &mut Outside<'i, 'o, 't, 'd, I, O, T, D>,
     keep: &mut K,
-) -> u8
+) -> Ending
     requires { length image.now ≤ IMAGE_BYTES }
     ensures ends { EndsIn (option_copied save.entry) (ContinueWay (option_copied save.entry) steps image.now)
         (beside_lent I.left I.faults O.held O.faults T.held T.faults D.state outside.old (keeping (K.kept keep.old) (K.faults keep.old)))
@@ -33,6 +34,6 @@ pub fn continue_image<'i, 'o, 't, 'd, I: Source, O: Sink, T: Sink, D: Devices, K
 {
     match restore(alloc, image) {
         Ok(mut machine) => run_machine_beside(&mut machine, steps, save, outside, keep),
-        Err(error) => close_unrestored(error, outside.trace),
+        Err(error) => Ending::without_steps(close_unrestored(error, outside.trace)),
     }
 }

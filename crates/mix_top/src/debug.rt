@@ -15,6 +15,7 @@ ghost use Rattle.mix_top.specs.Ends.{DebugWay, LoadWay};
 ghost use Rattle.mix_top.specs.inner.Parts.{beside_lent};
 
 use super::close::{close, close_unloaded, close_without_memory};
+use super::ending::Ending;
 use super::lines::script_text;
 use super::status::{INPUT_FAILED, NOT_LOADED, OUTPUT_FAILED, SUCCESS, TRACE_FAILED};
 use crate::{Script, run_script};
@@ -35,7 +36,7 @@ pub fn debug_files<'i, 'o, 't, 'd, I: Source, O: Sink, T: Sink, D: Devices>(
     job: Job,
     text: &[u8],
     outside: &mut Outside<'i, 'o, 't, 'd, I, O, T, D>,
-) -> u8
+) -> Ending
     requires files { AreLoadable files.now job.main }
     requires job { IsProperJob job }
     requires text { length text.now ≤ MOST_BYTES }
@@ -47,7 +48,11 @@ pub fn debug_files<'i, 'o, 't, 'd, I: Source, O: Sink, T: Sink, D: Devices>(
 {
     match Script::read(text) {
         Ok(script) => debug_loaded(alloc, files, job, script, outside),
-        Err(bad) => close(outside.trace, script_text(bad.number).bytes(), NOT_LOADED),
+        Err(bad) => Ending::without_steps(close(
+            outside.trace,
+            script_text(bad.number).bytes(),
+            NOT_LOADED,
+        )),
     }
 }
 
@@ -58,7 +63,7 @@ fn debug_loaded<'s, 'i, 'o, 't, 'd, I: Source, O: Sink, T: Sink, D: Devices>(
     job: Job,
     script: Script<'s>,
     outside: &mut Outside<'i, 'o, 't, 'd, I, O, T, D>,
-) -> u8
+) -> Ending
     requires files { AreLoadable files.now job.main }
     requires job { IsProperJob job }
     ensures ends { (k : Keep) → EndsIn None (LoadWay job files.now (ScriptWay script.entry))
@@ -69,7 +74,7 @@ fn debug_loaded<'s, 'i, 'o, 't, 'd, I: Source, O: Sink, T: Sink, D: Devices>(
 {
     match load(alloc, files, job.main, job.kib) {
         Ok(program) => debug_program(alloc, program, script, outside),
-        Err(error) => close_unloaded(error, outside.trace),
+        Err(error) => Ending::without_steps(close_unloaded(error, outside.trace)),
     }
 }
 
@@ -79,7 +84,7 @@ fn debug_program<'s, 'i, 'o, 't, 'd, I: Source, O: Sink, T: Sink, D: Devices>(
     program: Program,
     script: Script<'s>,
     outside: &mut Outside<'i, 'o, 't, 'd, I, O, T, D>,
-) -> u8
+) -> Ending
     requires { IsProgram program }
     ensures ends { (k : Keep) → EndsIn None (ScriptWay script.entry program)
         (beside_lent I.left I.faults O.held O.faults T.held T.faults D.state outside.old k)
@@ -89,7 +94,7 @@ fn debug_program<'s, 'i, 'o, 't, 'd, I: Source, O: Sink, T: Sink, D: Devices>(
 {
     match Machine::start(alloc, program) {
         Ok(machine) => debug_machine(alloc, machine, script, outside),
-        Err(_) => close_without_memory(outside.trace),
+        Err(_) => Ending::without_steps(close_without_memory(outside.trace)),
     }
 }
 
@@ -99,7 +104,7 @@ fn debug_machine<'s, 'i, 'o, 't, 'd, I: Source, O: Sink, T: Sink, D: Devices>(
     machine: Machine,
     script: Script<'s>,
     outside: &mut Outside<'i, 'o, 't, 'd, I, O, T, D>,
-) -> u8
+) -> Ending
     requires { IsWhole machine.body (isa_of machine.active) }
     ensures ends { (k : Keep) → EndsIn None (MachineWay script.entry (flat machine.body machine.active))
         (beside_lent I.left I.faults O.held O.faults T.held T.faults D.state outside.old k)
@@ -108,8 +113,10 @@ fn debug_machine<'s, 'i, 'o, 't, 'd, I: Source, O: Sink, T: Sink, D: Devices>(
     ensures same { AreSame outside.old outside.new }
 {
     match Debug::new(alloc, machine) {
-        Ok(mut debug) => script_status(run_script(&mut debug, script, outside)),
-        Err(_) => close_without_memory(outside.trace),
+        Ok(mut debug) => Ending::without_steps(script_status(run_script(
+            &mut debug, script, outside,
+        ))),
+        Err(_) => Ending::without_steps(close_without_memory(outside.trace)),
     }
 }
 

@@ -1,6 +1,7 @@
 //! The whole program as one call over traits: words, a shelf of files, an input, an output, a trace, devices and a keeper.
 //!
 //! `mixed_main` carries the promise of the program: a call ends in one of the ways of `specs/Ends`, with its cause.
+//! `mixed_main_counted` tells the number of steps beside the status.
 //!
 //! `run_files` and `run_machine` are what `run` and `continue` do once their files were fetched, for a caller without words.
 //!
@@ -18,6 +19,7 @@ mod close;
 mod command;
 mod continued;
 mod debug;
+mod ending;
 mod files;
 mod laws;
 mod lines;
@@ -37,8 +39,9 @@ mod texts;
 mod top;
 mod walk;
 
-pub use calls::{run_files, run_machine};
+pub use calls::{run_files, run_files_counted, run_machine, run_machine_counted};
 pub use command::ScriptCommand;
+pub use ending::Ending;
 pub use job_words::{BadWord, Command, Job, read_words};
 pub use laws::checkpoint_laws;
 pub use play::run_script;
@@ -46,4 +49,4 @@ pub use sample_run::run_sample;
 pub use sampled::Sampled;
 pub use script::{BadLine, Script};
 pub use spelling_laws::script_laws;
-pub use top::mixed_main;
+pub use top::{mixed_main, mixed_main_counted};

@@ -10,6 +10,7 @@ ghost use Rattle.mix_top.specs.Ends.{ListsWay};
 ghost use Rattle.mix_top.specs.inner.Parts.{beside_lent};
 
 use super::close::close_unloaded;
+use super::ending::Ending;
 use super::status::{OUTPUT_FAILED, SUCCESS};
 use big_memory::Ram;
 use dev_rack::Devices;
@@ -35,7 +36,7 @@ pub fn list_files<'i, 'o, 't, 'd, I: Source, O: Sink, T: Sink, D: Devices>(
     job: Job,
     span: Span,
     outside: &mut Outside<'i, 'o, 't, 'd, I, O, T, D>,
-) -> u8
+) -> Ending
     requires files { AreLoadable files.now job.main }
     requires job { IsProperJob job }
     ensures ends { (k : Keep) → EndsIn None (ListsWay job span.at span.count files.now)
@@ -45,8 +46,13 @@ pub fn list_files<'i, 'o, 't, 'd, I: Source, O: Sink, T: Sink, D: Devices>(
     ensures same { AreSame outside.old outside.new }
 {
     match load(alloc, files, job.main, job.kib) {
-        Ok(program) => put_listing(&program.ram, job.main, span, outside.out),
-        Err(error) => close_unloaded(error, outside.trace),
+        Ok(program) => Ending::without_steps(put_listing(
+            &program.ram,
+            job.main,
+            span,
+            outside.out,
+        )),
+        Err(error) => Ending::without_steps(close_unloaded(error, outside.trace)),
     }
 }
 

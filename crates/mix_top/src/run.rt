@@ -14,10 +14,11 @@ ghost use Rattle.mix_top.specs.inner.Parts.{beside_lent};
 
 use super::checkpoint::{due, keep_machine};
 use super::close::{close_unloaded, close_without_memory, finish};
+use super::ending::Ending;
 use super::status::NOT_KEPT;
 use dev_rack::Devices;
 use job_words::Job;
-use mix_engine::{Machine, Outside, run};
+use mix_engine::{Machine, Outside, run_counted};
 use mix_io::{Keeper, Sink, Source};
 use mix_load::{Files, load};
 use std::alloc::Global;
@@ -31,7 +32,7 @@ pub fn run_files_beside<'i, 'o, 't, 'd, I: Source, O: Sink, T: Sink, D: Devices,
     save: Option<&str>,
     outside: &mut Outside<'i, 'o, 't, 'd, I, O, T, D>,
     keep: &mut K,
-) -> u8
+) -> Ending
     requires files { AreLoadable files.now job.main }
     requires job { IsProperJob job }
     ensures ends { EndsIn (option_copied save.entry) (RunsWay (option_copied save.entry) job files.now)
@@ -42,7 +43,7 @@ pub fn run_files_beside<'i, 'o, 't, 'd, I: Source, O: Sink, T: Sink, D: Devices,
 {
     match load(alloc, files, job.main, job.kib) {
         Ok(program) => run_program(alloc, program, job.steps, save, outside, keep),
-        Err(error) => close_unloaded(error, outside.trace),
+        Err(error) => Ending::without_steps(close_unloaded(error, outside.trace)),
     }
 }
 
@@ -54,7 +55,7 @@ fn run_program<'i, 'o, 't, 'd, I: Source, O: Sink, T: Sink, D: Devices, K: Keepe
     save: Option<&str>,
     outside: &mut Outside<'i, 'o, 't, 'd, I, O, T, D>,
     keep: &mut K,
-) -> u8
+) -> Ending
     requires { IsProgram program }
     ensures ends { EndsIn (option_copied save.entry) (ProgramWay (option_copied save.entry) program steps)
         (beside_lent I.left I.faults O.held O.faults T.held T.faults D.state outside.old (keeping (K.kept keep.old) (K.faults keep.old)))
@@ -64,7 +65,7 @@ fn run_program<'i, 'o, 't, 'd, I: Source, O: Sink, T: Sink, D: Devices, K: Keepe
 {
     match Machine::start(alloc, program) {
         Ok(mut machine) => run_machine_beside(&mut machine, steps, save, outside, keep),
-        Err(_) => close_without_memory(outside.trace),
+        Err(_) => Ending::without_steps(close_without_memory(outside.trace)),
     }
 }
 
@@ -76,7 +77,7 @@ pub fn run_machine_beside<'i, 'o, 't, 'd, I: Source, O: Sink, T: Sink, D: Device
     save: Option<&str>,
     outside: &mut Outside<'i, 'o, 't, 'd, I, O, T, D>,
     keep: &mut K,
-) -> u8
+) -> Ending
     requires { IsWhole machine.old.body (isa_of machine.old.active) }
     ensures ends { EndsIn (option_copied save.entry) (MachineRan (option_copied save.entry) (flat machine.old.body machine.old.active) steps)
         (beside_lent I.left I.faults O.held O.faults T.held T.faults D.state outside.old (keeping (K.kept keep.old) (K.faults keep.old)))
@@ -85,16 +86,24 @@ pub fn run_machine_beside<'i, 'o, 't, 'd, I: Source, O: Sink, T: Sink, D: Device
     ensures same { AreSame outside.old outside.new }
     ensures whole { IsWhole machine.new.body (isa_of machine.new.active) }
 {
-    let stop = run(
+    let mut left = steps;
+    let stop = run_counted(
         machine,
         outside.input,
         outside.out,
         outside.trace,
         outside.rack,
-        steps,
+        &mut left,
     );
+    let steps = steps - left;
     match keep_machine(machine, due(stop, save), keep) {
-        Ok(()) => finish(stop, &machine.active, outside.trace),
-        Err(_) => NOT_KEPT,
+        Ok(()) => Ending {
+            status: finish(stop, &machine.active, outside.trace),
+            steps,
+        },
+        Err(_) => Ending {
+            status: NOT_KEPT,
+            steps,
+        },
     }
 }

@@ -9,6 +9,7 @@ ghost use Rattle.mix_top.specs.Ends.{PutsSample, SampleWay};
 ghost use Rattle.mix_top.specs.inner.Parts.{beside_lent};
 
 use super::close::close_without_memory;
+use super::ending::Ending;
 use super::status::{FAULTED, LIMIT_REACHED, OUTPUT_FAILED, SUCCESS};
 use super::{Sampled, run_sample};
 use call_trace::{End, fault_name};
@@ -24,7 +25,7 @@ pub fn write_sample<'i, 'o, 't, 'd, I: Source, O: Sink, T: Sink, D: Devices>(
     calls: u32,
     depth: u32,
     outside: &mut Outside<'i, 'o, 't, 'd, I, O, T, D>,
-) -> u8
+) -> Ending
     ensures ends { (k : Keep) → EndsIn None (SampleWay calls depth)
         (beside_lent I.left I.faults O.held O.faults T.held T.faults D.state outside.old k)
         (beside_lent I.left I.faults O.held O.faults T.held T.faults D.state outside.new k)
@@ -32,8 +33,8 @@ pub fn write_sample<'i, 'o, 't, 'd, I: Source, O: Sink, T: Sink, D: Devices>(
     ensures same { AreSame outside.old outside.new }
 {
     match run_sample(alloc, calls, depth) {
-        Ok(sampled) => put_sample(calls, depth, sampled, outside.out),
-        Err(_) => close_without_memory(outside.trace),
+        Ok(sampled) => Ending::without_steps(put_sample(calls, depth, sampled, outside.out)),
+        Err(_) => Ending::without_steps(close_without_memory(outside.trace)),
     }
 }
 

@@ -8,13 +8,14 @@ ghost use Rattle.mix_io.specs.StreamsClauses.{output};
 ghost use Rattle.mix_top.specs.inner.World.{EndsIn};
 ghost use Rattle.mix_top.specs.World.{beside};
 ghost use Rattle.mix_top.specs.WorldClauses.{counting, keeping, world};
-ghost use Rattle.mix_top.specs.Ends.{Ends, FilesWay, saved_by};
+ghost use Rattle.mix_top.specs.Ends.{Ends, EndsWith, FilesWay, saved_by};
 ghost use Rattle.mix_top.specs.inner.Parts.{AreFor, AreShort, beside_lent};
 
 use super::assemble::assemble_text;
 use super::close::{close, close_unfetched};
 use super::continued::continue_image;
 use super::debug::debug_files;
+use super::ending::Ending;
 use super::files::{Fetched, bytes_of, fetch_files};
 use super::lines::words_text;
 use super::list::{Span, list_files};
@@ -49,6 +50,28 @@ pub fn mixed_main<F: Shelf, I: Source, O: Sink, T: Sink, D: Devices, K: Keeper>(
         (beside (outside_of (I.left input.new) (I.faults input.new) (D.state rack.new) (O.held out.new) (O.faults out.new)) (output (T.held trace.new) (T.faults trace.new)) (keeping (K.kept keep.new) (K.faults keep.new))))
         result }
 {
+    mixed_main_counted(alloc, words, shelf, input, out, trace, rack, keep).status
+}
+
+/// Does the same, and tells beside the status how many steps of a run were done: those of `run` and `continue`, also where the
+/// outside stopped them, and 0 for all else.
+pub fn mixed_main_counted<F: Shelf, I: Source, O: Sink, T: Sink, D: Devices, K: Keeper>(
+    alloc: Global,
+    words: &[String],
+    shelf: &mut F,
+    input: &mut I,
+    out: &mut O,
+    trace: &mut T,
+    rack: &mut D,
+    keep: &mut K,
+) -> Ending
+    ensures { EndsWith (map string_bytes words.now)
+        (world (F.contents shelf.old) (counting (F.faults shelf.old) (F.excesses shelf.old))
+        (beside (outside_of (I.left input.old) (I.faults input.old) (D.state rack.old) (O.held out.old) (O.faults out.old)) (output (T.held trace.old) (T.faults trace.old)) (keeping (K.kept keep.old) (K.faults keep.old))))
+        (world (F.contents shelf.new) (counting (F.faults shelf.new) (F.excesses shelf.new))
+        (beside (outside_of (I.left input.new) (I.faults input.new) (D.state rack.new) (O.held out.new) (O.faults out.new)) (output (T.held trace.new) (T.faults trace.new)) (keeping (K.kept keep.new) (K.faults keep.new))))
+        result }
+{
     match read_words(words) {
         Ok(command) => {
             let mut outside = Outside {
@@ -59,7 +82,7 @@ pub fn mixed_main<F: Shelf, I: Source, O: Sink, T: Sink, D: Devices, K: Keeper>(
             };
             do_command(alloc, words, command, shelf, &mut outside, keep)
         }
-        Err(bad) => close(trace, words_text(bad.place).bytes(), BAD_WORDS),
+        Err(bad) => Ending::without_steps(close(trace, words_text(bad.place).bytes(), BAD_WORDS)),
     }
 }
 
@@ -71,10 +94,10 @@ fn do_command<'i, 'o, 't, 'd, F: Shelf, I: Source, O: Sink, T: Sink, D: Devices,
     shelf: &mut F,
     outside: &mut Outside<'i, 'o, 't, 'd, I, O, T, D>,
     keep: &mut K,
-) -> u8
+) -> Ending
     requires command { command_of (map string_bytes words.now) ≡ Ok command }
     requires proper { IsProper (map string_bytes words.now) command }
-    ensures ends { Ends (map string_bytes words.now)
+    ensures ends { EndsWith (map string_bytes words.now)
         (world (F.contents shelf.old) (counting (F.faults shelf.old) (F.excesses shelf.old)) (beside_lent I.left I.faults O.held O.faults T.held T.faults D.state outside.old (keeping (K.kept keep.old) (K.faults keep.old))))
         (world (F.contents shelf.new) (counting (F.faults shelf.new) (F.excesses shelf.new)) (beside_lent I.left I.faults O.held O.faults T.held T.faults D.state outside.new (keeping (K.kept keep.new) (K.faults keep.new))))
         result }
@@ -85,7 +108,7 @@ fn do_command<'i, 'o, 't, 'd, F: Shelf, I: Source, O: Sink, T: Sink, D: Devices,
             let save = save_name(words, command);
             do_over_files(alloc, command, &files, save, outside, keep)
         }
-        Err(missing) => close_unfetched(missing, outside.trace),
+        Err(missing) => Ending::without_steps(close_unfetched(missing, outside.trace)),
     }
 }
 
@@ -108,7 +131,7 @@ fn do_over_files<'i, 'o, 't, 'd, I: Source, O: Sink, T: Sink, D: Devices, K: Kee
     save: Option<&str>,
     outside: &mut Outside<'i, 'o, 't, 'd, I, O, T, D>,
     keep: &mut K,
-) -> u8
+) -> Ending
     requires files { AreFor command files.now.program }
     requires short { AreShort files.now }
     requires job { IfSome (job_in command) IsProperJob }

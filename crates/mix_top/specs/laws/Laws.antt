@@ -16,6 +16,7 @@ use Rattle.mix_top.specs.Running.{MachineRan, status_of}
 use Rattle.mix_top.specs.laws.Running.{answers_given}
 use Rattle.mixed_machine.specs.Endings.{end_of}
 use Rattle.mix_top.specs.Continuing.{ContinueWay}
+use Rattle.mix_top.specs.declared.ending.Ending.{Ending}
 
 -- between two calls: what the first kept under a name, which had nothing before, is an image; and the second begins with
 -- the input and the devices as the first left them
@@ -33,25 +34,25 @@ pub record TookBoth (bytes line last_line : List ℕ) (a b c d : Output) : Type 
   pub first : Grows a b (front ++ line)
   pub second : Grows c d (back ++ last_line)
 
--- two calls together did what one run of so many steps does: their outputs one after the other, and their traces without
--- the first `limit` line, are those of the run, and the status of the second is that of its end
-pub record AreOneRun (steps : ℕ) (start : State) (after : Around) (a b c d : Beside) (result : ℕ) : Type 0 where
+-- two calls together did what one run of so many steps does: the steps that were done of both are those of the run, their
+-- outputs one after the other, and their traces without the first `limit` line, are its own, and the status of the second
+-- is that of its end
+pub record AreOneRun (steps done : ℕ) (start : State) (after : Around) (a b c d : Beside) (result : ℕ) : Type 0 where
   pub last : State
   pub how : How
-  pub left : ℕ
-  pub fewer : left ≤ steps
-  pub ends : exec steps start ≡ Ended how last left
+  pub fewer : done ≤ steps
+  pub ends : exec steps start ≡ Ended how last (steps - done)
   pub around : last.around ≡ after
-  pub out : TookBoth (log said_of (steps - left) start) [] [] a.outside.out b.outside.out c.outside.out d.outside.out
-  pub trace : TookBoth (log line_of (steps - left) start) (end_line Limit) (end_line (end_of (isa_of last.active) how)) a.trace b.trace c.trace d.trace
+  pub out : TookBoth (log said_of done start) [] [] a.outside.out b.outside.out c.outside.out d.outside.out
+  pub trace : TookBoth (log line_of done start) (end_line Limit) (end_line (end_of (isa_of last.active) how)) a.trace b.trace c.trace d.trace
   pub status : result ≡ status_of how
 
 -- and that for every input that fits what both took, with the answers that the devices gave in both, one after the other
-pub record RanAsOne (start : Around → State) (steps : ℕ) (a b c d : Beside) (result : ℕ) : Type 0 where
+pub record RanAsOne (start : Around → State) (steps done : ℕ) (a b c d : Beside) (result : ℕ) : Type 0 where
   pub taken : List Taken
   pub told : ToldAll taken a.outside.input.left d.outside.input.left
   pub each : (before after : List ℕ) (rest : List (Option ℕ)) → TookAll taken before after
-      → AreOneRun steps (start (around_at a.outside before (answers_given a b ++ (answers_given c d ++ rest)))) (around_at d.outside after rest) a b c d result
+      → AreOneRun steps done (start (around_at a.outside before (answers_given a b ++ (answers_given c d ++ rest)))) (around_at d.outside after rest) a b c d result
 
 -- the status of a run that came to its end
 abbrev pub IsEnd : ℕ → Type 0
@@ -60,6 +61,7 @@ IsEnd result = (result ≡ 0) ⊎ ((result ≡ 1) ⊎ ((result ≡ 10) ⊎ (resu
 -- where a run of n steps reached its limit, and its image was continued for m steps to an end, both are one run of n + m
 abbrev pub ContinuedRunsAreOne : Type 0
 ContinuedRunsAreOne =
-    (name image : List ℕ) (save : Option (List ℕ)) (start : Around → State) (n m : ℕ) (a b c d : Beside) (result : ℕ)
-    → MachineRan (Some name) start n a b 11 → IsBetween name image a b c → ContinueWay save m image c d result → IsEnd result
-    → RanAsOne start (n + m) a b c d result
+    (name image : List ℕ) (save : Option (List ℕ)) (start : Around → State) (n m : ℕ) (a b c d : Beside) (first result : Ending)
+    → MachineRan (Some name) start n a b first → first.status ≡ 11 → IsBetween name image a b c
+    → ContinueWay save m image c d result → IsEnd result.status
+    → RanAsOne start (n + m) (first.steps + result.steps) a b c d result.status

@@ -9,4 +9,4 @@ returns-in-Ok-clause-ends g c =
     record { accounted = c.run_machine_beside.ensures.ends.accounted; way = continued c.in-Ok.machine c.in-Ok.ensures.whole c.in-Ok.ensures.spelled c.run_machine_beside.ensures.ends.way }
 
 pub returns-in-Err-clause-ends : goal.returns-in-Err-clause-ends
-returns-in-Err-clause-ends g c = ends-unrestored _ c.args.steps c.args.image.now _ _ c.in-Err.error _ c.in-Err.ensures.exact refl refl c.close_unrestored.ensures
+returns-in-Err-clause-ends g c = ends-unrestored _ c.args.steps c.args.image.now _ _ c.in-Err.error _ _ c.in-Err.ensures.exact c.without_steps.ensures.status c.without_steps.ensures.steps refl refl c.close_unrestored.ensures

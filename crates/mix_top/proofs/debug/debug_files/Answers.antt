@@ -8,4 +8,4 @@ pub returns-in-Ok-clause-ends : goal.returns-in-Ok-clause-ends
 returns-in-Ok-clause-ends g c = λ k. let own = c.debug_loaded.ensures.ends k in record { accounted = own.accounted; way = lines_read _ c.in-Ok.ensures own.way }
 
 pub returns-in-Err-clause-ends : goal.returns-in-Err-clause-ends
-returns-in-Err-clause-ends g c = λ k. ends-bad_line c.args.job c.args.files.now c.args.text.now _ _ c.in-Err.bad.number _ _ c.in-Err.ensures (c.bytes.ensures ∙ c.script_text.ensures) refl refl c.close.ensures
+returns-in-Err-clause-ends g c = λ k. ends-bad_line c.args.job c.args.files.now c.args.text.now _ _ c.in-Err.bad.number _ _ _ c.without_steps.ensures.status c.without_steps.ensures.steps c.in-Err.ensures (c.bytes.ensures ∙ c.script_text.ensures) refl refl c.close.ensures

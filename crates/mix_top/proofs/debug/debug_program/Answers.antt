@@ -10,4 +10,4 @@ returns-in-Ok-clause-ends g c = λ k.
     let own = ends-started _ c.args.program _ _ _ _ _ c.in-Ok.ensures.state (c.debug_machine.ensures.ends k) in record { accounted = own.0; way = debugged own.1 }
 
 pub returns-in-Err-clause-ends : goal.returns-in-Err-clause-ends
-returns-in-Err-clause-ends g c = λ k. ends-memory _ _ (λ old new result early. no_machine early) _ _ _ refl refl c.close_without_memory.ensures
+returns-in-Err-clause-ends g c = λ k. ends-memory _ _ (λ old new result early. no_machine early) _ _ _ _ c.without_steps.ensures.status c.without_steps.ensures.steps refl refl c.close_without_memory.ensures

@@ -6,9 +6,10 @@ use Rattle.mix_top.proofs.run.run_machine_beside.Goals as goal
 
 pub returns-in-Ok-clause-ends : goal.returns-in-Ok-clause-ends
 returns-in-Ok-clause-ends g c =
-    ends-run _ _ c.run-stop.result c.args.steps _ _ c.run-stop.new.m _ _ (isa_of c.run-stop.new.m.active) _ _ c.due.ensures refl refl refl c.in-Ok.ensures c.run-stop.ensures.run c.run-stop.ensures.blames
-    c.run-stop.ensures.devices c.finish.ensures
+    ends-run _ _ c.run_counted-stop.result c.args.steps c.run_counted-stop.new.left _ _ c.run_counted-stop.new.m _ _ (isa_of c.run_counted-stop.new.m.active) _ _ c.due.ensures refl refl refl c.in-Ok.ensures refl
+    c.run_counted-stop.ensures.run c.run_counted-stop.ensures.blames c.run_counted-stop.ensures.devices c.finish.ensures
 
 pub returns-in-Err-clause-ends : goal.returns-in-Err-clause-ends
 returns-in-Err-clause-ends g c =
-    ends-unkept _ _ c.run-stop.result c.args.steps _ _ c.run-stop.new.m _ _ _ c.due.ensures refl refl refl c.in-Err.ensures c.run-stop.ensures.run c.run-stop.ensures.blames c.run-stop.ensures.devices
+    ends-unkept _ _ c.run_counted-stop.result c.args.steps c.run_counted-stop.new.left _ _ c.run_counted-stop.new.m _ _ _ _ c.due.ensures refl refl refl c.in-Err.ensures refl refl
+    c.run_counted-stop.ensures.run c.run_counted-stop.ensures.blames c.run_counted-stop.ensures.devices

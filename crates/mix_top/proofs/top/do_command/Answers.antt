@@ -24,4 +24,4 @@ returns-in-Ok-clause-ends g c =
 
 pub returns-in-Err-clause-ends : goal.returns-in-Err-clause-ends
 returns-in-Err-clause-ends g c =
-    ends-of_missing _ _ _ c.args.command c.in-Err.missing _ c.requires.command c.fetch_files.ensures.contents c.in-Err.ensures.missing refl refl c.close_unfetched.ensures
+    ends-of_missing _ _ _ c.args.command c.in-Err.missing _ _ c.without_steps.ensures.status c.without_steps.ensures.steps c.requires.command c.fetch_files.ensures.contents c.in-Err.ensures.missing refl refl c.close_unfetched.ensures

@@ -1,7 +1,6 @@
--- The words are no command.
-use Rattle.std.proofs.Common.{◌∙◌, refl, sym}
-use Rattle.mix_top.proofs.Ways.{ends-of_words}
+-- The number of steps is dropped.
+use Rattle.std.proofs.Common.{refl}
 use Rattle.mix_top.proofs.top.mixed_main.Goals as goal
 
-pub returns-in-Err : goal.returns-in-Err
-returns-in-Err g c = ends-of_words _ _ _ c.in-Err.bad.place _ _ (sym c.in-Err.ensures.value) (c.bytes.ensures ∙ c.words_text.ensures) refl refl refl c.close.ensures
+pub returns : goal.returns
+returns g c = record { ending = c.mixed_main_counted.result; told = refl; ended = c.mixed_main_counted.ensures }

@@ -1,0 +1,6 @@
+-- The number of steps is dropped.
+use Rattle.std.proofs.Common.{refl}
+use Rattle.mix_top.proofs.calls.run_machine.Goals as goal
+
+pub returns-clause-way : goal.returns-clause-way
+returns-clause-way g c = record { ending = c.run_machine_counted.result; told = refl; ended = c.run_machine_counted.ensures.way }
