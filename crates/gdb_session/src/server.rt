@@ -1,9 +1,12 @@
-ghost use Rattle.std.specs.Prelude.{◌≡◌, ◌++◌, [], IfOk};
-ghost use Rattle.std.specs.Io.KnownBytes.{Appends};
+ghost use Rattle.std.specs.Prelude.{◌≡◌, ◌++◌, [], IfErr, IfOk, None, OnOk, Some};
+ghost use Rattle.mix_io.specs.Streams.{Grows};
+ghost use Rattle.mix_io.specs.StreamsClauses.{output};
 ghost use Rattle.switch_frame.specs.Records.{isa_of};
+ghost use Rattle.gdb_packets.specs.Reading.{after};
 ghost use Rattle.gdb_talk.specs.Talks.{first_talk};
-ghost use Rattle.gdb_session.specs.Hearing.{BlamesInput, BlamesOutput, BlamesOutputAlone, Hears, acknowledged, sent_at};
-ghost use Rattle.gdb_session.specs.Replies.{Replies};
+ghost use Rattle.gdb_session.specs.Hearing.{BlamesInput, BlamesOutput, acknowledged};
+ghost use Rattle.gdb_session.specs.Serving.{BreaksAt, Serves, first_standing, is_end, rules_of, standing};
+ghost use Rattle.gdb_session.specs.inner.Listening.{CutsOff, Hears, Listens, ListensUntil, RepliesTo, RepliesUntil};
 
 use crate::broken::Broken;
 use crate::outcome::Outcome;
@@ -11,6 +14,7 @@ use crate::replies::reply;
 use crate::target::Target;
 use gdb_packets::{Decoder, Event};
 use gdb_talk::Talk;
+use mix_bits::NoMemory;
 use mix_io::{Sink, Source};
 use std::alloc::Global;
 
@@ -30,6 +34,7 @@ impl<T: Target + Drop> Server<T> {
     pub fn new(alloc: Global, target: T) -> Server<T>
         ensures target { result.target ≡ target }
         ensures talk { result.talk ≡ first_talk (isa_of (T.scene target).active) }
+        ensures console { result.console.items ≡ [] }
         ensures sent { result.sent.items ≡ [] }
     {
         Server {
@@ -48,11 +53,8 @@ impl<T: Target + Drop> Server<T> {
         data: &[u8],
         out: &mut O,
     ) -> Result<Option<Outcome>, Broken>
-        ensures heard { IfOk result (λ outcome. Hears event outcome
-            (λ r. Replies T.scene T.walks T.inserts T.removes T.allows «data».now self.old.talk self.new.talk self.old.target self.new.target self.new.console.items self.new.sent.items r
-            × Appends (O.held out.old) (O.held out.new) (acknowledged self.old.talk.acknowledges 43 ++ self.new.sent.items))
-            ((self.new ≡ self.old) × Appends (O.held out.old) (O.held out.new) (sent_at event self.old.talk.acknowledges self.old.sent.items))) }
-        ensures blames { BlamesOutputAlone (O.faults out.old) (O.faults out.new) result }
+        ensures heard { IfOk result (λ outcome. Hears (rules_of T.scene T.walks T.inserts T.removes T.allows) (event, «data».now) outcome (standing self.old.target self.old.talk self.old.console.items self.old.sent.items) (standing self.new.target self.new.talk self.new.console.items self.new.sent.items) (output (O.held out.old) (O.faults out.old)) (output (O.held out.new) (O.faults out.new))) }
+        ensures broken { IfErr result (λ broken. BreaksAt (rules_of T.scene T.walks T.inserts T.removes T.allows) (event, «data».now) (standing self.old.target self.old.talk self.old.console.items self.old.sent.items) (output (O.held out.old) (O.faults out.old)) (output (O.held out.new) (O.faults out.new)) broken) }
     {
         match event {
             Event::Packet => match self.take_packet(alloc, data, out) {
@@ -71,29 +73,47 @@ impl<T: Target + Drop> Server<T> {
         data: &[u8],
         out: &mut O,
     ) -> Result<Outcome, Broken>
-        ensures replies { IfOk result (λ r. Replies T.scene T.walks T.inserts T.removes T.allows «data».now self.old.talk self.new.talk self.old.target self.new.target self.new.console.items self.new.sent.items r) }
-        ensures sent { IfOk result (λ _. Appends (O.held out.old) (O.held out.new) (acknowledged self.old.talk.acknowledges 43 ++ self.new.sent.items)) }
-        ensures blames { BlamesOutputAlone (O.faults out.old) (O.faults out.new) result }
+        ensures heard { IfOk result (λ outcome. Hears (rules_of T.scene T.walks T.inserts T.removes T.allows) (Event.Packet, «data».now) (Some outcome) (standing self.old.target self.old.talk self.old.console.items self.old.sent.items) (standing self.new.target self.new.talk self.new.console.items self.new.sent.items) (output (O.held out.old) (O.faults out.old)) (output (O.held out.new) (O.faults out.new))) }
+        ensures broken { IfErr result (λ broken. BreaksAt (rules_of T.scene T.walks T.inserts T.removes T.allows) (Event.Packet, «data».now) (standing self.old.target self.old.talk self.old.console.items self.old.sent.items) (output (O.held out.old) (O.faults out.old)) (output (O.held out.new) (O.faults out.new)) broken) }
     {
-        acknowledge(self.talk.acknowledges, b'+', out)?;
+        match acknowledge(self.talk.acknowledges, b'+', out) {
+            Ok(()) => self.answer(alloc, data, out),
+            Err(broken) => Err(broken),
+        }
+    }
+
+    fn answer<O: Sink>(
+        &mut self,
+        alloc: Global,
+        data: &[u8],
+        out: &mut O,
+    ) -> Result<Outcome, Broken>
+        ensures replies { IfOk result (λ outcome. RepliesTo (rules_of T.scene T.walks T.inserts T.removes T.allows) «data».now (standing self.old.target self.old.talk self.old.console.items self.old.sent.items) (standing self.new.target self.new.talk self.new.console.items self.new.sent.items) outcome) }
+        ensures sent { OnOk result (Grows (output (O.held out.old) (O.faults out.old)) (output (O.held out.new) (O.faults out.new)) self.new.sent.items) }
+        ensures broken { IfErr result (λ broken. RepliesUntil (rules_of T.scene T.walks T.inserts T.removes T.allows) «data».now (standing self.old.target self.old.talk self.old.console.items self.old.sent.items) (output (O.held out.old) (O.faults out.old)) (output (O.held out.new) (O.faults out.new)) broken) }
+    {
         self.console.clear();
         self.sent.clear();
-        let outcome = reply(
+        match reply(
             alloc,
             &mut self.target,
             &mut self.talk,
             data,
             &mut self.console,
             &mut self.sent,
-        )?;
-        put(&self.sent, out)?;
-        Ok(outcome)
+        ) {
+            Ok(outcome) => match put(&self.sent, out) {
+                Ok(()) => Ok(outcome),
+                Err(broken) => Err(broken),
+            },
+            Err(NoMemory) => Err(Broken::NoMemory),
+        }
     }
 
     fn refuse<O: Sink>(&self, out: &mut O) -> Result<Option<Outcome>, Broken>
         ensures none { IfOk result (λ outcome. outcome ≡ None) }
-        ensures sent { IfOk result (λ _. Appends (O.held out.old) (O.held out.new) (acknowledged self.now.talk.acknowledges 45)) }
-        ensures blames { BlamesOutputAlone (O.faults out.old) (O.faults out.new) result }
+        ensures sent { OnOk result (Grows (output (O.held out.old) (O.faults out.old)) (output (O.held out.new) (O.faults out.new)) (acknowledged self.now.talk.acknowledges 45)) }
+        ensures broken { IfErr result (λ broken. CutsOff (output (O.held out.old) (O.faults out.old)) (output (O.held out.new) (O.faults out.new)) (acknowledged self.now.talk.acknowledges 45) broken) }
     {
         acknowledge(self.talk.acknowledges, b'-', out)?;
         Ok(None)
@@ -101,8 +121,8 @@ impl<T: Target + Drop> Server<T> {
 
     fn repeat<O: Sink>(&self, out: &mut O) -> Result<Option<Outcome>, Broken>
         ensures none { IfOk result (λ outcome. outcome ≡ None) }
-        ensures sent { IfOk result (λ _. Appends (O.held out.old) (O.held out.new) self.now.sent.items) }
-        ensures blames { BlamesOutputAlone (O.faults out.old) (O.faults out.new) result }
+        ensures sent { OnOk result (Grows (output (O.held out.old) (O.faults out.old)) (output (O.held out.new) (O.faults out.new)) self.now.sent.items) }
+        ensures broken { IfErr result (λ broken. CutsOff (output (O.held out.old) (O.faults out.old)) (output (O.held out.new) (O.faults out.new)) self.now.sent.items broken) }
     {
         put(&self.sent, out)?;
         Ok(None)
@@ -110,8 +130,8 @@ impl<T: Target + Drop> Server<T> {
 }
 
 fn acknowledge<O: Sink>(acknowledges: bool, sign: u8, out: &mut O) -> Result<(), Broken>
-    ensures sent { IfOk result (λ _. Appends (O.held out.old) (O.held out.new) (acknowledged acknowledges sign)) }
-    ensures blames { BlamesOutputAlone (O.faults out.old) (O.faults out.new) result }
+    ensures sent { OnOk result (Grows (output (O.held out.old) (O.faults out.old)) (output (O.held out.new) (O.faults out.new)) (acknowledged acknowledges sign)) }
+    ensures broken { IfErr result (λ broken. CutsOff (output (O.held out.old) (O.faults out.old)) (output (O.held out.new) (O.faults out.new)) (acknowledged acknowledges sign) broken) }
 {
     if acknowledges {
         put(&[sign], out)
@@ -121,8 +141,8 @@ fn acknowledge<O: Sink>(acknowledges: bool, sign: u8, out: &mut O) -> Result<(),
 }
 
 fn put<O: Sink>(piece: &[u8], out: &mut O) -> Result<(), Broken>
-    ensures sent { IfOk result (λ _. Appends (O.held out.old) (O.held out.new) piece.now) }
-    ensures blames { BlamesOutputAlone (O.faults out.old) (O.faults out.new) result }
+    ensures sent { OnOk result (Grows (output (O.held out.old) (O.faults out.old)) (output (O.held out.new) (O.faults out.new)) piece.now) }
+    ensures broken { IfErr result (λ broken. CutsOff (output (O.held out.old) (O.faults out.old)) (output (O.held out.new) (O.faults out.new)) piece.now broken) }
 {
     match out.put(piece) {
         Ok(()) => Ok(()),
@@ -139,17 +159,25 @@ pub fn serve<T: Target + Drop, I: Source, O: Sink>(
 ) -> Result<(), Broken>
     ensures input { BlamesInput (I.faults input.old) (I.faults input.new) result }
     ensures output { BlamesOutput (O.faults out.old) (O.faults out.new) result }
+    ensures serves { Serves (rules_of T.scene T.walks T.inserts T.removes T.allows) (first_standing (rules_of T.scene T.walks T.inserts T.removes T.allows) target) (I.left input.old) (I.left input.new) (output (O.held out.old) (O.faults out.old)) (output (O.held out.new) (O.faults out.new)) result }
 {
-    let mut decoder = Decoder::new(alloc)?;
+    let Ok(mut decoder) = Decoder::new(alloc) else {
+        return Err(Broken::NoMemory);
+    };
     let mut server = Server::new(alloc, target);
-    for _ in 0..u64::MAX {
+    for _number in 0..u64::MAX {
         let byte = match input.take() {
             Ok(Some(byte)) => byte,
             Ok(None) => return Ok(()),
             Err(_) => return Err(Broken::Input),
         };
-        if is_last(listen(alloc, &mut server, &mut decoder, byte, out)?) {
-            return Ok(());
+        match listen(alloc, &mut server, &mut decoder, byte, out) {
+            Ok(outcome) => {
+                if is_last(outcome) {
+                    return Ok(());
+                }
+            }
+            Err(broken) => return Err(broken),
         }
     }
     Ok(())
@@ -163,7 +191,9 @@ fn listen<T: Target + Drop, O: Sink>(
     byte: u8,
     out: &mut O,
 ) -> Result<Option<Outcome>, Broken>
-    ensures { BlamesOutputAlone (O.faults out.old) (O.faults out.new) result }
+    ensures decoder { decoder.new ≡ after decoder.old byte }
+    ensures heard { IfOk result (λ outcome. Listens (rules_of T.scene T.walks T.inserts T.removes T.allows) decoder.old byte outcome (standing server.old.target server.old.talk server.old.console.items server.old.sent.items) (standing server.new.target server.new.talk server.new.console.items server.new.sent.items) (output (O.held out.old) (O.faults out.old)) (output (O.held out.new) (O.faults out.new))) }
+    ensures broken { IfErr result (λ broken. ListensUntil (rules_of T.scene T.walks T.inserts T.removes T.allows) decoder.old byte (standing server.old.target server.old.talk server.old.console.items server.old.sent.items) (output (O.held out.old) (O.faults out.old)) (output (O.held out.new) (O.faults out.new)) broken) }
 {
     match decoder.take(byte) {
         Some(event) => server.hear(alloc, event, decoder.packet(), out),
@@ -171,7 +201,9 @@ fn listen<T: Target + Drop, O: Sink>(
     }
 }
 
-fn is_last(outcome: Option<Outcome>) -> bool {
+fn is_last(outcome: Option<Outcome>) -> bool
+    ensures { result ≡ is_end outcome }
+{
     match outcome {
         Some(Outcome::Ended) => true,
         _ => false,

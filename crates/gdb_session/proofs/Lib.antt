@@ -1,0 +1,4 @@
+mod Hearing
+mod Pieces
+mod Streams
+mod Serving
