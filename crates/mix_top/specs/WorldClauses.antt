@@ -1,5 +1,8 @@
 -- What a call finds outside, put together from its parts.
-use Rattle.std.specs.Prelude.{ℕ, List, Option}
+use Rattle.std.specs.Prelude.{ℕ, List, [], ◌∷◌, Option, Some}
+use Rattle.dev_rack.specs.Boxed.{fresh}
+use Rattle.dev_rack.specs.Rack.{State}
+use Rattle.dev_rack.specs.Slots.{Seen}
 use Rattle.mix_top.specs.World.{Contents, ShelfCounts, Keep, Beside, beside, World}
 
 abbrev pub counting : (List ℕ → ℕ) → (List ℕ → ℕ) → ShelfCounts
@@ -10,3 +13,11 @@ keeping kept faults = record { kept = kept; faults = faults }
 
 abbrev pub world : Contents → ShelfCounts → Beside → World
 world contents counts beside = record { shelf = record { contents = contents; counts = counts }; beside = beside }
+
+-- a device that was not asked yet
+abbrev pub unasked : Seen
+unasked = record { faults = 0; told = Some [] }
+
+-- two devices in the slots 0 and 1, neither of which was asked
+abbrev pub two_devices : State
+two_devices = fresh (unasked ∷ unasked ∷ [])
