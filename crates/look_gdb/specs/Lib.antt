@@ -1,4 +1,5 @@
 pub mod Halts
 pub mod Notes
+pub mod Serving
 pub mod Views
 pub mod Walks
