@@ -55,11 +55,15 @@ enum {
     MIXEDRUN_LIMIT = 11         /* all steps were done */
 };
 
-/* How many bytes a call put to the front of each buffer. Behind them a buffer is as it was. */
+/*
+ * How many bytes a call put to the front of each buffer. Behind them a buffer is as it was. And how many steps it did of a run,
+ * also where the input or a buffer stopped it: an exit is a step that is done, and a fault is none. It is 0 where nothing was run.
+ */
 typedef struct mixedrun_told {
     size_t out;
     size_t trace;
     size_t kept;
+    uint32_t steps;
 } mixedrun_told;
 
 /*

@@ -1,4 +1,4 @@
-/* Runs three programs that lie in memory, and prints status, output and trace of each: one that puts a letter, PowerPC code
+/* Runs three programs that lie in memory, and prints status, steps, output and trace of each: one that puts a letter, PowerPC code
  * that calls 68K code, and the same cut after 9 steps and run on from its image. */
 #include <inttypes.h>
 #include <stdio.h>
@@ -32,8 +32,8 @@ static uint8_t nothing[1];
 
 static void tell(const char *name, int status)
 {
-    printf("%s: status %d\n%.*s\n%.*s", name, status, (int)told.out, (const char *)out, (int)told.trace,
-           (const char *)trace);
+    printf("%s: status %d, %" PRIu32 " steps\n%.*s\n%.*s", name, status, told.steps, (int)told.out, (const char *)out,
+           (int)told.trace, (const char *)trace);
 }
 
 static int run(uint32_t main_set, uint32_t steps, const uint8_t *file, size_t length, uint8_t *kept, size_t room)

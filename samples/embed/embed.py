@@ -15,7 +15,12 @@ CROSSING = bytes.fromhex(
 
 
 class Told(ctypes.Structure):
-    _fields_ = [("out", ctypes.c_size_t), ("trace", ctypes.c_size_t), ("kept", ctypes.c_size_t)]
+    _fields_ = [
+        ("out", ctypes.c_size_t),
+        ("trace", ctypes.c_size_t),
+        ("kept", ctypes.c_size_t),
+        ("steps", ctypes.c_uint32),
+    ]
 
 
 library = ctypes.CDLL(str(FOLDER / "libmixedrun.so"))
@@ -34,12 +39,12 @@ def room(size):
 
 
 def over(call, numbers, files, kept_room=0):
-    """Makes a call, and gives its status, output, trace and what it kept."""
+    """Makes a call, and gives its status, steps, output, trace and what it kept."""
     out, trace, kept = room(64), room(256), room(kept_room)
     told = Told()
     slices = [part for pair in [*files, read(b""), out, trace, kept] for part in pair]
     status = call(*map(ctypes.c_uint32, numbers), *slices, ctypes.byref(told))
-    return status, out[0].raw[: told.out], trace[0].raw[: told.trace], kept[0].raw[: told.kept]
+    return status, told.steps, out[0].raw[: told.out], trace[0].raw[: told.trace], kept[0].raw[: told.kept]
 
 
 def run(main, steps, file, kept_room=0):
@@ -47,11 +52,12 @@ def run(main, steps, file, kept_room=0):
 
 
 def tell(name, result):
-    print(f"{name}: status {result[0]}\n{result[1].decode('latin-1')}\n{result[2].decode('latin-1')}", end="")
+    status, steps, out, trace, _ = result
+    print(f"{name}: status {status}, {steps} steps\n{out.decode('latin-1')}\n{trace.decode('latin-1')}", end="")
 
 
 tell("hello", run(USUAL, 1000, HELLO))
 tell("crossing", run(PPC, 1000, CROSSING))
 cut = run(PPC, 9, CROSSING, kept_room=200000)
 tell("cut", cut)
-tell("continued", over(library.mixedrun_continue, (1000,), (read(cut[3]),)))
+tell("continued", over(library.mixedrun_continue, (1000,), (read(cut[4]),)))

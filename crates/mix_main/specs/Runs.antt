@@ -1,11 +1,10 @@
 -- A run of the program: one call with the words, over files that tell nothing, an input and two outputs as they are
 -- told, and devices that were not asked.
-use Rattle.std.specs.Prelude.{◌≡◌, ℕ, ◌⊎◌, List, [], ◌∷◌, Option, None, Some}
+use Rattle.std.specs.Prelude.{◌≡◌, ℕ, ◌⊎◌, List, Option, None}
 use Rattle.mix_io.specs.Streams.{Output}
-use Rattle.dev_rack.specs.Boxed.{fresh}
 use Rattle.dev_rack.specs.Rack.{State}
-use Rattle.dev_rack.specs.Slots.{Seen}
 use Rattle.mix_top.specs.World.{World}
+use Rattle.mix_top.specs.WorldClauses.{two_devices}
 use Rattle.mix_top.specs.Ends.{Ends}
 
 -- the output and the trace of a call
@@ -35,18 +34,6 @@ pub record Runs (words : List (List ℕ)) (left : Option (List ℕ)) (faults : �
   pub out : after.beside.outside.out ≡ new.out
   pub trace : after.beside.trace ≡ new.trace
 
--- a device that was not asked yet
-abbrev pub unasked : Seen
-unasked =
-    record {
-      faults = 0;
-      told = Some [];
-    }
-
--- a counter in slot 0 and a tape in slot 1, neither of which was asked
-abbrev pub two_devices : State
-two_devices = fresh (unasked ∷ unasked ∷ [])
-
--- a run beside two devices, whose input has not failed; or there was no memory to begin, and nothing was put
+-- a run beside a counter in slot 0 and a tape in slot 1, whose input has not failed; or there was no memory to begin, and nothing was put
 abbrev pub RunsIfRoom : List (List ℕ) → Option (List ℕ) → Outputs → Outputs → ℕ → Type 0
 RunsIfRoom words left old new status = Runs words left 0 two_devices old new status ⊎ ((new ≡ old) × (status ≡ 9))

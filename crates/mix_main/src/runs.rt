@@ -2,7 +2,8 @@
 ghost use Rattle.std.specs.Prelude.{◌≡◌, ◌∷◌, [], MatchResult, map, string_bytes};
 ghost use Rattle.mix_io.specs.StreamsClauses.{output};
 ghost use Rattle.dev_rack.specs.Boxed.{fresh, seen};
-ghost use Rattle.mix_main.specs.Runs.{Runs, RunsIfRoom, two_devices};
+ghost use Rattle.mix_main.specs.Runs.{Runs, RunsIfRoom};
+ghost use Rattle.mix_top.specs.WorldClauses.{two_devices};
 ghost use Rattle.mix_main.specs.RunsClauses.{outputs};
 
 use dev_rack::{Devices, Rack};

@@ -3,7 +3,7 @@
 //! where that is 0, and a buffer meets no other slice of the call.
 #![tactic(auto)]
 
-ghost use Rattle.std.specs.Prelude.{◌≡◌, [], length, not, ◌==◌};
+ghost use Rattle.std.specs.Prelude.{◌≡◌, ◌-◌, [], length, not, ◌==◌};
 ghost use Rattle.slice_runs.specs.Advanced.{Advanced};
 ghost use Rattle.slice_parts.specs.Buffers.{IsWithin, buffer};
 ghost use Rattle.slice_runs.specs.Called.{AreWithin, Called};
@@ -34,7 +34,7 @@ pub extern "C" fn mixedrun_run(
     told: &mut Told,
 ) -> u8
     ensures called { Called (run_words kind main kib steps (not (length kept.old == 0))) (files_of first.now second.now) input.now
-        (buffer out.old out.new told.new.out) (buffer trace.old trace.new told.new.trace) (buffer kept.old kept.new told.new.kept) result }
+        (buffer out.old out.new told.new.out) (buffer trace.old trace.new told.new.trace) (buffer kept.old kept.new told.new.kept) told.new.steps result }
     ensures within { AreWithin (buffer out.old out.new told.new.out) (buffer trace.old trace.new told.new.trace) (buffer kept.old kept.new told.new.kept) }
 {
     let program = Program { kind, main, kib };
@@ -59,7 +59,7 @@ pub extern "C" fn mixedrun_continue(
     told: &mut Told,
 ) -> u8
     ensures called { Called (continue_words steps (not (length kept.old == 0))) (files_of image.now []) input.now
-        (buffer out.old out.new told.new.out) (buffer trace.old trace.new told.new.trace) (buffer kept.old kept.new told.new.kept) result }
+        (buffer out.old out.new told.new.out) (buffer trace.old trace.new told.new.trace) (buffer kept.old kept.new told.new.kept) told.new.steps result }
     ensures within { AreWithin (buffer out.old out.new told.new.out) (buffer trace.old trace.new told.new.trace) (buffer kept.old kept.new told.new.kept) }
 {
     let lent = Lent {
@@ -85,6 +85,7 @@ pub extern "C" fn mixedrun_advance(
 ) -> u8
     ensures advanced { Advanced image.now input.now steps left.new (buffer out.old out.new told.new.out) (buffer trace.old trace.new told.new.trace) (buffer kept.old kept.new told.new.kept) result }
     ensures within { AreWithin (buffer out.old out.new told.new.out) (buffer trace.old trace.new told.new.trace) (buffer kept.old kept.new told.new.kept) }
+    ensures steps { told.new.steps ≡ steps - left.new }
 {
     advance(alloc, image, steps, input, out, trace, kept, told, left)
 }
@@ -105,7 +106,7 @@ pub extern "C" fn mixedrun_list(
     told: &mut Told,
 ) -> u8
     ensures called { Called (list_words kind main kib at count) (files_of first.now second.now) []
-        (buffer out.old out.new told.new.out) (buffer trace.old trace.new told.new.trace) (buffer [] [] told.new.kept) result }
+        (buffer out.old out.new told.new.out) (buffer trace.old trace.new told.new.trace) (buffer [] [] told.new.kept) told.new.steps result }
     ensures within { AreWithin (buffer out.old out.new told.new.out) (buffer trace.old trace.new told.new.trace) (buffer [] [] told.new.kept) }
 {
     let program = Program { kind, main, kib };
@@ -129,7 +130,7 @@ pub extern "C" fn mixedrun_assemble(
     told: &mut Told,
 ) -> u8
     ensures called { Called (assemble_words set at) (files_of text.now []) []
-        (buffer out.old out.new told.new.out) (buffer trace.old trace.new told.new.trace) (buffer [] [] told.new.kept) result }
+        (buffer out.old out.new told.new.out) (buffer trace.old trace.new told.new.trace) (buffer [] [] told.new.kept) told.new.steps result }
     ensures within { AreWithin (buffer out.old out.new told.new.out) (buffer trace.old trace.new told.new.trace) (buffer [] [] told.new.kept) }
 {
     let lent = Lent {
@@ -147,6 +148,7 @@ pub extern "C" fn mixedrun_procinfo(alloc: Global, word: u32, out: &mut [u8], to
     ensures within { IsWithin (buffer out.old out.new told.new.out) }
     ensures trace { told.new.trace ≡ 0 }
     ensures kept { told.new.kept ≡ 0 }
+    ensures steps { told.new.steps ≡ 0 }
 {
     explain(alloc, word, out, told)
 }

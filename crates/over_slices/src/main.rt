@@ -135,7 +135,7 @@ fn kept_after(rt: &HostRuntime, alloc: Global, name: &str, steps: u32) -> anyhow
         &mut image,
         &mut told,
     );
-    println!(rt; "{name}: status {status}")?;
+    println!(rt; "{name}: status {status}, {} steps", told.steps)?;
     print(rt, alloc, &trace, told.trace)?;
     image.truncate(told.kept);
     Ok(image)
@@ -165,7 +165,7 @@ fn tell_rest(rt: &HostRuntime, alloc: Global, name: &str, image: &[u8]) -> anyho
         &mut [],
         &mut told,
     );
-    println!(rt; "{name}: status {status}")?;
+    println!(rt; "{name}: status {status}, {} steps", told.steps)?;
     print(rt, alloc, &trace, told.trace)
 }
 
@@ -195,7 +195,10 @@ fn ten_more(rt: &HostRuntime, alloc: Global, image: &[u8]) -> anyhow::Result<Vec
         &mut told,
         &mut left,
     );
-    println!(rt; "10 steps: status {status}, {left} left")?;
+    println!(rt;
+        "10 steps: status {status}, {} done, {left} left",
+        told.steps
+    )?;
     print(rt, alloc, &trace, told.trace)?;
     next.truncate(told.kept);
     Ok(next)

@@ -15,7 +15,7 @@ use mix_bits::Isa;
 use mix_engine::{Machine, run};
 use mix_io::{Device, MemKeep, MemShelf, MemSink, MemSource, NoMemory, Sink, StdSink};
 use mix_load::{FileBytes, Files, load};
-use mix_top::mixed_main;
+use mix_top::mixed_main_counted;
 use squares::Squares;
 use std::alloc::Global;
 
@@ -51,10 +51,10 @@ fn by_words(rt: &HostRuntime, alloc: Global) -> anyhow::Result<()> {
         mut out,
         mut trace,
     } = empty_streams(alloc)?;
-    let status = mixed_main(
+    let ending = mixed_main_counted(
         alloc, &words, &mut shelf, &mut input, &mut out, &mut trace, &mut rack, &mut keep,
     );
-    println!(rt; "status {status}")?;
+    println!(rt; "status {}, {} steps", ending.status, ending.steps)?;
     tell(rt, &out, &trace, rack.journal())
 }
 

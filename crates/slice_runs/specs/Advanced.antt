@@ -15,7 +15,7 @@ use Rattle.mix_image.specs.Restoring.{IsRestored}
 use Rattle.mix_image.specs.Spelling.{HasSpelling, spell}
 use Rattle.mix_image.specs.declared.error.ImageError.{ImageError}
 use Rattle.slice_parts.specs.Buffers.{Buffer, Holds, IsFull, IsLeft, Shows, told_of}
-use Rattle.slice_runs.specs.Called.{two_devices}
+use Rattle.mix_top.specs.WorldClauses.{two_devices}
 use Rattle.slice_runs.specs.Looks.{refused_status}
 
 -- the outside of a run as it begins: the input is told, nothing was put, no device was asked, and no count has risen

@@ -1,20 +1,12 @@
--- A call of the program over files, an input and buffers of its caller, with a counter in slot 0 and a tape in slot 1.
-use Rattle.std.specs.Prelude.{◌≡◌, ℕ, List, [], ◌∷◌, length, Option, Some}
+-- A call of the program over files, an input and buffers of its caller, with a counter in slot 0 and a tape in slot 1, and
+-- how many steps of a run it did.
+use Rattle.std.specs.Prelude.{◌≡◌, ℕ, List, [], length, Option, Some}
 use Rattle.mix_io.specs.StreamsClauses.{output}
-use Rattle.dev_rack.specs.Boxed.{fresh}
-use Rattle.dev_rack.specs.Rack.{State}
-use Rattle.dev_rack.specs.Slots.{Seen}
 use Rattle.mix_top.specs.World.{Beside, World}
-use Rattle.mix_top.specs.Ends.{Ends}
+use Rattle.mix_top.specs.WorldClauses.{two_devices}
+use Rattle.mix_top.specs.Ends.{EndsWith}
+use Rattle.mix_top.specs.declared.ending.Ending.{Ending}
 use Rattle.slice_parts.specs.Buffers.{Buffer, IsLeft, IsWithin, Shows, ShowsKept, kept_of, told_of}
-
--- a device that was not asked yet
-abbrev pub unasked : Seen
-unasked = record { faults = 0; told = Some [] }
-
--- a counter in slot 0 and a tape in slot 1, neither of which was asked
-abbrev pub two_devices : State
-two_devices = fresh (unasked ∷ unasked ∷ [])
 
 -- the outside of a call as it begins: the files and the input are told, nothing was put or kept, no device was asked, and
 -- no count has risen
@@ -49,9 +41,10 @@ pub record Leaves (beside : Beside) (out trace kept : Buffer) : Type 0 where
   pub saved : ShowsKept beside.keep.kept beside.keep.faults kept
 
 -- the ways to end
-pub data Called (words : List (List ℕ)) (files : List ℕ → Option (List ℕ)) (input : List ℕ) (out trace kept : Buffer) (result : ℕ) : Type 0 where
-  -- there was no memory for the words, the files, the input or as many bytes as the buffers have; nothing was put
-  no_memory : result ≡ 9 → IsLeft out → IsLeft trace → IsLeft kept → Called words files input out trace kept result
+pub data Called (words : List (List ℕ)) (files : List ℕ → Option (List ℕ)) (input : List ℕ) (out trace kept : Buffer) (steps result : ℕ) : Type 0 where
+  -- there was no memory for the words, the files, the input or as many bytes as the buffers have; nothing was done
+  no_memory : result ≡ 9 → steps ≡ 0 → IsLeft out → IsLeft trace → IsLeft kept → Called words files input out trace kept steps result
   -- the program was called, and ended in one of its ways
-  called : (old new : World) → Begins files input out trace kept old → Ends words old new result → Leaves new.beside out trace kept
-      → Called words files input out trace kept result
+  called : (old new : World) (ending : Ending) → ending.status ≡ result → ending.steps ≡ steps
+      → Begins files input out trace kept old → EndsWith words old new ending → Leaves new.beside out trace kept
+      → Called words files input out trace kept steps result

@@ -3,15 +3,16 @@ ghost use Rattle.std.specs.Prelude.{◌≡◌, ℕ, List, [], Option, Some, IfOk
 ghost use Rattle.std.specs.String.{string_bytes};
 ghost use Rattle.slice_parts.specs.Buffers.{buffer};
 ghost use Rattle.dev_rack.specs.Boxed.{seen};
-ghost use Rattle.slice_runs.specs.Called.{AreLeft, AreWithin, Called, two_devices, unasked};
+ghost use Rattle.mix_top.specs.WorldClauses.{two_devices, unasked};
+ghost use Rattle.slice_runs.specs.Called.{AreLeft, AreWithin, Called};
 ghost use Rattle.slice_parts.specs.Rooms.{empty_keep, empty_room};
 ghost use Rattle.slice_parts.specs.Words.{assemble_words as assemble_of, continue_words as continue_of, files_of, list_words as list_of, run_words as run_of};
 
 use super::told::Told;
 use dev_rack::{Devices, Rack};
 use mix_io::{Counter, Device, MemShelf, MemSource, NoMemory, Shelf, Source, Tape};
-use mix_top::mixed_main;
 use mix_top::status::NO_MEMORY;
+use mix_top::{Ending, mixed_main_counted};
 use slice_parts::{
     Program, Streams, assemble_words, continue_words, list_words, run_words, shelf_of,
 };
@@ -29,7 +30,7 @@ pub struct Lent<'a> {
 }
 
 /// Runs a program from its files, as the words of `run` do. With room in `kept` the machine is kept there at the step limit.
-/// The answer is the status, and `told` says how many bytes stand in each buffer.
+/// The answer is the status, and `told` says how many bytes stand in each buffer, and how many steps were done.
 pub fn run(
     alloc: Global,
     program: Program,
@@ -41,7 +42,7 @@ pub fn run(
     told: &mut Told,
 ) -> u8
     ensures called { Called (run_of program.kind program.main program.kib steps (not (length kept.old == 0))) (files_of lent.entry.first.now lent.entry.second.now) lent.entry.input.now
-        (buffer out.old out.new told.new.out) (buffer trace.old trace.new told.new.trace) (buffer kept.old kept.new told.new.kept) result }
+        (buffer out.old out.new told.new.out) (buffer trace.old trace.new told.new.trace) (buffer kept.old kept.new told.new.kept) told.new.steps result }
     ensures within { AreWithin (buffer out.old out.new told.new.out) (buffer trace.old trace.new told.new.trace) (buffer kept.old kept.new told.new.kept) }
 {
     match run_words(alloc, program, steps, !kept.is_empty()) {
@@ -61,7 +62,7 @@ pub fn resume(
     told: &mut Told,
 ) -> u8
     ensures called { Called (continue_of steps (not (length kept.old == 0))) (files_of lent.entry.first.now lent.entry.second.now) lent.entry.input.now
-        (buffer out.old out.new told.new.out) (buffer trace.old trace.new told.new.trace) (buffer kept.old kept.new told.new.kept) result }
+        (buffer out.old out.new told.new.out) (buffer trace.old trace.new told.new.trace) (buffer kept.old kept.new told.new.kept) told.new.steps result }
     ensures within { AreWithin (buffer out.old out.new told.new.out) (buffer trace.old trace.new told.new.trace) (buffer kept.old kept.new told.new.kept) }
 {
     match continue_words(alloc, steps, !kept.is_empty()) {
@@ -82,7 +83,7 @@ pub fn list(
     told: &mut Told,
 ) -> u8
     ensures called { Called (list_of program.kind program.main program.kib at count) (files_of lent.entry.first.now lent.entry.second.now) lent.entry.input.now
-        (buffer out.old out.new told.new.out) (buffer trace.old trace.new told.new.trace) (buffer [] [] told.new.kept) result }
+        (buffer out.old out.new told.new.out) (buffer trace.old trace.new told.new.trace) (buffer [] [] told.new.kept) told.new.steps result }
     ensures within { AreWithin (buffer out.old out.new told.new.out) (buffer trace.old trace.new told.new.trace) (buffer [] [] told.new.kept) }
 {
     match list_words(alloc, program, at, count) {
@@ -103,7 +104,7 @@ pub fn assemble(
     told: &mut Told,
 ) -> u8
     ensures called { Called (assemble_of set at) (files_of lent.entry.first.now lent.entry.second.now) lent.entry.input.now
-        (buffer out.old out.new told.new.out) (buffer trace.old trace.new told.new.trace) (buffer [] [] told.new.kept) result }
+        (buffer out.old out.new told.new.out) (buffer trace.old trace.new told.new.trace) (buffer [] [] told.new.kept) told.new.steps result }
     ensures within { AreWithin (buffer out.old out.new told.new.out) (buffer trace.old trace.new told.new.trace) (buffer [] [] told.new.kept) }
 {
     match assemble_words(alloc, set, at) {
@@ -118,6 +119,7 @@ fn refuse(told: &mut Told) -> u8
     ensures out { told.new.out ≡ 0 }
     ensures trace { told.new.trace ≡ 0 }
     ensures kept { told.new.kept ≡ 0 }
+    ensures steps { told.new.steps ≡ 0 }
 {
     *told = Told::default();
     NO_MEMORY
@@ -134,7 +136,7 @@ fn call(
     told: &mut Told,
 ) -> u8
     ensures called { Called (map string_bytes words.now) (files_of lent.entry.first.now lent.entry.second.now) lent.entry.input.now
-        (buffer out.old out.new told.new.out) (buffer trace.old trace.new told.new.trace) (buffer kept.old kept.new told.new.kept) result }
+        (buffer out.old out.new told.new.out) (buffer trace.old trace.new told.new.trace) (buffer kept.old kept.new told.new.kept) told.new.steps result }
     ensures within { AreWithin (buffer out.old out.new told.new.out) (buffer trace.old trace.new told.new.trace) (buffer kept.old kept.new told.new.kept) }
 {
     match call_beside(alloc, words, lent, out, trace, kept, told) {
@@ -154,7 +156,7 @@ fn call_beside(
     told: &mut Told,
 ) -> Result<u8, NoMemory>
     ensures called { IfOk result (Called (map string_bytes words.now) (files_of lent.entry.first.now lent.entry.second.now) lent.entry.input.now
-        (buffer out.old out.new told.new.out) (buffer trace.old trace.new told.new.trace) (buffer kept.old kept.new told.new.kept)) }
+        (buffer out.old out.new told.new.out) (buffer trace.old trace.new told.new.trace) (buffer kept.old kept.new told.new.kept) told.new.steps) }
     ensures within { OnOk result (AreWithin (buffer out.old out.new told.new.out) (buffer trace.old trace.new told.new.trace) (buffer kept.old kept.new told.new.kept)) }
     ensures left { OnErr result (AreLeft (buffer out.old out.new 0) (buffer trace.old trace.new 0) (buffer kept.old kept.new 0)) }
 {
@@ -178,7 +180,7 @@ fn call_with(
     requires counter { seen ⟦<Counter as Device>⟧.faults ⟦<Counter as Device>⟧.told counter ≡ unasked }
     requires tape { seen ⟦<Tape as Device>⟧.faults ⟦<Tape as Device>⟧.told tape ≡ unasked }
     ensures called { IfOk result (Called (map string_bytes words.now) (files_of lent.entry.first.now lent.entry.second.now) lent.entry.input.now
-        (buffer out.old out.new told.new.out) (buffer trace.old trace.new told.new.trace) (buffer kept.old kept.new told.new.kept)) }
+        (buffer out.old out.new told.new.out) (buffer trace.old trace.new told.new.trace) (buffer kept.old kept.new told.new.kept) told.new.steps) }
     ensures within { OnOk result (AreWithin (buffer out.old out.new told.new.out) (buffer trace.old trace.new told.new.trace) (buffer kept.old kept.new told.new.kept)) }
     ensures left { OnErr result (AreLeft (buffer out.old out.new 0) (buffer trace.old trace.new 0) (buffer kept.old kept.new 0)) }
 {
@@ -201,7 +203,7 @@ fn call_over<D: Devices>(
 ) -> Result<u8, NoMemory>
     requires { D.state rack.old ≡ two_devices }
     ensures called { IfOk result (Called (map string_bytes words.now) (files_of lent.entry.first.now lent.entry.second.now) lent.entry.input.now
-        (buffer out.old out.new told.new.out) (buffer trace.old trace.new told.new.trace) (buffer kept.old kept.new told.new.kept)) }
+        (buffer out.old out.new told.new.out) (buffer trace.old trace.new told.new.trace) (buffer kept.old kept.new told.new.kept) told.new.steps) }
     ensures within { OnOk result (AreWithin (buffer out.old out.new told.new.out) (buffer trace.old trace.new told.new.trace) (buffer kept.old kept.new told.new.kept)) }
     ensures left { OnErr result (AreLeft (buffer out.old out.new 0) (buffer trace.old trace.new 0) (buffer kept.old kept.new 0)) }
 {
@@ -231,10 +233,10 @@ fn call_among<D: Devices>(
     requires kept { streams.keep ≡ empty_keep (length kept.old) }
     ensures called { (files : List ℕ → Option (List ℕ)) (input : List ℕ)
         → ⟦<MemShelf as Shelf>⟧.contents shelf ≡ Some files → ⟦<MemSource as Source>⟧.left streams.input ≡ Some input
-        → Called (map string_bytes words.now) files input (buffer out.old out.new told.new.out) (buffer trace.old trace.new told.new.trace) (buffer kept.old kept.new told.new.kept) result }
+        → Called (map string_bytes words.now) files input (buffer out.old out.new told.new.out) (buffer trace.old trace.new told.new.trace) (buffer kept.old kept.new told.new.kept) told.new.steps result }
     ensures within { AreWithin (buffer out.old out.new told.new.out) (buffer trace.old trace.new told.new.trace) (buffer kept.old kept.new told.new.kept) }
 {
-    let status = mixed_main(
+    let Ending { status, steps } = mixed_main_counted(
         alloc,
         words,
         &mut shelf,
@@ -247,5 +249,6 @@ fn call_among<D: Devices>(
     told.out = streams.out.copy_to(out);
     told.trace = streams.trace.copy_to(trace);
     told.kept = streams.keep.copy_to(kept);
+    told.steps = steps;
     status
 }

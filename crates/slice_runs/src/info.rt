@@ -18,6 +18,7 @@ pub fn explain(alloc: Global, word: u32, out: &mut [u8], told: &mut Told) -> u8
     ensures within { IsWithin (buffer out.old out.new told.new.out) }
     ensures trace { told.new.trace ≡ 0 }
     ensures kept { told.new.kept ≡ 0 }
+    ensures steps { told.new.steps ≡ 0 }
 {
     *told = Told::default();
     match info_text(alloc, word) {

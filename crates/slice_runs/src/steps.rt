@@ -1,5 +1,5 @@
 // A machine that is run on from its image.
-ghost use Rattle.std.specs.Prelude.{◌≡◌, ℕ, List, Some, IfOk, OnErr, OnOk, length};
+ghost use Rattle.std.specs.Prelude.{◌≡◌, ◌-◌, ℕ, List, Some, IfOk, OnErr, OnOk, length};
 ghost use Rattle.mixed_machine.specs.Machine.{IsWhole};
 ghost use Rattle.switch_frame.specs.Records.{isa_of};
 ghost use Rattle.dev_rack.specs.Boxed.{seen};
@@ -7,7 +7,8 @@ ghost use Rattle.mix_image.specs.Spelling.{HasSpelling};
 ghost use Rattle.slice_runs.specs.Advanced.{Advanced, Kept, Ran, stop_status};
 ghost use Rattle.slice_parts.specs.Buffers.{IsWithin, buffer};
 ghost use Rattle.slice_parts.specs.Rooms.{empty_keep, empty_room};
-ghost use Rattle.slice_runs.specs.Called.{AreLeft, AreWithin, two_devices, unasked};
+ghost use Rattle.mix_top.specs.WorldClauses.{two_devices, unasked};
+ghost use Rattle.slice_runs.specs.Called.{AreLeft, AreWithin};
 
 use super::reading::status_of;
 use super::told::Told;
@@ -40,12 +41,16 @@ pub fn advance(
 ) -> u8
     ensures advanced { Advanced image.now input.now steps left.new (buffer out.old out.new told.new.out) (buffer trace.old trace.new told.new.trace) (buffer kept.old kept.new told.new.kept) result }
     ensures within { AreWithin (buffer out.old out.new told.new.out) (buffer trace.old trace.new told.new.trace) (buffer kept.old kept.new told.new.kept) }
+    ensures steps { told.new.steps ≡ steps - left.new }
 {
     *told = Told::default();
     *left = steps;
     match restore(alloc, image) {
         Ok(machine) => match advance_beside(alloc, machine, input, out, trace, kept, told, left) {
-            Ok(status) => status,
+            Ok(status) => {
+                told.steps = steps - *left;
+                status
+            }
             Err(NoMemory) => NO_MEMORY,
         },
         Err(error) => status_of(error),

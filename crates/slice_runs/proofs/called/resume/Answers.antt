@@ -10,9 +10,9 @@ pub returns-in-Ok-clause-called : goal.returns-in-Ok-clause-called
 returns-in-Ok-clause-called c =
     let P : Bool → Type 0 = λ is_empty. map string_bytes c.in-Ok.words.items ≡ continue_words c.args.steps (not is_empty) in
     let same = subst P c.is_empty.ensures c.in-Ok.ensures in
-    Called-along _ _ _ _ _ _ _ _ (ap (map string_bytes) c.deref.ensures.value ∙ same) c.call.ensures.called
+    Called-along _ _ _ _ _ _ _ _ _ (ap (map string_bytes) c.deref.ensures.value ∙ same) c.call.ensures.called
 
 pub returns-in-Err-clause-called : goal.returns-in-Err-clause-called
 returns-in-Err-clause-called c =
-    no_memory c.refuse.ensures.status (record { bytes = refl; count = c.refuse.ensures.out }) (record { bytes = refl; count = c.refuse.ensures.trace })
+    no_memory c.refuse.ensures.status c.refuse.ensures.steps (record { bytes = refl; count = c.refuse.ensures.out }) (record { bytes = refl; count = c.refuse.ensures.trace })
     (record { bytes = refl; count = c.refuse.ensures.kept })
