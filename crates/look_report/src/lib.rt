@@ -24,6 +24,7 @@ mod registers;
 mod step;
 mod steps;
 mod tree;
+mod unsigned;
 
 pub use files::{Shape, write_trace};
 pub use history::History;

@@ -8,6 +8,7 @@ use crate::memory::{add_heap, add_stack};
 use crate::registers::add_registers;
 use crate::step::step_at;
 use crate::steps::{add_jump, add_runs, add_step};
+use crate::unsigned::{add_refusal, add_unsigned};
 use call_trace::fault_name;
 use fault_words::add_meaning;
 use look_text::{Piece, add, add_line};
@@ -16,6 +17,9 @@ use mix_bits::{Fault, FaultKind, NoMemory};
 use mix_engine::{Machine, Stop};
 use std::alloc::Global;
 use switch_frame::depth;
+
+/// The second number of a descriptor's fault where a record has a procInfo without a signature.
+const UNSIGNED: u32 = 8;
 
 /// How many frames are told from the innermost on, and as many up to the outermost, where there are more.
 pub const MANY: u32 = 8;
@@ -47,19 +51,24 @@ pub fn run_report(
     requires { IsWhole machine.now.body (isa_of machine.now.active) }
 {
     let mut text = Vec::new(alloc);
-    add_outcome(&mut text, machine, outcome)?;
+    add_outcome(alloc, &mut text, machine, outcome)?;
     add_history(&mut text, machine, history, outcome.ending.done)?;
     add_machine(alloc, &mut text, machine, frames)?;
     Ok(text)
 }
 
 /// Appends how a run ended, and what went in and out.
-fn add_outcome(text: &mut Vec<u8>, machine: &Machine, outcome: Outcome) -> Result<(), NoMemory>
+fn add_outcome(
+    alloc: Global,
+    text: &mut Vec<u8>,
+    machine: &Machine,
+    outcome: Outcome,
+) -> Result<(), NoMemory>
     requires { IsWhole machine.now.body (isa_of machine.now.active) }
 {
     add_ending(text, outcome.ending)?;
     if let Stop::Fault(fault) = outcome.ending.stop {
-        add_fault_meaning(text, machine, fault)?;
+        add_fault_meaning(alloc, text, machine, fault)?;
     }
     add_line(
         text,
@@ -131,8 +140,13 @@ fn add_callers(
     add_frames(alloc, text, ram, top, 1, untold)
 }
 
-/// Appends what a fault says, and which frame a store hit.
-fn add_fault_meaning(text: &mut Vec<u8>, machine: &Machine, fault: Fault) -> Result<(), NoMemory>
+/// Appends what a fault says, which frame a store hit, and which convention has no signature.
+fn add_fault_meaning(
+    alloc: Global,
+    text: &mut Vec<u8>,
+    machine: &Machine,
+    fault: Fault,
+) -> Result<(), NoMemory>
     requires { IsWhole machine.now.body (isa_of machine.now.active) }
 {
     add(text, "that is: ")?;
@@ -145,6 +159,10 @@ fn add_fault_meaning(text: &mut Vec<u8>, machine: &Machine, fault: Fault) -> Res
             1,
             fault.detail,
         ),
+        FaultKind::BadDesc if fault.also == UNSIGNED => {
+            add_unsigned(alloc, text, &machine.body.ram, fault.detail)
+        }
+        FaultKind::Info => add_refusal(alloc, text, fault.detail),
         _ => Ok(()),
     }
 }

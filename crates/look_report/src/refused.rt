@@ -4,6 +4,9 @@ use mix_bits::NoMemory;
 use mix_image::ImageError;
 use std::alloc::Global;
 
+/// How many blocks the heap has at most.
+const MOST_BLOCKS: u32 = 4096;
+
 /// What stands where a reason has no number.
 const NOTHING: Piece = Piece::Text("");
 
@@ -35,7 +38,7 @@ fn reason(error: ImageError) -> (&'static str, Piece<'static>, &'static str) {
             ", is not the main set's",
         ),
         ImageError::Heap => (": the bounds of the heap are none", NOTHING, ""),
-        ImageError::Block(number) => (": block ", Piece::Number(number), " has no place"),
+        ImageError::Block(number) => block_reason(number),
         ImageError::Active(set) => (": the active set is ", Piece::Number(set), ", not 0 or 1"),
         ImageError::Ccr(bits) => (
             ": the condition codes $",
@@ -53,6 +56,25 @@ fn reason(error: ImageError) -> (&'static str, Piece<'static>, &'static str) {
             " on",
         ),
         ImageError::Gate(at) => (": the gate page is wrong at $", Piece::Long(at), ""),
+        ImageError::Frame(0) => (
+            ": no frame is live, and the active set is not the main one",
+            NOTHING,
+            "",
+        ),
         ImageError::Frame(at) => (": the frame at $", Piece::Long(at), " is wrong"),
+    }
+}
+
+/// The same of the blocks of the heap: the number is their count where it is above the most that there may be, and else that of
+/// a block.
+fn block_reason(number: u32) -> (&'static str, Piece<'static>, &'static str) {
+    if number > MOST_BLOCKS {
+        (
+            ": it has ",
+            Piece::Number(number),
+            " blocks, more than 4096",
+        )
+    } else {
+        (": block ", Piece::Number(number), " has no place")
     }
 }

@@ -1,7 +1,8 @@
 // A procInfo word in words.
 ghost use Rattle.std.specs.Prelude.{◌≡◌, ◌+◌, ◌*◌, ◌≤◌, ◌++◌, IfOk, OnOk, length};
 ghost use Rattle.proc_info.specs.Views.{signature};
-ghost use Rattle.look_text.specs.inner.Info.{first_word as first_of, info_of, param_text, params_text, result_text, selector_text, signed_text, values_text};
+ghost use Rattle.std.specs.Option.{option_map};
+ghost use Rattle.look_text.specs.inner.Info.{first_word as first_of, info_of, param_text, params_text, refusal_of, result_text, selector_text, signed_text, values_text};
 
 use super::line::{Piece, add_line, line_of};
 use super::pieces::add;
@@ -29,6 +30,28 @@ pub fn info_text(alloc: Global, word: u32) -> Result<Vec<u8>, NoMemory>
                 Piece::Text("\n"),
             ],
         ),
+    }
+}
+
+/// The convention of a procInfo word, and which rule it breaks, where it has no signature.
+#[tactic(auto, unfolding(crate::specs::inner::Info::refusal_of))]
+pub fn info_refusal(alloc: Global, word: u32) -> Result<Option<Vec<u8>>, NoMemory>
+    ensures { IfOk result (λ text. option_map (λ line. line.items) text ≡ refusal_of word) }
+{
+    match read(word) {
+        Ok(_) => Ok(None),
+        Err(bad) => Ok(Some(line_of(
+            alloc,
+            &[
+                Piece::Text("convention "),
+                Piece::Number(word % 16),
+                Piece::Text(": "),
+                Piece::Long(word),
+                Piece::Text(" has no signature, by rule "),
+                Piece::Text(rule_text(bad)),
+                Piece::Text("\n"),
+            ],
+        )?)),
     }
 }
 

@@ -25,7 +25,7 @@ mod tree;
 mod why;
 mod words;
 
-pub use info::info_text;
+pub use info::{info_refusal, info_text};
 pub use label::Label;
 pub use line::{Piece, add_line, line_of};
 pub use mapped::{Mapped, map_program};

@@ -1,5 +1,5 @@
 // The program that words name: its words for mixedrun, its job and its files.
-ghost use Rattle.std.specs.Prelude.{◌≡◌, IfErr, IfOk, Ok, is_some, map};
+ghost use Rattle.std.specs.Prelude.{◌≡◌, IfErr, IfOk, Ok, false, is_some, map};
 ghost use Rattle.std.specs.String.{string_bytes};
 ghost use Rattle.job_words.specs.JobsClauses.{IsProperJob};
 ghost use Rattle.job_words.specs.Words.{command_of};
@@ -8,15 +8,15 @@ ghost use Rattle.look_text.specs.inner.Whys.{Explains};
 ghost use Rattle.look_text.specs.declared.why.Why.{Why};
 ghost use Rattle.look_words.specs.inner.Looks.{run_words as run_words_of};
 ghost use Rattle.look_words.specs.inner.Requests.{IsLost, IsUnmet, is_run};
-ghost use Rattle.look_words.specs.inner.Sentences.{why_text as why_of};
+ghost use Rattle.look_words.specs.inner.Sentences.{why_by, why_text as why_of};
 
 use crate::failure::Failure;
 use crate::files::{fetch, name_at};
 use crate::program::run_words;
-use crate::sentence::why_text;
+use crate::sentence::{command_why, why_text};
 use crate::status::BAD_WORDS;
 use job_words::{Command, Job, Key, read_words};
-use look_text::explain;
+use look_text::{explain, word_at};
 use mix_bits::{File, NoMemory};
 use mix_load::{FileBytes, Files as Program};
 use std::alloc::Global;
@@ -42,14 +42,29 @@ pub fn requested<F: Files>(alloc: Global, files: &F, words: &[String]) -> Result
     };
     match read_words(&run) {
         Ok(Command::Run(job)) => fetch_files(alloc, files, &run, job),
-        _ => Err(match explanation(alloc, &run) {
-            Ok(text) => Failure {
-                status: BAD_WORDS,
-                sentence: Some(text.into_bytes()),
-            },
-            Err(NoMemory) => Failure::no_memory(),
-        }),
+        _ => Err(unmet(alloc, word_at(words, 0), &run)),
     }
+}
+
+/// Why mixedrun refuses the words of a run that stand for those of another command.
+fn unmet(alloc: Global, command: &str, run: &[String]) -> Failure
+    ensures { IsUnmet false result.status }
+{
+    match unmet_text(alloc, command, run) {
+        Ok(text) => Failure {
+            status: BAD_WORDS,
+            sentence: Some(text.into_bytes()),
+        },
+        Err(NoMemory) => Failure::no_memory(),
+    }
+}
+
+/// The same in a sentence, which names the command.
+fn unmet_text(alloc: Global, command: &str, run: &[String]) -> Result<String, NoMemory>
+    ensures { IfOk result (λ text. (why : Why) × Explains (map string_bytes run.now) why × (string_bytes text ≡ why_by command.now (map string_bytes run.now) why)) }
+{
+    let why = explain(alloc, run)?;
+    command_why(alloc, command, run, why)
 }
 
 /// Why mixedrun refuses words, in a sentence.

@@ -1,7 +1,7 @@
 // Sentences about words.
 ghost use Rattle.std.specs.Prelude.{◌≡◌, ◌++◌, IfOk, codes, map};
 ghost use Rattle.std.specs.String.{string_bytes};
-ghost use Rattle.look_words.specs.inner.Sentences.{before_text, key_wants as key_wants_text, missing_text, needs_of, of_word, refusal_text as refusal_of, why_text as why_of};
+ghost use Rattle.look_words.specs.inner.Sentences.{before_text, key_wants as key_wants_text, missing_text, needs_of, of_word, refusal_text as refusal_of, why_by, why_text as why_of};
 ghost use Rattle.look_text.specs.inner.Whys.{at_place};
 
 use crate::look::{Key, Refusal};
@@ -58,13 +58,29 @@ fn key_wants(key: Key) -> &'static str
 pub fn why_text(alloc: Global, words: &[String], why: Why) -> Result<String, NoMemory>
     ensures { IfOk result (λ text. string_bytes text ≡ why_of (map string_bytes words.now) why) }
 {
-    Ok(why_sentence(alloc, words, why)?)
+    command_why(alloc, word_at(words, 0), words, why)
 }
 
-fn why_sentence(alloc: Global, words: &[String], why: Why) -> Result<String, AllocError>
-    ensures { IfOk result (λ text. string_bytes text ≡ why_of (map string_bytes words.now) why) }
+/// The same for a command whose words mixedrun judges.
+pub fn command_why(
+    alloc: Global,
+    command: &str,
+    words: &[String],
+    why: Why,
+) -> Result<String, NoMemory>
+    ensures { IfOk result (λ text. string_bytes text ≡ why_by command.now (map string_bytes words.now) why) }
 {
-    let command = word_at(words, 0);
+    Ok(why_sentence(alloc, command, words, why)?)
+}
+
+fn why_sentence(
+    alloc: Global,
+    command: &str,
+    words: &[String],
+    why: Why,
+) -> Result<String, AllocError>
+    ensures { IfOk result (λ text. string_bytes text ≡ why_by command.now (map string_bytes words.now) why) }
+{
     match why {
         Why::Taken => String::from_str(alloc, "mixedrun takes these words"),
         Why::Empty => String::from_str(
@@ -78,12 +94,9 @@ fn why_sentence(alloc: Global, words: &[String], why: Why) -> Result<String, All
             0,
             ", is no command: run, continue, list, sample, assemble or debug",
         ),
-        Why::Keyless(place) => word_sentence(
-            alloc,
-            words,
-            place,
-            ", has no key of mixedrun and an equals sign in front",
-        ),
+        Why::Keyless(place) => {
+            key_sentence(alloc, words, place, command, " has no such ", "KEY=VALUE")
+        }
         Why::Key(place, label) => {
             key_sentence(alloc, words, place, command, " has no key ", label.text())
         }

@@ -1,5 +1,5 @@
 -- A procInfo word in words: the places are those that args_m68 defines.
-use Rattle.std.specs.Prelude.{ℕ, ◌+◌, List, [], ◌∷◌, ◌++◌, codes, decimal, if◌then◌else◌, Result, Ok, Err}
+use Rattle.std.specs.Prelude.{ℕ, ◌+◌, ◌%◌, List, [], ◌∷◌, ◌++◌, codes, decimal, if◌then◌else◌, Option, Some, None, Result, Ok, Err}
 use Rattle.mix_bits.specs.Text.{hexadecimal}
 use Rattle.mix_bits.specs.declared.size.Size.{Size}
 use Rattle.mix_bits.specs.declared.size.Size.TheVariants.{Zero, One, Two, Four}
@@ -80,3 +80,16 @@ text_by w (Err bad) = unsigned_text w bad
 -- what a word says, or which rule it breaks
 unfoldable pub info_of : ℕ → List ℕ
 info_of w = text_by w (signature_of w)
+
+-- the convention of a word without a signature, which bits 0 to 3 are, and the rule that it breaks
+abbrev pub refusal_line : ℕ → BadInfo → List ℕ
+refusal_line w bad =
+    joined (codes "convention " ∷ decimal (w % 16) ∷ codes ": " ∷ hexadecimal 8 w
+    ∷ codes " has no signature, by rule " ∷ rule_text bad ∷ codes "\n" ∷ [])
+
+abbrev pub refusal_by : ℕ → Result Signature BadInfo → Option (List ℕ)
+refusal_by w (Ok s) = None
+refusal_by w (Err bad) = Some (refusal_line w bad)
+
+unfoldable pub refusal_of : ℕ → Option (List ℕ)
+refusal_of w = refusal_by w (signature_of w)

@@ -69,17 +69,25 @@ of_word place word more = codes "word " ++ (decimal place ++ (codes ", " ++ (wor
 abbrev pub unknown_text : List ℕ → Label → List ℕ
 unknown_text command label = codes ": " ++ (command ++ (codes " has no key " ++ text_of label))
 
+-- that a word is none that a command takes
+abbrev pub keyless_text : List ℕ → List ℕ
+keyless_text command = codes ": " ++ (command ++ (codes " has no such " ++ codes "KEY=VALUE"))
+
 -- that a value is none of its key's
 abbrev pub value_text : Label → List ℕ
 value_text label = codes ": " ++ (text_of label ++ (codes " wants " ++ wants_text label))
 
--- why mixedrun refuses words
+-- why mixedrun refuses words, for a command whose words it judges
+abbrev pub why_by : List ℕ → List (List ℕ) → Why → List ℕ
+why_by command words Taken = codes "mixedrun takes these words"
+why_by command words Empty = codes "no word: the first one is a command, run, continue, list, sample, assemble or debug"
+why_by command words Command = of_word 0 (at_place words 0) (codes ", is no command: run, continue, list, sample, assemble or debug")
+why_by command words Missing = missing_text command
+why_by command words (Keyless place) = of_word place (at_place words place) (keyless_text command)
+why_by command words (no_key place label) = of_word place (at_place words place) (unknown_text command label)
+why_by command words (Value place label) = of_word place (at_place words place) (value_text label)
+why_by command words (Again place label) = of_word place (at_place words place) (codes ": " ++ before_text label)
+
+-- for its own
 abbrev pub why_text : List (List ℕ) → Why → List ℕ
-why_text words Taken = codes "mixedrun takes these words"
-why_text words Empty = codes "no word: the first one is a command, run, continue, list, sample, assemble or debug"
-why_text words Command = of_word 0 (at_place words 0) (codes ", is no command: run, continue, list, sample, assemble or debug")
-why_text words Missing = missing_text (at_place words 0)
-why_text words (Keyless place) = of_word place (at_place words place) (codes ", has no key of mixedrun and an equals sign in front")
-why_text words (no_key place label) = of_word place (at_place words place) (unknown_text (at_place words 0) label)
-why_text words (Value place label) = of_word place (at_place words place) (value_text label)
-why_text words (Again place label) = of_word place (at_place words place) (codes ": " ++ before_text label)
+why_text words why = why_by (at_place words 0) words why

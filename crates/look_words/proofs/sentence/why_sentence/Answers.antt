@@ -2,16 +2,16 @@
 use Rattle.look_words.proofs.sentence.why_sentence.Goals as goal
 
 pub returns-in-Missing : goal.returns-in-Missing
-returns-in-Missing c = rw c.in-Missing.is (rw c.word_at-command.ensures at c.missing_sentence.ensures)
+returns-in-Missing c = rw c.in-Missing.is c.missing_sentence.ensures
 
 pub returns-in-Command : goal.returns-in-Command
 returns-in-Command c = rw c.in-Command.is c.word_sentence.ensures
 
 pub returns-in-Keyless : goal.returns-in-Keyless
-returns-in-Keyless c = rw c.in-Keyless.is c.word_sentence-in-Keyless.ensures
+returns-in-Keyless c = rw c.in-Keyless.is c.key_sentence.ensures
 
 pub returns-in-Key : goal.returns-in-Key
-returns-in-Key c = rw c.in-Key.is (rw (c.text.ensures, c.word_at-command.ensures) at c.key_sentence.ensures)
+returns-in-Key c = rw c.in-Key.is (rw c.text.ensures at c.key_sentence-in-Key.ensures)
 
 pub returns-in-Value : goal.returns-in-Value
 returns-in-Value c = rw c.in-Value.is (rw (c.text-in-Value.ensures, c.wants.ensures.text) at c.key_sentence-in-Value.ensures)
