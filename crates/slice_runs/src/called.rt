@@ -11,8 +11,8 @@ ghost use Rattle.slice_parts.specs.Words.{assemble_words as assemble_of, continu
 use super::told::Told;
 use dev_rack::{Devices, Rack};
 use mix_io::{Counter, Device, MemShelf, MemSource, NoMemory, Shelf, Source, Tape};
+use mix_top::mixed_main_counted;
 use mix_top::status::NO_MEMORY;
-use mix_top::{Ending, mixed_main_counted};
 use slice_parts::{
     Program, Streams, assemble_words, continue_words, list_words, run_words, shelf_of,
 };
@@ -236,7 +236,7 @@ fn call_among<D: Devices>(
         → Called (map string_bytes words.now) files input (buffer out.old out.new told.new.out) (buffer trace.old trace.new told.new.trace) (buffer kept.old kept.new told.new.kept) told.new.steps result }
     ensures within { AreWithin (buffer out.old out.new told.new.out) (buffer trace.old trace.new told.new.trace) (buffer kept.old kept.new told.new.kept) }
 {
-    let Ending { status, steps } = mixed_main_counted(
+    let ending = mixed_main_counted(
         alloc,
         words,
         &mut shelf,
@@ -249,6 +249,6 @@ fn call_among<D: Devices>(
     told.out = streams.out.copy_to(out);
     told.trace = streams.trace.copy_to(trace);
     told.kept = streams.keep.copy_to(kept);
-    told.steps = steps;
-    status
+    told.steps = ending.steps;
+    ending.status
 }

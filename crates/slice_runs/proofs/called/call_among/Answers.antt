@@ -7,7 +7,7 @@ use Rattle.slice_runs.proofs.called.call_among.Goals as goal
 pub returns-clause-called : goal.returns-clause-called
 returns-clause-called g c =
     λ files input told left.
-    called _ _ c.mixed_main_counted.result refl refl
+    called _ _ c.mixed_main_counted-ending.result refl refl
     (record {
       contents = told;
       shelf = c.requires.shelf;
@@ -20,7 +20,7 @@ returns-clause-called g c =
       saved = kept-empty _ _ c.requires.kept;
       keep = faults-empty _ _ c.requires.kept;
     })
-    c.mixed_main_counted.ensures
+    c.mixed_main_counted-ending.ensures
     (record { put = c.copy_to-told.ensures.shows; traced = c.copy_to-told-2.ensures.shows; saved = c.copy_to-told-3.ensures.shows })
 
 pub returns-clause-within : goal.returns-clause-within
