@@ -107,34 +107,7 @@ fn place_alone(
     ensures writable { IsAlterable mode lower → IfSome result IsWritable }
     ensures near { next.new ≤ next.old + 2 }
 {
-    if mode > 6 {
-        special_place(regs, ram, fault, word, next, size, mode, lower)
-    } else {
-        address(regs, ram, fault, word, next, mode, lower).map(Place68::Mem)
-    }
-}
-
-/// The place of an operand of mode 7. Its mode is told first, since no other one needs a test of the register.
-#[inline(always)]
-#[tactic(auto, unfolding(m68_isa::specs::ClassesClauses::IsAlterable))]
-fn special_place(
-    regs: &Regs68,
-    ram: &Ram,
-    fault: &mut Fault,
-    word: u32,
-    next: &mut u32,
-    size: Size,
-    mode: u32,
-    lower: usize,
-) -> Option<Place68>
-    requires number { lower < 8 }
-    requires first { next.old < 4 }
-    requires seven { 6 < mode }
-    ensures is { FindsPlace regs.now word size (operand_at (words_at ram.now regs.now.pc) next.old size mode lower) result next.new fault.new }
-    ensures writable { IsAlterable mode lower → IfSome result IsWritable }
-    ensures near { next.new ≤ next.old + 2 }
-{
-    if lower > 3 {
+    if mode > 6 && lower > 3 {
         let value = immediate_at(ram, regs.pc, *next, size);
         *next += immediate_words(size);
         Some(Place68::Imm(value))
