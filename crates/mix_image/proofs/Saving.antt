@@ -1,6 +1,7 @@
 -- A spelling is kept piece by piece.
-use Rattle.std.proofs.Common.{◌≡◌, ℕ, zero, suc, ◌+◌, ◌-◌, ◌*◌, ◌/◌, ◌<◌, false, cond, List, [], ◌∷◌, ◌++◌, length, take, drop, get_or, Option, Ok, Err, arith, ap, sym, subst, ◌∙◌, refl, append_assoc, add-one}
+use Rattle.std.proofs.Common.{◌≡◌, ℕ, zero, suc, ◌+◌, ◌-◌, ◌*◌, ◌/◌, ◌<◌, ◌≤◌, false, cond, List, [], ◌∷◌, ◌++◌, length, take, drop, get_or, Option, Ok, Err, arith, ap, sym, subst, ◌∙◌, refl, append_assoc, add-one}
 use Rattle.std.proofs.lemmas.List.{append-nil, take-append-drop, take_more}
+use Rattle.std.proofs.Math.Seq.{take-add}
 use Rattle.std.specs.Int.{w32, to_be_bytes}
 use Rattle.big_memory.specs.Lists.{part}
 use Rattle.big_memory.specs.Numbers.{bytes_of_longs}
@@ -19,6 +20,11 @@ use Rattle.mix_image.specs.Spelling.{block_longs, head_longs, is_blank, page, pa
 pub record IsSaving (old new : Option (List ℕ → List ℕ)) (before now : List ℕ → ℕ) (name piece : List ℕ) : Type 0 where
   pub kept : KeepsMore old new name piece
   pub calm : CountsStay before now
+
+-- a piece has the bytes of so many longs
+pub record HasPiece (piece xs : List ℕ) (count : ℕ) : Type 0 where
+  pub bytes : piece ≡ bytes_of_longs xs
+  pub size : length piece ≡ 4 * count
 
 pub saving-none : (old : Option (List ℕ → List ℕ)) (before : List ℕ → ℕ) (name : List ℕ) → IsSaving old old before before name []
 saving-none old before name = record { kept = nothing-kept old name; calm = λ n. refl }
@@ -60,13 +66,28 @@ blocks-piece xs i b less is =
     sym (bytes_join (block_longs (take i xs)) (b.address ∷ b.size ∷ []))
     ∙ ap bytes_of_longs (sym (block-join (take i xs) (b ∷ [])) ∙ ap (λ x. block_longs (take i xs ++ x ∷ [])) is ∙ ap block_longs (sym (take_more xs i b less)))
 
-pub blocks-rest : (xs : List Block) (i : ℕ) (b : Block) → i < length xs → b ≡ get_or xs i b
-    → bytes_of_longs (block_longs xs) ≡ (bytes_of_longs (block_longs (take i xs)) ++ bytes_of_longs (b.address ∷ b.size ∷ [])) ++ bytes_of_longs (block_longs (drop (i + 1) xs))
-blocks-rest xs i b less is =
-    ap (λ l. bytes_of_longs (block_longs l)) (sym (take-append-drop (i + 1) xs))
-    ∙ ap bytes_of_longs (block-join (take (i + 1) xs) (drop (i + 1) xs))
-    ∙ bytes_join (block_longs (take (i + 1) xs)) (block_longs (drop (i + 1) xs))
-    ∙ ap (λ l. l ++ bytes_of_longs (block_longs (drop (i + 1) xs))) (sym (blocks-piece xs i b less is))
+-- a block behind others, as two longs
+pub block-put : (before address size : List ℕ) → (before ++ address) ++ size ≡ before ++ (address ++ (size ++ []))
+block-put before address size = append_assoc before address size ∙ ap (λ l. before ++ (address ++ l)) (sym (append-nil size))
+
+pub two-longs-bytes : (address size : ℕ) → bytes_of_longs (address ∷ size ∷ []) ≡ to_be_bytes w32 address ++ (to_be_bytes w32 size ++ [])
+unfolding bytes_of_longs
+two-longs-bytes address size = refl
+
+-- blocks behind others
+pub blocks-part : (xs : List Block) (done end : ℕ) → done ≤ end → bytes_of_longs (block_longs (take done xs)) ++ bytes_of_longs (block_longs (take (end - done) (drop done xs))) ≡ bytes_of_longs (block_longs (take end xs))
+blocks-part xs done end low =
+    let more = take (end - done) (drop done xs) in
+    let all : done + (end - done) ≡ end = omega arith in
+    sym (bytes_join (block_longs (take done xs)) (block_longs more)) ∙ ap bytes_of_longs (sym (block-join (take done xs) more) ∙ ap block_longs (sym (take-add done (end - done) xs) ∙ ap (λ n. take n xs) all))
+
+pub blocks-rest : (xs : List Block) (done end : ℕ) → done ≤ end
+    → bytes_of_longs (block_longs xs) ≡ (bytes_of_longs (block_longs (take done xs)) ++ bytes_of_longs (block_longs (take (end - done) (drop done xs)))) ++ bytes_of_longs (block_longs (drop end xs))
+blocks-rest xs done end low =
+    ap (λ l. bytes_of_longs (block_longs l)) (sym (take-append-drop end xs))
+    ∙ ap bytes_of_longs (block-join (take end xs) (drop end xs))
+    ∙ bytes_join (block_longs (take end xs)) (block_longs (drop end xs))
+    ∙ ap (λ l. l ++ bytes_of_longs (block_longs (drop end xs))) (sym (blocks-part xs done end low))
 
 pub no-pages-bytes : (bytes : List ℕ) → pages 0 bytes ≡ []
 unfolding pages

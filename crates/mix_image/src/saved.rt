@@ -1,5 +1,6 @@
 // A machine is kept by its spelling.
-ghost use Rattle.std.specs.Prelude.{◌≡◌, ◌*◌, ◌/◌, ◌%◌, ◌≤◌, length, is_err};
+ghost use Rattle.std.specs.Prelude.{◌≡◌, ◌+◌, ◌*◌, ◌/◌, ◌%◌, ◌≤◌, ◌++◌, length, is_err};
+ghost use Rattle.std.specs.Int.{w32, to_be_bytes};
 ghost use Rattle.big_memory.specs.Numbers.{AreLongs, bytes_of_longs};
 ghost use Rattle.mix_io.specs.CountsClauses.{NamedCause};
 ghost use Rattle.mix_io.specs.KeptClauses.{Saves};
@@ -10,13 +11,20 @@ ghost use Rattle.mix_image.specs.Spelling.{HasSpelling, block_longs, head_longs,
 
 use crate::longs::{MARK_FIRST, MARK_SECOND};
 use crate::memory::{PAGE, is_blank};
+use arrayvec::ArrayVec;
 use host_heap::Block;
 use m68_isa::Regs68;
-use mix_bits::Isa;
+use mix_bits::{Isa, append};
 use mix_engine::Machine;
 use mix_io::{Failed, Keeper};
 use ppc_isa::RegsPpc;
 use switch_frame::Active;
+
+/// How many blocks are kept as one piece at the most.
+const BLOCKS: usize = 32;
+
+/// Bytes that are kept at once.
+type Piece = ArrayVec<u8, 256>;
 
 /// Keeps the spelling of a whole machine behind what was kept by this name, or a beginning of it where the keeper fails. It
 /// takes no memory.
@@ -105,10 +113,27 @@ fn save_blocks<K: Keeper>(blocks: &[Block], keep: &mut K, name: &str) -> Result<
     ensures bytes { Saves (K.kept keep.old) (K.kept keep.new) name.now (bytes_of_longs (block_longs blocks.now)) result }
     ensures cause { NamedCause (K.faults keep.old) (K.faults keep.new) name.now (is_err result) }
 {
-    'each: for block in blocks {
-        save_longs(&[block.address, block.size], keep, name)?;
+    let mut done = 0;
+    'each: while done < blocks.len() {
+        let end = (done + BLOCKS).min(blocks.len());
+        save_some(&blocks[done..end], keep, name)?;
+        done = end;
     }
     Ok(())
+}
+
+/// Keeps blocks as one piece.
+fn save_some<K: Keeper>(blocks: &[Block], keep: &mut K, name: &str) -> Result<(), Failed>
+    requires { length blocks.now ≤ 32 }
+    ensures bytes { Saves (K.kept keep.old) (K.kept keep.new) name.now (bytes_of_longs (block_longs blocks.now)) result }
+    ensures cause { NamedCause (K.faults keep.old) (K.faults keep.new) name.now (is_err result) }
+{
+    let mut piece = Piece::new();
+    'each: for block in blocks {
+        put_long(&mut piece, block.address);
+        put_long(&mut piece, block.size);
+    }
+    keep.keep(name, &piece)
 }
 
 fn save_registers<K: Keeper>(m: &Machine, keep: &mut K, name: &str) -> Result<(), Failed>
@@ -137,15 +162,26 @@ fn save_file<K: Keeper>(active: &Active, keep: &mut K, name: &str) -> Result<(),
     }
 }
 
-/// Keeps longs, each as a piece of four bytes.
+/// Keeps longs as one piece.
 fn save_longs<K: Keeper>(longs: &[u32], keep: &mut K, name: &str) -> Result<(), Failed>
+    requires { length longs.now ≤ 64 }
     ensures bytes { Saves (K.kept keep.old) (K.kept keep.new) name.now (bytes_of_longs longs.now) result }
     ensures cause { NamedCause (K.faults keep.old) (K.faults keep.new) name.now (is_err result) }
 {
+    let mut piece = Piece::new();
     'each: for long in longs {
-        keep.keep(name, &long.to_be_bytes())?;
+        put_long(&mut piece, *long);
     }
-    Ok(())
+    keep.keep(name, &piece)
+}
+
+/// Appends a long to a piece.
+fn put_long(piece: &mut Piece, long: u32)
+    requires { length piece.old.items + 4 ≤ 256 }
+    ensures is { piece.new.items ≡ piece.old.items ++ to_be_bytes w32 long }
+    ensures longer { length piece.new.items ≡ length piece.old.items + 4 }
+{
+    append(piece, &long.to_be_bytes());
 }
 
 fn save_pages<K: Keeper>(bytes: &[u8], keep: &mut K, name: &str) -> Result<(), Failed>

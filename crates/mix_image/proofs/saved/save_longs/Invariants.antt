@@ -1,8 +1,6 @@
 use Rattle.std.proofs.Common.{take}
-use Rattle.big_memory.specs.Numbers.{bytes_of_longs}
-use Rattle.mix_image.proofs.Saving.{IsSaving}
+use Rattle.mix_image.proofs.Saving.{HasPiece}
 use Rattle.mix_image.proofs.saved.save_longs.Given as goal
 
 abbrev pub invariant-each : goal.invariant-each
-invariant-each g l =
-    IsSaving (g.K.Keeper.kept l.initial.keep) (g.K.Keeper.kept l.keep) (g.K.Keeper.faults l.initial.keep) (g.K.Keeper.faults l.keep) l.name (bytes_of_longs (take l.long-index l.longs))
+invariant-each g l = HasPiece l.piece.items (take l.long-index l.longs) l.long-index
