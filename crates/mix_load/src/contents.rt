@@ -1,5 +1,5 @@
 //! The bytes of a section before it is relocated.
-ghost use Rattle.std.specs.Prelude.{◌≡◌, length, option_map, IfOk, OnOk};
+ghost use Rattle.std.specs.Prelude.{◌≡◌, length, option_map, replicate, IfOk, OnOk};
 ghost use Rattle.std.specs.Result.{result_err};
 ghost use Rattle.pef_head.specs.PartsClauses.{IsLoadable, parts};
 ghost use Rattle.mix_load.specs.inner.Outcome.{Finds};
@@ -24,6 +24,17 @@ fn write_unpacked(section: Section, to: &mut [u8]) -> Result<(), RelocError>
     Ok(())
 }
 
+/// Writes the bytes that a section has from the file before zeros.
+fn write_contents(section: Section, to: &mut [u8]) -> Result<(), RelocError>
+    requires loadable { IsLoadable (parts section) }
+    requires zeros { to.old ≡ replicate section.total 0 }
+    ensures refusal { result_err result ≡ pattern_refusal (parts section.entry) }
+    ensures written { OnOk result (to.new ≡ contents (parts section.entry)) }
+    ensures len { length to.new ≡ length to.old }
+{
+    write_unpacked(section, &mut to[..section.unpacked as usize])
+}
+
 /// The bytes that a section has from the file, and zeros behind them.
 pub fn contents(alloc: Global, section: Section) -> Result<Vec<u8>, LoadError>
     requires { IsLoadable (parts section) }
@@ -31,12 +42,9 @@ pub fn contents(alloc: Global, section: Section) -> Result<Vec<u8>, LoadError>
     ensures is { IfOk result (λ room. room.items ≡ contents (parts section.entry)) }
     ensures len { IfOk result (λ room. length room.items ≡ section.entry.total) }
 {
-    let mut room = vec![in alloc; 0; section.unpacked as usize]?;
-    match write_unpacked(section, &mut room) {
-        Ok(()) => {
-            room.resize(section.total as usize, 0)?;
-            Ok(room)
-        }
+    let mut room = vec![in alloc; 0; section.total as usize]?;
+    match write_contents(section, &mut room) {
+        Ok(()) => Ok(room),
         Err(e) => Err(LoadError::Reloc(e)),
     }
 }

@@ -72,14 +72,15 @@ fn count_crossings(machine: &mut Machine, steps: u32) -> Sampled
     let mut left = steps;
     let mut calls = 0;
     let mut returns = 0;
+    let mut frames = live(machine);
     'steps: while left > 0 {
-        let before = live(machine);
         match step_alone(machine) {
             End::Limit => {
                 let after = live(machine);
                 left -= 1;
-                calls += u32::from(before < after);
-                returns += u32::from(after < before);
+                calls += u32::from(frames < after);
+                returns += u32::from(after < frames);
+                frames = after;
             }
             End::Exit(code) => {
                 return Sampled {

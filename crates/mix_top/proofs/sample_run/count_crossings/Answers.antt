@@ -5,13 +5,14 @@ use Rattle.mix_top.proofs.Crossings.{counting-on, ran-all, ran-exits, ran-faults
 use Rattle.mix_top.proofs.sample_run.count_crossings.Goals as goal
 
 pub steps-init : goal.steps-init
-steps-init c = record { whole = c.requires; counting = count-begins _ _ }
+steps-init c = record { frames = c.live-frames.ensures; whole = c.requires; counting = count-begins _ _ }
 
 pub steps-preserved : goal.steps-preserved
 steps-preserved c =
     record {
+      frames = c.live-after.ensures;
       whole = c.in-Limit.ensures.whole;
-      counting = counting-on _ c.steps.left _ _ _ _ _ c.steps.calls c.steps.returns _ _ _ _ (omega arith) c.live-before.ensures c.live-after.ensures c.from-calls.ensures
+      counting = counting-on _ c.steps.left _ _ _ _ _ c.steps.calls c.steps.returns _ _ _ _ (omega arith) c.steps.invariant.frames c.live-after.ensures c.from-calls.ensures
           c.from-returns.ensures c.steps.invariant.counting c.in-Limit.ensures.step;
     }
 
