@@ -1,6 +1,5 @@
 -- Room for a fork that is not refused.
 use Rattle.std.specs.Prelude.{ℕ, ◌+◌, ◌≤◌, List}
-use Rattle.mix_bits.specs.SearchOperator.{◌or◌}
 use Rattle.rsrc_fork.specs.Resources.{Resource}
 use Rattle.mix_bits.specs.Multiples.{rounded_up}
 use Rattle.mix_load.specs.inner.Segments.{HasTable}

@@ -3,7 +3,6 @@ use Rattle.std.specs.Prelude.{◌≡◌, ◌<◌, ◌^◌, length, ℕ, List}
 use Rattle.big_memory.specs.Lists.{part}
 use Rattle.pef_head.specs.Container.{instantiated_count}
 use Rattle.pef_head.specs.Parts.{import_count}
-use Rattle.mix_bits.specs.SearchOperator.{◌or◌}
 use Rattle.switch_frame.specs.Pieces.{Piece}
 use Rattle.mix_load.specs.declared.sections.Placement.{Placement}
 use Rattle.mix_load.specs.Pieces.{numbered, numbered_pieces}
