@@ -4,7 +4,8 @@ use Rattle.std.specs.Option.{option_map}
 use Rattle.toolbox.specs.declared.function.Function.{Function}
 use Rattle.toolbox.specs.declared.function.Function.TheVariants.{NewRoutineDescriptor, NewFatRoutineDescriptor, DisposeRoutineDescriptor, CallUniversalProc, NewPtr, NewPtrClear, DisposePtr, BlockMove, ExitToShell, PutByte, GetByte, PutBlock, AskDevice, EjectDevice, ExitWith, UnloadSeg}
 use Rattle.toolbox.specs.declared.table.Row.{Row}
-use Rattle.toolbox.specs.declared.table.TheConstants.{ROWS, IMPORTS, NOWHERE}
+use Rattle.toolbox.specs.declared.function.TheConstants.{ROWS, IMPORTS}
+use Rattle.toolbox.specs.declared.table.TheConstants.{NOWHERE}
 
 abbrev pub rows : List Row
 rows = ROWS

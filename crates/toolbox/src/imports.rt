@@ -5,7 +5,8 @@ ghost use Rattle.big_memory.specs.Map.{host_functions};
 ghost use Rattle.toolbox.specs.NamesClauses.{IsImportIndex};
 ghost use Rattle.toolbox.specs.Names.{import_index, is_named as is_named_so};
 
-use crate::table::{IMPORTS, Import};
+use crate::function::IMPORTS;
+use crate::table::Import;
 
 /// The number of the function that a PEF container imports by the name of its library and its own.
 pub fn import_index(library: &[u8], name: &[u8]) -> Option<u32>
