@@ -5,7 +5,8 @@ use Rattle.std.specs.List.{position_from}
 use Rattle.std.proofs.lemmas.Slice.Eq.{bytes_eq-Decides}
 use Rattle.big_memory.specs.Map.{host_functions}
 use Rattle.toolbox.specs.declared.function.Function.{Function}
-use Rattle.toolbox.specs.declared.function.Function.TheVariants.{NewRoutineDescriptor, NewFatRoutineDescriptor, DisposeRoutineDescriptor, CallUniversalProc, NewPtr, NewPtrClear, DisposePtr, BlockMove, ExitToShell, PutByte, GetByte, PutBlock, AskDevice, EjectDevice, ExitWith, UnloadSeg}
+use Rattle.toolbox.specs.declared.function.Function.TheVariants.{UnloadSeg}
+use Rattle.toolbox.specs.declared.table.TheConstants.{FUNCTIONS}
 use Rattle.toolbox.specs.Table.{imports, number_of}
 use Rattle.toolbox.specs.Functions.{function_at}
 use Rattle.toolbox.specs.laws.Names.{ImportsHaveOneNumber, ImportsAreNumbered}
@@ -35,28 +36,14 @@ index_of (Some both) = import_index both.0 both.1
 -- each function that is imported has its number by its own library and name
 numbers : (f : Function) → import_of f ≢ None → (Some (number_of f) ≡ index_of (import_of f)) × (number_of f < host_functions)
 unfolding import_index
-numbers NewRoutineDescriptor is = (refl, lit< tt)
-numbers NewFatRoutineDescriptor is = (refl, lit< tt)
-numbers DisposeRoutineDescriptor is = (refl, lit< tt)
-numbers CallUniversalProc is = (refl, lit< tt)
-numbers NewPtr is = (refl, lit< tt)
-numbers NewPtrClear is = (refl, lit< tt)
-numbers DisposePtr is = (refl, lit< tt)
-numbers BlockMove is = (refl, lit< tt)
-numbers ExitToShell is = (refl, lit< tt)
-numbers PutByte is = (refl, lit< tt)
-numbers GetByte is = (refl, lit< tt)
-numbers PutBlock is = (refl, lit< tt)
-numbers AskDevice is = (refl, lit< tt)
-numbers EjectDevice is = (refl, lit< tt)
-numbers ExitWith is = (refl, lit< tt)
 numbers UnloadSeg is = absurd (is refl)
+numbers f is = (refl, lit< tt)
 
 is_some_from : (o : Option (List ℕ × List ℕ)) (both : List ℕ × List ℕ) → o ≡ Some both → o ≢ None
 is_some_from o both is none = let never = sym is ∙ none in cc
 
--- what a number below 16 is imported by is what its function is
-its-import : (k : ℕ) → k < 16 → get_or imports k None ≡ import_of (function_at k)
+-- what a number of the table is imported by is what its function is
+its-import : (k : ℕ) → k < FUNCTIONS → get_or imports k None ≡ import_of (function_at k)
 its-import k lt = ap (λ n. get_or imports n None) (sym (own-number k lt))
 
 -- what is found from a number on

@@ -6,9 +6,9 @@ use Rattle.std.proofs.lemmas.List.{get_or-map, get_or_past}
 use Rattle.std.proofs.lemmas.List.FromFn.{get_or-range_with_len}
 use Rattle.std.proofs.lemmas.List.Quantifiers.{position-Some}
 use Rattle.toolbox.specs.declared.function.Function.{Function}
-use Rattle.toolbox.specs.declared.function.Function.TheVariants.{NewRoutineDescriptor, NewFatRoutineDescriptor, DisposeRoutineDescriptor, CallUniversalProc, NewPtr, NewPtrClear, DisposePtr, BlockMove, ExitToShell, PutByte, GetByte, PutBlock, AskDevice, EjectDevice, ExitWith, UnloadSeg}
+use Rattle.toolbox.specs.declared.function.Function.TheVariants.{CallUniversalProc, UnloadSeg}
 use Rattle.toolbox.specs.declared.table.Row.{Row}
-use Rattle.toolbox.specs.declared.table.TheConstants.{NOWHERE}
+use Rattle.toolbox.specs.declared.table.TheConstants.{FUNCTIONS, NOWHERE}
 use Rattle.toolbox.specs.Table.{number_of, row, rows}
 use Rattle.toolbox.specs.laws.Functions.{NumbersAreOwn}
 use Rattle.toolbox.specs.Functions.{function_at, has_trap, trap_number}
@@ -17,30 +17,16 @@ use Rattle.toolbox.specs.NamesClauses.{IsTrapIndex}
 use Rattle.toolbox.specs.laws.Names.{TrapsAreNumbered, TrapsHaveOneNumber}
 
 pub numbers-own : NumbersAreOwn
-numbers-own NewRoutineDescriptor = refl
-numbers-own NewFatRoutineDescriptor = refl
-numbers-own DisposeRoutineDescriptor = refl
-numbers-own CallUniversalProc = refl
-numbers-own NewPtr = refl
-numbers-own NewPtrClear = refl
-numbers-own DisposePtr = refl
-numbers-own BlockMove = refl
-numbers-own ExitToShell = refl
-numbers-own PutByte = refl
-numbers-own GetByte = refl
-numbers-own PutBlock = refl
-numbers-own AskDevice = refl
-numbers-own EjectDevice = refl
-numbers-own ExitWith = refl
 numbers-own UnloadSeg = refl
+numbers-own f = refl
 
--- a number below 16 is that of its function
-numbers : map (λ (r : Row). number_of r.function) rows ≡ range_with_len 0 16
+-- a number of the table is that of its function
+numbers : map (λ (r : Row). number_of r.function) rows ≡ range_with_len 0 FUNCTIONS
 numbers = refl
 
-pub own-number : (k : ℕ) → k < 16 → number_of (function_at k) ≡ k
+pub own-number : (k : ℕ) → k < FUNCTIONS → number_of (function_at k) ≡ k
 own-number k lt =
-    sym (get_or-map (λ (r : Row). number_of r.function) rows k NOWHERE 0 lt) ∙ ap (λ ns. get_or ns k 0) numbers ∙ get_or-range_with_len 0 16 k 0 lt ∙ zero-add k
+    sym (get_or-map (λ (r : Row). number_of r.function) rows k NOWHERE 0 lt) ∙ ap (λ ns. get_or ns k 0) numbers ∙ get_or-range_with_len 0 FUNCTIONS k 0 lt ∙ zero-add k
 
 word-is : (trap word : ℕ) → Some trap ≡ Some word → trap ≡ word
 word-is trap word is = cc
@@ -50,25 +36,11 @@ no-word trap word none is = let no = sym none ∙ is in cc
 
 at-word : (f : Function) (word : ℕ) → trap_of f ≡ Some word → trap_number word ≡ Some (number_of f)
 unfolding trap_number
-at-word NewRoutineDescriptor word is = subst (λ w. trap_number w ≡ Some 0) (word-is _ word is) refl
-at-word NewFatRoutineDescriptor word is = subst (λ w. trap_number w ≡ Some 1) (word-is _ word is) refl
-at-word DisposeRoutineDescriptor word is = subst (λ w. trap_number w ≡ Some 2) (word-is _ word is) refl
 at-word CallUniversalProc word is = absurd (no-word (trap_of CallUniversalProc) word refl is)
-at-word NewPtr word is = subst (λ w. trap_number w ≡ Some 4) (word-is _ word is) refl
-at-word NewPtrClear word is = subst (λ w. trap_number w ≡ Some 5) (word-is _ word is) refl
-at-word DisposePtr word is = subst (λ w. trap_number w ≡ Some 6) (word-is _ word is) refl
-at-word BlockMove word is = subst (λ w. trap_number w ≡ Some 7) (word-is _ word is) refl
-at-word ExitToShell word is = subst (λ w. trap_number w ≡ Some 8) (word-is _ word is) refl
-at-word PutByte word is = subst (λ w. trap_number w ≡ Some 9) (word-is _ word is) refl
-at-word GetByte word is = subst (λ w. trap_number w ≡ Some 10) (word-is _ word is) refl
-at-word PutBlock word is = subst (λ w. trap_number w ≡ Some 11) (word-is _ word is) refl
-at-word AskDevice word is = subst (λ w. trap_number w ≡ Some 12) (word-is _ word is) refl
-at-word EjectDevice word is = subst (λ w. trap_number w ≡ Some 13) (word-is _ word is) refl
-at-word ExitWith word is = subst (λ w. trap_number w ≡ Some 14) (word-is _ word is) refl
-at-word UnloadSeg word is = subst (λ w. trap_number w ≡ Some 15) (word-is _ word is) refl
+at-word f word is = subst (λ w. trap_number w ≡ Some (number_of f)) (word-is _ word is) refl
 
 -- the row of a number is that of its function
-its-row : (k : ℕ) → k < 16 → get_or rows k NOWHERE ≡ row (function_at k)
+its-row : (k : ℕ) → k < FUNCTIONS → get_or rows k NOWHERE ≡ row (function_at k)
 its-row k lt = ap (λ n. get_or rows n NOWHERE) (sym (own-number k lt))
 
 has-it : (trap : Option ℕ) (word : ℕ) → has_trap trap word ≡ true → trap ≡ Some word
@@ -98,5 +70,5 @@ one_number word None none = none-found word (trap_number word) refl (index_from 
 one_number word (Some k) found = at-word found.0 word found.1 ∙ ap Some (sym found.2)
 
 -- no function has a number past the table
-pub past_table : (k : ℕ) → 16 ≤ k → function_at k ≡ UnloadSeg
+pub past_table : (k : ℕ) → FUNCTIONS ≤ k → function_at k ≡ UnloadSeg
 past_table k past = ap (λ (r : Row). r.function) (get_or_past rows k NOWHERE past)

@@ -9,7 +9,7 @@ use Rattle.host_heap.specs.Place.{place_for}
 use Rattle.switch_frame.specs.declared.active.Active.{Active}
 use Rattle.toolbox.specs.declared.values.Operands.{Operands}
 use Rattle.toolbox.specs.declared.function.Function.{Function}
-use Rattle.toolbox.specs.declared.function.Function.TheVariants.{NewRoutineDescriptor, NewFatRoutineDescriptor, DisposeRoutineDescriptor, CallUniversalProc, NewPtr, NewPtrClear, DisposePtr, BlockMove, ExitToShell, PutByte, GetByte, PutBlock, AskDevice, EjectDevice, ExitWith, UnloadSeg}
+use Rattle.toolbox.specs.declared.function.Function.TheVariants.{NewRoutineDescriptor, NewFatRoutineDescriptor, NewPtr, NewPtrClear, BlockMove, GetByte, PutBlock}
 use Rattle.toolbox.specs.Effects.{Resources, Effect, effect, made_at, moved_unless, says, takes_from}
 use Rattle.toolbox.specs.Effects.Effect.{Gives, Crosses, Leaves, Refuses}
 use Rattle.toolbox.specs.Host.{settled}
@@ -41,20 +41,12 @@ effect-says NewRoutineDescriptor o r =
 effect-says NewFatRoutineDescriptor o r =
     let bytes = image o.third (Some o.first) 1 o.second in
     made-says r (length bytes) (λ a. with_bytes a bytes r.memory) (place_for r.heap (length bytes))
-effect-says DisposeRoutineDescriptor o r = refl
-effect-says CallUniversalProc o r = refl
 effect-says NewPtr o r = made-says r o.first (λ a. r.memory) (place_for r.heap o.first)
 effect-says NewPtrClear o r = made-says r o.first (λ a. filled r.memory a o.first) (place_for r.heap o.first)
-effect-says DisposePtr o r = refl
 effect-says BlockMove o r = moved-says r (copied r.memory o.first o.second o.third) (copy_refusal r.memory o.first o.second o.third)
-effect-says ExitToShell o r = refl
-effect-says PutByte o r = refl
 effect-says GetByte o r = taken-says r r.around.input
 effect-says PutBlock o r = block-says r o.first (part o.first o.second r.memory.bytes) (in_memory r.memory o.first o.second)
-effect-says AskDevice o r = refl
-effect-says EjectDevice o r = refl
-effect-says ExitWith o r = refl
-effect-says UnloadSeg o r = refl
+effect-says f o r = refl
 
 settled-says : (f : Function) (active : Active) (x : Effect) → said_in (settled f active x) ≡ said_by x
 settled-says f active (Gives r results effects) = refl
