@@ -4,7 +4,7 @@ ghost use Rattle.big_memory.specs.Memory.{floor_of, zeroed};
 
 use crate::case::{Case, refused};
 use crate::equal::{equal, must};
-use crate::numbers::BLOCK_MOVE;
+use crate::functions::BLOCK_MOVE;
 use big_memory::Ram;
 use dev_rack::{Asked, Devices, Rack};
 use host_heap::Heap;

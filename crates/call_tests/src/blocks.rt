@@ -2,9 +2,10 @@
 use crate::bench::Step::{Call, Guard, Holds, RefusedMove, Store};
 use crate::bench::{Step, quiet_host};
 use crate::case::Case::{Kept, Negative, Ppc, Zero};
-use crate::numbers::{
+use crate::errors::{NO_BLOCK, NO_ROOM};
+use crate::functions::{
     BLOCK_MOVE, DISPOSE_PTR, DISPOSE_ROUTINE_DESCRIPTOR, NEW_FAT_ROUTINE_DESCRIPTOR, NEW_PTR,
-    NEW_PTR_CLEAR, NEW_ROUTINE_DESCRIPTOR, NO_BLOCK, NO_ROOM,
+    NEW_PTR_CLEAR, NEW_ROUTINE_DESCRIPTOR,
 };
 use mix_bits::FaultKind;
 

@@ -1,6 +1,6 @@
 // Calls by code of both sets, each a row of a table: the function, the registers before the call, and all
 // that it leaves. Registers of 68K code stand in the order A0, A1, D0, D1, those of PowerPC code from r3 on.
-use crate::numbers::{ASK_DEVICE, UNLOAD_SEG};
+use crate::functions::{ASK_DEVICE, UNLOAD_SEG};
 use dev_rack::Answer;
 use m68_isa::{Ccr, Regs68};
 use mix_bits::{Fault, FaultKind};

@@ -2,7 +2,8 @@
 use crate::bench::Step::{Call, Notes};
 use crate::bench::{Bench, Step, host_with};
 use crate::case::Case::{Asks, Kept, Ppc, PpcAsks};
-use crate::numbers::{DEVICE_FAILED, EJECT_DEVICE, NO_ROOM, NO_SLOT};
+use crate::errors::{DEVICE_FAILED, NO_ROOM, NO_SLOT};
+use crate::functions::EJECT_DEVICE;
 use dev_rack::{Answer, Rack};
 use mix_io::{Counter, Device, ScriptDevice};
 use std::alloc::Global;

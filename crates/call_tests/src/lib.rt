@@ -17,15 +17,15 @@ mod devices;
 #[cfg(test)]
 mod equal;
 #[cfg(test)]
+mod errors;
+#[cfg(test)]
 mod frames;
+#[cfg(test)]
+mod functions;
 #[cfg(test)]
 mod heap;
 #[cfg(test)]
 mod m68;
-#[cfg(test)]
-mod names;
-#[cfg(test)]
-mod numbers;
 #[cfg(test)]
 mod ppc;
 #[cfg(test)]

@@ -3,8 +3,9 @@ use crate::bench::Step::{Call, Store, Wrote};
 use crate::bench::{Step, quiet_host, reading_host, writing_host};
 use crate::case::Case::{Kept, Ppc, PpcStays, Stays, Unloads};
 use crate::case::PC;
-use crate::numbers::{
-    AT_END, CALL_UNIVERSAL_PROC, EXIT_TO_SHELL, EXIT_WITH, GET_BYTE, PUT_BLOCK, PUT_BYTE,
+use crate::errors::AT_END;
+use crate::functions::{
+    CALL_UNIVERSAL_PROC, EXIT_TO_SHELL, EXIT_WITH, GET_BYTE, PUT_BLOCK, PUT_BYTE,
 };
 use mix_bits::{Fault, FaultKind};
 use toolbox::HostOut;

@@ -1,12 +1,39 @@
-// The two columns by which the functions are reached.
+// The numbers of the host's functions, by the names of its table, and the two columns by which they are reached.
 use crate::equal::equal;
-use crate::numbers::{
-    ASK_DEVICE, BLOCK_MOVE, CALL_UNIVERSAL_PROC, DISPOSE_PTR, DISPOSE_ROUTINE_DESCRIPTOR,
-    EJECT_DEVICE, EXIT_TO_SHELL, EXIT_WITH, GET_BYTE, NEW_FAT_ROUTINE_DESCRIPTOR, NEW_PTR,
-    NEW_PTR_CLEAR, NEW_ROUTINE_DESCRIPTOR, PUT_BLOCK, PUT_BYTE, UNLOAD_SEG,
-};
 use std::process::Abort;
 use toolbox::{import_index, trap_index};
+
+pub const NEW_ROUTINE_DESCRIPTOR: u32 = 0;
+
+pub const NEW_FAT_ROUTINE_DESCRIPTOR: u32 = 1;
+
+pub const DISPOSE_ROUTINE_DESCRIPTOR: u32 = 2;
+
+pub const CALL_UNIVERSAL_PROC: u32 = 3;
+
+pub const NEW_PTR: u32 = 4;
+
+pub const NEW_PTR_CLEAR: u32 = 5;
+
+pub const DISPOSE_PTR: u32 = 6;
+
+pub const BLOCK_MOVE: u32 = 7;
+
+pub const EXIT_TO_SHELL: u32 = 8;
+
+pub const PUT_BYTE: u32 = 9;
+
+pub const GET_BYTE: u32 = 10;
+
+pub const PUT_BLOCK: u32 = 11;
+
+pub const ASK_DEVICE: u32 = 12;
+
+pub const EJECT_DEVICE: u32 = 13;
+
+pub const EXIT_WITH: u32 = 14;
+
+pub const UNLOAD_SEG: u32 = 15;
 
 /// Each trap word reaches the function with this number.
 fn are_traps(rt: &impl Abort, rows: &[(u16, u32)]) {
