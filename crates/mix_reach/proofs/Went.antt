@@ -67,7 +67,7 @@ use Rattle.host_heap.specs.Space.{Space, block_limit, rounded}
 use Rattle.host_heap.proofs.Lowest.{lowest_fit-lowest}
 use Rattle.host_heap.specs.Place.{place_for, taken, lowest_fit}
 use Rattle.toolbox.specs.declared.function.Function.{Function}
-use Rattle.toolbox.specs.declared.function.Function.TheVariants.{NewRoutineDescriptor, NewFatRoutineDescriptor, DisposeRoutineDescriptor, CallUniversalProc, NewPtr, NewPtrClear, DisposePtr, BlockMove, ExitToShell, PutByte, GetByte, PutBlock, AskDevice, EjectDevice, ExitWith, UnloadSeg}
+use Rattle.toolbox.specs.declared.function.Function.TheVariants.{NewRoutineDescriptor, NewFatRoutineDescriptor, DisposeRoutineDescriptor, CallUniversalProc, NewPtr, NewPtrClear, DisposePtr, BlockMove, ExitToShell, GetByte, PutBlock, ExitWith}
 use Rattle.toolbox.specs.declared.values.Operands.{Operands}
 use Rattle.toolbox.specs.Functions.{function_at, trap_number}
 use Rattle.toolbox.specs.Registers.{operands_of}
@@ -437,13 +437,10 @@ effect-stored NewPtrClear o r room = makes-stored (filling o.first) r o.first (�
 effect-stored DisposePtr o r room = inl (record { heap = inr (o.first, refl); beside = stay nothing r.memory.bytes })
 effect-stored BlockMove o r room = moved-stored r o.first o.second o.third (copy_refusal r.memory o.first o.second o.third) refl
 effect-stored ExitToShell o r room = tt
-effect-stored PutByte o r room = unchanged (plain nothing) r
 effect-stored GetByte o r room = takes-stored (plain nothing) r r.around.input
 effect-stored PutBlock o r room = host-either (plain nothing) r (in_memory r.memory o.first o.second) _ _ (unchanged (plain nothing) r) tt
-effect-stored AskDevice o r room = inl (record { heap = inl refl; beside = stay nothing r.memory.bytes })
-effect-stored EjectDevice o r room = inl (record { heap = inl refl; beside = stay nothing r.memory.bytes })
 effect-stored ExitWith o r room = tt
-effect-stored UnloadSeg o r room = unchanged (plain nothing) r
+effect-stored f o r room = inl (record { heap = inl refl; beside = stay nothing r.memory.bytes })
 
 abbrev HostedStored : Stores → Host → Hosted → Type 0
 HostedStored w h (HostGoes after effects) = PlainStored w.reach h.resources after.resources ⊎ BlockStored w.filled h.resources after.resources

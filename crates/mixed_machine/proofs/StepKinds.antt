@@ -24,7 +24,7 @@ use Rattle.host_heap.specs.Space.{Space}
 use Rattle.host_heap.specs.Place.{begins_at, freed, place_for}
 use Rattle.host_heap.proofs.Keeps.{freed-none}
 use Rattle.toolbox.specs.declared.function.Function.{Function}
-use Rattle.toolbox.specs.declared.function.Function.TheVariants.{NewRoutineDescriptor, NewFatRoutineDescriptor, DisposeRoutineDescriptor, CallUniversalProc, NewPtr, NewPtrClear, DisposePtr, BlockMove, ExitToShell, PutByte, GetByte, PutBlock, AskDevice, EjectDevice, ExitWith, UnloadSeg}
+use Rattle.toolbox.specs.declared.function.Function.TheVariants.{NewRoutineDescriptor, NewFatRoutineDescriptor, DisposeRoutineDescriptor, CallUniversalProc, NewPtr, NewPtrClear, DisposePtr, BlockMove, ExitToShell, GetByte, PutBlock, ExitWith}
 use Rattle.toolbox.specs.declared.values.Operands.{Operands}
 use Rattle.toolbox.specs.Functions.{function_at, trap_number}
 use Rattle.toolbox.specs.Registers.{operands_of}
@@ -132,13 +132,10 @@ effect-moves NewPtrClear o r = makes-moves r _ _
 effect-moves DisposePtr o r = freed-moves r.heap o.first (begins_at r.heap.blocks o.first) refl
 effect-moves BlockMove o r = moved-moves r (copied r.memory o.first o.second o.third) (copy_refusal r.memory o.first o.second o.third)
 effect-moves ExitToShell o r = tt
-effect-moves PutByte o r = inl refl
 effect-moves GetByte o r = takes-moves r r.around.input
 effect-moves PutBlock o r = either-moves r (in_memory r.memory o.first o.second) _ _ (inl refl) tt
-effect-moves AskDevice o r = inl refl
-effect-moves EjectDevice o r = inl refl
 effect-moves ExitWith o r = tt
-effect-moves UnloadSeg o r = inl refl
+effect-moves f o r = inl refl
 
 abbrev HostMoves : Host → Hosted → Type 0
 HostMoves h (HostGoes after effects) = HeapMoves h.resources.heap after.resources.heap

@@ -5,7 +5,7 @@ use Rattle.big_memory.specs.Memory.{Memory, copied, copy_refusal, in_memory}
 use Rattle.host_heap.specs.Place.{place_for}
 use Rattle.switch_frame.specs.declared.active.Active.{Active}
 use Rattle.toolbox.specs.declared.function.Function.{Function}
-use Rattle.toolbox.specs.declared.function.Function.TheVariants.{NewRoutineDescriptor, NewFatRoutineDescriptor, DisposeRoutineDescriptor, CallUniversalProc, NewPtr, NewPtrClear, DisposePtr, BlockMove, ExitToShell, PutByte, GetByte, PutBlock, AskDevice, EjectDevice, ExitWith, UnloadSeg}
+use Rattle.toolbox.specs.declared.function.Function.TheVariants.{NewRoutineDescriptor, NewFatRoutineDescriptor, CallUniversalProc, NewPtr, NewPtrClear, BlockMove, GetByte, PutBlock}
 use Rattle.toolbox.specs.declared.values.Operands.{Operands}
 use Rattle.toolbox.specs.Functions.{function_at, trap_number}
 use Rattle.toolbox.specs.FunctionsClauses.{trap_of}
@@ -44,20 +44,13 @@ either-no_trap f false x y first second = second
 no-trap : (f : Function) (o : Operands) (r : Resources) → HasNoTrap f (effect f o r)
 no-trap NewRoutineDescriptor o r = made-no_trap NewRoutineDescriptor r _ _ (place_for r.heap _)
 no-trap NewFatRoutineDescriptor o r = made-no_trap NewFatRoutineDescriptor r _ _ (place_for r.heap _)
-no-trap DisposeRoutineDescriptor o r = tt
 no-trap CallUniversalProc o r = refl
 no-trap NewPtr o r = made-no_trap NewPtr r _ _ (place_for r.heap _)
 no-trap NewPtrClear o r = made-no_trap NewPtrClear r _ _ (place_for r.heap _)
-no-trap DisposePtr o r = tt
 no-trap BlockMove o r = moved-no_trap BlockMove r (copied r.memory o.first o.second o.third) (copy_refusal r.memory o.first o.second o.third)
-no-trap ExitToShell o r = tt
-no-trap PutByte o r = tt
 no-trap GetByte o r = takes-no_trap GetByte r r.around.input
 no-trap PutBlock o r = either-no_trap PutBlock (in_memory r.memory o.first o.second) _ _ tt tt
-no-trap AskDevice o r = tt
-no-trap EjectDevice o r = tt
-no-trap ExitWith o r = tt
-no-trap UnloadSeg o r = tt
+no-trap f o r = tt
 
 -- a function that a trap word reaches has that trap
 trapped : (word k : ℕ) → trap_number word ≡ Some k → trap_of (function_at k) ≡ Some word

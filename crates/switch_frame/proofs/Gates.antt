@@ -5,7 +5,7 @@ use Rattle.std.proofs.lemmas.Bool.Decides.{nat_tests}
 use Rattle.std.proofs.lemmas.List.{ext_get_or, places}
 use Rattle.byteorder.specs.Endian.{big_bytes}
 use Rattle.big_memory.specs.Lists.{part, put}
-use Rattle.big_memory.specs.Map.{host_vector_at, host_code_at}
+use Rattle.big_memory.specs.Map.{host_vector_at, host_code_at, host_functions}
 use Rattle.big_memory.proofs.Lists.{get_or-put_inside, get_or-put_outside, length-put, part-put_apart}
 use Rattle.big_memory.specs.Numbers.{AreBytes, bytes_of_longs, long_at, longs_at}
 use Rattle.switch_frame.specs.Pieces.{puts}
@@ -51,7 +51,7 @@ unfolding blank
 length-blank n = grind (arith, places)
 
 -- the vectors of host functions
-vectors-length : (n len : ℕ) → n ≤ 15 → 0x2000 ≤ len → length (puts (vectors n) (blank len)) ≡ len
+vectors-length : (n len : ℕ) → n ≤ host_functions → 0x2000 ≤ len → length (puts (vectors n) (blank len)) ≡ len
 unfolding vectors
 vectors-length zero len few most = length-blank len
 vectors-length (suc n) len few most =
@@ -82,7 +82,7 @@ none-more n a aligned other first =
     let same : nat_lt a (host_vector_at (suc n)) ≡ nat_lt a (host_vector_at n) = grind (arith, nat_tests) in
     rw same refl
 
-vectors-long : (n a len : ℕ) → n ≤ 15 → 0x2000 ≤ len → a % 4 ≡ 0 → long_at a (puts (vectors n) (blank len)) ≡ vector_long n a
+vectors-long : (n a len : ℕ) → n ≤ host_functions → 0x2000 ≤ len → a % 4 ≡ 0 → long_at a (puts (vectors n) (blank len)) ≡ vector_long n a
 unfolding vectors vector_long
 vectors-long zero a len few most aligned =
     blank-long a len ∙ (let none : (nat_le (host_vector_at 0) a && nat_lt a (host_vector_at 0)) ≡ false = grind (arith, nat_tests) in rw none refl)
@@ -141,11 +141,11 @@ told-is entry vector a5 size rest a xs aligned most is =
 
 -- a long of the page as it is put into memory
 put-is : (entry vector a5 size a : ℕ) → a % 4 ≡ 0
-    → long_at a (puts (gate_longs entry vector a5 size) (blank 0x2000)) ≡ told_long (entry % 2 ^ 32) (vector % 2 ^ 32) (a5 % 2 ^ 32) (size % 2 ^ 32) (vector_long 15 a) a
+    → long_at a (puts (gate_longs entry vector a5 size) (blank 0x2000)) ≡ told_long (entry % 2 ^ 32) (vector % 2 ^ 32) (a5 % 2 ^ 32) (size % 2 ^ 32) (vector_long host_functions a) a
 unfolding told
 put-is entry vector a5 size a aligned =
-    let long : length (puts (vectors 15) (blank 0x2000)) ≡ 0x2000 = vectors-length 15 0x2000 (lit≤ tt) (lit≤ tt) in
-    told-is entry vector a5 size (vector_long 15 a) a (puts (vectors 15) (blank 0x2000)) aligned (omega (arith, long)) (vectors-long 15 a 0x2000 (lit≤ tt) (lit≤ tt) aligned)
+    let long : length (puts (vectors host_functions) (blank 0x2000)) ≡ 0x2000 = vectors-length host_functions 0x2000 (lit≤ tt) (lit≤ tt) in
+    told-is entry vector a5 size (vector_long host_functions a) a (puts (vectors host_functions) (blank 0x2000)) aligned (omega (arith, long)) (vectors-long host_functions a 0x2000 (lit≤ tt) (lit≤ tt) aligned)
 
 -- the longs that are told, and those that may be any
 stands-by : (t u v w : Bool) (entry vector a5 size rest x : ℕ) → x ≡ (if t then entry else (if u then vector else (if v then a5 else (if w then size else rest))))
@@ -156,9 +156,9 @@ stands-by false false true w entry vector a5 size rest x is = is
 stands-by false false false true entry vector a5 size rest x is = is
 stands-by false false false false entry vector a5 size rest x is = is
 
-told-stands : (entry vector a5 size a x : ℕ) → x ≡ told_long entry vector a5 size (vector_long 15 a) a → Stands (gate_long a5 size a) x
+told-stands : (entry vector a5 size a x : ℕ) → x ≡ told_long entry vector a5 size (vector_long host_functions a) a → Stands (gate_long a5 size a) x
 unfolding gate_long
-told-stands entry vector a5 size a x is = stands-by (a == 0x1020) (a == 0x1024) (a == 0x1028) (a == 0x102C) entry vector a5 size (vector_long 15 a) x is
+told-stands entry vector a5 size a x is = stands-by (a == 0x1020) (a == 0x1024) (a == 0x1028) (a == 0x102C) entry vector a5 size (vector_long host_functions a) x is
 
 by-stands : (t u v w : Bool) (entry vector a5 size rest x : ℕ) → (t ≡ true → x ≡ entry) → (u ≡ true → x ≡ vector) → Stands (if t then None else (if u then None else (if v then Some a5 else (if w then Some size else Some rest)))) x
     → x ≡ (if t then entry else (if u then vector else (if v then a5 else (if w then size else rest))))
@@ -168,10 +168,10 @@ by-stands false false true w entry vector a5 size rest x f g is = is
 by-stands false false false true entry vector a5 size rest x f g is = is
 by-stands false false false false entry vector a5 size rest x f g is = is
 
-stands-told : (a5 size a : ℕ) (bytes : List ℕ) → Stands (gate_long a5 size a) (long_at a bytes) → long_at a bytes ≡ told_long (long_at 0x1020 bytes) (long_at 0x1024 bytes) a5 size (vector_long 15 a) a
+stands-told : (a5 size a : ℕ) (bytes : List ℕ) → Stands (gate_long a5 size a) (long_at a bytes) → long_at a bytes ≡ told_long (long_at 0x1020 bytes) (long_at 0x1024 bytes) a5 size (vector_long host_functions a) a
 unfolding gate_long
 stands-told a5 size a bytes is =
-    by-stands (a == 0x1020) (a == 0x1024) (a == 0x1028) (a == 0x102C) (long_at 0x1020 bytes) (long_at 0x1024 bytes) a5 size (vector_long 15 a) (long_at a bytes)
+    by-stands (a == 0x1020) (a == 0x1024) (a == 0x1028) (a == 0x102C) (long_at 0x1020 bytes) (long_at 0x1024 bytes) a5 size (vector_long host_functions a) (long_at a bytes)
     (λ here. let place : a ≡ 0x1020 = grind (arith, nat_tests) in ap (λ b. long_at b bytes) place)
     (λ here. let place : a ≡ 0x1024 = grind (arith, nat_tests) in ap (λ b. long_at b bytes) place) is
 
@@ -187,10 +187,10 @@ page_has_longs entry vector a5 bytes small fits page = record {
       let put = puts (gate_longs entry vector a5 (length bytes)) (blank 0x2000) in
       let same : a5 % 2 ^ 32 ≡ a5 = omega (arith, small) in
       let long : length bytes % 2 ^ 32 ≡ length bytes = omega (arith, fits) in
-      let is : long_at (0x1000 + 4 * k) bytes ≡ told_long (entry % 2 ^ 32) (vector % 2 ^ 32) a5 (length bytes) (vector_long 15 (0x1000 + 4 * k)) (0x1000 + 4 * k)
+      let is : long_at (0x1000 + 4 * k) bytes ≡ told_long (entry % 2 ^ 32) (vector % 2 ^ 32) a5 (length bytes) (vector_long host_functions (0x1000 + 4 * k)) (0x1000 + 4 * k)
       = page-long k bytes few ∙ ap (long_at (4 * k)) page ∙ sym (page-long k put few) ∙ put-is entry vector a5 (length bytes) a (omega arith)
-      ∙ ap (λ n. told_long (entry % 2 ^ 32) (vector % 2 ^ 32) n (length bytes % 2 ^ 32) (vector_long 15 a) a) same
-      ∙ ap (λ n. told_long (entry % 2 ^ 32) (vector % 2 ^ 32) a5 n (vector_long 15 a) a) long in
+      ∙ ap (λ n. told_long (entry % 2 ^ 32) (vector % 2 ^ 32) n (length bytes % 2 ^ 32) (vector_long host_functions a) a) same
+      ∙ ap (λ n. told_long (entry % 2 ^ 32) (vector % 2 ^ 32) a5 n (vector_long host_functions a) a) long in
       told-stands (entry % 2 ^ 32) (vector % 2 ^ 32) a5 (length bytes) a (long_at a bytes) is;
 }
 
@@ -224,7 +224,7 @@ blank-small : (n : ℕ) → AreBytes (blank n)
 unfolding blank
 blank-small n k = grind (arith, places)
 
-vectors-small : (n len : ℕ) → n ≤ 15 → 0x2000 ≤ len → AreBytes (puts (vectors n) (blank len))
+vectors-small : (n len : ℕ) → n ≤ host_functions → 0x2000 ≤ len → AreBytes (puts (vectors n) (blank len))
 unfolding vectors
 vectors-small zero len few most = blank-small len
 vectors-small (suc n) len few most =
@@ -257,8 +257,8 @@ told-small entry vector a5 size xs most small =
 put-bytes : (entry vector a5 size : ℕ) → AreBytes (puts (gate_longs entry vector a5 size) (blank 0x2000)) × (length (puts (gate_longs entry vector a5 size) (blank 0x2000)) ≡ 0x2000)
 unfolding told
 put-bytes entry vector a5 size =
-    let long : length (puts (vectors 15) (blank 0x2000)) ≡ 0x2000 = vectors-length 15 0x2000 (lit≤ tt) (lit≤ tt) in
-    let all = told-small entry vector a5 size (puts (vectors 15) (blank 0x2000)) (omega (arith, long)) (vectors-small 15 0x2000 (lit≤ tt) (lit≤ tt)) in
+    let long : length (puts (vectors host_functions) (blank 0x2000)) ≡ 0x2000 = vectors-length host_functions 0x2000 (lit≤ tt) (lit≤ tt) in
+    let all = told-small entry vector a5 size (puts (vectors host_functions) (blank 0x2000)) (omega (arith, long)) (vectors-small host_functions 0x2000 (lit≤ tt) (lit≤ tt)) in
     (all.0, all.1 ∙ long)
 
 -- a long of bytes
@@ -295,7 +295,7 @@ longs_are_page a5 bytes are most small fits has =
     let a = 0x1000 + 4 * k in
     stands-told a5 (length bytes) a bytes (has.longs k few)
     ∙ sym (put-is entry vector a5 (length bytes) a (omega arith)
-    ∙ ap (λ n. told_long n (vector % 2 ^ 32) (a5 % 2 ^ 32) (length bytes % 2 ^ 32) (vector_long 15 a) a) one
-    ∙ ap (λ n. told_long entry n (a5 % 2 ^ 32) (length bytes % 2 ^ 32) (vector_long 15 a) a) two
-    ∙ ap (λ n. told_long entry vector n (length bytes % 2 ^ 32) (vector_long 15 a) a) three
-    ∙ ap (λ n. told_long entry vector a5 n (vector_long 15 a) a) four))
+    ∙ ap (λ n. told_long n (vector % 2 ^ 32) (a5 % 2 ^ 32) (length bytes % 2 ^ 32) (vector_long host_functions a) a) one
+    ∙ ap (λ n. told_long entry n (a5 % 2 ^ 32) (length bytes % 2 ^ 32) (vector_long host_functions a) a) two
+    ∙ ap (λ n. told_long entry vector n (length bytes % 2 ^ 32) (vector_long host_functions a) a) three
+    ∙ ap (λ n. told_long entry vector a5 n (vector_long host_functions a) a) four))
