@@ -62,5 +62,5 @@ counts index regs f o r old new call count =
     count ∙ ap (λ piece. puts_of piece old) (sym says)
 
 -- a function without a piece puts none
-pub says_none : (f : Function) (o : Operands) (m : Memory) (count : Option ℕ) → piece_of f o m ≡ [] → count ≡ puts_of (piece_of f o m) count
-says_none f o m count is = sym (ap (λ piece. puts_of piece count) is)
+pub says_none : (f g : Function) (o : Operands) (m : Memory) (count : Option ℕ) → f ≡ g → piece_of g o m ≡ [] → count ≡ puts_of (piece_of f o m) count
+says_none f g o m count same is = sym (ap (λ piece. puts_of piece count) (ap (λ h. piece_of h o m) same ∙ is))

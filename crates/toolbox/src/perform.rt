@@ -23,6 +23,7 @@ use host_heap::Heap;
 use mix_io::{Sink, Source};
 
 #[inline(always)]
+#[tactic(auto, using(crate::proofs::Puts::says_none))]
 pub fn perform<I: Source, O: Sink, D: Devices>(
     function: Function,
     operands: Operands,

@@ -1,10 +1,8 @@
 -- Each function does what the table says.
-use Rattle.std.proofs.Common.{refl, ap}
+use Rattle.std.proofs.Common.{refl}
 use Rattle.toolbox.specs.declared.function.Function.TheVariants.{NewRoutineDescriptor, NewFatRoutineDescriptor, DisposeRoutineDescriptor, NewPtr, NewPtrClear, DisposePtr, UnloadSeg}
-use Rattle.toolbox.specs.inner.Puts.{piece_of}
 use Rattle.toolbox.proofs.Carried.{quietly_as}
 use Rattle.toolbox.proofs.Devices.{ejected_as}
-use Rattle.toolbox.proofs.Puts.{says_none}
 use Rattle.toolbox.proofs.perform.perform.Goals as goal
 
 pub returns-in-NewRoutineDescriptor-clause-does : goal.returns-in-NewRoutineDescriptor-clause-does
@@ -41,45 +39,3 @@ returns-in-EjectDevice-clause-does g c = ejected_as c.laws.ensures c.args.functi
 pub returns-in-UnloadSeg-clause-does : goal.returns-in-UnloadSeg-clause-does
 returns-in-UnloadSeg-clause-does g c =
     quietly_as c.laws.ensures c.args.function UnloadSeg c.in-UnloadSeg.is c.args.operands c.one.result c.args.ram.now _ c.args.heap.now _ _ (λ around. rw c.one.ensures refl) (record { low = refl; high = refl }) (c.laws.ensures.nothing _)
-
-pub returns-in-NewRoutineDescriptor-clause-count : goal.returns-in-NewRoutineDescriptor-clause-count
-returns-in-NewRoutineDescriptor-clause-count g c = says_none c.args.function c.args.operands c.args.ram.now _ (ap (λ f. piece_of f c.args.operands c.args.ram.now) c.in-NewRoutineDescriptor.is)
-
-pub returns-in-NewFatRoutineDescriptor-clause-count : goal.returns-in-NewFatRoutineDescriptor-clause-count
-returns-in-NewFatRoutineDescriptor-clause-count g c = says_none c.args.function c.args.operands c.args.ram.now _ (ap (λ f. piece_of f c.args.operands c.args.ram.now) c.in-NewFatRoutineDescriptor.is)
-
-pub returns-in-DisposeRoutineDescriptor-clause-count : goal.returns-in-DisposeRoutineDescriptor-clause-count
-returns-in-DisposeRoutineDescriptor-clause-count g c = says_none c.args.function c.args.operands c.args.ram.now _ (ap (λ f. piece_of f c.args.operands c.args.ram.now) c.in-DisposeRoutineDescriptor.is)
-
-pub returns-in-CallUniversalProc-clause-count : goal.returns-in-CallUniversalProc-clause-count
-returns-in-CallUniversalProc-clause-count g c = says_none c.args.function c.args.operands c.args.ram.now _ (ap (λ f. piece_of f c.args.operands c.args.ram.now) c.in-CallUniversalProc.is)
-
-pub returns-in-NewPtr-clause-count : goal.returns-in-NewPtr-clause-count
-returns-in-NewPtr-clause-count g c = says_none c.args.function c.args.operands c.args.ram.now _ (ap (λ f. piece_of f c.args.operands c.args.ram.now) c.in-NewPtr.is)
-
-pub returns-in-NewPtrClear-clause-count : goal.returns-in-NewPtrClear-clause-count
-returns-in-NewPtrClear-clause-count g c = says_none c.args.function c.args.operands c.args.ram.now _ (ap (λ f. piece_of f c.args.operands c.args.ram.now) c.in-NewPtrClear.is)
-
-pub returns-in-DisposePtr-clause-count : goal.returns-in-DisposePtr-clause-count
-returns-in-DisposePtr-clause-count g c = says_none c.args.function c.args.operands c.args.ram.now _ (ap (λ f. piece_of f c.args.operands c.args.ram.now) c.in-DisposePtr.is)
-
-pub returns-in-BlockMove-clause-count : goal.returns-in-BlockMove-clause-count
-returns-in-BlockMove-clause-count g c = says_none c.args.function c.args.operands c.args.ram.now _ (ap (λ f. piece_of f c.args.operands c.args.ram.now) c.in-BlockMove.is)
-
-pub returns-in-ExitToShell-clause-count : goal.returns-in-ExitToShell-clause-count
-returns-in-ExitToShell-clause-count g c = says_none c.args.function c.args.operands c.args.ram.now _ (ap (λ f. piece_of f c.args.operands c.args.ram.now) c.in-ExitToShell.is)
-
-pub returns-in-GetByte-clause-count : goal.returns-in-GetByte-clause-count
-returns-in-GetByte-clause-count g c = says_none c.args.function c.args.operands c.args.ram.now _ (ap (λ f. piece_of f c.args.operands c.args.ram.now) c.in-GetByte.is)
-
-pub returns-in-AskDevice-clause-count : goal.returns-in-AskDevice-clause-count
-returns-in-AskDevice-clause-count g c = says_none c.args.function c.args.operands c.args.ram.now _ (ap (λ f. piece_of f c.args.operands c.args.ram.now) c.in-AskDevice.is)
-
-pub returns-in-EjectDevice-clause-count : goal.returns-in-EjectDevice-clause-count
-returns-in-EjectDevice-clause-count g c = says_none c.args.function c.args.operands c.args.ram.now _ (ap (λ f. piece_of f c.args.operands c.args.ram.now) c.in-EjectDevice.is)
-
-pub returns-in-ExitWith-clause-count : goal.returns-in-ExitWith-clause-count
-returns-in-ExitWith-clause-count g c = says_none c.args.function c.args.operands c.args.ram.now _ (ap (λ f. piece_of f c.args.operands c.args.ram.now) c.in-ExitWith.is)
-
-pub returns-in-UnloadSeg-clause-count : goal.returns-in-UnloadSeg-clause-count
-returns-in-UnloadSeg-clause-count g c = says_none c.args.function c.args.operands c.args.ram.now _ (ap (λ f. piece_of f c.args.operands c.args.ram.now) c.in-UnloadSeg.is)
