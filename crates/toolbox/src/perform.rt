@@ -23,7 +23,7 @@ use host_heap::Heap;
 use mix_io::{Sink, Source};
 
 #[inline(always)]
-#[tactic(auto, using(crate::proofs::Puts::says_none))]
+#[tactic(auto, using(crate::proofs::Puts::says_none, crate::proofs::Carried::quietly_as, crate::proofs::Devices::ejected_as))]
 pub fn perform<I: Source, O: Sink, D: Devices>(
     function: Function,
     operands: Operands,

@@ -1,8 +1,6 @@
--- Each function does what the table says.
-use Rattle.std.proofs.Common.{refl}
-use Rattle.toolbox.specs.declared.function.Function.TheVariants.{NewRoutineDescriptor, NewFatRoutineDescriptor, DisposeRoutineDescriptor, NewPtr, NewPtrClear, DisposePtr, UnloadSeg}
+-- What takes a block of the heap or gives one up does what the table says.
+use Rattle.toolbox.specs.declared.function.Function.TheVariants.{NewRoutineDescriptor, NewFatRoutineDescriptor, DisposeRoutineDescriptor, NewPtr, NewPtrClear, DisposePtr}
 use Rattle.toolbox.proofs.Carried.{quietly_as}
-use Rattle.toolbox.proofs.Devices.{ejected_as}
 use Rattle.toolbox.proofs.perform.perform.Goals as goal
 
 pub returns-in-NewRoutineDescriptor-clause-does : goal.returns-in-NewRoutineDescriptor-clause-does
@@ -32,10 +30,3 @@ pub returns-in-DisposePtr-clause-does : goal.returns-in-DisposePtr-clause-does
 returns-in-DisposePtr-clause-does g c =
     let given = c.dispose-in-DisposePtr.ensures in
     quietly_as c.laws.ensures c.args.function DisposePtr c.in-DisposePtr.is c.args.operands c.dispose-in-DisposePtr.result c.args.ram.now _ _ _ _ (given.block c.args.ram.now) given.bounds (c.laws.ensures.nothing _)
-
-pub returns-in-EjectDevice-clause-does : goal.returns-in-EjectDevice-clause-does
-returns-in-EjectDevice-clause-does g c = ejected_as c.laws.ensures c.args.function c.in-EjectDevice.is c.args.operands c.of_eject.result _ _ _ _ _ _ c.eject.result c.of_eject.ensures c.eject.ensures
-
-pub returns-in-UnloadSeg-clause-does : goal.returns-in-UnloadSeg-clause-does
-returns-in-UnloadSeg-clause-does g c =
-    quietly_as c.laws.ensures c.args.function UnloadSeg c.in-UnloadSeg.is c.args.operands c.one.result c.args.ram.now _ c.args.heap.now _ _ (λ around. rw c.one.ensures refl) (record { low = refl; high = refl }) (c.laws.ensures.nothing _)
