@@ -4,7 +4,7 @@ use Rattle.m68_isa.specs.declared.registers.Regs68.{Regs68}
 use Rattle.ppc_isa.specs.declared.registers.RegsPpc.{RegsPpc}
 use Rattle.big_memory.specs.declared.refusals.Access.{Access}
 use Rattle.big_memory.specs.Map.{is_gate, in_gate_page}
-use Rattle.big_memory.specs.Memory.{Memory, copied, copy_refusal, in_memory}
+use Rattle.big_memory.specs.Memory.{Memory}
 use Rattle.big_memory.specs.Steps.{After}
 use Rattle.big_memory.specs.Steps.After.{Goes as GoesOn, Leaves as LeavesSet, Stops as StopsAt}
 use Rattle.m68_effects.specs.Step.{stepped as stepped_68k}
@@ -24,7 +24,7 @@ use Rattle.host_heap.specs.Space.{Space}
 use Rattle.host_heap.specs.Place.{begins_at, freed, place_for}
 use Rattle.host_heap.proofs.Keeps.{freed-none}
 use Rattle.toolbox.specs.declared.function.Function.{Function}
-use Rattle.toolbox.specs.declared.function.Function.TheVariants.{NewRoutineDescriptor, NewFatRoutineDescriptor, DisposeRoutineDescriptor, CallUniversalProc, NewPtr, NewPtrClear, DisposePtr, BlockMove, ExitToShell, GetByte, PutBlock, ExitWith}
+use Rattle.toolbox.specs.declared.function.Function.TheVariants.{UnloadSeg}
 use Rattle.toolbox.specs.declared.values.Operands.{Operands}
 use Rattle.toolbox.specs.Functions.{function_at, trap_number}
 use Rattle.toolbox.specs.Registers.{operands_of}
@@ -99,6 +99,9 @@ MovesHeap r (CrossesInto pointer info) = Unit {0}
 MovesHeap r (LeavesWith code) = Unit {0}
 MovesHeap r (Refused access) = Unit {0}
 
+none-moves : (s : Space) → HeapMoves s s
+none-moves s = inl refl
+
 either-moves : (r : Resources) (b : Bool) (x y : Effect) → MovesHeap r x → MovesHeap r y → MovesHeap r (if b then x else y)
 either-moves r true x y first second = first
 either-moves r false x y first second = second
@@ -111,6 +114,9 @@ freed-moves : (s : Space) (a : ℕ) (there : Bool) → begins_at s.blocks a ≡ 
 freed-moves s a true is = inr (inr (a, is, refl))
 freed-moves s a false is = inl (freed-none s a is)
 
+frees-moves : (s : Space) (a : ℕ) → HeapMoves s (freed s a)
+frees-moves s a = freed-moves s a (begins_at s.blocks a) refl
+
 moved-moves : (r : Resources) (moved : Memory) (refused : Option Access) → MovesHeap r (moved_unless r moved refused)
 moved-moves r moved None = inl refl
 moved-moves r moved (Some e) = tt
@@ -122,20 +128,11 @@ takes-moves r (byte ∷ left) = inl refl
 makes-moves : (r : Resources) (size : ℕ) (memory : ℕ → Memory) → MovesHeap r (made_at r size memory (place_for r.heap size))
 makes-moves r size memory = made-moves r size memory (place_for r.heap size) refl
 
+ruleset moves = (makes-moves, frees-moves, moved-moves, takes-moves, either-moves, none-moves)
+
 effect-moves : (f : Function) (o : Operands) (r : Resources) → MovesHeap r (effect f o r)
-effect-moves NewRoutineDescriptor o r = makes-moves r _ _
-effect-moves NewFatRoutineDescriptor o r = makes-moves r _ _
-effect-moves DisposeRoutineDescriptor o r = freed-moves r.heap o.first (begins_at r.heap.blocks o.first) refl
-effect-moves CallUniversalProc o r = tt
-effect-moves NewPtr o r = makes-moves r _ _
-effect-moves NewPtrClear o r = makes-moves r _ _
-effect-moves DisposePtr o r = freed-moves r.heap o.first (begins_at r.heap.blocks o.first) refl
-effect-moves BlockMove o r = moved-moves r (copied r.memory o.first o.second o.third) (copy_refusal r.memory o.first o.second o.third)
-effect-moves ExitToShell o r = tt
-effect-moves GetByte o r = takes-moves r r.around.input
-effect-moves PutBlock o r = either-moves r (in_memory r.memory o.first o.second) _ _ (inl refl) tt
-effect-moves ExitWith o r = tt
-effect-moves f o r = inl refl
+effect-moves UnloadSeg o r = inl refl
+effect-moves f o r = search moves
 
 abbrev HostMoves : Host → Hosted → Type 0
 HostMoves h (HostGoes after effects) = HeapMoves h.resources.heap after.resources.heap

@@ -1,11 +1,10 @@
 -- No trap goes on into other code: CallUniversalProc alone does, and it has no trap.
-use Rattle.std.proofs.Common.{◌≡◌, ℕ, Bool, true, false, if◌then◌else◌, List, [], ◌∷◌, Option, Some, None, refl, sym, ap, subst, ◌∙◌}
+use Rattle.std.proofs.Common.{◌≡◌, ℕ, Bool, true, false, if◌then◌else◌, List, [], ◌∷◌, Option, Some, None, sym, ap, subst, ◌∙◌}
 use Rattle.big_memory.specs.declared.refusals.Access.{Access}
-use Rattle.big_memory.specs.Memory.{Memory, copied, copy_refusal, in_memory}
-use Rattle.host_heap.specs.Place.{place_for}
+use Rattle.big_memory.specs.Memory.{Memory}
 use Rattle.switch_frame.specs.declared.active.Active.{Active}
 use Rattle.toolbox.specs.declared.function.Function.{Function}
-use Rattle.toolbox.specs.declared.function.Function.TheVariants.{NewRoutineDescriptor, NewFatRoutineDescriptor, CallUniversalProc, NewPtr, NewPtrClear, BlockMove, GetByte, PutBlock}
+use Rattle.toolbox.specs.declared.function.Function.TheVariants.{UnloadSeg}
 use Rattle.toolbox.specs.declared.values.Operands.{Operands}
 use Rattle.toolbox.specs.Functions.{function_at, trap_number}
 use Rattle.toolbox.specs.FunctionsClauses.{trap_of}
@@ -41,16 +40,11 @@ either-no_trap : (f : Function) (b : Bool) (x y : Effect) → HasNoTrap f x → 
 either-no_trap f true x y first second = first
 either-no_trap f false x y first second = second
 
+ruleset no-traps = (made-no_trap, moved-no_trap, takes-no_trap, either-no_trap)
+
 no-trap : (f : Function) (o : Operands) (r : Resources) → HasNoTrap f (effect f o r)
-no-trap NewRoutineDescriptor o r = made-no_trap NewRoutineDescriptor r _ _ (place_for r.heap _)
-no-trap NewFatRoutineDescriptor o r = made-no_trap NewFatRoutineDescriptor r _ _ (place_for r.heap _)
-no-trap CallUniversalProc o r = refl
-no-trap NewPtr o r = made-no_trap NewPtr r _ _ (place_for r.heap _)
-no-trap NewPtrClear o r = made-no_trap NewPtrClear r _ _ (place_for r.heap _)
-no-trap BlockMove o r = moved-no_trap BlockMove r (copied r.memory o.first o.second o.third) (copy_refusal r.memory o.first o.second o.third)
-no-trap GetByte o r = takes-no_trap GetByte r r.around.input
-no-trap PutBlock o r = either-no_trap PutBlock (in_memory r.memory o.first o.second) _ _ tt tt
-no-trap f o r = tt
+no-trap UnloadSeg o r = tt
+no-trap f o r = search no-traps
 
 -- a function that a trap word reaches has that trap
 trapped : (word k : ℕ) → trap_number word ≡ Some k → trap_of (function_at k) ≡ Some word

@@ -1,15 +1,12 @@
 -- What a function puts on the output is what its call says.
-use Rattle.std.proofs.Common.{◌≡◌, ℕ, ◌%◌, Bool, true, false, List, [], ◌∷◌, length, Option, Some, None, cond, refl, sym, ◌∙◌, ap}
+use Rattle.std.proofs.Common.{◌≡◌, ℕ, Bool, true, false, List, [], ◌∷◌, Option, Some, None, cond, refl, sym, ◌∙◌, ap}
 use Rattle.big_memory.specs.declared.refusals.Access.{Access}
 use Rattle.big_memory.specs.declared.refusals.Access.TheVariants.{Outside}
-use Rattle.big_memory.specs.Lists.{part}
-use Rattle.big_memory.specs.Memory.{Memory, with_bytes, in_memory, filled, copied, copy_refusal}
-use Rattle.routine_desc.specs.Build.{image}
-use Rattle.host_heap.specs.Place.{place_for}
+use Rattle.big_memory.specs.Memory.{Memory}
 use Rattle.switch_frame.specs.declared.active.Active.{Active}
 use Rattle.toolbox.specs.declared.values.Operands.{Operands}
 use Rattle.toolbox.specs.declared.function.Function.{Function}
-use Rattle.toolbox.specs.declared.function.Function.TheVariants.{NewRoutineDescriptor, NewFatRoutineDescriptor, NewPtr, NewPtrClear, BlockMove, GetByte, PutBlock}
+use Rattle.toolbox.specs.declared.function.Function.TheVariants.{UnloadSeg}
 use Rattle.toolbox.specs.Effects.{Resources, Effect, effect, made_at, moved_unless, says, takes_from}
 use Rattle.toolbox.specs.Effects.Effect.{Gives, Crosses, Leaves, Refuses}
 use Rattle.toolbox.specs.Host.{settled}
@@ -34,19 +31,11 @@ block-says : (r : Resources) (a : ℕ) (piece : List ℕ) (lies : Bool) → said
 block-says r a piece true = refl
 block-says r a piece false = refl
 
+ruleset effects = (made-says, moved-says, taken-says, block-says)
+
 effect-says : (f : Function) (o : Operands) (r : Resources) → said_by (effect f o r) ≡ piece_of f o r.memory
-effect-says NewRoutineDescriptor o r =
-    let bytes = image o.second None (o.third % 256) o.first in
-    made-says r (length bytes) (λ a. with_bytes a bytes r.memory) (place_for r.heap (length bytes))
-effect-says NewFatRoutineDescriptor o r =
-    let bytes = image o.third (Some o.first) 1 o.second in
-    made-says r (length bytes) (λ a. with_bytes a bytes r.memory) (place_for r.heap (length bytes))
-effect-says NewPtr o r = made-says r o.first (λ a. r.memory) (place_for r.heap o.first)
-effect-says NewPtrClear o r = made-says r o.first (λ a. filled r.memory a o.first) (place_for r.heap o.first)
-effect-says BlockMove o r = moved-says r (copied r.memory o.first o.second o.third) (copy_refusal r.memory o.first o.second o.third)
-effect-says GetByte o r = taken-says r r.around.input
-effect-says PutBlock o r = block-says r o.first (part o.first o.second r.memory.bytes) (in_memory r.memory o.first o.second)
-effect-says f o r = refl
+effect-says UnloadSeg o r = refl
+effect-says f o r = search effects
 
 settled-says : (f : Function) (active : Active) (x : Effect) → said_in (settled f active x) ≡ said_by x
 settled-says f active (Gives r results effects) = refl
