@@ -1,6 +1,7 @@
 // A host with 128 KiB of RAM, whose heap lies from $10000 to $18000.
 ghost use Rattle.std.specs.Prelude.{◌≡◌, ◌<◌, ◌≤◌, vec_len};
 ghost use Rattle.big_memory.specs.Memory.{floor_of, zeroed};
+ghost use Rattle.toolbox.specs.declared.table.TheConstants.{FUNCTIONS};
 
 use crate::case::{Case, refused};
 use crate::equal::{equal, must};
@@ -14,7 +15,7 @@ use std::alloc::Global;
 use std::fmt::Display;
 use std::process::Abort;
 use switch_frame::Active;
-use toolbox::{HostOut, host_call};
+use toolbox::{FUNCTIONS, HostOut, host_call};
 
 /// What a host does, or what is then to be seen of it.
 #[derive(Clone, Copy)]
@@ -154,7 +155,7 @@ impl<D: Devices + Drop> Bench<D> {
     /// One call goes so, and leaves these registers; `what` names it.
     pub fn run_one<W: Display + Copy>(&mut self, rt: &impl Abort, what: W, case: Case) {
         let wanted = case.call();
-        must(rt, wanted.function < 16);
+        must(rt, (wanted.function as usize) < FUNCTIONS);
         let mut active = wanted.before;
         let out = self.call(wanted.function, &mut active);
         equal(rt, what, out, wanted.out);
@@ -163,7 +164,7 @@ impl<D: Devices + Drop> Bench<D> {
 
     /// Calls a function for code of the active set.
     fn call(&mut self, function: u32, active: &mut Active) -> HostOut
-        requires { function < 16 }
+        requires { function < FUNCTIONS }
     {
         host_call(
             function,
