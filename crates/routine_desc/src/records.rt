@@ -1,5 +1,5 @@
 // Reading a descriptor.
-ghost use Rattle.std.specs.Prelude.{◌≡◌, ◌≤◌, ◌+◌, ◌-◌, length, drop, replicate, IfNone, IfOk, IsSome};
+ghost use Rattle.std.specs.Prelude.{◌≡◌, ◌≤◌, ◌+◌, ◌-◌, length, drop, replicate, IfErr, IfNone, IfOk, IsSome};
 ghost use Rattle.std.specs.List.{list_all};
 ghost use Rattle.mix_bits.specs.Sizes.{bytes_of};
 ghost use Rattle.big_memory.specs.Numbers.{number_at};
@@ -139,7 +139,8 @@ fn broken_record(ram: &Ram, p: u32) -> Option<BadDesc>
 #[inline(never)]
 #[tactic(auto, unfolding(crate::specs::Read::read_record))]
 fn read_record(ram: &Ram, a: u32, p: u32, rec: &mut Rec, signed: &mut Signed) -> Result<(), BadDesc>
-    ensures { FillsRecord ram.now a p rec.new result }
+    ensures record { FillsRecord ram.now a p rec.new result }
+    ensures stays { IfErr result (λ bad. rec.new ≡ rec.old) }
 {
     match broken_record(ram, p) {
         Some(bad) => Err(bad),

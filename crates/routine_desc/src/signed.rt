@@ -21,7 +21,9 @@ impl Signed {
 
     /// The word 0.
     #[inline(always)]
-    pub fn empty() -> Signed {
+    pub fn empty() -> Signed
+        ensures { result.info ≡ 0 }
+    {
         Signed {
             info: 0,
             sig: Sig::empty(),
@@ -45,6 +47,8 @@ impl Signed {
     pub(crate) fn sign(&mut self, info: u32) -> Result<(), BadInfo>
         ensures signed { IfOk result (λ done. has_signature info ≡ true) }
         ensures refused { IfErr result (λ bad. signature_of info ≡ Err bad) }
+        ensures becomes { IfOk result (λ done. self.new.info ≡ info) }
+        ensures stays { IfErr result (λ bad. self.new ≡ self.old) }
     {
         if info == self.info {
             return Ok(());
