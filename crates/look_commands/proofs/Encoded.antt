@@ -1,5 +1,5 @@
 -- What is put of a file as text, by how it was read.
-use Rattle.std.proofs.Common.{◌≡◌, sym, subst, inl, ℕ, Bool, true, false, List, Option, Result, Ok, Err}
+use Rattle.std.proofs.Common.{◌≡◌, sym, subst, inl, ℕ, false, List, Option, Result, Ok, Err}
 use Rattle.std.specs.Prelude.{◌≢◌}
 use Rattle.wrapped_forks.specs.declared.fork.Fork.{Fork}
 use Rattle.binhex.specs.Forks.{ForkBytes}

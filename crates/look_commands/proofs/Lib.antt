@@ -1,3 +1,4 @@
 pub mod Loading
+pub mod Serving
 pub mod Cuts
 pub mod Encoded

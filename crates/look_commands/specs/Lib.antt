@@ -1,1 +1,3 @@
+pub mod Gdb
+pub mod GdbClauses
 pub mod inner

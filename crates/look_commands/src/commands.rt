@@ -32,7 +32,7 @@ pub fn answer<F: Files, R: Read + Drop, W: Write + Drop, E: Write + Drop>(
     usage: &str,
     streams: &mut Streams<R, W, E>,
 ) -> u8
-    ensures { Answers (map string_bytes words.now) (W.contents streams.old.out) (W.contents streams.new.out) result }
+    ensures { Answers (map string_bytes words.now) (R.remaining streams.old.input) (W.contents streams.old.out) (W.contents streams.new.out) result }
 {
     let status = obey(alloc, files, words, streams);
     if status == BAD_WORDS {
@@ -48,7 +48,7 @@ fn obey<F: Files, R: Read + Drop, W: Write + Drop, E: Write + Drop>(
     words: &[String],
     streams: &mut Streams<R, W, E>,
 ) -> u8
-    ensures { Answers (map string_bytes words.now) (W.contents streams.old.out) (W.contents streams.new.out) result }
+    ensures { Answers (map string_bytes words.now) (R.remaining streams.old.input) (W.contents streams.old.out) (W.contents streams.new.out) result }
 {
     match read_look(words) {
         Ok(Look::Info(word)) => print_made(&mut streams.out, info_text(alloc, word)),

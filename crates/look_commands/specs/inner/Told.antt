@@ -1,11 +1,13 @@
 -- What the output holds behind a command, and its status, by the words. Where a command is not said here, its output is
--- what the runs, images and traces write. No clause can name what a file of the system holds: so `fork` and `map` are
--- said here of some bytes and of some files, and it is `write_fork` and `write_map` that say them of given ones.
-use Rattle.std.specs.Prelude.{◌≡◌, ◌≢◌, ◌+◌, ◌*◌, ◌++◌, ◌⊎◌, ℕ, Bool, true, false, List, [], ◌∷◌, codes, Option, Result, Ok, Err}
+-- what the runs, images and traces write. No clause can name what a file of the system holds: so `fork`, `map` and `gdb`
+-- are said here of some bytes and of some files, and it is `write_fork`, `write_map` and `serve_files` that say them of
+-- given ones.
+use Rattle.std.specs.Prelude.{◌≡◌, ◌≢◌, ◌*◌, ◌++◌, ◌⊎◌, ℕ, Bool, true, false, List, [], ◌∷◌, codes, Option, is_some, Result, Ok, Err}
 use Rattle.std.specs.Io.KnownBytes.{Appends}
 use Rattle.wrapped_forks.specs.declared.fork.Fork.TheVariants.{Data as data_fork, Resource as resource_fork}
 use Rattle.look_commands.specs.inner.Puts.{LacksMemory, Prints, PutsFront, Writes}
 use Rattle.look_commands.specs.inner.Forks.{WritesFork}
+use Rattle.look_commands.specs.inner.Served.{ServesRun}
 use Rattle.job_words.specs.declared.job.BadWord.{BadWord}
 use Rattle.job_words.specs.declared.job.Command.{Command}
 use Rattle.job_words.specs.declared.job.Command.TheVariants.{Run}
@@ -68,20 +70,21 @@ abbrev pub Loads : Bool → Option (List ℕ) → Option (List ℕ) → ℕ → 
 Loads true old new status = status ≢ 2
 Loads false old new status = ((status ≡ 2) ⊎ (status ≡ 9)) × (new ≡ old)
 
-abbrev pub Tells : List (List ℕ) → Result Look Refusal → Option (List ℕ) → Option (List ℕ) → ℕ → Type 0
-Tells words (Err refusal) old new status = (status ≡ 2) × (new ≡ old)
-Tells words (Ok (Info word)) old new status = Writes (info_of word) old new status
-Tells words (Ok Words) old new status = WritesWhy (behind words) old new status
-Tells words (Ok (Fork file)) old new status = WritesFork resource_fork old new status
-Tells words (Ok (Data file)) old new status = WritesFork data_fork old new status
-Tells words (Ok Map) old new status = WritesMap (command_of (run_words words)) old new status
-Tells words (Ok Scan) old new status = Loads (is_run (command_of (run_words words))) old new status
-Tells words (Ok (End last frames)) old new status = Loads (is_run (command_of (run_words words))) old new status
-Tells words (Ok (Gdb input traced)) old new status = Loads (is_run (command_of (run_words words))) old new status
-Tells words (Ok (Trace file names)) old new status = status ≢ 2
-Tells words (Ok (Picture file names)) old new status = status ≢ 2
-Tells words (Ok (Image file span frames)) old new status = status ≢ 2
+-- `left` is what the input has left at first
+abbrev pub Tells : List (List ℕ) → Result Look Refusal → Option (List ℕ) → Option (List ℕ) → Option (List ℕ) → ℕ → Type 0
+Tells words (Err refusal) left old new status = (status ≡ 2) × (new ≡ old)
+Tells words (Ok (Info word)) left old new status = Writes (info_of word) old new status
+Tells words (Ok Words) left old new status = WritesWhy (behind words) old new status
+Tells words (Ok (Fork file)) left old new status = WritesFork resource_fork old new status
+Tells words (Ok (Data file)) left old new status = WritesFork data_fork old new status
+Tells words (Ok Map) left old new status = WritesMap (command_of (run_words words)) old new status
+Tells words (Ok Scan) left old new status = Loads (is_run (command_of (run_words words))) old new status
+Tells words (Ok (End last frames)) left old new status = Loads (is_run (command_of (run_words words))) old new status
+Tells words (Ok (Gdb input traced)) left old new status = ServesRun (command_of (run_words words)) (is_some input) traced left old new status
+Tells words (Ok (Trace file names)) left old new status = status ≢ 2
+Tells words (Ok (Picture file names)) left old new status = status ≢ 2
+Tells words (Ok (Image file span frames)) left old new status = status ≢ 2
 
 -- the status 2 stands exactly for words that are refused, but for want of memory
-abbrev pub Answers : List (List ℕ) → Option (List ℕ) → Option (List ℕ) → ℕ → Type 0
-Answers words old new status = Tells words (look_of words) old new status
+abbrev pub Answers : List (List ℕ) → Option (List ℕ) → Option (List ℕ) → Option (List ℕ) → ℕ → Type 0
+Answers words left old new status = Tells words (look_of words) left old new status
