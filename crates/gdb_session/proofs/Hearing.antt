@@ -5,7 +5,8 @@ use Rattle.gdb_packets.specs.Reading.{Reading, after, event_at, told_with}
 use Rattle.gdb_packets.specs.declared.event.Event.{Event}
 use Rattle.gdb_packets.specs.declared.event.Event.TheVariants.{Packet, Acknowledged, Refused, Interrupt, BadSum, TooLong}
 use Rattle.gdb_session.specs.Hearing.{acknowledged}
-use Rattle.gdb_session.specs.Serving.{BreaksAt, IsBegun, Meets, Rules, Standing}
+use Rattle.gdb_session.specs.Replies.{Rules}
+use Rattle.gdb_session.specs.Serving.{BreaksAt, IsBegun, Meets, Standing}
 use Rattle.gdb_session.specs.inner.Listening.{CutsOff, Hears, ListensUntil, RepliesTo, RepliesUntil}
 use Rattle.gdb_session.specs.declared.broken.Broken.{Broken}
 use Rattle.gdb_session.specs.declared.broken.Broken.TheVariants.{Input, NoMemory, Output as OutputFailed}

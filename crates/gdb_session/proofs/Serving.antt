@@ -12,8 +12,8 @@ use Rattle.gdb_packets.specs.declared.event.Event.{Event}
 use Rattle.gdb_talk.specs.declared.talk.Talk.{Talk}
 use Rattle.gdb_talk.specs.Talks.{first_talk}
 use Rattle.gdb_session.specs.Hearing.{BlamesOutput}
-use Rattle.gdb_session.specs.Replies.{active_in}
-use Rattle.gdb_session.specs.Serving.{BreaksAt, Meets, Reached, Rules, Serves, Standing, Talks, Took, first_standing, is_end, standing}
+use Rattle.gdb_session.specs.Replies.{Rules, active_in}
+use Rattle.gdb_session.specs.Serving.{BreaksAt, Meets, Reached, Serves, Standing, Talks, Took, first_standing, is_end, standing}
 use Rattle.gdb_session.specs.Serving.Talks.{begins, goes_on}
 use Rattle.gdb_session.specs.Serving.Serves.{bytes_ended, gdb_ended, input_ended, input_failed, no_memory, no_memory_to_begin, output_failed}
 use Rattle.gdb_session.specs.inner.Listening.{Hears, Listens, ListensUntil}

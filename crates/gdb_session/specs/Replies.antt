@@ -15,11 +15,22 @@ use Rattle.gdb_talk.specs.declared.deed.Walk.{Walk as Way}
 use Rattle.gdb_talk.specs.declared.talk.Talk.{Talk}
 use Rattle.gdb_talk.specs.Deeds.{deed_of}
 use Rattle.gdb_talk.specs.Talks.{after}
-use Rattle.gdb_session.specs.Commands.{budget_of, help_text}
+use Rattle.gdb_session.specs.Commands.{command_of}
 use Rattle.gdb_session.specs.Stops.{halt_answer, halt_talk}
 use Rattle.gdb_session.specs.declared.target.Halt.{Halt}
 use Rattle.gdb_session.specs.declared.outcome.Outcome.{Outcome}
 use Rattle.gdb_session.specs.declared.outcome.Outcome.TheVariants.{Answered, Walked, Placed, Ended}
+
+-- what gdb sees of a target, and what gdb's requests, and the user's commands, do to it
+pub record Rules (X : Type 0) : Type 1 where
+  pub scene : X → Scene
+  pub walks : X → Way → List ℕ → Halt → X → Type 0
+  pub inserts : X → Point → ℕ → ℕ → Bool → X → Type 0
+  pub removes : X → Point → ℕ → ℕ → X → Type 0
+  pub obeys : X → List ℕ → List ℕ → X → Type 0
+
+abbrev pub rules_of : {X : Type 0} → (X → Scene) → (X → Way → List ℕ → Halt → X → Type 0) → (X → Point → ℕ → ℕ → Bool → X → Type 0) → (X → Point → ℕ → ℕ → X → Type 0) → (X → List ℕ → List ℕ → X → Type 0) → Rules X
+rules_of scene walks inserts removes obeys = record { scene = scene; walks = walks; inserts = inserts; removes = removes; obeys = obeys }
 
 -- the packet of an answer
 abbrev pub said : Scene → Said → List ℕ
@@ -47,10 +58,6 @@ WalksTo scene walks way halt console t u old new sent =
 abbrev pub Sends : {X : Type 0} → (X → Scene) → Talk → Talk → X → X → List ℕ → List ℕ → Type 0
 Sends scene t u old new sent text = (scene new ≡ scene old) × (sent ≡ text) × (u ≡ t)
 
-abbrev pub command_text : Option ℕ → List ℕ
-command_text None = help_text
-command_text (Some budget) = []
-
 abbrev pub OnWalked : Outcome → (Halt → Type 0) → Type 0
 OnWalked Answered P = ⊥
 OnWalked (Walked halt) P = P halt
@@ -63,28 +70,27 @@ OnPlaced (Walked halt) P = ⊥
 OnPlaced (Placed set) P = P set
 OnPlaced Ended P = ⊥
 
-abbrev pub Allowed : {X : Type 0} → (X → ℕ → X → Type 0) → X → X → Option ℕ → Type 0
-Allowed allows old new None = Unit {0}
-Allowed allows old new (Some budget) = allows old budget new
+-- a command of the user's: it was done, and gdb gets what it told, and `OK`
+abbrev pub CommandDone : {X : Type 0} → Rules X → List ℕ → Talk → Talk → X → X → List ℕ → List ℕ → Type 0
+CommandDone rules bytes t u old new console sent =
+    rules.obeys old (command_of bytes) console new × (sent ≡ console_packet console ++ said (rules.scene new) Done) × (u ≡ t)
 
 -- what came of a packet by the deed that it asks for. `t` is what was agreed with it, and `u` is agreed behind it
-abbrev pub DoneBy : {X : Type 0} → (X → Scene) → (X → Way → List ℕ → Halt → X → Type 0) → (X → Point → ℕ → ℕ → Bool → X → Type 0) → (X → Point → ℕ → ℕ → X → Type 0) → (X → ℕ → X → Type 0)
-    → List ℕ → Talk → Talk → X → X → List ℕ → List ℕ → Deed → Outcome → Type 0
-DoneBy scene walks inserts removes allows bytes t u old new console sent (Answer answer) r = (r ≡ Answered) × Sends scene t u old new sent (said (scene old) answer)
-DoneBy scene walks inserts removes allows bytes t u old new console sent (Walk way) r = OnWalked r (λ halt. WalksTo scene walks way halt console t u old new sent)
-DoneBy scene walks inserts removes allows bytes t u old new console sent (Insert point address count) r =
-    OnPlaced r (λ set. inserts old point address count set new × Sends scene t u old new sent (said (scene old) (placed set)))
-DoneBy scene walks inserts removes allows bytes t u old new console sent (Remove point address count) r =
-    (r ≡ Answered) × removes old point address count new × Sends scene t u old new sent (said (scene old) Done)
-DoneBy scene walks inserts removes allows bytes t u old new console sent Command r =
-    (r ≡ Answered) × Allowed allows old new (budget_of bytes) × Sends scene t u old new sent (console_packet (command_text (budget_of bytes)) ++ said (scene old) Done)
-DoneBy scene walks inserts removes allows bytes t u old new console sent Leave r = (r ≡ Ended) × Sends scene t u old new sent (said (scene old) Done)
-DoneBy scene walks inserts removes allows bytes t u old new console sent End r = (r ≡ Ended) × Sends scene t u old new sent []
+abbrev pub DoneBy : {X : Type 0} → Rules X → List ℕ → Talk → Talk → X → X → List ℕ → List ℕ → Deed → Outcome → Type 0
+DoneBy rules bytes t u old new console sent (Answer answer) r = (r ≡ Answered) × Sends rules.scene t u old new sent (said (rules.scene old) answer)
+DoneBy rules bytes t u old new console sent (Walk way) r = OnWalked r (λ halt. WalksTo rules.scene rules.walks way halt console t u old new sent)
+DoneBy rules bytes t u old new console sent (Insert point address count) r =
+    OnPlaced r (λ set. rules.inserts old point address count set new × Sends rules.scene t u old new sent (said (rules.scene old) (placed set)))
+DoneBy rules bytes t u old new console sent (Remove point address count) r =
+    (r ≡ Answered) × rules.removes old point address count new × Sends rules.scene t u old new sent (said (rules.scene old) Done)
+DoneBy rules bytes t u old new console sent Command r =
+    (r ≡ Answered) × CommandDone rules bytes t u old new console sent
+DoneBy rules bytes t u old new console sent Leave r = (r ≡ Ended) × Sends rules.scene t u old new sent (said (rules.scene old) Done)
+DoneBy rules bytes t u old new console sent End r = (r ≡ Ended) × Sends rules.scene t u old new sent []
 
 -- what came of a packet with this data
-abbrev pub Replies : {X : Type 0} → (X → Scene) → (X → Way → List ℕ → Halt → X → Type 0) → (X → Point → ℕ → ℕ → Bool → X → Type 0) → (X → Point → ℕ → ℕ → X → Type 0) → (X → ℕ → X → Type 0)
-    → List ℕ → Talk → Talk → X → X → List ℕ → List ℕ → Outcome → Type 0
-Replies scene walks inserts removes allows bytes t u old new console sent r =
-    let active = active_in (scene old) in
+abbrev pub Replies : {X : Type 0} → Rules X → List ℕ → Talk → Talk → X → X → List ℕ → List ℕ → Outcome → Type 0
+Replies rules bytes t u old new console sent r =
+    let active = active_in (rules.scene old) in
     let request = request_of bytes in
-    DoneBy scene walks inserts removes allows bytes (after active t request) u old new console sent (deed_of active t request) r
+    DoneBy rules bytes (after active t request) u old new console sent (deed_of active t request) r

@@ -6,29 +6,14 @@ use Rattle.mix_io.specs.Streams.{Grows, Output, StopsWithin}
 use Rattle.gdb_packets.specs.Stream.{Between, behind, told, told_at}
 use Rattle.gdb_packets.specs.declared.event.Event.{Event}
 use Rattle.gdb_packets.specs.declared.event.Event.TheVariants.{Packet}
-use Rattle.gdb_requests.specs.declared.request.Point.{Point}
-use Rattle.gdb_answers.specs.Answers.{Scene}
-use Rattle.gdb_talk.specs.declared.deed.Walk.{Walk as Way}
 use Rattle.gdb_talk.specs.declared.talk.Talk.{Talk}
 use Rattle.gdb_talk.specs.Talks.{first_talk}
 use Rattle.gdb_session.specs.Hearing.{Hears, acknowledged, sent_at}
-use Rattle.gdb_session.specs.Replies.{Replies, active_in}
+use Rattle.gdb_session.specs.Replies.{Replies, Rules, active_in}
 use Rattle.gdb_session.specs.declared.broken.Broken.{Broken}
 use Rattle.gdb_session.specs.declared.broken.Broken.TheVariants.{Input, NoMemory, Output as OutputFailed}
 use Rattle.gdb_session.specs.declared.outcome.Outcome.{Outcome}
 use Rattle.gdb_session.specs.declared.outcome.Outcome.TheVariants.{Ended}
-use Rattle.gdb_session.specs.declared.target.Halt.{Halt}
-
--- what gdb sees of a target, and what gdb's requests do to it
-pub record Rules (X : Type 0) : Type 1 where
-  pub scene : X → Scene
-  pub walks : X → Way → List ℕ → Halt → X → Type 0
-  pub inserts : X → Point → ℕ → ℕ → Bool → X → Type 0
-  pub removes : X → Point → ℕ → ℕ → X → Type 0
-  pub allows : X → ℕ → X → Type 0
-
-abbrev pub rules_of : {X : Type 0} → (X → Scene) → (X → Way → List ℕ → Halt → X → Type 0) → (X → Point → ℕ → ℕ → Bool → X → Type 0) → (X → Point → ℕ → ℕ → X → Type 0) → (X → ℕ → X → Type 0) → Rules X
-rules_of scene walks inserts removes allows = record { scene = scene; walks = walks; inserts = inserts; removes = removes; allows = allows }
 
 -- where a talk stands: the target, what is agreed with gdb, what the last walk told on the console, and what the last
 -- packet was answered with
@@ -49,7 +34,7 @@ first_standing rules target = standing target (first_talk (active_in (rules.scen
 abbrev pub Meets : {X : Type 0} → Rules X → Event × List ℕ → Option Outcome → Standing X → Standing X → List ℕ → Type 0
 Meets rules event r s t put =
     Hears event.0 r
-    (λ outcome. Replies rules.scene rules.walks rules.inserts rules.removes rules.allows event.1 s.talk t.talk s.target t.target t.console t.sent outcome
+    (λ outcome. Replies rules event.1 s.talk t.talk s.target t.target t.console t.sent outcome
     × (put ≡ acknowledged s.talk.acknowledges 43 ++ t.sent))
     ((t ≡ s) × (put ≡ sent_at event.0 s.talk.acknowledges s.sent))
 

@@ -1,5 +1,5 @@
 //! A gdb server over any machine that can be looked at and walked: each packet of gdb's has its answer, and nothing but a
-//! walk changes what gdb sees.
+//! walk, or a command that the user gives behind `monitor`, changes what gdb sees.
 #![tactic(auto)]
 
 mod broken;

@@ -1,12 +1,11 @@
 //! What is sent at a packet of gdb's.
 ghost use Rattle.std.specs.Prelude.{◌≡◌, ◌++◌, [], IfOk, OnOk};
-ghost use Rattle.gdb_session.specs.Replies.{DoneBy, Replies, console_packet, said};
-ghost use Rattle.gdb_session.specs.Replies.{Allowed, command_text, placed as placed_by};
-ghost use Rattle.gdb_session.specs.Commands.{budget_of};
+ghost use Rattle.gdb_session.specs.Replies.{DoneBy, Replies, console_packet, placed as placed_by, rules_of, said};
+ghost use Rattle.gdb_session.specs.Commands.{command_of};
 ghost use Rattle.gdb_session.specs.Stops.{halt_answer as halt_told, halt_talk, is_end as is_end_told};
 ghost use Rattle.gdb_answers.specs.declared.answer.Answer.TheVariants.{Done as done};
 
-use crate::commands::{help, read_budget};
+use crate::commands::read_command;
 use crate::outcome::Outcome;
 use crate::target::{Halt, Target};
 use gdb_answers::{Answer, Reason, append_console};
@@ -17,7 +16,7 @@ use mix_bits::{Isa, NoMemory};
 use std::alloc::Global;
 
 /// Does what a packet of gdb's with this data asks for, and puts the packets that gdb gets for it into `sent`. `console`
-/// has what a walk told on the console. Both are empty before.
+/// has what a walk or a command told on the console. Both are empty before.
 pub fn reply<T: Target>(
     alloc: Global,
     target: &mut T,
@@ -28,7 +27,7 @@ pub fn reply<T: Target>(
 ) -> Result<Outcome, NoMemory>
     requires console { console.old.items ≡ [] }
     requires sent { sent.old.items ≡ [] }
-    ensures { IfOk result (λ outcome. Replies T.scene T.walks T.inserts T.removes T.allows «data».now talk.old talk.new target.old target.new console.new.items sent.new.items outcome) }
+    ensures { IfOk result (λ outcome. Replies (rules_of T.scene T.walks T.inserts T.removes T.obeys) «data».now talk.old talk.new target.old target.new console.new.items sent.new.items outcome) }
 {
     let request = read_request(data);
     let active = target.set();
@@ -48,7 +47,7 @@ fn obey<T: Target>(
 ) -> Result<Outcome, NoMemory>
     requires console { console.old.items ≡ [] }
     requires sent { sent.old.items ≡ [] }
-    ensures { IfOk result (λ outcome. DoneBy T.scene T.walks T.inserts T.removes T.allows «data».now talk.old talk.new target.old target.new console.new.items sent.new.items deed outcome) }
+    ensures { IfOk result (λ outcome. DoneBy (rules_of T.scene T.walks T.inserts T.removes T.obeys) «data».now talk.old talk.new target.old target.new console.new.items sent.new.items deed outcome) }
 {
     match deed {
         Deed::Answer(answer) => {
@@ -66,7 +65,7 @@ fn obey<T: Target>(
             answer_alone(alloc, target, Answer::Done, sent)?;
             Ok(Outcome::Answered)
         }
-        Deed::Command => command(alloc, target, data, sent),
+        Deed::Command => command(alloc, target, data, console, sent),
         Deed::Leave => {
             answer_alone(alloc, target, Answer::Done, sent)?;
             Ok(Outcome::Ended)
@@ -122,7 +121,7 @@ fn walk<T: Target>(
 ) -> Result<Outcome, NoMemory>
     requires console { console.old.items ≡ [] }
     requires sent { sent.old.items ≡ [] }
-    ensures { IfOk result (λ outcome. DoneBy T.scene T.walks T.inserts T.removes T.allows [] talk.old talk.new target.old target.new console.new.items sent.new.items (Deed.Walk way) outcome) }
+    ensures { IfOk result (λ outcome. DoneBy (rules_of T.scene T.walks T.inserts T.removes T.obeys) [] talk.old talk.new target.old target.new console.new.items sent.new.items (Deed.Walk way) outcome) }
 {
     let halt = target.walk(way, console)?;
     put_console(alloc, console, sent)?;
@@ -181,36 +180,18 @@ fn command<T: Target>(
     alloc: Global,
     target: &mut T,
     data: &[u8],
+    console: &mut Vec<u8>,
     sent: &mut Vec<u8>,
 ) -> Result<Outcome, NoMemory>
-    requires { sent.old.items ≡ [] }
+    requires console { console.old.items ≡ [] }
+    requires sent { sent.old.items ≡ [] }
     ensures answered { IfOk result (λ outcome. outcome ≡ Outcome.Answered) }
-    ensures same { T.scene target.new ≡ T.scene target.old }
-    ensures allowed { IfOk result (λ _. Allowed T.allows target.old target.new (budget_of «data».now)) }
-    ensures sent { OnOk result (sent.new.items ≡ console_packet (command_text (budget_of «data».now)) ++ said (T.scene target.old) done) }
+    ensures obeyed { OnOk result (T.obeys target.old (command_of «data».now) console.new.items target.new) }
+    ensures sent { OnOk result (sent.new.items ≡ console_packet console.new.items ++ said (T.scene target.new) done) }
 {
-    do_command(alloc, target, data, sent)?;
+    let text = read_command(alloc, data)?;
+    target.obey(&text, console)?;
+    put_console(alloc, console, sent)?;
     put_answer(alloc, target, Answer::Done, sent)?;
     Ok(Outcome::Answered)
-}
-
-/// Does a command, and puts what is told of the commands where there is no such one.
-fn do_command<T: Target>(
-    alloc: Global,
-    target: &mut T,
-    data: &[u8],
-    sent: &mut Vec<u8>,
-) -> Result<(), NoMemory>
-    requires { sent.old.items ≡ [] }
-    ensures same { T.scene target.new ≡ T.scene target.old }
-    ensures allowed { IfOk result (λ _. Allowed T.allows target.old target.new (budget_of «data».now)) }
-    ensures sent { OnOk result (sent.new.items ≡ console_packet (command_text (budget_of «data».now))) }
-{
-    match read_budget(alloc, data)? {
-        Some(budget) => {
-            target.allow(budget);
-            Ok(())
-        }
-        None => put_console(alloc, help(), sent),
-    }
 }

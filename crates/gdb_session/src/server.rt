@@ -5,7 +5,8 @@ ghost use Rattle.switch_frame.specs.Records.{isa_of};
 ghost use Rattle.gdb_packets.specs.Reading.{after};
 ghost use Rattle.gdb_talk.specs.Talks.{first_talk};
 ghost use Rattle.gdb_session.specs.Hearing.{BlamesInput, BlamesOutput, acknowledged};
-ghost use Rattle.gdb_session.specs.Serving.{BreaksAt, Serves, first_standing, is_end, rules_of, standing};
+ghost use Rattle.gdb_session.specs.Replies.{rules_of};
+ghost use Rattle.gdb_session.specs.Serving.{BreaksAt, Serves, first_standing, is_end, standing};
 ghost use Rattle.gdb_session.specs.inner.Listening.{CutsOff, Hears, Listens, ListensUntil, RepliesTo, RepliesUntil};
 
 use crate::broken::Broken;
@@ -53,8 +54,8 @@ impl<T: Target + Drop> Server<T> {
         data: &[u8],
         out: &mut O,
     ) -> Result<Option<Outcome>, Broken>
-        ensures heard { IfOk result (λ outcome. Hears (rules_of T.scene T.walks T.inserts T.removes T.allows) (event, «data».now) outcome (standing self.old.target self.old.talk self.old.console.items self.old.sent.items) (standing self.new.target self.new.talk self.new.console.items self.new.sent.items) (output (O.held out.old) (O.faults out.old)) (output (O.held out.new) (O.faults out.new))) }
-        ensures broken { IfErr result (λ broken. BreaksAt (rules_of T.scene T.walks T.inserts T.removes T.allows) (event, «data».now) (standing self.old.target self.old.talk self.old.console.items self.old.sent.items) (output (O.held out.old) (O.faults out.old)) (output (O.held out.new) (O.faults out.new)) broken) }
+        ensures heard { IfOk result (λ outcome. Hears (rules_of T.scene T.walks T.inserts T.removes T.obeys) (event, «data».now) outcome (standing self.old.target self.old.talk self.old.console.items self.old.sent.items) (standing self.new.target self.new.talk self.new.console.items self.new.sent.items) (output (O.held out.old) (O.faults out.old)) (output (O.held out.new) (O.faults out.new))) }
+        ensures broken { IfErr result (λ broken. BreaksAt (rules_of T.scene T.walks T.inserts T.removes T.obeys) (event, «data».now) (standing self.old.target self.old.talk self.old.console.items self.old.sent.items) (output (O.held out.old) (O.faults out.old)) (output (O.held out.new) (O.faults out.new)) broken) }
     {
         match event {
             Event::Packet => match self.take_packet(alloc, data, out) {
@@ -73,8 +74,8 @@ impl<T: Target + Drop> Server<T> {
         data: &[u8],
         out: &mut O,
     ) -> Result<Outcome, Broken>
-        ensures heard { IfOk result (λ outcome. Hears (rules_of T.scene T.walks T.inserts T.removes T.allows) (Event.Packet, «data».now) (Some outcome) (standing self.old.target self.old.talk self.old.console.items self.old.sent.items) (standing self.new.target self.new.talk self.new.console.items self.new.sent.items) (output (O.held out.old) (O.faults out.old)) (output (O.held out.new) (O.faults out.new))) }
-        ensures broken { IfErr result (λ broken. BreaksAt (rules_of T.scene T.walks T.inserts T.removes T.allows) (Event.Packet, «data».now) (standing self.old.target self.old.talk self.old.console.items self.old.sent.items) (output (O.held out.old) (O.faults out.old)) (output (O.held out.new) (O.faults out.new)) broken) }
+        ensures heard { IfOk result (λ outcome. Hears (rules_of T.scene T.walks T.inserts T.removes T.obeys) (Event.Packet, «data».now) (Some outcome) (standing self.old.target self.old.talk self.old.console.items self.old.sent.items) (standing self.new.target self.new.talk self.new.console.items self.new.sent.items) (output (O.held out.old) (O.faults out.old)) (output (O.held out.new) (O.faults out.new))) }
+        ensures broken { IfErr result (λ broken. BreaksAt (rules_of T.scene T.walks T.inserts T.removes T.obeys) (Event.Packet, «data».now) (standing self.old.target self.old.talk self.old.console.items self.old.sent.items) (output (O.held out.old) (O.faults out.old)) (output (O.held out.new) (O.faults out.new)) broken) }
     {
         match acknowledge(self.talk.acknowledges, b'+', out) {
             Ok(()) => self.answer(alloc, data, out),
@@ -88,9 +89,9 @@ impl<T: Target + Drop> Server<T> {
         data: &[u8],
         out: &mut O,
     ) -> Result<Outcome, Broken>
-        ensures replies { IfOk result (λ outcome. RepliesTo (rules_of T.scene T.walks T.inserts T.removes T.allows) «data».now (standing self.old.target self.old.talk self.old.console.items self.old.sent.items) (standing self.new.target self.new.talk self.new.console.items self.new.sent.items) outcome) }
+        ensures replies { IfOk result (λ outcome. RepliesTo (rules_of T.scene T.walks T.inserts T.removes T.obeys) «data».now (standing self.old.target self.old.talk self.old.console.items self.old.sent.items) (standing self.new.target self.new.talk self.new.console.items self.new.sent.items) outcome) }
         ensures sent { OnOk result (Grows (output (O.held out.old) (O.faults out.old)) (output (O.held out.new) (O.faults out.new)) self.new.sent.items) }
-        ensures broken { IfErr result (λ broken. RepliesUntil (rules_of T.scene T.walks T.inserts T.removes T.allows) «data».now (standing self.old.target self.old.talk self.old.console.items self.old.sent.items) (output (O.held out.old) (O.faults out.old)) (output (O.held out.new) (O.faults out.new)) broken) }
+        ensures broken { IfErr result (λ broken. RepliesUntil (rules_of T.scene T.walks T.inserts T.removes T.obeys) «data».now (standing self.old.target self.old.talk self.old.console.items self.old.sent.items) (output (O.held out.old) (O.faults out.old)) (output (O.held out.new) (O.faults out.new)) broken) }
     {
         self.console.clear();
         self.sent.clear();
@@ -159,7 +160,7 @@ pub fn serve<T: Target + Drop, I: Source, O: Sink>(
 ) -> Result<(), Broken>
     ensures input { BlamesInput (I.faults input.old) (I.faults input.new) result }
     ensures output { BlamesOutput (O.faults out.old) (O.faults out.new) result }
-    ensures serves { Serves (rules_of T.scene T.walks T.inserts T.removes T.allows) (first_standing (rules_of T.scene T.walks T.inserts T.removes T.allows) target) (I.left input.old) (I.left input.new) (output (O.held out.old) (O.faults out.old)) (output (O.held out.new) (O.faults out.new)) result }
+    ensures serves { Serves (rules_of T.scene T.walks T.inserts T.removes T.obeys) (first_standing (rules_of T.scene T.walks T.inserts T.removes T.obeys) target) (I.left input.old) (I.left input.new) (output (O.held out.old) (O.faults out.old)) (output (O.held out.new) (O.faults out.new)) result }
 {
     let Ok(mut decoder) = Decoder::new(alloc) else {
         return Err(Broken::NoMemory);
@@ -192,8 +193,8 @@ fn listen<T: Target + Drop, O: Sink>(
     out: &mut O,
 ) -> Result<Option<Outcome>, Broken>
     ensures decoder { decoder.new ≡ after decoder.old byte }
-    ensures heard { IfOk result (λ outcome. Listens (rules_of T.scene T.walks T.inserts T.removes T.allows) decoder.old byte outcome (standing server.old.target server.old.talk server.old.console.items server.old.sent.items) (standing server.new.target server.new.talk server.new.console.items server.new.sent.items) (output (O.held out.old) (O.faults out.old)) (output (O.held out.new) (O.faults out.new))) }
-    ensures broken { IfErr result (λ broken. ListensUntil (rules_of T.scene T.walks T.inserts T.removes T.allows) decoder.old byte (standing server.old.target server.old.talk server.old.console.items server.old.sent.items) (output (O.held out.old) (O.faults out.old)) (output (O.held out.new) (O.faults out.new)) broken) }
+    ensures heard { IfOk result (λ outcome. Listens (rules_of T.scene T.walks T.inserts T.removes T.obeys) decoder.old byte outcome (standing server.old.target server.old.talk server.old.console.items server.old.sent.items) (standing server.new.target server.new.talk server.new.console.items server.new.sent.items) (output (O.held out.old) (O.faults out.old)) (output (O.held out.new) (O.faults out.new))) }
+    ensures broken { IfErr result (λ broken. ListensUntil (rules_of T.scene T.walks T.inserts T.removes T.obeys) decoder.old byte (standing server.old.target server.old.talk server.old.console.items server.old.sent.items) (output (O.held out.old) (O.faults out.old)) (output (O.held out.new) (O.faults out.new)) broken) }
 {
     match decoder.take(byte) {
         Some(event) => server.hear(alloc, event, decoder.packet(), out),

@@ -33,8 +33,8 @@ pub trait Target {
 
     ghost removes: { Self → PointOf → ℕ → ℕ → Self → Type 0 };
 
-    /// A walk has at most so many steps.
-    ghost allows: { Self → ℕ → Self → Type 0 };
+    /// What a command of the user's does, and what it tells on the console.
+    ghost obeys: { Self → List ℕ → List ℕ → Self → Type 0 };
 
     /// The active set.
     fn set(&self) -> Isa
@@ -59,8 +59,8 @@ pub trait Target {
         ensures done { removes self.old point address count self.new }
         ensures same { scene self.new ≡ scene self.old };
 
-    /// Sets how many steps a walk has at most.
-    fn allow(&mut self, budget: u32)
-        ensures done { allows self.old budget self.new }
-        ensures same { scene self.new ≡ scene self.old };
+    /// Does a command that the user gives behind `monitor`, and puts what it tells on the console into an empty buffer.
+    fn obey(&mut self, text: &[u8], console: &mut Vec<u8>) -> Result<(), NoMemory>
+        requires { console.old.items ≡ [] }
+        ensures { OnOk result (obeys self.old text.now console.new.items self.new) };
 }

@@ -42,7 +42,7 @@ impl Target for Still {
 
     ghost removes = { λ _ _ _ _ _. Unit {0} };
 
-    ghost allows = { λ _ _ _. Unit {0} };
+    ghost obeys = { λ _ _ _ _. Unit {0} };
 
     fn set(&self) -> Isa {
         self.active.isa()
@@ -70,7 +70,10 @@ impl Target for Still {
 
     fn remove(&mut self, _point: Point, _address: u32, _count: u32) {}
 
-    fn allow(&mut self, _budget: u32) {}
+    fn obey(&mut self, text: &[u8], console: &mut Vec<u8>) -> Result<(), NoMemory> {
+        console.extend_from_slice(text)?;
+        Ok(())
+    }
 }
 
 /// RAM has no frame where none is told of. It does nothing: the clause is its point.

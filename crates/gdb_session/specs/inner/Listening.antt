@@ -3,8 +3,8 @@ use Rattle.std.specs.Prelude.{◌≡◌, ℕ, List, [], Option, None, MatchOptio
 use Rattle.mix_io.specs.Streams.{Breaks, Grows, Output}
 use Rattle.gdb_packets.specs.declared.event.Event.{Event}
 use Rattle.gdb_packets.specs.Reading.{Reading, after, event_at, told_with}
-use Rattle.gdb_session.specs.Replies.{Replies}
-use Rattle.gdb_session.specs.Serving.{BreaksAt, Meets, Rules, Standing}
+use Rattle.gdb_session.specs.Replies.{Replies, Rules}
+use Rattle.gdb_session.specs.Serving.{BreaksAt, Meets, Standing}
 use Rattle.gdb_session.specs.declared.broken.Broken.{Broken}
 use Rattle.gdb_session.specs.declared.broken.Broken.TheVariants.{Input, NoMemory, Output as OutputFailed}
 use Rattle.gdb_session.specs.declared.outcome.Outcome.{Outcome}
@@ -17,7 +17,7 @@ CutsOff out after piece OutputFailed = Breaks out after [] piece
 
 -- a packet with this data was replied to
 abbrev pub RepliesTo : {X : Type 0} → Rules X → List ℕ → Standing X → Standing X → Outcome → Type 0
-RepliesTo rules bytes s t outcome = Replies rules.scene rules.walks rules.inserts rules.removes rules.allows bytes s.talk t.talk s.target t.target t.console t.sent outcome
+RepliesTo rules bytes s t outcome = Replies rules bytes s.talk t.talk s.target t.target t.console t.sent outcome
 
 -- there was no memory for the reply, or it was not put whole
 abbrev pub RepliesUntil : {X : Type 0} → Rules X → List ℕ → Standing X → Output → Output → Broken → Type 0

@@ -1,12 +1,13 @@
 use Rattle.std.proofs.Common.{refl, sym, ◌∙◌, arith}
 use Rattle.mix_io.specs.StreamsClauses.{output}
-use Rattle.gdb_session.specs.Serving.{first_standing, rules_of, standing}
+use Rattle.gdb_session.specs.Replies.{rules_of}
+use Rattle.gdb_session.specs.Serving.{first_standing, standing}
 use Rattle.gdb_session.proofs.Serving.{blames, broke-off, bytes-ended, going-begins, input-ended, input-failed, left-off, took-byte, took-none, went-on}
 use Rattle.gdb_session.proofs.server.serve.Goals as goal
 
 pub loop-number-init : goal.loop-number-init
 loop-number-init g c =
-    let rules = rules_of g.T.Target.scene g.T.Target.walks g.T.Target.inserts g.T.Target.removes g.T.Target.allows in
+    let rules = rules_of g.T.Target.scene g.T.Target.walks g.T.Target.inserts g.T.Target.removes g.T.Target.obeys in
     let out = output (g.O.Sink.held c.args.out.now) (g.O.Sink.faults c.args.out.now) in
     let server = c.new-server.result in
     let made = c.new-server.ensures in
@@ -18,7 +19,7 @@ loop-number-init g c =
 
 pub loop-number-preserved : goal.loop-number-preserved
 loop-number-preserved g c =
-    let rules = rules_of g.T.Target.scene g.T.Target.walks g.T.Target.inserts g.T.Target.removes g.T.Target.allows in
+    let rules = rules_of g.T.Target.scene g.T.Target.walks g.T.Target.inserts g.T.Target.removes g.T.Target.obeys in
     let first = first_standing rules c.args.target in
     let left = g.I.Source.left c.args.input.now in
     let now = g.I.Source.left c.loop-number.input in
@@ -37,7 +38,7 @@ loop-number-preserved g c =
 
 pub returns-in-Ok-None-clause-serves : goal.returns-in-Ok-None-clause-serves
 returns-in-Ok-None-clause-serves g c =
-    let rules = rules_of g.T.Target.scene g.T.Target.walks g.T.Target.inserts g.T.Target.removes g.T.Target.allows in
+    let rules = rules_of g.T.Target.scene g.T.Target.walks g.T.Target.inserts g.T.Target.removes g.T.Target.obeys in
     let first = first_standing rules c.args.target in
     let left = g.I.Source.left c.args.input.now in
     let now = g.I.Source.left c.loop-number.input in
@@ -50,7 +51,7 @@ returns-in-Ok-None-clause-serves g c =
 
 pub returns-in-Err-clause-serves : goal.returns-in-Err-clause-serves
 returns-in-Err-clause-serves g c =
-    let rules = rules_of g.T.Target.scene g.T.Target.walks g.T.Target.inserts g.T.Target.removes g.T.Target.allows in
+    let rules = rules_of g.T.Target.scene g.T.Target.walks g.T.Target.inserts g.T.Target.removes g.T.Target.obeys in
     let first = first_standing rules c.args.target in
     let left = g.I.Source.left c.args.input.now in
     let now = g.I.Source.left c.loop-number.input in
@@ -62,7 +63,7 @@ returns-in-Err-clause-serves g c =
 
 pub returns-then-is_last-clause-serves : goal.returns-then-is_last-clause-serves
 returns-then-is_last-clause-serves g c =
-    let rules = rules_of g.T.Target.scene g.T.Target.walks g.T.Target.inserts g.T.Target.removes g.T.Target.allows in
+    let rules = rules_of g.T.Target.scene g.T.Target.walks g.T.Target.inserts g.T.Target.removes g.T.Target.obeys in
     let first = first_standing rules c.args.target in
     let left = g.I.Source.left c.args.input.now in
     let now = g.I.Source.left c.loop-number.input in
@@ -78,7 +79,7 @@ returns-then-is_last-clause-serves g c =
 
 pub returns-in-Err-listen-clause-serves : goal.returns-in-Err-listen-clause-serves
 returns-in-Err-listen-clause-serves g c =
-    let rules = rules_of g.T.Target.scene g.T.Target.walks g.T.Target.inserts g.T.Target.removes g.T.Target.allows in
+    let rules = rules_of g.T.Target.scene g.T.Target.walks g.T.Target.inserts g.T.Target.removes g.T.Target.obeys in
     let first = first_standing rules c.args.target in
     let left = g.I.Source.left c.args.input.now in
     let now = g.I.Source.left c.loop-number.input in
@@ -92,7 +93,7 @@ returns-in-Err-listen-clause-serves g c =
 
 pub returns-clause-serves : goal.returns-clause-serves
 returns-clause-serves g c =
-    let rules = rules_of g.T.Target.scene g.T.Target.walks g.T.Target.inserts g.T.Target.removes g.T.Target.allows in
+    let rules = rules_of g.T.Target.scene g.T.Target.walks g.T.Target.inserts g.T.Target.removes g.T.Target.obeys in
     let first = first_standing rules c.args.target in
     let left = g.I.Source.left c.args.input.now in
     let now = g.I.Source.left c.loop-number.input in
