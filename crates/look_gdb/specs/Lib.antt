@@ -1,3 +1,4 @@
+pub mod Commands
 pub mod Halts
 pub mod Notes
 pub mod Serving

@@ -3,16 +3,18 @@ use Rattle.std.specs.Prelude.{◌≡◌, ℕ, Bool, List, Option, Result, Err}
 use Rattle.mix_io.specs.Streams.{Output}
 use Rattle.dev_rack.specs.Rack.{State as Rack}
 use Rattle.mix_engine.specs.declared.machine.Machine.{Machine}
-use Rattle.gdb_session.specs.Serving.{Rules, Serves, first_standing, rules_of}
+use Rattle.gdb_session.specs.Replies.{Rules, rules_of}
+use Rattle.gdb_session.specs.Serving.{Serves, first_standing}
 use Rattle.gdb_session.specs.declared.broken.Broken.{Broken}
 use Rattle.gdb_session.specs.declared.broken.Broken.TheVariants.{NoMemory}
 use Rattle.gdb_steps.specs.Walkers.{IsFresh}
+use Rattle.look_gdb.specs.Commands.{Obeys}
 use Rattle.look_gdb.specs.Views.{Starts, View, scene_at}
-use Rattle.look_gdb.specs.Walks.{Allows, Inserts, Removes, Walks}
+use Rattle.look_gdb.specs.Walks.{Inserts, Removes, Walks}
 
 -- what gdb's requests do to a run
 abbrev pub run_rules : Rules View
-run_rules = rules_of (λ v. scene_at v.run) Walks Inserts Removes Allows
+run_rules = rules_of (λ v. scene_at v.run) Walks Inserts Removes Obeys
 
 -- gdb was served with the run of a machine and its devices from before the first step on, or there was no memory for that
 pub data ServesMachine (first : Machine) (input : List ℕ) (rack : Rack) (slots : ℕ) (traced : Bool) (left left_after : Option (List ℕ)) (out out_after : Output) (result : Result (Unit {0}) Broken) : Type 0 where

@@ -1,4 +1,4 @@
--- What gdb's requests do to a run: walks forward and back, points to stop at, and the budget of a walk.
+-- What gdb's requests do to a run: walks forward and back, and points to stop at.
 use Rattle.std.specs.Prelude.{◌≡◌, ℕ, ◌+◌, ◌-◌, ◌^◌, ◌==◌, ◌&&◌, ◌||◌, min, nat_le, nat_lt, not, filter, length, Bool, true, false, List, [], ◌∷◌, ◌++◌, Option, Some, None, if◌then◌else◌}
 use Rattle.mix_io.specs.Streams.{Output}
 use Rattle.mix_io.specs.StreamsClauses.{output}
@@ -94,6 +94,3 @@ Inserts v point a count set w =
 
 abbrev pub Removes : View → Point → ℕ → ℕ → View → Type 0
 Removes v point a count w = w ≡ record v { points = without point a count v.points }
-
-abbrev pub Allows : View → ℕ → View → Type 0
-Allows v budget w = w ≡ record v { budget = budget }

@@ -4,14 +4,17 @@
 //! of the stop at which it is known, and so do, where that is wanted, the lines of calls across.
 #![tactic(auto)]
 
+mod command;
 mod halts;
 mod heard;
 mod notes;
 mod served;
 mod serving;
 mod start;
+mod tales;
 mod walks;
 
+pub use command::{Command, Tale, read_command};
 pub use served::Served;
 pub use serving::{serve_beside, serve_machine};
 pub use start::Start;

@@ -1,11 +1,13 @@
-ghost use Rattle.std.specs.Prelude.{◌≡◌, ◌≤◌, ◌++◌, ◌∷◌, [], IfOk, false, if◌then◌else◌, length, nat_lt};
+ghost use Rattle.std.specs.Prelude.{◌≡◌, ◌≤◌, ◌++◌, ◌∷◌, [], IfOk, OnOk, false, if◌then◌else◌, length, nat_lt};
 ghost use Rattle.mixed_machine.specs.Machine.{IsWhole};
 ghost use Rattle.switch_frame.specs.Records.{isa_of};
 ghost use Rattle.gdb_steps.specs.Walkers.{IsFresh};
 
+use crate::command::{Command, Tale, read_command};
 use crate::halts::{does_end, halt_for, steps_for, until_for};
 use crate::notes::{Ending, append_note};
 use crate::start::Start;
+use crate::tales::append_tale;
 use crate::walks::{Bounds, go_on};
 use dev_rack::Devices;
 use gdb_answers::{Answer, append_answer};
@@ -46,6 +48,7 @@ impl<D: Devices + Drop> Model for Served<D> {
 }
 
 impl<D: Devices + Drop> Served<D> {
+    ghost use Rattle.look_gdb.specs.Commands.{IsTold};
     ghost use Rattle.look_gdb.specs.Views.{Starts};
     ghost use Rattle.look_gdb.specs.Walks.{Goes, has_room, other_breaks, other_watches, range, without};
 
@@ -111,6 +114,21 @@ impl<D: Devices + Drop> Served<D> {
         self.walker.set_watch(address, count)
     }
 
+    /// Puts what is told of the machine as it is into an empty buffer.
+    fn tell_tale(&self, tale: Tale, console: &mut Vec<u8>) -> Result<(), NoMemory>
+        requires { console.old.items ≡ [] }
+        ensures { OnOk result (IsTold tale self.now.run.here.machine self.now.run.steps console.new.items) }
+    {
+        let walker = &self.walker;
+        append_tale(
+            self.alloc,
+            tale,
+            walker.debug(),
+            walker.steps(),
+            console,
+        )
+    }
+
     /// Takes a point away, if it is there.
     fn clear(&mut self, point: Point, address: u32, count: u32)
         ensures { self.new ≡ record self.old { points = without point address count self.old.points } }
@@ -128,7 +146,8 @@ impl<D: Devices + Drop> Served<D> {
 
 impl<D: Devices + Drop> Target for Served<D> {
     ghost use Rattle.look_gdb.specs.Views.{scene_at};
-    ghost use Rattle.look_gdb.specs.Walks.{Allows, Inserts, Removes, Walks};
+    ghost use Rattle.look_gdb.specs.Commands.{Obeys};
+    ghost use Rattle.look_gdb.specs.Walks.{Inserts, Removes, Walks};
 
     ghost scene = { λ v. scene_at v.run };
 
@@ -138,7 +157,7 @@ impl<D: Devices + Drop> Target for Served<D> {
 
     ghost removes = { λ v point address count w. Removes v point address count w };
 
-    ghost allows = { λ v budget w. Allows v budget w };
+    ghost obeys = { λ v text console w. Obeys v text console w };
 
     fn set(&self) -> Isa {
         self.walker.machine().active.isa()
@@ -181,7 +200,13 @@ impl<D: Devices + Drop> Target for Served<D> {
         self.clear(point, address, count);
     }
 
-    fn allow(&mut self, budget: u32) {
-        self.budget = budget;
+    fn obey(&mut self, text: &[u8], console: &mut Vec<u8>) -> Result<(), NoMemory> {
+        match read_command(text) {
+            Command::Budget(budget) => {
+                self.budget = budget;
+                Ok(())
+            }
+            Command::Tell(tale) => self.tell_tale(tale, console),
+        }
     }
 }

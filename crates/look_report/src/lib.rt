@@ -27,7 +27,9 @@ mod tree;
 mod unsigned;
 
 pub use files::{Shape, write_trace};
+pub use frames::add_frames;
 pub use history::History;
 pub use images::image_report;
 pub use machine::{Ending, Outcome, run_report};
+pub use memory::add_heap;
 pub use step::{Step, step_at};
