@@ -70,11 +70,6 @@ OnPlaced (Walked halt) P = ⊥
 OnPlaced (Placed set) P = P set
 OnPlaced Ended P = ⊥
 
--- a command of the user's: it was done, and gdb gets what it told, and `OK`
-abbrev pub CommandDone : {X : Type 0} → Rules X → List ℕ → Talk → Talk → X → X → List ℕ → List ℕ → Type 0
-CommandDone rules bytes t u old new console sent =
-    rules.obeys old (command_of bytes) console new × (sent ≡ console_packet console ++ said (rules.scene new) Done) × (u ≡ t)
-
 -- what came of a packet by the deed that it asks for. `t` is what was agreed with it, and `u` is agreed behind it
 abbrev pub DoneBy : {X : Type 0} → Rules X → List ℕ → Talk → Talk → X → X → List ℕ → List ℕ → Deed → Outcome → Type 0
 DoneBy rules bytes t u old new console sent (Answer answer) r = (r ≡ Answered) × Sends rules.scene t u old new sent (said (rules.scene old) answer)
@@ -84,7 +79,7 @@ DoneBy rules bytes t u old new console sent (Insert point address count) r =
 DoneBy rules bytes t u old new console sent (Remove point address count) r =
     (r ≡ Answered) × rules.removes old point address count new × Sends rules.scene t u old new sent (said (rules.scene old) Done)
 DoneBy rules bytes t u old new console sent Command r =
-    (r ≡ Answered) × CommandDone rules bytes t u old new console sent
+    (r ≡ Answered) × rules.obeys old (command_of bytes) console new × Sends rules.scene t u old new sent (console_packet console ++ said (rules.scene old) Done)
 DoneBy rules bytes t u old new console sent Leave r = (r ≡ Ended) × Sends rules.scene t u old new sent (said (rules.scene old) Done)
 DoneBy rules bytes t u old new console sent End r = (r ≡ Ended) × Sends rules.scene t u old new sent []
 

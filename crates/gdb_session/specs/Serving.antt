@@ -15,7 +15,7 @@ use Rattle.gdb_session.specs.declared.broken.Broken.TheVariants.{Input, NoMemory
 use Rattle.gdb_session.specs.declared.outcome.Outcome.{Outcome}
 use Rattle.gdb_session.specs.declared.outcome.Outcome.TheVariants.{Ended}
 
--- where a talk stands: the target, what is agreed with gdb, what the last walk told on the console, and what the last
+-- where a talk stands: the target, what is agreed with gdb, what the last walk or command told on the console, and what the last
 -- packet was answered with
 pub record Standing (X : Type 0) : Type 0 where
   pub target : X

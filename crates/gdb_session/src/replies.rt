@@ -186,8 +186,9 @@ fn command<T: Target>(
     requires console { console.old.items ≡ [] }
     requires sent { sent.old.items ≡ [] }
     ensures answered { IfOk result (λ outcome. outcome ≡ Outcome.Answered) }
+    ensures same { T.scene target.new ≡ T.scene target.old }
     ensures obeyed { OnOk result (T.obeys target.old (command_of «data».now) console.new.items target.new) }
-    ensures sent { OnOk result (sent.new.items ≡ console_packet console.new.items ++ said (T.scene target.new) done) }
+    ensures sent { OnOk result (sent.new.items ≡ console_packet console.new.items ++ said (T.scene target.old) done) }
 {
     let text = read_command(alloc, data)?;
     target.obey(&text, console)?;

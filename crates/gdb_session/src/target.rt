@@ -62,5 +62,6 @@ pub trait Target {
     /// Does a command that the user gives behind `monitor`, and puts what it tells on the console into an empty buffer.
     fn obey(&mut self, text: &[u8], console: &mut Vec<u8>) -> Result<(), NoMemory>
         requires { console.old.items ≡ [] }
-        ensures { OnOk result (obeys self.old text.now console.new.items self.new) };
+        ensures done { OnOk result (obeys self.old text.now console.new.items self.new) }
+        ensures same { scene self.new ≡ scene self.old };
 }
