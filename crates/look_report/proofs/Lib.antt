@@ -1,1 +1,3 @@
+mod Blocks
+mod Callers
 pub mod Kept

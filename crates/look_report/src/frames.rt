@@ -1,5 +1,8 @@
 // The suspended callers.
+ghost use Rattle.std.specs.Prelude.{◌≡◌, ◌+◌, ◌≤◌, ◌++◌, OnOk, length};
 ghost use Rattle.switch_frame.specs.Chain.{Links, records};
+ghost use Rattle.switch_frame.specs.RecordsClauses.{record_of};
+ghost use Rattle.look_report.specs.Callers.{frame_line, frame_text, frames_text, passed_text, told_text};
 
 use crate::machine::MANY;
 use big_memory::Ram;
@@ -13,9 +16,23 @@ use switch_frame::{Held, outer_lo, top};
 /// What stands where there is no number.
 const NOTHING: Piece = Piece::Text("");
 
-/// Appends the callers from the frame at `lo` outward, of which the first has this number, but for so many behind the
-/// first ones.
+/// Appends the callers from the frame at `lo` outward, numbered from 1 on: the first eight, and those behind so many more
+/// that are not told.
 pub fn add_frames(
+    alloc: Global,
+    text: &mut Vec<u8>,
+    ram: &Ram,
+    lo: u32,
+    untold: u32,
+) -> Result<(), NoMemory>
+    requires { Links ram.now lo (records ram.now.bytes lo) }
+    ensures { OnOk result (text.new.items ≡ text.old.items ++ frames_text untold 1 (records ram.now.bytes lo)) }
+{
+    add_numbered(alloc, text, ram, lo, 1, untold)
+}
+
+/// The same of frames of which the first has this number.
+fn add_numbered(
     alloc: Global,
     text: &mut Vec<u8>,
     ram: &Ram,
@@ -23,18 +40,20 @@ pub fn add_frames(
     number: u32,
     untold: u32,
 ) -> Result<(), NoMemory>
-    requires { Links ram.now lo (records ram.now.bytes lo) }
+    requires links { Links ram.now lo (records ram.now.bytes lo) }
+    requires number { number + length (records ram.now.bytes lo) ≤ 257 }
+    ensures { OnOk result (text.new.items ≡ text.old.items ++ frames_text untold number (records ram.now.bytes lo)) }
 {
     match top(ram, lo) {
         None => Ok(()),
         Some(held) => {
             add_told(alloc, text, &held, number, untold)?;
-            add_frames(
+            add_numbered(
                 alloc,
                 text,
                 ram,
                 outer_lo(ram, lo),
-                number.saturating_add(1),
+                number + 1,
                 untold,
             )
         }
@@ -42,31 +61,49 @@ pub fn add_frames(
 }
 
 /// Appends a caller if it is told, or before the first one that is not how many are not.
+#[tactic(auto, unfolding(crate::specs::Callers::told_text))]
 fn add_told(
     alloc: Global,
     text: &mut Vec<u8>,
     held: &Held,
     number: u32,
     untold: u32,
-) -> Result<(), NoMemory> {
-    if number <= MANY || MANY.saturating_add(untold) < number {
+) -> Result<(), NoMemory>
+    ensures { OnOk result (text.new.items ≡ text.old.items ++ told_text untold number (record_of held.now)) }
+{
+    if number <= MANY || untold < number - MANY {
         return add_frame(alloc, text, held, number);
     }
     if number == MANY + 1 {
-        return add_line(
-            text,
-            &[
-                Piece::Text("and "),
-                Piece::Number(untold),
-                Piece::Text(" frames more, which frames=all tells\n"),
-            ],
-        );
+        return add_passed(text, untold);
     }
     Ok(())
 }
 
+fn add_passed(text: &mut Vec<u8>, untold: u32) -> Result<(), NoMemory>
+    ensures { OnOk result (text.new.items ≡ text.old.items ++ passed_text untold) }
+{
+    add_line(
+        text,
+        &[
+            Piece::Text("and "),
+            Piece::Number(untold),
+            Piece::Text(" frames more, which frames=all tells\n"),
+        ],
+    )
+}
+
 /// Appends a caller, and what its call passes.
-fn add_frame(alloc: Global, text: &mut Vec<u8>, held: &Held, number: u32) -> Result<(), NoMemory> {
+fn add_frame(alloc: Global, text: &mut Vec<u8>, held: &Held, number: u32) -> Result<(), NoMemory>
+    ensures { OnOk result (text.new.items ≡ text.old.items ++ frame_text number (record_of held.now)) }
+{
+    add_place(text, held, number)?;
+    add_bytes(text, &info_text(alloc, held.info)?)
+}
+
+fn add_place(text: &mut Vec<u8>, held: &Held, number: u32) -> Result<(), NoMemory>
+    ensures { OnOk result (text.new.items ≡ text.old.items ++ frame_line number (record_of held.now)) }
+{
     add_line(
         text,
         &[
@@ -84,8 +121,7 @@ fn add_frame(alloc: Global, text: &mut Vec<u8>, held: &Held, number: u32) -> Res
             Piece::Long(held.target),
             Piece::Text(", procInfo "),
         ],
-    )?;
-    add_bytes(text, &info_text(alloc, held.info)?)
+    )
 }
 
 /// Appends which of the frames from the one at `lo` outward has an address, and what it keeps there.

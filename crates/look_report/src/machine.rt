@@ -137,7 +137,7 @@ fn add_callers(
         Frames::All => 0,
         Frames::Few => depth(ram, top).saturating_sub(2 * MANY),
     };
-    add_frames(alloc, text, ram, top, 1, untold)
+    add_frames(alloc, text, ram, top, untold)
 }
 
 /// Appends what a fault says, which frame a store hit, and which convention has no signature.

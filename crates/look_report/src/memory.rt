@@ -1,6 +1,10 @@
 // The bytes around the stack pointer, and the blocks of the heap.
+ghost use Rattle.std.specs.Prelude.{◌≡◌, ◌++◌, OnOk};
+ghost use Rattle.std.specs.List.{flat_map};
+ghost use Rattle.look_report.specs.Blocks.{block_line, bounds_line, heap_text};
+
 use big_memory::Ram;
-use host_heap::Heap;
+use host_heap::{Block, Heap};
 use look_text::{Piece, add, add_line};
 use mix_bits::{NoMemory, backward, onward};
 
@@ -38,7 +42,16 @@ pub fn add_byte(text: &mut Vec<u8>, ram: &Ram, at: u32) -> Result<(), NoMemory> 
 }
 
 /// Appends the bounds of the heap, and a line for each block in use.
-pub fn add_heap(text: &mut Vec<u8>, heap: &Heap) -> Result<(), NoMemory> {
+pub fn add_heap(text: &mut Vec<u8>, heap: &Heap) -> Result<(), NoMemory>
+    ensures { OnOk result (text.new.items ≡ text.old.items ++ heap_text heap.now) }
+{
+    add_bounds(text, heap)?;
+    add_blocks(text, heap.blocks())
+}
+
+fn add_bounds(text: &mut Vec<u8>, heap: &Heap) -> Result<(), NoMemory>
+    ensures { OnOk result (text.new.items ≡ text.old.items ++ bounds_line heap.now) }
+{
     let (low, high) = heap.bounds();
     add_line(
         text,
@@ -51,18 +64,29 @@ pub fn add_heap(text: &mut Vec<u8>, heap: &Heap) -> Result<(), NoMemory> {
             Piece::Number(heap.count()),
             Piece::Text("\n"),
         ],
-    )?;
-    for block in heap.blocks() {
-        add_line(
-            text,
-            &[
-                Piece::Text("block: at "),
-                Piece::Long(block.address),
-                Piece::Text(", "),
-                Piece::Number(block.size),
-                Piece::Text(" bytes\n"),
-            ],
-        )?;
+    )
+}
+
+fn add_blocks(text: &mut Vec<u8>, blocks: &[Block]) -> Result<(), NoMemory>
+    ensures { OnOk result (text.new.items ≡ text.old.items ++ flat_map block_line blocks.now) }
+{
+    for &block in blocks {
+        add_block(text, block)?;
     }
     Ok(())
+}
+
+fn add_block(text: &mut Vec<u8>, block: Block) -> Result<(), NoMemory>
+    ensures { OnOk result (text.new.items ≡ text.old.items ++ block_line block) }
+{
+    add_line(
+        text,
+        &[
+            Piece::Text("block: at "),
+            Piece::Long(block.address),
+            Piece::Text(", "),
+            Piece::Number(block.size),
+            Piece::Text(" bytes\n"),
+        ],
+    )
 }
