@@ -1,5 +1,5 @@
 -- A point that was taken away is not among the others.
-use Rattle.std.proofs.Common.{◌≡◌, ◌||◌, Bool, true, false, List, [], ◌∷◌, not, refl, sym, ap, ◌∙◌, filter, if◌then◌else◌, subst}
+use Rattle.std.proofs.Common.{◌≡◌, ◌||◌, Bool, true, false, List, [], ◌∷◌, not, refl, ap, ◌∙◌, filter, if◌then◌else◌}
 use Rattle.std.specs.List.{list_any}
 
 kept_or_not : {X : Type 0} (p : X → Bool) (x : X) (xs : List X) (t : Bool) → p x ≡ t → list_any p xs ≡ false → list_any p (if not t then x ∷ xs else xs) ≡ false

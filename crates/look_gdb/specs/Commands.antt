@@ -1,11 +1,13 @@
--- The commands that the user gives behind `monitor`, and what each tells. They are this project's own. What `calls` and
--- `heap` tell is not said here.
-use Rattle.std.specs.Prelude.{◌≡◌, ℕ, bytes_eq, nat_eq, List, [], ◌++◌, drop, codes, decimal, Option, Some, None, ⊤, if◌then◌else◌}
+-- The commands that the user gives behind `monitor`, and what each does and tells. They are this project's own.
+use Rattle.std.specs.Prelude.{◌≡◌, ℕ, bytes_eq, nat_eq, List, [], ◌++◌, drop, codes, decimal, Option, Some, None, if◌then◌else◌}
 use Rattle.std.specs.List.{starts_with}
 use Rattle.mix_bits.specs.Numbers.{decimal_number, hexadecimal_number}
 use Rattle.mix_engine.specs.declared.machine.Machine.{Machine}
 use Rattle.mix_debug.specs.CrawlClauses.{crawl_of}
+use Rattle.mixed_machine.specs.Machine.{callers_of}
 use Rattle.look_text.specs.inner.Info.{info_of}
+use Rattle.look_report.specs.Blocks.{heap_text}
+use Rattle.look_report.specs.Callers.{frames_text}
 use Rattle.look_gdb.specs.Views.{View}
 use Rattle.look_gdb.specs.declared.command.Command.{Command}
 use Rattle.look_gdb.specs.declared.command.Command.TheVariants.{Budget, Tell}
@@ -46,18 +48,18 @@ abbrev pub steps_text : ℕ → List ℕ
 steps_text steps = codes "step " ++ decimal steps ++ codes "\n"
 
 -- what is told of a machine behind so many steps
-abbrev pub IsTold : Tale → Machine → ℕ → List ℕ → Type 0
-IsTold Where machine steps console = console ≡ steps_text steps ++ crawl_of machine
-IsTold Step machine steps console = console ≡ steps_text steps
-IsTold Calls machine steps console = ⊤
-IsTold Heap machine steps console = ⊤
-IsTold (Info word) machine steps console = console ≡ info_of word
-IsTold Help machine steps console = console ≡ help_text
+abbrev pub tale_text : Tale → Machine → ℕ → List ℕ
+tale_text Where machine steps = steps_text steps ++ crawl_of machine
+tale_text Step machine steps = steps_text steps
+tale_text Calls machine steps = frames_text 0 1 (callers_of machine.body)
+tale_text Heap machine steps = heap_text machine.body.heap
+tale_text (Info word) machine steps = info_of word
+tale_text Help machine steps = help_text
 
 -- a command changes the budget of a walk alone, or nothing
 abbrev pub ObeysCommand : Command → View → List ℕ → View → Type 0
 ObeysCommand (Budget budget) v console w = (w ≡ record v { budget = budget }) × (console ≡ [])
-ObeysCommand (Tell tale) v console w = (w ≡ v) × IsTold tale v.run.here.machine v.run.steps console
+ObeysCommand (Tell tale) v console w = (w ≡ v) × (console ≡ tale_text tale v.run.here.machine v.run.steps)
 
 abbrev pub Obeys : View → List ℕ → List ℕ → View → Type 0
 Obeys v text console w = ObeysCommand (command_of text) v console w

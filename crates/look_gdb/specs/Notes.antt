@@ -1,5 +1,5 @@
 -- What is told on the console behind a program's output: its end, once; that a walk was cut, and how to have longer ones.
-use Rattle.std.specs.Prelude.{ℕ, Bool, true, false, List, [], ◌++◌, codes, decimal, if◌then◌else◌}
+use Rattle.std.specs.Prelude.{ℕ, Bool, List, [], ◌++◌, codes, decimal, if◌then◌else◌}
 use Rattle.mix_bits.specs.declared.isa.Isa.{Isa}
 use Rattle.call_trace.specs.Lines.{end_line}
 use Rattle.call_trace.specs.declared.end.End.TheVariants as Ends

@@ -1,5 +1,5 @@
 -- What gdb's requests do to a run: walks forward and back, and points to stop at.
-use Rattle.std.specs.Prelude.{◌≡◌, ℕ, ◌+◌, ◌-◌, ◌^◌, ◌==◌, ◌&&◌, ◌||◌, min, nat_le, nat_lt, not, filter, length, Bool, true, false, List, [], ◌∷◌, ◌++◌, Option, Some, None, if◌then◌else◌}
+use Rattle.std.specs.Prelude.{◌≡◌, ℕ, ◌-◌, ◌^◌, ◌==◌, ◌&&◌, ◌||◌, min, nat_le, nat_lt, not, filter, length, Bool, true, false, List, [], ◌∷◌, ◌++◌, Option, Some, None, if◌then◌else◌}
 use Rattle.mix_io.specs.Streams.{Output}
 use Rattle.mix_io.specs.StreamsClauses.{output}
 use Rattle.dev_rack.specs.Accounts.{Accounts}

@@ -48,7 +48,7 @@ impl<D: Devices + Drop> Model for Served<D> {
 }
 
 impl<D: Devices + Drop> Served<D> {
-    ghost use Rattle.look_gdb.specs.Commands.{IsTold};
+    ghost use Rattle.look_gdb.specs.Commands.{tale_text};
     ghost use Rattle.look_gdb.specs.Views.{Starts};
     ghost use Rattle.look_gdb.specs.Walks.{Goes, has_room, other_breaks, other_watches, range, without};
 
@@ -117,7 +117,7 @@ impl<D: Devices + Drop> Served<D> {
     /// Puts what is told of the machine as it is into an empty buffer.
     fn tell_tale(&self, tale: Tale, console: &mut Vec<u8>) -> Result<(), NoMemory>
         requires { console.old.items ≡ [] }
-        ensures { OnOk result (IsTold tale self.now.run.here.machine self.now.run.steps console.new.items) }
+        ensures { OnOk result (console.new.items ≡ tale_text tale self.now.run.here.machine self.now.run.steps) }
     {
         let walker = &self.walker;
         append_tale(

@@ -1,10 +1,11 @@
 // What commands tell.
 ghost use Rattle.std.specs.Prelude.{◌≡◌, ◌++◌, [], OnOk};
 ghost use Rattle.switch_frame.specs.Records.{isa_of};
-ghost use Rattle.mixed_machine.specs.Machine.{IsWhole};
+ghost use Rattle.mixed_machine.specs.Machine.{IsWhole, callers_of};
 ghost use Rattle.mix_debug.specs.CrawlClauses.{crawl_of};
 ghost use Rattle.look_text.specs.inner.Info.{info_of};
-ghost use Rattle.look_gdb.specs.Commands.{IsTold, help_text, steps_text};
+ghost use Rattle.look_report.specs.Callers.{frames_text};
+ghost use Rattle.look_gdb.specs.Commands.{help_text, steps_text, tale_text};
 
 use crate::command::Tale;
 use crate::heard::Heard;
@@ -37,7 +38,7 @@ pub fn append_tale(
     console: &mut Vec<u8>,
 ) -> Result<(), NoMemory>
     requires { console.old.items ≡ [] }
-    ensures { OnOk result (IsTold tale debug.now.machine steps console.new.items) }
+    ensures { OnOk result (console.new.items ≡ tale_text tale debug.now.machine steps) }
 {
     match tale {
         Tale::Where => {
@@ -74,13 +75,13 @@ fn append_crawl(alloc: Global, console: &mut Vec<u8>, debug: &Debug) -> Result<(
 
 fn append_calls(alloc: Global, console: &mut Vec<u8>, machine: &Machine) -> Result<(), NoMemory>
     requires { IsWhole machine.now.body (isa_of machine.now.active) }
+    ensures { OnOk result (console.new.items ≡ console.old.items ++ frames_text 0 1 (callers_of machine.now.body)) }
 {
     add_frames(
         alloc,
         console,
         &machine.body.ram,
         machine.body.top,
-        1,
         0,
     )
 }

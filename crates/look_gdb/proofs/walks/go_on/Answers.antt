@@ -1,4 +1,4 @@
-use Rattle.std.proofs.Common.{◌≡◌, List, [], ◌++◌, ap, subst, ◌∙◌, true, Some, None, if◌then◌else◌, ℕ, ◌-◌, ◌^◌, min}
+use Rattle.std.proofs.Common.{◌≡◌, ◌++◌, ap, subst, ◌∙◌, true, Some, None, if◌then◌else◌, ◌-◌, ◌^◌, min}
 use Rattle.mix_io.specs.StreamsClauses.{output}
 use Rattle.mixed_machine.specs.Runs.{Sinks}
 use Rattle.gdb_steps.specs.Walkers.{points_of, run_of, sinks}

@@ -1,4 +1,4 @@
-use Rattle.std.proofs.Common.{ℕ, ◌&&◌, List, length, map, nat_le, nat_lt, not, ap, ◌∙◌}
+use Rattle.std.proofs.Common.{◌&&◌, List, length, nat_le, nat_lt, not, ap, ◌∙◌}
 use Rattle.std.specs.List.{list_any}
 use Rattle.gdb_steps.specs.Points.{Range, is_same_range}
 use Rattle.gdb_steps.specs.Walkers.{points_of}
