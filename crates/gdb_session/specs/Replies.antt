@@ -1,6 +1,6 @@
 -- What a server sends at a packet of gdb's, and what becomes of the machine.
 -- Source: GDB manual, appendix 'GDB Remote Serial Protocol'.
-use Rattle.std.specs.Prelude.{◌≡◌, ℕ, ◌==◌, Bool, List, [], ◌++◌, length, Option, Some, None, if◌then◌else◌}
+use Rattle.std.specs.Prelude.{◌≡◌, ℕ, ◌==◌, Bool, List, [], ◌++◌, length, if◌then◌else◌}
 use Rattle.mix_bits.specs.declared.isa.Isa.{Isa}
 use Rattle.switch_frame.specs.Records.{isa_of}
 use Rattle.gdb_packets.specs.Packets.{packet_text}
