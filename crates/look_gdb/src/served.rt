@@ -120,13 +120,7 @@ impl<D: Devices + Drop> Served<D> {
         ensures { OnOk result (console.new.items ≡ tale_text tale self.now.run.here.machine self.now.run.steps) }
     {
         let walker = &self.walker;
-        append_tale(
-            self.alloc,
-            tale,
-            walker.debug(),
-            walker.steps(),
-            console,
-        )
+        append_tale(self.alloc, tale, walker.debug(), walker.steps(), console)
     }
 
     /// Takes a point away, if it is there.

@@ -77,13 +77,7 @@ fn append_calls(alloc: Global, console: &mut Vec<u8>, machine: &Machine) -> Resu
     requires { IsWhole machine.now.body (isa_of machine.now.active) }
     ensures { OnOk result (console.new.items ≡ console.old.items ++ frames_text 0 1 (callers_of machine.now.body)) }
 {
-    add_frames(
-        alloc,
-        console,
-        &machine.body.ram,
-        machine.body.top,
-        0,
-    )
+    add_frames(alloc, console, &machine.body.ram, machine.body.top, 0)
 }
 
 fn append_info(alloc: Global, console: &mut Vec<u8>, word: u32) -> Result<(), NoMemory>
