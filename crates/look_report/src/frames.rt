@@ -48,14 +48,7 @@ fn add_numbered(
         None => Ok(()),
         Some(held) => {
             add_told(alloc, text, &held, number, untold)?;
-            add_numbered(
-                alloc,
-                text,
-                ram,
-                outer_lo(ram, lo),
-                number + 1,
-                untold,
-            )
+            add_numbered(alloc, text, ram, outer_lo(ram, lo), number + 1, untold)
         }
     }
 }
