@@ -4,3 +4,4 @@ pub mod Puts
 pub mod Served
 pub mod Statuses
 pub mod Told
+pub mod Whys

@@ -10,6 +10,7 @@ use crate::forks::fork;
 use crate::gdb::{Program, gdb};
 use crate::images::image;
 use crate::maps::{map, scan};
+use crate::refusals::{why_script, why_text};
 use crate::runs::{Shown, end};
 use crate::said::{print, print_made, say, tell};
 use crate::streams::Streams;
@@ -83,6 +84,15 @@ fn obey<F: Files, R: Read + Drop, W: Write + Drop, E: Write + Drop>(
             streams,
         ),
         Ok(Look::Words) => why(alloc, words, &mut streams.out),
+        Ok(Look::WhyScript(file)) => why_script(alloc, files, name_at(words, file), streams),
+        Ok(Look::WhyText(set, file, at)) => why_text(
+            alloc,
+            files,
+            set,
+            name_at(words, file),
+            at,
+            streams,
+        ),
         Ok(Look::Map) => map(alloc, files, words, streams),
         Ok(Look::Scan) => scan(alloc, files, words, streams),
         Ok(Look::End(last, frames)) => end(alloc, files, words, Shown { last, frames }, streams),

@@ -16,6 +16,7 @@ mod forks;
 mod gdb;
 mod images;
 mod maps;
+mod refusals;
 mod run;
 mod runs;
 mod said;

@@ -1,11 +1,11 @@
 // The words of mixedlook.
 ghost use Rattle.std.specs.Prelude.{◌≡◌, ◌+◌, ◌^◌, ◌<◌, length, map};
 ghost use Rattle.std.specs.String.{string_bytes};
-ghost use Rattle.look_words.specs.inner.Looks.{by_verb, command_by, count_in, draft_of, image_of, is_given as is_given_in, key_for, key_text, keys_of, look_of, made, verb_for, with_file, with_own, with_value as draft_with, with_word};
+ghost use Rattle.look_words.specs.inner.Looks.{by_verb, command_by, count_in, draft_of, image_of, is_given as is_given_in, key_for, key_text, keys_of, look_of, made, set_in, text_in, verb_for, why_topic as why_topic_of, with_file, with_own, with_value as draft_with, with_word};
 
-use crate::program::{UNTOLD, read_end, read_map};
+use crate::program::{UNTOLD, has_key, read_end, read_map};
 use crate::session::{UNSAID, read_gdb};
-use mix_bits::{read_decimal, read_hexadecimal};
+use mix_bits::{Isa, read_decimal, read_hexadecimal};
 
 /// How many bytes of memory are told, if nothing is said of it.
 const FEW_BYTES: u32 = 256;
@@ -39,6 +39,10 @@ pub enum Look {
     Gdb(Option<usize>, bool),
     /// Why mixedrun refuses the words behind the first one.
     Words,
+    /// Why mixedrun refuses the script in a file.
+    WhyScript(usize),
+    /// Why mixedrun refuses the text of a set in a file, whose first line has an address.
+    WhyText(Isa, usize, u32),
 }
 
 /// How many of the suspended callers are told.
@@ -86,6 +90,9 @@ pub enum Key {
     Frames,
     Input,
     Trace,
+    Script,
+    Text,
+    Set,
 }
 
 /// A command whose words give a draft.
@@ -97,6 +104,8 @@ pub enum Topic {
     ToFork,
     ToData,
     ToImage,
+    ToScript,
+    ToText,
 }
 
 impl Topic {
@@ -111,12 +120,14 @@ impl Topic {
             Topic::ToFork => &[Key::File],
             Topic::ToData => &[Key::File],
             Topic::ToImage => &[Key::Image, Key::At, Key::Count, Key::Frames],
+            Topic::ToScript => &[Key::Script],
+            Topic::ToText => &[Key::Set, Key::Text, Key::At],
         }
     }
 }
 
-/// What the words so far have given: a procInfo word, the places of words that name files, a part of memory, and whether
-/// all frames are told.
+/// What the words so far have given: a procInfo word, the places of words that name files, a part of memory, whether all
+/// frames are told, and a set.
 #[derive(Clone, Copy)]
 pub struct Draft {
     pub word: Option<u32>,
@@ -125,6 +136,7 @@ pub struct Draft {
     pub at: Option<u32>,
     pub count: Option<u32>,
     pub frames: Frames,
+    pub set: Option<Isa>,
 }
 
 /// Reads the words of a command line.
@@ -154,7 +166,18 @@ fn read_behind(command: &str, words: &[String]) -> Result<Look, Refusal>
         "end" => read_end(1, words, UNTOLD),
         "gdb" => read_gdb(1, words, UNSAID),
         "words" => Ok(Look::Words),
+        "why" => read_command(why_topic(words), words),
         _ => Err(Refusal::Command),
+    }
+}
+
+/// Whether words ask for a script or for a text.
+fn why_topic(words: &[String]) -> Topic
+    ensures { result ≡ why_topic_of (map string_bytes words.now) }
+{
+    match words {
+        [word, ..] if has_key(word.as_str(), "script") => Topic::ToScript,
+        _ => Topic::ToText,
     }
 }
 
@@ -170,6 +193,7 @@ fn read_command(topic: Topic, words: &[String]) -> Result<Look, Refusal>
         at: None,
         count: None,
         frames: Frames::Few,
+        set: None,
     };
     make(topic, read_settings(topic, 1, words, nothing)?)
 }
@@ -235,6 +259,9 @@ impl Key {
             Key::Frames => "frames",
             Key::Input => "input",
             Key::Trace => "trace",
+            Key::Script => "script",
+            Key::Text => "text",
+            Key::Set => "set",
         }
     }
 }
@@ -244,12 +271,13 @@ fn is_given(draft: &Draft, key: Key) -> bool
 {
     match key {
         Key::Word => draft.word.is_some(),
-        Key::File | Key::Image => draft.file.is_some(),
+        Key::File | Key::Image | Key::Script | Key::Text => draft.file.is_some(),
         Key::Names => draft.names.is_some(),
         Key::Last | Key::Input | Key::Trace => false,
         Key::At => draft.at.is_some(),
         Key::Count => draft.count.is_some(),
         Key::Frames => draft.frames == Frames::All,
+        Key::Set => draft.set.is_some(),
     }
 }
 
@@ -261,8 +289,12 @@ fn set(draft: Draft, place: usize, key: Key, value: &str) -> Result<Draft, Refus
         return Err(Refusal::Twice(place));
     }
     match key {
-        Key::Word | Key::At | Key::Count | Key::Frames => set_value(draft, place, key, value),
-        Key::File | Key::Image | Key::Names => set_file(draft, place, key, value),
+        Key::Word | Key::At | Key::Count | Key::Frames | Key::Set => {
+            set_value(draft, place, key, value)
+        }
+        Key::File | Key::Image | Key::Names | Key::Script | Key::Text => {
+            set_file(draft, place, key, value)
+        }
         Key::Last | Key::Input | Key::Trace => Err(Refusal::Unknown(place)),
     }
 }
@@ -294,9 +326,21 @@ fn set_value(mut draft: Draft, place: usize, key: Key, value: &str) -> Result<Dr
         (Key::At, Some(at), _) => draft.at = Some(at),
         (Key::Count, _, Some(count)) => draft.count = Some(count),
         (Key::Frames, _, _) if value == "all" => draft.frames = Frames::All,
+        (Key::Set, _, _) => draft.set = Some(read_set(value).ok_or(Refusal::Value(place, key))?),
         _ => return Err(Refusal::Value(place, key)),
     }
     Ok(draft)
+}
+
+/// An instruction set by its name.
+fn read_set(value: &str) -> Option<Isa>
+    ensures { result ≡ set_in value.now }
+{
+    match value {
+        "68k" => Some(Isa::M68),
+        "ppc" => Some(Isa::Ppc),
+        _ => None,
+    }
 }
 
 /// How many bytes are told.
@@ -322,6 +366,10 @@ fn make(topic: Topic, draft: Draft) -> Result<Look, Refusal>
         (Topic::ToData, _, Some(file)) => Ok(Look::Data(file)),
         (Topic::ToImage, _, Some(file)) => make_image(file, draft),
         (Topic::ToImage, _, None) => Err(Refusal::Missing(Key::Image)),
+        (Topic::ToScript, _, Some(file)) => Ok(Look::WhyScript(file)),
+        (Topic::ToScript, _, None) => Err(Refusal::Missing(Key::Script)),
+        (Topic::ToText, _, Some(file)) => make_text(file, draft),
+        (Topic::ToText, _, None) => Err(Refusal::Missing(Key::Text)),
         (_, _, None) => Err(Refusal::Missing(Key::File)),
     }
 }
@@ -337,5 +385,16 @@ fn make_image(file: usize, draft: Draft) -> Result<Look, Refusal>
         }
         (None, Some(_)) => Err(Refusal::Missing(Key::At)),
         (None, None) => Ok(Look::Image(file, None, draft.frames)),
+    }
+}
+
+/// The command of a draft that has a text.
+fn make_text(file: usize, draft: Draft) -> Result<Look, Refusal>
+    ensures { result ≡ text_in file draft }
+{
+    match (draft.set, draft.at) {
+        (Some(set), Some(at)) => Ok(Look::WhyText(set, file, at)),
+        (None, _) => Err(Refusal::Missing(Key::Set)),
+        (Some(_), None) => Err(Refusal::Missing(Key::At)),
     }
 }

@@ -51,6 +51,9 @@ fn key_wants(key: Key) -> &'static str
         Key::Frames => "all",
         Key::Input => "the name of a file",
         Key::Trace => "yes or no",
+        Key::Script => "the name of a file",
+        Key::Text => "the name of a file",
+        Key::Set => "68k or ppc",
     }
 }
 

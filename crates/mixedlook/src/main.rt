@@ -28,6 +28,8 @@ usage: mixedlook map FILES [main=68k|ppc] [ram=KIB]
        mixedlook fork file=FILE
        mixedlook data file=FILE
        mixedlook words WORD..
+       mixedlook why script=F
+       mixedlook why set=68k|ppc text=F at=HHHHHHHH
 
 FILES is flat=FILE, rsrc=FILE, pef=FILE, or rsrc=FILE pef=FILE, as mixedrun's.
 
@@ -43,7 +45,8 @@ memory; info says what a procInfo word declares, and where 68K code and PowerPC
 code have each value; trace writes a trace as an indented tree and counts the
 calls across; picture writes it as an SVG file; fork writes the raw resource
 fork of a MacBinary, AppleSingle, AppleDouble or BinHex 4.0 file, and data the
-data fork; words says why mixedrun refuses these words.
+data fork; words says why mixedrun refuses these words, and why which line of a
+script or of a text it refuses first, and the rule that the line breaks.
 
   last=K         how many of the last steps are told, 0 to 1000 (default 16);
                  equal ones behind each other count as one
@@ -58,6 +61,9 @@ data fork; words says why mixedrun refuses these words.
   file=TRACE     the trace of a run of mixedrun
   names=NAMES    the output of nm, by which routines are named
   file=FILE      a file with forks
+  script=F       a script of mixedrun's debug
+  text=F         a text of mixedrun's assemble, of the set of set=, whose first
+                 line stands at the address of at=
 
 Status:
   0  done                              2  bad words

@@ -1,13 +1,14 @@
 -- What the output holds behind a command, and its status, by the words. Where a command is not said here, its output is
--- what the runs, images and traces write. No clause can name what a file of the system holds: so `fork`, `map` and `gdb`
--- are said here of some bytes and of some files, and it is `write_fork`, `write_map` and `serve_files` that say them of
--- given ones.
+-- what the runs, images and traces write. No clause can name what a file of the system holds: so `fork`, `map`, `why` and
+-- `gdb` are said here of some bytes and of some files, and it is `write_fork`, `write_map`, `serve_files`, and
+-- `explain_script` and `explain_text` of look_why that say them of given ones.
 use Rattle.std.specs.Prelude.{◌≡◌, ◌≢◌, ◌*◌, ◌++◌, ◌⊎◌, ℕ, Bool, true, false, List, [], ◌∷◌, codes, Option, is_some, Result, Ok, Err}
 use Rattle.std.specs.Io.KnownBytes.{Appends}
 use Rattle.wrapped_forks.specs.declared.fork.Fork.TheVariants.{Data as data_fork, Resource as resource_fork}
 use Rattle.look_commands.specs.inner.Puts.{LacksMemory, Prints, PutsFront, Writes}
 use Rattle.look_commands.specs.inner.Forks.{WritesFork}
 use Rattle.look_commands.specs.inner.Served.{ServesRun}
+use Rattle.look_commands.specs.inner.Whys.{WritesScriptWhy, WritesTextWhy}
 use Rattle.job_words.specs.declared.job.BadWord.{BadWord}
 use Rattle.job_words.specs.declared.job.Command.{Command}
 use Rattle.job_words.specs.declared.job.Command.TheVariants.{Run}
@@ -26,7 +27,7 @@ use Rattle.look_words.specs.inner.Looks.{look_of, run_words}
 use Rattle.look_words.specs.inner.Requests.{IsLost, is_run}
 use Rattle.look_words.specs.inner.Sentences.{why_text}
 use Rattle.look_words.specs.declared.look.Look.{Look}
-use Rattle.look_words.specs.declared.look.Look.TheVariants.{Info, Trace, Picture, Fork, Data, Map, Scan, End, Image, Gdb, Words}
+use Rattle.look_words.specs.declared.look.Look.TheVariants.{Info, Trace, Picture, Fork, Data, Map, Scan, End, Image, Gdb, Words, WhyScript, WhyText}
 use Rattle.look_words.specs.declared.look.Refusal.{Refusal}
 
 -- the words behind the first one
@@ -75,6 +76,8 @@ abbrev pub Tells : List (List ℕ) → Result Look Refusal → Option (List ℕ)
 Tells words (Err refusal) left old new status = (status ≡ 2) × (new ≡ old)
 Tells words (Ok (Info word)) left old new status = Writes (info_of word) old new status
 Tells words (Ok Words) left old new status = WritesWhy (behind words) old new status
+Tells words (Ok (WhyScript file)) left old new status = WritesScriptWhy old new status
+Tells words (Ok (WhyText set file at)) left old new status = WritesTextWhy set at old new status
 Tells words (Ok (Fork file)) left old new status = WritesFork resource_fork old new status
 Tells words (Ok (Data file)) left old new status = WritesFork data_fork old new status
 Tells words (Ok Map) left old new status = WritesMap (command_of (run_words words)) old new status

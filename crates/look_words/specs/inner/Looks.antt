@@ -4,20 +4,22 @@ use Rattle.std.specs.Option.{ok_or}
 use Rattle.std.specs.Str.{bytes_eq}
 use Rattle.mix_bits.specs.Numbers.{decimal_number, hexadecimal_number}
 use Rattle.mix_bits.specs.Results.{◌>>=◌}
+use Rattle.mix_bits.specs.declared.isa.Isa.{Isa}
+use Rattle.mix_bits.specs.declared.isa.Isa.TheVariants.{M68, Ppc}
 use Rattle.job_words.specs.Settings.{has_equals, key_in, value_in}
 use Rattle.look_words.specs.declared.look.Draft.{Draft}
 use Rattle.look_words.specs.declared.look.Frames.{Frames}
 use Rattle.look_words.specs.declared.look.Frames.TheVariants.{Few, All}
 use Rattle.look_words.specs.declared.look.Key.{Key}
-use Rattle.look_words.specs.declared.look.Key.TheVariants.{Word, File, Names, Image as image_key, Last, At, Count, Frames as frames_key, Input as input_key, Trace as trace_key}
+use Rattle.look_words.specs.declared.look.Key.TheVariants.{Word, File, Names, Image as image_key, Last, At, Count, Frames as frames_key, Input as input_key, Trace as trace_key, Script, Text, Set}
 use Rattle.look_words.specs.declared.look.Look.{Look}
-use Rattle.look_words.specs.declared.look.Look.TheVariants.{Info, Trace, Picture, Fork, Data, Map, Scan, End, Image, Gdb, Words}
+use Rattle.look_words.specs.declared.look.Look.TheVariants.{Info, Trace, Picture, Fork, Data, Map, Scan, End, Image, Gdb, Words, WhyScript, WhyText}
 use Rattle.look_words.specs.declared.look.Refusal.{Refusal}
 use Rattle.look_words.specs.declared.look.Refusal.TheVariants.{Empty, Command, Unknown, Twice, Value, Missing}
 use Rattle.look_words.specs.declared.program.Told.{Told}
 use Rattle.look_words.specs.declared.session.Session.{Session}
 use Rattle.look_words.specs.declared.look.Topic.{Topic}
-use Rattle.look_words.specs.declared.look.Topic.TheVariants.{ToInfo, ToTrace, ToPicture, ToFork, ToData, ToImage}
+use Rattle.look_words.specs.declared.look.Topic.TheVariants.{ToInfo, ToTrace, ToPicture, ToFork, ToData, ToImage, ToScript, ToText}
 
 -- a command: one whose words give a draft, or one of the others
 pub data Verb : Type 0 where
@@ -27,6 +29,7 @@ pub data Verb : Type 0 where
   ToEnd : Verb
   ToGdb : Verb
   ToWords : Verb
+  ToWhy : Verb
 
 abbrev pub topic_text : Topic → List ℕ
 topic_text ToInfo = codes "info"
@@ -35,6 +38,8 @@ topic_text ToPicture = codes "picture"
 topic_text ToFork = codes "fork"
 topic_text ToData = codes "data"
 topic_text ToImage = codes "image"
+topic_text ToScript = codes "why"
+topic_text ToText = codes "why"
 
 abbrev pub verb_text : Verb → List ℕ
 verb_text (Of topic) = topic_text topic
@@ -43,9 +48,10 @@ verb_text ToScan = codes "scan"
 verb_text ToEnd = codes "end"
 verb_text ToGdb = codes "gdb"
 verb_text ToWords = codes "words"
+verb_text ToWhy = codes "why"
 
 abbrev pub all_verbs : List Verb
-all_verbs = Of ToInfo ∷ (Of ToTrace ∷ (Of ToPicture ∷ (Of ToFork ∷ (Of ToData ∷ (Of ToImage ∷ (ToMap ∷ (ToScan ∷ (ToEnd ∷ (ToGdb ∷ (ToWords ∷ []))))))))))
+all_verbs = Of ToInfo ∷ (Of ToTrace ∷ (Of ToPicture ∷ (Of ToFork ∷ (Of ToData ∷ (Of ToImage ∷ (ToMap ∷ (ToScan ∷ (ToEnd ∷ (ToGdb ∷ (ToWords ∷ (ToWhy ∷ [])))))))))))
 
 -- the first of some commands with this word
 abbrev pub verb_in : List Verb → List ℕ → Option Verb
@@ -63,6 +69,8 @@ keys_of ToPicture = File ∷ (Names ∷ [])
 keys_of ToFork = File ∷ []
 keys_of ToData = File ∷ []
 keys_of ToImage = image_key ∷ (At ∷ (Count ∷ (frames_key ∷ [])))
+keys_of ToScript = Script ∷ []
+keys_of ToText = Set ∷ (Text ∷ (At ∷ []))
 
 abbrev pub key_text : Key → List ℕ
 key_text Word = codes "word"
@@ -75,6 +83,9 @@ key_text Count = codes "count"
 key_text frames_key = codes "frames"
 key_text input_key = codes "input"
 key_text trace_key = codes "trace"
+key_text Script = codes "script"
+key_text Text = codes "text"
+key_text Set = codes "set"
 
 -- the first of some keys with this text
 abbrev pub key_for : List Key → List ℕ → Option Key
@@ -89,6 +100,7 @@ nothing = record {
   at = None;
   count = None;
   frames = Few;
+  set = None;
 }
 
 abbrev pub is_all : Frames → Bool
@@ -106,6 +118,9 @@ is_given draft trace_key = false
 is_given draft At = is_some draft.at
 is_given draft Count = is_some draft.count
 is_given draft frames_key = is_all draft.frames
+is_given draft Script = is_some draft.file
+is_given draft Text = is_some draft.file
+is_given draft Set = is_some draft.set
 
 -- how many bytes of memory can be told
 abbrev pub most_bytes : ℕ
@@ -118,6 +133,9 @@ within_bytes None = None
 abbrev pub count_in : List ℕ → Option ℕ
 count_in value = within_bytes (decimal_number value)
 
+abbrev pub set_in : List ℕ → Option Isa
+set_in value = if bytes_eq value (codes "68k") then Some M68 else (if bytes_eq value (codes "ppc") then Some Ppc else None)
+
 -- a value that stands in the word itself
 abbrev pub with_own : Draft → ℕ → Key → List ℕ → Result Draft Refusal
 with_own draft place Word value =
@@ -126,6 +144,7 @@ with_own draft place At value = ok_or (hexadecimal_number 8 value) (Value place 
 with_own draft place Count value = ok_or (count_in value) (Value place Count) >>= λ count. Ok (record draft { count = Some count })
 with_own draft place frames_key value =
     if bytes_eq value (codes "all") then Ok (record draft { frames = All }) else Err (Value place frames_key)
+with_own draft place Set value = ok_or (set_in value) (Value place Set) >>= λ set. Ok (record draft { set = Some set })
 with_own draft place key value = Err (Value place key)
 
 -- the place of a word whose value, the name of a file, is not empty
@@ -140,6 +159,8 @@ abbrev pub with_given : Draft → ℕ → Key → List ℕ → Result Draft Refu
 with_given draft place File value = with_file draft place File value
 with_given draft place image_key value = with_file draft place image_key value
 with_given draft place Names value = with_file draft place Names value
+with_given draft place Script value = with_file draft place Script value
+with_given draft place Text value = with_file draft place Text value
 with_given draft place Last value = Err (Unknown place)
 with_given draft place input_key value = Err (Unknown place)
 with_given draft place trace_key value = Err (Unknown place)
@@ -174,6 +195,15 @@ image_by file frames None None = Ok (Image file None frames)
 abbrev pub image_of : ℕ → Draft → Result Look Refusal
 image_of file draft = image_by file draft.frames draft.at draft.count
 
+-- a text, which has a set, and an address
+abbrev pub text_by : ℕ → Option Isa → Option ℕ → Result Look Refusal
+text_by file (Some set) (Some at) = Ok (WhyText set file at)
+text_by file (Some set) None = Err (Missing At)
+text_by file None at = Err (Missing Set)
+
+abbrev pub text_in : ℕ → Draft → Result Look Refusal
+text_in file draft = text_by file draft.set draft.at
+
 -- the command of a draft
 abbrev pub made : Topic → Draft → Result Look Refusal
 made ToInfo draft = ok_or draft.word (Missing Word) >>= λ word. Ok (Info word)
@@ -182,6 +212,8 @@ made ToPicture draft = ok_or draft.file (Missing File) >>= λ file. Ok (Picture 
 made ToFork draft = ok_or draft.file (Missing File) >>= λ file. Ok (Fork file)
 made ToData draft = ok_or draft.file (Missing File) >>= λ file. Ok (Data file)
 made ToImage draft = ok_or draft.file (Missing image_key) >>= λ file. image_of file draft
+made ToScript draft = ok_or draft.file (Missing Script) >>= λ file. Ok (WhyScript file)
+made ToText draft = ok_or draft.file (Missing Text) >>= λ file. text_in file draft
 
 abbrev pub command_by : Topic → List (List ℕ) → Result Look Refusal
 command_by topic words = draft_of topic 1 words nothing >>= made topic
@@ -295,6 +327,11 @@ abbrev pub run_words : List (List ℕ) → List (List ℕ)
 run_words [] = codes "run" ∷ []
 run_words (command ∷ words) = codes "run" ∷ filter (λ word. not (is_own word)) words
 
+-- `why` takes the words of a script where the first one names one, and else those of a text
+abbrev pub why_topic : List (List ℕ) → Topic
+why_topic [] = ToText
+why_topic (word ∷ words) = if has_key (codes "script") word then ToScript else ToText
+
 -- `words` takes whatever follows
 abbrev pub by_verb : Option Verb → List (List ℕ) → Result Look Refusal
 by_verb (Some (Of topic)) words = command_by topic words
@@ -303,6 +340,7 @@ by_verb (Some ToScan) words = map_of Scan 1 words
 by_verb (Some ToEnd) words = end_of 1 words untold
 by_verb (Some ToGdb) words = gdb_of 1 words unsaid
 by_verb (Some ToWords) words = Ok Words
+by_verb (Some ToWhy) words = command_by (why_topic words) words
 by_verb None words = Err Command
 
 abbrev pub look_of : List (List ℕ) → Result Look Refusal

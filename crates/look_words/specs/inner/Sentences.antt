@@ -8,7 +8,7 @@ use Rattle.look_text.specs.inner.Whys.{at_place}
 use Rattle.look_text.specs.declared.label.Label.{Label}
 use Rattle.look_text.specs.declared.label.Label.TheVariants.{Flat, Rsrc, Pef}
 use Rattle.look_words.specs.declared.look.Key.{Key}
-use Rattle.look_words.specs.declared.look.Key.TheVariants.{Word, File, Names, Image, Last, At, Count, Frames, Input, Trace}
+use Rattle.look_words.specs.declared.look.Key.TheVariants.{Word, File, Names, Image, Last, At, Count, Frames, Input, Trace, Script, Text, Set}
 use Rattle.look_words.specs.declared.look.Refusal.{Refusal}
 use Rattle.look_words.specs.declared.look.Refusal.TheVariants.{Empty as no_word, Command as no_command, Unknown, Twice, Value as bad_value, Missing as missing_key}
 use Rattle.look_text.specs.declared.why.Why.{Why}
@@ -26,6 +26,9 @@ key_wants Count = codes "a number from " ++ range_text 1 most_bytes
 key_wants Frames = codes "all"
 key_wants Input = codes "the name of a file"
 key_wants Trace = codes "yes or no"
+key_wants Script = codes "the name of a file"
+key_wants Text = codes "the name of a file"
+key_wants Set = codes "68k or ppc"
 
 -- why mixedlook refuses words
 abbrev pub refusal_text : List (List ℕ) → Refusal → List ℕ

@@ -1,0 +1,38 @@
+-- What is said of a rule that a line breaks.
+use Rattle.std.specs.Prelude.{ℕ, List, codes}
+use Rattle.look_why.specs.declared.rule.Rule.{Rule}
+use Rattle.look_why.specs.declared.rule.Rule.TheVariants.{Return, Indented, Behind, Tab, Spaces, Open, Empty, Missing, Capitals, Command, Zero, Leading, Large, Count, LowerAddress, Length, Address, Elsewhere, Nameless, Comment, OtherSet, Label, Directive, Name68, NamePpc, Percent, Prefix, LowerDigit, Upper, Decimal, Dollar, Operands}
+
+abbrev pub rule_text : Rule → List ℕ
+rule_text Return = codes "A carriage return stands at its end, as in a DOS text: a line feed alone ends a line."
+rule_text Indented = codes "It begins with a space or a tab, and nothing may stand in front."
+rule_text Behind = codes "Something stands behind it that may not: a space, a comment or another word."
+rule_text Tab = codes "A tab stands in it: one space stands behind the name, and no other blank."
+rule_text Spaces = codes "A space stands in it that has no place: there is one behind the name, and no other."
+rule_text Open = codes "No line feed ends it: each line of a script has one, the last one too."
+rule_text Empty = codes "It is empty, and each line of a script is a command."
+rule_text Missing = codes "A number or an address is missing: step N, go N, over N, back N, break A, clear A."
+rule_text Capitals = codes "Its name is not in lower case, as all names are."
+rule_text Command = codes "No command has this name: step N, go N, over N, back N, break A, clear A, where."
+rule_text Zero = codes "The number of steps is 0: it is 1 to 4294967295."
+rule_text Leading = codes "The number of steps has a zero in front, which it may not."
+rule_text Large = codes "The number of steps is above 4294967295."
+rule_text Count = codes "The number of steps is no decimal number: it has digits alone, and no sign."
+rule_text LowerAddress = codes "The address has a digit in lower case: it is eight upper-case hexadecimal digits."
+rule_text Length = codes "The address has not eight digits: zeros stand in front, as in 00010000."
+rule_text Address = codes "The address is none: it is eight upper-case hexadecimal digits alone, without $ or 0x."
+rule_text Elsewhere = codes "The address in front is not the line's: that is at= and the bytes of the lines before."
+rule_text Nameless = codes "No instruction stands behind the address in front."
+rule_text Comment = codes "A ; stands in it: a comment has a line of its own, which begins with it."
+rule_text OtherSet = codes "No instruction of this set has this name, but one of the other set has: set= is likely wrong."
+rule_text Label = codes "A colon stands in its name: there are no labels, and an address in front has eight upper-case digits, a colon and a space."
+rule_text Directive = codes "It begins with a directive, and there is none but dc.w (68K) and .long (PowerPC)."
+rule_text Name68 = codes "No 68K instruction has this name: a size belongs to it where the instruction has several, as in move.l and bra.b."
+rule_text NamePpc = codes "No PowerPC instruction has this name: short forms as li, mr, blr and cmpwi are none."
+rule_text Percent = codes "A % stands in it: registers have none in front."
+rule_text Prefix = codes "0x stands in it: a hexadecimal number has $ in front."
+rule_text LowerDigit = codes "A digit behind $ is in lower case: hexadecimal digits are upper-case letters."
+rule_text Upper = codes "An upper-case letter stands outside of a hexadecimal number: registers are in lower case."
+rule_text Decimal = codes "A decimal number stands behind #: but for 1 to 8 of addq, subq and shifts, and 0 to 15 of trap, it has $ and full width, as #$0048."
+rule_text Dollar = codes "A $ stands in it: but for targets of branches and .long, PowerPC numbers are decimal."
+rule_text Operands = codes "The name is good, but no instruction has these operands here: their number, a kind, a range or width of a number, or the reach of a target is wrong."
