@@ -366,7 +366,7 @@ fn a_restored_machine_is_saved_as_it_was(rt: HostRuntime) {
     let alloc = rt.alloc();
     let bytes = image(&rt, alloc, Frames::None);
     is_kept(&rt, alloc, &bytes);
-    is_cut(&rt, alloc, &bytes, 20000, 3, 8);
+    is_cut(&rt, alloc, &bytes, 20000, 2, 36);
     is_cut(&rt, alloc, &bytes, 10, 100_000, 10);
     is_cut(&rt, alloc, &bytes, 140, 100_000, 140);
 }
