@@ -1,5 +1,5 @@
 -- Words from memory on.
-use Rattle.std.proofs.Common.{◌≡◌, ℕ, ◌+◌, ◌-◌, ◌<◌, ◌≤◌, ◌==◌, ◌∙◌, Bool, false, zero, suc, List, [], ◌∷◌, length, take, drop, set, Ok, ap, arith}
+use Rattle.std.proofs.Common.{◌≡◌, ℕ, ◌+◌, ◌-◌, ◌<◌, ◌≤◌, ◌==◌, ◌∙◌, Bool, false, zero, suc, List, [], ◌∷◌, length, take, drop, set, Ok, ap, sym, arith}
 use Rattle.std.proofs.lemmas.Bool.Decides.{nat_tests}
 use Rattle.std.proofs.lemmas.Grind.{common_steps}
 use borrow.Rule.Slice.PartMut.{put_mid}
@@ -38,3 +38,11 @@ some_of list b is none = grind (arith, nat_tests)
 pub tail_length : (first : ℕ) (list : List ℕ) → 0 < length list → length (take (length (set list 0 first) - 1) (drop 1 (set list 0 first))) ≡ length list - 1
 tail_length first [] some = absurd (omega (arith, some))
 tail_length first (x ∷ xs) some = grind (arith, common_steps)
+
+-- the places behind the words that are read
+pub rest_kept : (first n : ℕ) (list rest : List ℕ) → 0 < length list → drop n rest ≡ drop n (take (length (set list 0 first) - 1) (drop 1 (set list 0 first)))
+    → drop (1 + n) (first ∷ rest) ≡ drop (1 + n) list
+rest_kept first n [] rest some kept = absurd (omega (arith, some))
+rest_kept first n (x ∷ xs) rest some kept =
+    let all : take (length (set (x ∷ xs) 0 first) - 1) (drop 1 (set (x ∷ xs) 0 first)) ≡ xs = grind (arith, common_steps) in
+    ap (λ k. drop k (first ∷ rest)) (one-more n) ∙ (kept ∙ ap (drop n) all) ∙ ap (λ k. drop k (x ∷ xs)) (sym (one-more n))

@@ -33,6 +33,7 @@ pub fn read_words(ram: &Ram, a: u32, words: &mut [u16]) -> usize
     ensures count { result ≤ length words.old }
     ensures length { length words.new ≡ length words.old }
     ensures words { take result words.new ≡ words_from (length words.old) ram.now a }
+    ensures rest { drop result words.new ≡ drop result words.old }
 {
     if words.is_empty() {
         return 0;
