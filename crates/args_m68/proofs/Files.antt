@@ -19,7 +19,7 @@ use Rattle.proc_info.specs.declared.conv.Route.{Route}
 use Rattle.proc_info.specs.declared.conv.Route.TheVariants.{PascalStack, CStack, Registers}
 use Rattle.args_m68.specs.declared.places.Place.{Place}
 use Rattle.args_m68.specs.declared.places.Place.TheVariants.{Stack, Data, Address, Condition}
-use Rattle.args_m68.specs.inner.Places.{IsThere}
+use Rattle.args_m68.specs.PlacesClauses.{IsThere}
 use Rattle.args_m68.specs.Places.{place_by, place_numbered, place_of, selector_place}
 use Rattle.args_m68.specs.Values.{value_at, with_value}
 use Rattle.args_m68.specs.Gather.{values_at}

@@ -21,7 +21,7 @@ use Rattle.args_m68.specs.declared.places.Place.{Place}
 use Rattle.args_m68.specs.declared.places.Place.TheVariants.{Stack, Data, Address, Condition}
 use Rattle.proc_info.specs.declared.conv.Route.{Route}
 use Rattle.proc_info.specs.declared.conv.Route.TheVariants.{PascalStack, CStack, Registers}
-use Rattle.args_m68.specs.inner.Places.{IsThere}
+use Rattle.args_m68.specs.PlacesClauses.{IsThere}
 use Rattle.proc_info.specs.Routes.{route_of}
 use Rattle.args_m68.specs.Places.{params_bytes, result_bytes, result_place, selector_width}
 use Rattle.args_m68.specs.Values.{Given, above_sp, flag_in, put_at, value_at, with_flag, with_value}

@@ -3,8 +3,8 @@ pub mod Deliver
 pub mod DeliverClauses
 pub mod Gather
 pub mod Places
+pub mod PlacesClauses
 pub mod Results
 pub mod ResultsClauses
 pub mod Values
 pub mod laws
-pub mod inner

@@ -1,6 +1,6 @@
 // Where the values of a call stand.
 ghost use Rattle.std.specs.Prelude.{◌≡◌, ◌+◌, ◌*◌, ◌≤◌, ◌<◌, length};
-ghost use Rattle.args_m68.specs.inner.Places.{IsThere};
+ghost use Rattle.args_m68.specs.PlacesClauses.{IsThere};
 ghost use Rattle.args_m68.specs.Places.{flag_numbered as flag_numbered_lem, next_base as next_base_lem, params_bytes as params_bytes_lem, place_numbered as place_numbered_lem, place_of, result_bytes as result_bytes_lem, result_place as result_place_lem, selector_place as selector_place_lem, selector_width as selector_width_lem, width as width_lem, widths as widths_lem};
 
 use mix_bits::Size;

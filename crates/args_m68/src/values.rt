@@ -1,7 +1,7 @@
 // A value at its place.
 ghost use Rattle.std.specs.Prelude.{◌≡◌, slice_index};
 ghost use Rattle.big_memory.specs.StoresClauses.{OnlyFree};
-ghost use Rattle.args_m68.specs.inner.Places.{IsThere};
+ghost use Rattle.args_m68.specs.PlacesClauses.{IsThere};
 ghost use Rattle.args_m68.specs.ResultsClauses.{Leaves};
 ghost use Rattle.args_m68.specs.Values.{above_sp as above_sp_lem, flag_in, put_at as put_at_lem, value_at as value_at_lem, with_flag, with_value};
 

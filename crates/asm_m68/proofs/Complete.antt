@@ -30,7 +30,7 @@ use Rattle.asm_m68.proofs.Spelled.{texts_spell, words_spell}
 use Rattle.asm_m68.specs.declared.assembler.AsmError.{AsmError}
 use Rattle.asm_m68.specs.declared.assembler.AsmError.TheVariants.{Name, Operands}
 use Rattle.asm_m68.specs.Assembly.{Gives, IsData, IsText, data_text}
-use Rattle.asm_m68.specs.inner.Assembly.{GivesSome}
+use Rattle.asm_m68.specs.KnownLines.{GivesSome}
 use Rattle.asm_m68.specs.AssemblyClauses.{answer}
 use Rattle.asm_m68.specs.inner.Answering.{assembled, checked, has_text, prints, tells, with_form}
 use Rattle.asm_m68.specs.laws.AssemblyLaws.{GivenAreNamed, GivesOne}

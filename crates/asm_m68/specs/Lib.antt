@@ -1,6 +1,7 @@
 pub mod Assembly
 pub mod AssemblyClauses
 pub mod Code
+pub mod KnownLines
 pub mod Reading
-pub mod laws
 pub mod inner
+pub mod laws

@@ -8,7 +8,7 @@ ghost use Rattle.asm_m68.specs.Code.{IsPadded, kept};
 ghost use Rattle.asm_m68.specs.laws.Operands.{read_all};
 ghost use Rattle.asm_m68.specs.laws.Spelling.{spelled};
 ghost use Rattle.asm_m68.specs.Assembly.{Gives, data_text};
-ghost use Rattle.asm_m68.specs.inner.Assembly.{GivesSome};
+ghost use Rattle.asm_m68.specs.KnownLines.{GivesSome};
 ghost use Rattle.asm_m68.specs.AssemblyClauses.{IsFew, answer};
 ghost use Rattle.asm_m68.specs.laws.Assembly.{count_of};
 ghost use Rattle.asm_m68.specs.inner.Answering.{assembled, checked, has_text as has_text_of, prints as prints_of};

@@ -24,7 +24,7 @@ use Rattle.asm_ppc.specs.Reading.{none, read}
 use Rattle.asm_ppc.specs.inner.Spelling.{is_long, placed, spelled}
 use Rattle.asm_ppc.specs.inner.Table.{Row, looked_up, lookup, table}
 use Rattle.asm_ppc.specs.Assembly.{Gives}
-use Rattle.asm_ppc.specs.inner.Assembly.{GivesSome}
+use Rattle.asm_ppc.specs.KnownLines.{GivesSome}
 use Rattle.asm_ppc.specs.inner.Answering.{assembled, checked, text_as, with_entry}
 use Rattle.asm_ppc.specs.laws.AssemblyLaws.{GivenAreNamed, GivesOne}
 use Rattle.asm_ppc.proofs.Texts.{all_taken, name-back, numbers-back}

@@ -1,4 +1,5 @@
 pub mod Assembly
+pub mod KnownLines
 pub mod Reading
-pub mod laws
 pub mod inner
+pub mod laws

@@ -1,4 +1,3 @@
 pub mod Answering
-pub mod Assembly
 pub mod Spelling
 pub mod Table

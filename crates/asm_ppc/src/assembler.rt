@@ -3,7 +3,7 @@ ghost use Rattle.std.specs.Str.{bytes_eq};
 ghost use Rattle.mix_bits.specs.Names.{name_of};
 ghost use Rattle.ppc_text.specs.Listed.{is_name};
 ghost use Rattle.asm_ppc.specs.Assembly.{Gives};
-ghost use Rattle.asm_ppc.specs.inner.Assembly.{GivesSome};
+ghost use Rattle.asm_ppc.specs.KnownLines.{GivesSome};
 ghost use Rattle.asm_ppc.specs.inner.Answering.{assembled, checked as checked_of, text_as};
 ghost use Rattle.asm_ppc.specs.declared.assembler.AsmError.TheVariants.{Name as NameError, Operands as OperandsError};
 

@@ -13,7 +13,7 @@ use Rattle.big_memory.specs.laws.Laws.{BytesOfSize, OpenInMemory, ProbePasses, P
 use Rattle.big_memory.specs.Memory.{Memory, IsRam, in_memory, refusal, stored}
 use Rattle.big_memory.specs.MemoryClauses.{IsDoneUnless, IsDoneUnlessRefused}
 use Rattle.big_memory.specs.StoresClauses.{OnlyFree}
-use Rattle.big_memory.specs.inner.Stores.{Stores, first_refusal, longs_refusal, with_longs}
+use Rattle.big_memory.specs.StoresWhole.{Stores, first_refusal, longs_refusal, with_longs}
 use Rattle.big_memory.specs.Stores.{stored_longs, stored_unless, stored_value}
 use Rattle.big_memory.proofs.Lists.{length-put}
 use Rattle.big_memory.proofs.Guarded.{Passes, loads_back, passes, passes_within}

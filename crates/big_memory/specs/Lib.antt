@@ -5,9 +5,10 @@ pub mod Marks
 pub mod Memory
 pub mod MemoryClauses
 pub mod Numbers
+pub mod Open
 pub mod Steps
 pub mod StepsClauses
 pub mod Stores
 pub mod StoresClauses
+pub mod StoresWhole
 pub mod laws
-pub mod inner

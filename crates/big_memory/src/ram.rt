@@ -6,9 +6,9 @@ ghost use Rattle.mix_bits.specs.declared.size.Size.TheVariants.{One, Two, Four};
 ghost use Rattle.big_memory.specs.Lists.{part};
 ghost use Rattle.big_memory.specs.MemoryClauses.{IsDoneUnless, IsDoneUnlessRefused, with_marks};
 ghost use Rattle.big_memory.specs.Memory.{IsRam, copied, copy_refusal, filled, floor_of, in_memory, loaded, meets_gate, meets_guard, refusal, stored, with_bytes, zeroed};
-ghost use Rattle.big_memory.specs.inner.Memory.{is_open};
+ghost use Rattle.big_memory.specs.Open.{is_open};
 ghost use Rattle.big_memory.specs.Numbers.{AreBytes, AreLongs, bytes_of_longs, long_at, longs_at, number_at};
-ghost use Rattle.big_memory.specs.inner.Stores.{Stores, StoresIf, longs_refusal, with_longs};
+ghost use Rattle.big_memory.specs.StoresWhole.{Stores, StoresIf, longs_refusal, with_longs};
 ghost use Rattle.big_memory.specs.Stores.{stored_long, stored_longs, stored_value};
 
 use super::map::{GATE_PAGE, GATE_PAGE_END};

@@ -1,7 +1,7 @@
 // What a container imports.
 ghost use Rattle.std.specs.Prelude.{◌≡◌, ℕ, ◌<◌, ◌≤◌, length, slice_index};
 ghost use Rattle.pef_head.specs.Parts.{import_count};
-ghost use Rattle.pef_head.specs.inner.Parts.{library_of};
+ghost use Rattle.pef_head.specs.PartsByNumber.{library_of};
 
 use indexmap::IndexMap;
 use look_text::{Piece, add_line};

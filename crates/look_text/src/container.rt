@@ -2,7 +2,7 @@
 ghost use Rattle.std.specs.Prelude.{◌≡◌, ℕ, ◌^◌, ◌<◌, ◌≤◌, ◌++◌, IfSome, OnOk, length, slice_index};
 ghost use Rattle.big_memory.specs.Map.{host_functions};
 ghost use Rattle.pef_head.specs.Parts.{import_count};
-ghost use Rattle.pef_head.specs.inner.Parts.{library_of};
+ghost use Rattle.pef_head.specs.PartsByNumber.{library_of};
 ghost use Rattle.pef_head.specs.PartsClauses.{names};
 ghost use Rattle.mix_load.specs.LoadClauses.{IsSmall};
 ghost use Rattle.look_text.specs.inner.Maps.{container_file_text};

@@ -3,7 +3,7 @@ ghost use Rattle.std.specs.Prelude.{◌≡◌, ℕ, ◌^◌, ◌%◌, ◌<◌, �
 ghost use Rattle.mix_bits.specs.Search.{least};
 ghost use Rattle.pef_head.specs.Container.{instantiated_count};
 ghost use Rattle.pef_head.specs.PartsClauses.{IsLoadable, parts};
-ghost use Rattle.pef_head.specs.inner.Parts.{reloc_header_of};
+ghost use Rattle.pef_head.specs.PartsByNumber.{reloc_header_of};
 ghost use Rattle.mix_load.specs.Sections.{pattern_refusal};
 ghost use Rattle.mix_load.specs.laws.Sections.{total_at};
 ghost use Rattle.look_words.specs.inner.Unmade.{HasSizes, IsBadlyRelocated, IsUnmade, is_badly_packed as is_packed_badly, is_badly_relocated as is_relocated_badly};

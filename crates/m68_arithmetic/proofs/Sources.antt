@@ -14,7 +14,7 @@ use Rattle.big_memory.specs.Memory.{Memory}
 use Rattle.big_memory.specs.Steps.{After}
 use Rattle.big_memory.specs.StepsClauses.{Does}
 use Rattle.big_memory.specs.Steps.After.{Stops}
-use Rattle.m68_ea.specs.inner.Finds.{Takes}
+use Rattle.m68_ea.specs.FindsClauses.{Takes}
 use Rattle.m68_ea.specs.Operands.{sourced}
 use Rattle.m68_ea.specs.Words.{words_at}
 use Rattle.m68_effects.specs.laws.Operations.{runs_with}

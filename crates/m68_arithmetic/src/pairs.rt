@@ -5,7 +5,7 @@ ghost use Rattle.mix_bits.specs.declared.size.Size.TheVariants.{Zero};
 ghost use Rattle.m68_isa.specs.First.{first_of, size_of as size_of_bits};
 ghost use Rattle.big_memory.specs.StepsClauses.{Does};
 ghost use Rattle.m68_isa.specs.declared.ea.Ea.TheVariants.{Pre};
-ghost use Rattle.m68_effects.specs.inner.Operations.{result_of};
+ghost use Rattle.m68_effects.specs.Operations.{result_of};
 ghost use Rattle.m68_effects.specs.laws.Ops.{by_op};
 ghost use Rattle.m68_effects.specs.Parts.{after, changed, pairwise};
 

@@ -4,7 +4,7 @@ ghost use Rattle.mix_bits.specs.Addresses.{onward as onward_of};
 ghost use Rattle.m68_isa.specs.First.{first_of, one_to_eight};
 ghost use Rattle.m68_isa.specs.laws.Fits.{Fits, IsChangeable};
 ghost use Rattle.big_memory.specs.StepsClauses.{Does};
-ghost use Rattle.m68_effects.specs.inner.Operations.{changed_by};
+ghost use Rattle.m68_effects.specs.Operations.{changed_by};
 ghost use Rattle.m68_effects.specs.laws.Ops.{by_op};
 ghost use Rattle.m68_effects.specs.Parts.{after, goes_on};
 ghost use Rattle.m68_arithmetic.specs.inner.Parts.{with_away};

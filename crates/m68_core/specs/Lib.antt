@@ -1,4 +1,5 @@
 pub mod Fetch
+pub mod FetchClauses
 pub mod Steps
-pub mod laws
 pub mod inner
+pub mod laws

@@ -4,7 +4,7 @@ ghost use Rattle.std.specs.Bool.{OnTrue};
 ghost use Rattle.big_memory.specs.Map.{gate_page_end};
 ghost use Rattle.m68_ea.specs.Words.{words_at};
 ghost use Rattle.m68_core.specs.laws.Edge.{IsFirst, IsThere};
-ghost use Rattle.m68_core.specs.inner.Fetch.{IsPlain};
+ghost use Rattle.m68_core.specs.FetchClauses.{IsPlain};
 ghost use Rattle.m68_core.specs.Fetch.{places_of};
 
 use big_memory::{GATE_PAGE_END, Ram};

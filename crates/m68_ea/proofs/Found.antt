@@ -7,7 +7,7 @@ use Rattle.m68_isa.specs.declared.operand.Operand.{Operand}
 use Rattle.m68_isa.specs.Operands.{operand_at}
 use Rattle.m68_ea.specs.declared.places.Place68.{Place68}
 use Rattle.m68_ea.specs.Places.{placed, with_address}
-use Rattle.m68_ea.specs.inner.Finds.{Finds}
+use Rattle.m68_ea.specs.FindsClauses.{Finds}
 use Rattle.m68_ea.proofs.Back.{address_kept, moved_back}
 
 -- no register changes

@@ -9,7 +9,7 @@ use Rattle.m68_isa.specs.declared.ea.Ea.TheVariants.{Imm}
 use Rattle.m68_isa.specs.Operands.{immediate_at, immediate_words, operand_at}
 use Rattle.big_memory.specs.Memory.{Memory}
 use Rattle.m68_ea.specs.Operands.{sourced}
-use Rattle.m68_ea.specs.inner.Usual.{TakesUsual, is_usual}
+use Rattle.m68_ea.specs.Usual.{TakesUsual, is_usual}
 
 abbrev with_value : Regs68 → ℕ → Result (Regs68 × ℕ) Fault
 with_value r v = Ok (r, v)

@@ -11,17 +11,17 @@ use Rattle.m68_isa.specs.declared.operand.Operand.{Operand}
 use Rattle.m68_isa.specs.Operands.{extended_word, operand_at}
 use Rattle.big_memory.specs.declared.refusals.Access.{Access}
 use Rattle.big_memory.specs.Memory.{Memory, loaded}
-use Rattle.big_memory.specs.inner.Memory.{is_open}
-use Rattle.big_memory.specs.inner.Stores.{StoresIf}
+use Rattle.big_memory.specs.Open.{is_open}
+use Rattle.big_memory.specs.StoresWhole.{StoresIf}
 use Rattle.big_memory.specs.Stores.{stored_value}
 use Rattle.m68_ea.specs.declared.places.Place68.{Place68}
 use Rattle.m68_ea.specs.declared.places.Place68.TheVariants.{Mem}
 use Rattle.m68_ea.specs.Accesses.{or_fault}
-use Rattle.m68_ea.specs.inner.Finds.{KeepsControl}
+use Rattle.m68_ea.specs.FindsClauses.{KeepsControl}
 use Rattle.m68_ea.specs.Finds.{KeepsOthers}
 use Rattle.m68_ea.specs.Operands.{sourced, value_at, written_at}
 use Rattle.m68_ea.specs.Places.{placed, step_of, with_address}
-use Rattle.m68_ea.specs.inner.Usual.{IsLeft, TakesUsual, WritesUsual, is_open_at, is_usual}
+use Rattle.m68_ea.specs.Usual.{IsLeft, TakesUsual, WritesUsual, is_open_at, is_usual}
 use Rattle.m68_ea.specs.Words.{words_at}
 
 -- the operand whose words begin with word `first`

@@ -1,9 +1,10 @@
 pub mod Accesses
 pub mod AccessesClauses
 pub mod Finds
+pub mod FindsClauses
 pub mod Operands
 pub mod Places
 pub mod PlacesClauses
+pub mod Usual
 pub mod Words
 pub mod laws
-pub mod inner

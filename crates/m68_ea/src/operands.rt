@@ -5,7 +5,7 @@ ghost use Rattle.m68_isa.specs.Classes.{in_class};
 ghost use Rattle.m68_isa.specs.Operands.{operand_at, special_at};
 ghost use Rattle.m68_isa.specs.Classes.Class.{Control};
 ghost use Rattle.mix_bits.specs.declared.size.Size.TheVariants.{One, Two, Four};
-ghost use Rattle.m68_ea.specs.inner.Finds.{Finds, FindsAddress, FindsAt, FindsControl, FindsIndexed, FindsPlace, HasFound, HasTarget, Puts, Reads, Takes};
+ghost use Rattle.m68_ea.specs.FindsClauses.{Finds, FindsAddress, FindsAt, FindsControl, FindsIndexed, FindsPlace, HasFound, HasTarget, Puts, Reads, Takes};
 ghost use Rattle.mix_bits.specs.declared.fault.FaultKind.TheVariants.{Illegal};
 ghost use Rattle.m68_ea.specs.PlacesClauses.{IsWritable};
 ghost use Rattle.m68_ea.specs.Places.{placed, with_address};

@@ -3,12 +3,12 @@
 // calls for operands of any mode.
 ghost use Rattle.std.specs.Prelude.{◌≡◌, ◌+◌, ◌<◌, ◌≤◌, ◌==◌, nat_le, ◌&&◌, ◌||◌, IfSome, IfNone, MatchOption, Ok, OnSome, is_ok, true, false, slice_index};
 ghost use Rattle.mix_bits.specs.Sizes.{bytes_of};
-ghost use Rattle.big_memory.specs.inner.Memory.{is_open};
+ghost use Rattle.big_memory.specs.Open.{is_open};
 ghost use Rattle.big_memory.specs.Memory.{loaded};
 ghost use Rattle.m68_isa.specs.Operands.{operand_at};
 ghost use Rattle.m68_ea.specs.Operands.{sourced, written_at};
 ghost use Rattle.m68_ea.specs.Places.{with_address};
-ghost use Rattle.m68_ea.specs.inner.Usual.{FindsUsual, IsLeft, IsUsual, PutsUsual, TakesUsual, WritesUsual, is_usual};
+ghost use Rattle.m68_ea.specs.Usual.{FindsUsual, IsLeft, IsUsual, PutsUsual, TakesUsual, WritesUsual, is_usual};
 ghost use Rattle.m68_ea.specs.Words.{words_at};
 ghost use Rattle.m68_ea.specs.declared.places.Place68.TheVariants.{Mem};
 

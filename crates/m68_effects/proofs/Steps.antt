@@ -15,7 +15,7 @@ use Rattle.big_memory.specs.Steps.{After}
 use Rattle.big_memory.specs.StepsClauses.{Does}
 use Rattle.big_memory.specs.Steps.After.{Goes, Stops}
 use Rattle.m68_ea.specs.declared.places.Place68.{Place68}
-use Rattle.m68_ea.specs.inner.Finds.{IsAt}
+use Rattle.m68_ea.specs.FindsClauses.{IsAt}
 use Rattle.m68_ea.specs.Operands.{loaded_at, put_into, sourced, value_at}
 use Rattle.m68_ea.specs.Finds.{unless_illegal}
 use Rattle.m68_effects.specs.laws.Operations.{runs_with}

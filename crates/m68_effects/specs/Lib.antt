@@ -5,10 +5,11 @@ pub mod Decimal
 pub mod Logic
 pub mod Movement
 pub mod Multiple
+pub mod Operations
 pub mod Parts
 pub mod Rows
 pub mod Shifts
 pub mod Stack
+pub mod StackClauses
 pub mod Step
 pub mod laws
-pub mod inner

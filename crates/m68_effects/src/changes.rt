@@ -5,10 +5,10 @@ ghost use Rattle.m68_isa.specs.First.{first_of};
 ghost use Rattle.m68_isa.specs.laws.Fits.{IsChangeable};
 ghost use Rattle.m68_isa.specs.Operands.{operand_at};
 ghost use Rattle.big_memory.specs.StepsClauses.{Does};
-ghost use Rattle.m68_ea.specs.inner.Finds.{IsAt};
+ghost use Rattle.m68_ea.specs.FindsClauses.{IsAt};
 ghost use Rattle.m68_effects.specs.laws.Tried.{Tries};
 ghost use Rattle.m68_ea.specs.Words.{words_at};
-ghost use Rattle.m68_effects.specs.inner.Operations.{changed_at, changed_by, changed_by_data, changed_by_data_at};
+ghost use Rattle.m68_effects.specs.Operations.{changed_at, changed_by, changed_by_data, changed_by_data_at};
 
 use super::operation::{Operation, apply, set_flags};
 use crate::go_on;

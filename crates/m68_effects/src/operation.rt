@@ -1,7 +1,7 @@
 ghost use Rattle.std.specs.Prelude.{◌≡◌, ◌≢◌};
 ghost use Rattle.mix_bits.specs.declared.size.Size.TheVariants.{Zero};
 ghost use Rattle.m68_effects.specs.Logic.{complement as complement_of};
-ghost use Rattle.m68_effects.specs.inner.Operations.{result_of};
+ghost use Rattle.m68_effects.specs.Operations.{result_of};
 
 use m68_alu::{Out, abcd, add, addx, logic, result_flags, sbcd, set_result_flags, sub, subx};
 use m68_isa::{Ccr, LogicOp};

@@ -4,10 +4,10 @@ ghost use Rattle.mix_bits.specs.declared.size.Size.TheVariants.{Zero};
 ghost use Rattle.m68_isa.specs.First.{first_of};
 ghost use Rattle.m68_isa.specs.Operands.{operand_at};
 ghost use Rattle.big_memory.specs.StepsClauses.{Does};
-ghost use Rattle.m68_ea.specs.inner.Finds.{IsAt};
+ghost use Rattle.m68_ea.specs.FindsClauses.{IsAt};
 ghost use Rattle.m68_effects.specs.laws.Tried.{Tries};
 ghost use Rattle.m68_ea.specs.Words.{words_at};
-ghost use Rattle.m68_effects.specs.inner.Operations.{taken_at, taken_by};
+ghost use Rattle.m68_effects.specs.Operations.{taken_at, taken_by};
 
 use super::operation::{Operation, apply};
 use crate::go_on;

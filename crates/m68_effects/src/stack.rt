@@ -2,8 +2,8 @@ ghost use Rattle.std.specs.Prelude.{slice_index};
 ghost use Rattle.mix_bits.specs.declared.size.Size.TheVariants.{Four};
 ghost use Rattle.m68_isa.specs.declared.ea.Ea.TheVariants.{Post, Pre};
 ghost use Rattle.m68_effects.specs.Stack.{Pops, Pushes};
-ghost use Rattle.m68_effects.specs.inner.Stack.{PushesIf};
-ghost use Rattle.big_memory.specs.inner.Memory.{is_open};
+ghost use Rattle.m68_effects.specs.StackClauses.{PushesIf};
+ghost use Rattle.big_memory.specs.Open.{is_open};
 ghost use Rattle.m68_ea.specs.Operands.{put_into, sourced};
 ghost use Rattle.mix_bits.specs.Addresses.{backward as backward_of};
 

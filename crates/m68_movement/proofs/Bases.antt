@@ -17,7 +17,7 @@ use Rattle.m68_isa.specs.declared.registers.Regs68.{Regs68}
 use Rattle.m68_isa.specs.Operands.{operand_at}
 use Rattle.big_memory.specs.Memory.{Memory}
 use Rattle.m68_ea.specs.Places.{address_of}
-use Rattle.m68_ea.specs.inner.Finds.{FindsControl}
+use Rattle.m68_ea.specs.FindsClauses.{FindsControl}
 use Rattle.m68_effects.specs.Multiple.{movem_from_memory, movem_onto, movem_out_of, movem_to_memory}
 use Rattle.m68_effects.specs.laws.Ops.{runs_made}
 use Rattle.m68_effects.specs.Parts.{after}

@@ -9,7 +9,7 @@ ghost use Rattle.m68_isa.specs.Moves.{move_mode};
 ghost use Rattle.m68_isa.specs.Operands.{operand_at};
 ghost use Rattle.m68_isa.specs.Rows.{taken};
 ghost use Rattle.big_memory.specs.StepsClauses.{Does};
-ghost use Rattle.m68_ea.specs.inner.Finds.{IsAt};
+ghost use Rattle.m68_ea.specs.FindsClauses.{IsAt};
 ghost use Rattle.m68_ea.specs.Operands.{sourced};
 ghost use Rattle.m68_effects.specs.laws.Tried.{Tries};
 ghost use Rattle.m68_ea.specs.Words.{words_at};

@@ -2,7 +2,7 @@
 use Rattle.std.proofs.Common.{◌≡◌, ℕ, zero, suc, ◌+◌, ◌<◌, ◌≤◌, ◌^◌, List, ◌++◌, length, length-append, decimal, Bool, true, false, refl, arith, sym, ap, subst}
 use Rattle.std.proofs.lemmas.Fmt.{length-decimal-le}
 use Rattle.std.proofs.lemmas.Grind.{common_steps}
-use Rattle.mix_bits.specs.inner.Text.{AppendsWithin}
+use Rattle.mix_bits.specs.LineClauses.{AppendsWithin}
 use Rattle.mix_bits.specs.Text.{hexadecimal}
 
 pub hexadecimal_length : (k v : ℕ) → length (hexadecimal k v) ≡ k

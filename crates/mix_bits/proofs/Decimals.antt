@@ -1,7 +1,7 @@
 -- How long numbers in decimal are.
 use Rattle.std.proofs.Common.{◌≡◌, ℕ, ◌<◌, ◌≤◌, ◌^◌, ◌+◌, ◌++◌, length, length-append, decimal, Bool, true, false, List, arith, sym, subst}
 use Rattle.std.proofs.lemmas.Fmt.{length-decimal-le}
-use Rattle.mix_bits.specs.inner.Text.{AppendsWithin}
+use Rattle.mix_bits.specs.LineClauses.{AppendsWithin}
 
 -- a number of 32 bits has at most ten digits
 pub decimal_short : (n : ℕ) → n < 2 ^ 32 → length (decimal n) ≤ 10

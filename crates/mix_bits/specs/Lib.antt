@@ -3,6 +3,7 @@ pub mod Digits
 pub mod Faults
 pub mod Fields
 pub mod Isas
+pub mod LineClauses
 pub mod Multiples
 pub mod Names
 pub mod Numbers
@@ -14,4 +15,3 @@ pub mod Sizes
 pub mod Text
 pub mod TextClauses
 pub mod laws
-pub mod inner

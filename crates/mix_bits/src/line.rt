@@ -1,6 +1,6 @@
 ghost use Rattle.std.specs.Prelude.{◌≡◌, ◌⊎◌, ◌+◌, ◌*◌, ◌/◌, ◌%◌, ◌<◌, ℕ, List, [], decimal, true};
 ghost use Rattle.std.specs.Fmt.{digit_glyph};
-ghost use Rattle.mix_bits.specs.inner.Text.{AppendsWithin};
+ghost use Rattle.mix_bits.specs.LineClauses.{AppendsWithin};
 ghost use Rattle.mix_bits.specs.Text.{hexadecimal};
 ghost use Rattle.mix_bits.specs.TextClauses.{most_bytes};
 

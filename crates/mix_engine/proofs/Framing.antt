@@ -14,7 +14,7 @@ use Rattle.switch_frame.specs.Sets.{caller_isa, callee_isa, frame_size}
 use Rattle.switch_frame.specs.Chain.{Chain, Links, cleared, records}
 use Rattle.big_memory.specs.Lists.{zeros}
 use Rattle.switch_frame.specs.CallsClauses.{IsCalled, IsPlace}
-use Rattle.switch_frame.specs.inner.Calls.{IsInnermost}
+use Rattle.switch_frame.specs.Innermost.{IsInnermost}
 use Rattle.switch_frame.specs.Calls.{IsOutermost, active_set}
 use Rattle.switch_frame.specs.laws.FrameLaws.{IsFirst}
 use Rattle.switch_frame.specs.laws.Laws.{IsStored}

@@ -14,7 +14,7 @@ use Rattle.switch_frame.specs.declared.held.Held.{Held}
 use Rattle.switch_frame.specs.Records.{Record, isa_of}
 use Rattle.switch_frame.specs.RecordsClauses.{held_of, record_of}
 use Rattle.switch_frame.specs.Chain.{cleared}
-use Rattle.switch_frame.specs.inner.Calls.{IsInnermost}
+use Rattle.switch_frame.specs.Innermost.{IsInnermost}
 use Rattle.switch_frame.specs.Calls.{active_set}
 use Rattle.switch_frame.specs.CallsClauses.{innermost}
 use Rattle.toolbox.specs.Effects.{Around}

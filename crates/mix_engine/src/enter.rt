@@ -8,7 +8,7 @@ ghost use Rattle.switch_frame.specs.Records.{isa_of};
 ghost use Rattle.switch_frame.specs.RecordsClauses.{record_of};
 ghost use Rattle.switch_frame.specs.Sets.{callee_isa};
 ghost use Rattle.mode_switch.specs.Callee.{below as below_of};
-ghost use Rattle.mode_switch.specs.inner.Views.{args_of, crossing, passage, wanted_of};
+ghost use Rattle.mode_switch.specs.Views.{args_of, crossing, passage, wanted_of};
 ghost use Rattle.mode_switch.specs.declared.passed.Passed.{Passed as APassed};
 ghost use Rattle.mode_switch.specs.laws.Wanted.{IsMeant, Means};
 ghost use Rattle.mode_switch.specs.Wanted.{or_zero, passed_selector as passed_selector_of};

@@ -3,13 +3,13 @@ ghost use Rattle.std.specs.Prelude.{◌≡◌, ◌+◌, ◌-◌, ◌≤◌, leng
 ghost use Rattle.big_memory.specs.Memory.{floor_of};
 ghost use Rattle.proc_info.specs.Codes.{is_dispatched};
 ghost use Rattle.proc_info.specs.Signature.{has_signature};
-ghost use Rattle.switch_frame.specs.inner.Calls.{IsInnermost};
+ghost use Rattle.switch_frame.specs.Innermost.{IsInnermost};
 ghost use Rattle.switch_frame.specs.CallsClauses.{IsPlace};
 ghost use Rattle.switch_frame.specs.Calls.{active_set};
 ghost use Rattle.switch_frame.specs.Records.{Record, isa_of};
 ghost use Rattle.switch_frame.specs.Sets.{callee_isa, caller_isa};
 ghost use Rattle.mode_switch.specs.Callee.{below as below_of, fresh, stack_of};
-ghost use Rattle.mode_switch.specs.inner.Views.{args_of, crossing};
+ghost use Rattle.mode_switch.specs.Views.{args_of, crossing};
 ghost use Rattle.mode_switch.specs.Wanted.{passed_selector};
 ghost use Rattle.mixed_machine.specs.Machine.{IsWhole, callers_of};
 ghost use Rattle.mix_engine.specs.inner.Frames.{IsReady, IsResumed, IsSuspended};

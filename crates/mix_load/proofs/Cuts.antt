@@ -5,7 +5,7 @@ use Rattle.std.proofs.lemmas.Bool.{and_parts, ltb-true}
 use Rattle.std.proofs.lemmas.List.{take_all}
 use Rattle.std.proofs.lemmas.Slice.Eq.{bytes_eq-Decides}
 use Rattle.pef_head.specs.Parts.{ImportParts}
-use Rattle.pef_head.specs.inner.Parts.{cut}
+use Rattle.pef_head.specs.PartsByNumber.{cut}
 use Rattle.toolbox.specs.Table.{imports}
 use Rattle.toolbox.specs.Names.{import_index, is_named}
 use Rattle.mix_load.specs.Sections.{import_address, resolved}

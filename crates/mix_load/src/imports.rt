@@ -1,7 +1,7 @@
 //! The imports of a container: transition vectors of the host's functions.
 ghost use Rattle.std.specs.Prelude.{◌≡◌, ℕ, ◌^◌, ◌<◌, ◌≤◌, length, option_map, slice_index, IfOk};
 ghost use Rattle.pef_head.specs.Parts.{import_count, import_of};
-ghost use Rattle.pef_head.specs.inner.Parts.{library_of};
+ghost use Rattle.pef_head.specs.PartsByNumber.{library_of};
 ghost use Rattle.pef_head.specs.PartsClauses.{names};
 ghost use Rattle.mix_bits.specs.Search.{least};
 ghost use Rattle.mix_load.specs.ContainerImage.{imports_refusal};

@@ -4,7 +4,7 @@ ghost use Rattle.std.specs.Result.{result_err};
 ghost use Rattle.big_memory.specs.Lists.{part};
 ghost use Rattle.big_memory.specs.Memory.{with_bytes};
 ghost use Rattle.pef_head.specs.Container.{instantiated_count};
-ghost use Rattle.pef_head.specs.inner.Parts.{reloc_header_of};
+ghost use Rattle.pef_head.specs.PartsByNumber.{reloc_header_of};
 ghost use Rattle.mix_load.specs.ContainerImage.{relocations_refusal};
 ghost use Rattle.mix_load.specs.Pieces.{with_pieces};
 ghost use Rattle.mix_load.specs.inner.Sections.{IsPlaced, Stand};

@@ -31,7 +31,7 @@ use Rattle.m68_isa.specs.Rows.{sized, taken}
 use Rattle.mix_bits.specs.declared.fault.Fault.{Fault}
 use Rattle.m68_ea.specs.declared.operands.Target.{Target}
 use Rattle.m68_ea.specs.declared.places.Place68.{Place68}
-use Rattle.m68_ea.specs.inner.Finds.{Finds}
+use Rattle.m68_ea.specs.FindsClauses.{Finds}
 use Rattle.m68_ea.specs.Places.{placed}
 use Rattle.m68_ea.specs.Words.{words_at}
 use Rattle.big_memory.specs.Memory.{Memory}

@@ -6,9 +6,9 @@ use Rattle.mix_io.specs.Streams.{Output, Grows, Breaks, StopsWithin}
 use Rattle.mix_io.proofs.Streams.{grows-none, grows-more, breaks-after}
 use Rattle.mix_text.specs.Lines.{lines_of}
 use Rattle.mix_text.specs.Assembling.{Assembles, IsAssembled, IsGiven, IsWithRest, before, refused_at}
-use Rattle.mix_text.specs.inner.Assembling.{HasBytes}
+use Rattle.mix_text.specs.AssemblingClauses.{HasBytes}
 use Rattle.mix_text.specs.inner.Parts.{Adds, GivesBytes, behind_line, first_line}
-use Rattle.mix_text.specs.inner.Assembling.{OfBytes}
+use Rattle.mix_text.specs.AssemblingClauses.{OfBytes}
 use Rattle.mix_text.specs.declared.refused.Reason.{Reason}
 use Rattle.mix_text.specs.declared.refused.Refused.{Refused}
 use Rattle.mix_text.proofs.Once.{one_given}

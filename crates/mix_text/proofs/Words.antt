@@ -1,7 +1,7 @@
 -- What was written of an instruction.
 use Rattle.std.proofs.Common.{◌≡◌, ℕ, List, Option, Some, None, sym, ap, ◌∙◌, refl}
 use Rattle.mix_text.specs.Listing.{Listed, listed_as}
-use Rattle.mix_text.specs.inner.ListingParts.{Writes}
+use Rattle.mix_text.specs.ListingClauses.{Writes}
 
 -- what was written is the instruction's text; or it does not lie whole in memory
 pub written : (o : Option Listed) (bytes : ℕ) (text : List ℕ) → Writes o (Some bytes) text → o ≡ Some (listed_as text bytes)

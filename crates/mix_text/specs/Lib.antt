@@ -1,5 +1,7 @@
 pub mod Assembling
+pub mod AssemblingClauses
 pub mod Lines
 pub mod Listing
-pub mod laws
+pub mod ListingClauses
 pub mod inner
+pub mod laws

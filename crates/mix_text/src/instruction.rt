@@ -5,7 +5,7 @@ ghost use Rattle.big_memory.specs.Memory.{loaded};
 ghost use Rattle.m68_isa.specs.Fields.{HasWords};
 ghost use Rattle.m68_ea.specs.Words.{words_at};
 ghost use Rattle.mix_text.specs.Listing.{bytes_m68, instruction, listed_m68, listed_ppc};
-ghost use Rattle.mix_text.specs.inner.ListingParts.{Writes};
+ghost use Rattle.mix_text.specs.ListingClauses.{Writes};
 
 use big_memory::Ram;
 use m68_ea::read_words;

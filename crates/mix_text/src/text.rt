@@ -2,7 +2,7 @@
 ghost use Rattle.std.specs.Prelude.{◌^◌, ◌+◌, ◌<◌, ◌≤◌, [], Err, IfErr, OnErr, OnOk, length};
 ghost use Rattle.mix_io.specs.Streams.{Breaks, Grows, StopsWithin};
 ghost use Rattle.mix_io.specs.StreamsClauses.{output};
-ghost use Rattle.mix_text.specs.inner.Assembling.{HasBytes, OfBytes};
+ghost use Rattle.mix_text.specs.AssemblingClauses.{HasBytes, OfBytes};
 ghost use Rattle.mix_text.specs.Assembling.{IsAssembled};
 ghost use Rattle.mix_text.specs.inner.Parts.{Adds};
 

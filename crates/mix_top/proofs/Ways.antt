@@ -62,7 +62,7 @@ use Rattle.mix_top.specs.inner.World.{EndsIn}
 use Rattle.mix_engine.specs.inner.Does.{beside as sinks_beside}
 use Rattle.mix_top.specs.Files.{AreFiles, IsNamed, bytes_in, ram_size}
 use Rattle.mix_text.specs.Assembling.{IsAssembled}
-use Rattle.mix_text.specs.inner.Assembling.{OfBytes}
+use Rattle.mix_text.specs.AssemblingClauses.{OfBytes}
 use Rattle.mix_text.specs.declared.refused.Refused.{Refused}
 use Rattle.mix_top.specs.Assembling.{AssembleWay, line_refusal}
 use Rattle.mix_top.specs.Assembling.AssembleWay.{assembled, line_refused}

@@ -6,8 +6,8 @@ ghost use Rattle.args_m68.specs.Arguments.{words_of};
 ghost use Rattle.switch_frame.specs.Records.{isa_of};
 ghost use Rattle.switch_frame.specs.Sets.{callee_isa};
 ghost use Rattle.mode_switch.specs.Callee.{below as below_lem, callee_sp, fresh, return_sp};
-ghost use Rattle.mode_switch.specs.inner.Callee.{delivered};
-ghost use Rattle.mode_switch.specs.inner.Views.{crossing};
+ghost use Rattle.mode_switch.specs.CalleeClauses.{delivered};
+ghost use Rattle.mode_switch.specs.Views.{crossing};
 ghost use Rattle.mode_switch.specs.Wanted.{passed_selector as passed_selector_lem};
 
 use crate::{Call, Entry};

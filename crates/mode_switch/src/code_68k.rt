@@ -1,7 +1,7 @@
 // What 68K code wants.
 ghost use Rattle.std.specs.Prelude.{◌≡◌};
 ghost use Rattle.proc_info.specs.Views.{signature};
-ghost use Rattle.mode_switch.specs.inner.Views.{wanted_of};
+ghost use Rattle.mode_switch.specs.Views.{wanted_of};
 ghost use Rattle.mode_switch.specs.laws.Wanted.{Means};
 ghost use Rattle.mode_switch.specs.Wanted.{goes_by as goes_by_lem, loaded_or_fault, selector_68k as selector_68k_lem, selector_among_68k, takes_68k as takes_68k_lem, target_of as target_of_lem, wants_68k as wants_68k_lem};
 

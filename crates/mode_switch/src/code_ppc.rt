@@ -3,7 +3,7 @@ ghost use Rattle.std.specs.Prelude.{◌≡◌};
 ghost use Rattle.proc_info.specs.Views.{signature};
 ghost use Rattle.mix_bits.specs.declared.size.Size.TheVariants.{Two};
 ghost use Rattle.big_memory.specs.Memory.{loaded};
-ghost use Rattle.mode_switch.specs.inner.Views.{wanted_of};
+ghost use Rattle.mode_switch.specs.Views.{wanted_of};
 ghost use Rattle.mode_switch.specs.laws.Wanted.{Means};
 ghost use Rattle.mode_switch.specs.Wanted.{selector_among_ppc, selector_ppc as selector_ppc_lem, settled, takes_ppc as takes_ppc_lem, wants_ppc as wants_ppc_lem, wants_raw as wants_raw_lem, wants_word as wants_word_lem};
 
@@ -83,7 +83,7 @@ struct Universal<'a> {
 
 impl Universal<'_> {
     ghost use Rattle.std.specs.Prelude.{◌≡◌};
-    ghost use Rattle.mode_switch.specs.inner.Views.{wanted_of};
+    ghost use Rattle.mode_switch.specs.Views.{wanted_of};
     ghost use Rattle.mode_switch.specs.Wanted.{called_by as called_by_lem, settled};
 
     /// The call of a record. Another procInfo than the record's is refused.

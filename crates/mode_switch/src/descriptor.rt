@@ -4,7 +4,7 @@ ghost use Rattle.mix_bits.specs.declared.fault.Fault.{Fault};
 ghost use Rattle.big_memory.specs.Memory.{Memory};
 ghost use Rattle.routine_desc.specs.declared.record.Rec.{Rec as ARec};
 ghost use Rattle.routine_desc.specs.inner.Read.{Counts};
-ghost use Rattle.mode_switch.specs.inner.Views.{wanted_of};
+ghost use Rattle.mode_switch.specs.Views.{wanted_of};
 ghost use Rattle.mode_switch.specs.Wanted.{Want, settled, wants_desc as wants_desc_lem};
 
 use crate::Wanted;

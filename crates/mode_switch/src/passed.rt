@@ -4,7 +4,7 @@ ghost use Rattle.proc_info.specs.Views.{signature};
 ghost use Rattle.args_m68.specs.Arguments.{answered as values_answered};
 ghost use Rattle.switch_frame.specs.Records.{isa_of};
 ghost use Rattle.mode_switch.specs.Passed.{behind, entry_at as entry_at_lem, gathered, passed};
-ghost use Rattle.mode_switch.specs.inner.Views.{answered, crossing, going_on};
+ghost use Rattle.mode_switch.specs.Views.{answered, crossing, going_on};
 
 use crate::{Call, Target};
 use args_m68::{Words, gather68};

@@ -4,7 +4,7 @@ ghost use Rattle.mix_bits.specs.Faults.{fault_at};
 ghost use Rattle.mix_bits.specs.declared.fault.FaultKind.TheVariants.{NoRecord};
 ghost use Rattle.proc_info.specs.Codes.{is_dispatched};
 ghost use Rattle.routine_desc.specs.Layout.{has_flag};
-ghost use Rattle.mode_switch.specs.inner.Views.{crossing, wanted_of};
+ghost use Rattle.mode_switch.specs.Views.{crossing, wanted_of};
 ghost use Rattle.mode_switch.specs.Wanted.{bad_desc as bad_desc_lem, call_of_record, or_zero, target_of as target_of_lem};
 ghost use Rattle.mode_switch.specs.Wanted.Want.{Refuses};
 

@@ -1,7 +1,7 @@
 // What a return gives back.
 ghost use Rattle.std.specs.Prelude.{◌≡◌};
 ghost use Rattle.proc_info.specs.Views.{signature};
-ghost use Rattle.mode_switch.specs.inner.Returned.{GivesBack, Puts};
+ghost use Rattle.mode_switch.specs.ReturnedClauses.{GivesBack, Puts};
 ghost use Rattle.mode_switch.specs.Returned.{given_back, put_result as put_result_lem, result_at as result_at_lem};
 
 use args_m68::{put_result68, result68};

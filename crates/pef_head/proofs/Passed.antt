@@ -9,7 +9,7 @@ use Rattle.pef_head.specs.PlacesClauses.{HasTables}
 use Rattle.pef_head.specs.Places.{is_repeated, has_end, library_name, relocated, symbol_name, words_end}
 use Rattle.pef_head.specs.Owners.{is_lost, owners}
 use Rattle.pef_head.specs.Parts.{ImportParts, import_at, import_of}
-use Rattle.pef_head.specs.inner.Parts.{cut}
+use Rattle.pef_head.specs.PartsByNumber.{cut}
 use Rattle.pef_head.specs.Read.{IsRead}
 use Rattle.pef_head.specs.Refusals.{entries_refusal, is_bad_relocation, is_nameless_library, is_nameless_symbol, loader_refusal, names_refusal, refusal_of}
 use Rattle.mix_bits.specs.Search.{least}

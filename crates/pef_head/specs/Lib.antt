@@ -4,6 +4,7 @@ pub mod Loader
 pub mod Names
 pub mod Owners
 pub mod Parts
+pub mod PartsByNumber
 pub mod PartsClauses
 pub mod Places
 pub mod PlacesClauses

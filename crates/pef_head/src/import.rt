@@ -1,6 +1,6 @@
 ghost use Rattle.std.specs.Prelude.{◌≡◌, ℕ, ◌<◌, true};
 ghost use Rattle.pef_head.specs.Owners.{owners};
-ghost use Rattle.pef_head.specs.inner.Parts.{cut};
+ghost use Rattle.pef_head.specs.PartsByNumber.{cut};
 ghost use Rattle.pef_head.specs.Parts.{import_at, is_weak, owner_of};
 ghost use Rattle.pef_head.specs.PartsClauses.{names};
 ghost use Rattle.pef_head.specs.PlacesClauses.{HasTables};

@@ -34,7 +34,7 @@ impl<'a> Pef<'a> {
     ghost use Rattle.mix_bits.specs.declared.file.TheConstants.{MOST_BYTES};
     ghost use Rattle.pef_head.specs.Container.{instantiated_count};
     ghost use Rattle.pef_head.specs.PartsClauses.{IsLoadable, names, parts};
-    ghost use Rattle.pef_head.specs.inner.Parts.{cut, library_of, reloc_header_of};
+    ghost use Rattle.pef_head.specs.PartsByNumber.{cut, library_of, reloc_header_of};
     ghost use Rattle.pef_head.specs.Parts.{import_count, import_of, main_of, relocs_of, section_at};
     ghost use Rattle.pef_head.specs.Refusals.{refusal_of};
     ghost use Rattle.pef_head.specs.Whole.{IsContainer};

@@ -7,7 +7,7 @@ ghost use Rattle.ppc_integer.specs.Storage.{reversed as reversed_of, reversed_si
 ghost use Rattle.ppc_isa.specs.declared.instruction.InstrPpc.TheVariants.{Reversed};
 ghost use Rattle.ppc_isa.specs.declared.instruction.ReversedAccess.TheVariants.{LoadReversed, StoreReversed};
 ghost use Rattle.big_memory.specs.Memory.{loaded};
-ghost use Rattle.big_memory.specs.inner.Stores.{Stores};
+ghost use Rattle.big_memory.specs.StoresWhole.{Stores};
 ghost use Rattle.big_memory.specs.Stores.{stored_value};
 
 use big_memory::{Access, Did, Ram, refuse};

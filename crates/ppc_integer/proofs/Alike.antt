@@ -3,7 +3,7 @@ use Rattle.std.proofs.Common.{◌≡◌, ℕ, Bool, ap, subst, ◌∙◌}
 use Rattle.big_memory.specs.declared.steps.Did.{Did}
 use Rattle.ppc_isa.specs.declared.registers.RegsPpc.{RegsPpc}
 use Rattle.ppc_alu.specs.declared.arith.Arith.{Arith}
-use Rattle.ppc_integer.specs.inner.Alone.{Ends}
+use Rattle.ppc_integer.specs.AloneClauses.{Ends}
 use Rattle.ppc_integer.specs.Arithmetic.{with_arith}
 use Rattle.ppc_integer.specs.File.{with_result}
 use Rattle.ppc_alu.specs.Outcomes.{added}

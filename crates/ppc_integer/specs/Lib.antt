@@ -1,4 +1,5 @@
 pub mod Alone
+pub mod AloneClauses
 pub mod Arithmetic
 pub mod Branches
 pub mod Condition
@@ -13,4 +14,3 @@ pub mod Strings
 pub mod Traps
 pub mod Xer
 pub mod laws
-pub mod inner

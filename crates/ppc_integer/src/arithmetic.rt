@@ -6,7 +6,7 @@ ghost use Rattle.ppc_integer.specs.File.{gpr_of};
 ghost use Rattle.ppc_integer.specs.Arithmetic.{carry_into as carry_into_of, operand_of, sets_ca as sets_ca_of, with_arith};
 ghost use Rattle.ppc_isa.specs.declared.instruction.InstrPpc.TheVariants.{Add, AddExtended, AddImmediate, AddImmediateCarrying, Divide, MultiplyLowImmediate, Negate, SubtractFrom, SubtractFromExtended, SubtractFromImmediateCarrying, Multiply};
 ghost use Rattle.ppc_isa.specs.declared.instruction.Multiplication.TheVariants.{MultiplyHigh, MultiplyLow};
-ghost use Rattle.ppc_integer.specs.inner.Alone.{Ends};
+ghost use Rattle.ppc_integer.specs.AloneClauses.{Ends};
 ghost use Rattle.ppc_integer.specs.Alone.{Runs};
 
 use super::addresses::base;

@@ -6,7 +6,7 @@ ghost use Rattle.ppc_isa.specs.declared.instruction.Comparison.TheVariants.{Comp
 ghost use Rattle.ppc_isa.specs.declared.instruction.ConditionMove.TheVariants.{MoveFromConditionRegister, MoveToConditionFields};
 ghost use Rattle.ppc_integer.specs.Condition.{with_field};
 ghost use Rattle.ppc_integer.specs.Conditions.{cr_op as cr_op_of};
-ghost use Rattle.ppc_integer.specs.inner.Alone.{Ends};
+ghost use Rattle.ppc_integer.specs.AloneClauses.{Ends};
 ghost use Rattle.ppc_integer.specs.Alone.{Runs};
 
 use super::condition::{cr_bit, cr_field, with_cr_bit, with_cr_field, with_cr0};

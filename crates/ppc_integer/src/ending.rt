@@ -3,7 +3,7 @@ ghost use Rattle.std.specs.Prelude.{◌<◌, ◌/◌, ◌==◌, true, false};
 ghost use Rattle.ppc_isa.specs.Fields.{fields_of};
 ghost use Rattle.ppc_integer.specs.Arithmetic.{with_arith};
 ghost use Rattle.ppc_integer.specs.File.{with_result};
-ghost use Rattle.ppc_integer.specs.inner.Alone.{Ends};
+ghost use Rattle.ppc_integer.specs.AloneClauses.{Ends};
 
 use super::results::{Sets, advance, put_arith, put_result};
 use big_memory::Did;

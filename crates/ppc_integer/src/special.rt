@@ -2,7 +2,7 @@
 ghost use Rattle.ppc_isa.specs.Fields.{fields_of};
 ghost use Rattle.ppc_isa.specs.declared.instruction.InstrPpc.TheVariants.{MoveSpecial};
 ghost use Rattle.ppc_isa.specs.declared.instruction.SpecialMove.TheVariants.{MoveFromSpecial, MoveToSpecial};
-ghost use Rattle.ppc_integer.specs.inner.Alone.{Ends};
+ghost use Rattle.ppc_integer.specs.AloneClauses.{Ends};
 ghost use Rattle.ppc_integer.specs.Alone.{Runs};
 
 use super::ending::finish;

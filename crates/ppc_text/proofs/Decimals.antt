@@ -4,7 +4,7 @@ use Rattle.std.specs.Fmt.{signed_decimal}
 use Rattle.std.proofs.lemmas.Fmt.{length-decimal-le}
 use Rattle.std.proofs.lemmas.Grind.{common_steps}
 use Rattle.mix_bits.specs.Sizes.{signed_of}
-use Rattle.mix_bits.specs.inner.Text.{AppendsWithin}
+use Rattle.mix_bits.specs.LineClauses.{AppendsWithin}
 use Rattle.mix_bits.specs.declared.size.Size.TheVariants.{Two}
 
 decimal_short : (n : ℕ) → n < 2 ^ 16 → length (decimal n) ≤ 5

@@ -18,7 +18,7 @@ use Rattle.switch_frame.specs.laws.Chain.{Above, Apart, IsFrameRange}
 use Rattle.switch_frame.specs.Chain.{Fits, Frames, IsHeld, IsInside, Links, Chain, outer_of, records, covered, in_range, cleared, most_frames}
 use Rattle.big_memory.specs.Lists.{zeros}
 use Rattle.switch_frame.specs.CallsClauses.{IsPlace, IsCalled, innermost}
-use Rattle.switch_frame.specs.inner.Calls.{IsInnermost}
+use Rattle.switch_frame.specs.Innermost.{IsInnermost}
 use Rattle.switch_frame.specs.Calls.{is_crossed}
 use Rattle.big_memory.proofs.Rams.{bytes_keep_ram}
 use Rattle.switch_frame.proofs.Pieces.{length-zeros}

@@ -4,6 +4,7 @@ pub mod Chain
 pub mod Checks
 pub mod ChecksClauses
 pub mod Files
+pub mod Innermost
 pub mod Pieces
 pub mod Program
 pub mod ProgramClauses
@@ -12,4 +13,3 @@ pub mod RecordsClauses
 pub mod Seen
 pub mod Sets
 pub mod laws
-pub mod inner

@@ -4,7 +4,7 @@ ghost use Rattle.big_memory.specs.Lists.{put};
 ghost use Rattle.big_memory.specs.Memory.{IsRam, with_bytes};
 ghost use Rattle.proc_info.specs.Signature.{has_signature};
 ghost use Rattle.switch_frame.specs.CallsClauses.{IsCalled, IsPlace, innermost, with_frame};
-ghost use Rattle.switch_frame.specs.inner.Calls.{IsInnermost};
+ghost use Rattle.switch_frame.specs.Innermost.{IsInnermost};
 ghost use Rattle.switch_frame.specs.Chain.{Chain, IsHeld, Links, cleared, outer_of, records};
 ghost use Rattle.switch_frame.specs.laws.Chain.{IsFrameRange};
 ghost use Rattle.big_memory.specs.Lists.{zeros};

@@ -12,5 +12,6 @@ pub mod Puts
 pub mod Registers
 pub mod Table
 pub mod TableClauses
-pub mod laws
+pub mod Traps
 pub mod inner
+pub mod laws

@@ -1,4 +1,3 @@
 pub mod Calls
 pub mod Performs
 pub mod Puts
-pub mod Traps

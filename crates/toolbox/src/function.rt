@@ -3,7 +3,7 @@
 ghost use Rattle.std.specs.Prelude.{◌≡◌, ◌<◌};
 ghost use Rattle.toolbox.specs.Functions.{function_at};
 ghost use Rattle.toolbox.specs.Table.{number_of, row};
-ghost use Rattle.toolbox.specs.inner.Traps.{IsReached};
+ghost use Rattle.toolbox.specs.Traps.{IsReached};
 
 use crate::table::Register::{A0, A1, D0, D1};
 use crate::table::{FUNCTIONS, Import, NOWHERE, PpcResults, Row};

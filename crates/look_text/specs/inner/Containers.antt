@@ -5,7 +5,7 @@ use Rattle.big_memory.specs.Map.{host_vector_at}
 use Rattle.pef_head.specs.declared.error.PefError.{PefError}
 use Rattle.pef_head.specs.Container.{instantiated_count}
 use Rattle.pef_head.specs.Parts.{ImportParts, SectionParts, import_count, import_of, section_at}
-use Rattle.pef_head.specs.inner.Parts.{cut}
+use Rattle.pef_head.specs.PartsByNumber.{cut}
 use Rattle.pef_head.specs.Refusals.{refusal_of}
 use Rattle.toolbox.specs.Names.{import_index}
 use Rattle.mix_load.specs.Sections.{section_base}

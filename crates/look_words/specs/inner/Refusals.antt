@@ -9,7 +9,7 @@ use Rattle.rsrc_fork.specs.declared.error.RsrcError.{RsrcError}
 use Rattle.rsrc_fork.specs.declared.error.RsrcError.TheVariants.{NoMemory as NoForkMemory, Short, Overlap, BadOffset, Twice, Compressed}
 use Rattle.pef_head.specs.declared.error.PefError.{PefError}
 use Rattle.pef_head.specs.Parts.{ImportParts, import_count, import_of}
-use Rattle.pef_head.specs.inner.Parts.{cut}
+use Rattle.pef_head.specs.PartsByNumber.{cut}
 use Rattle.pef_head.specs.Refusals.{refusal_of}
 use Rattle.mix_load.specs.declared.error.LoadError.{LoadError}
 use Rattle.mix_load.specs.declared.error.LoadError.TheVariants.{NoMemory, Empty, Rsrc as NoFork, NoCode, Far, JumpTable, Pef as NoHead, TooLarge, Reloc, Unresolved, NoMain}

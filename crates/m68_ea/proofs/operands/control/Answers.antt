@@ -8,7 +8,7 @@ use Rattle.m68_isa.specs.Operands.{operand_at}
 use Rattle.m68_ea.specs.declared.places.Place68.{Place68}
 use Rattle.m68_ea.specs.Places.{address_in}
 use Rattle.m68_ea.specs.Words.{words_at}
-use Rattle.m68_ea.specs.inner.Finds.{FindsAddress, FindsControl}
+use Rattle.m68_ea.specs.FindsClauses.{FindsAddress, FindsControl}
 use Rattle.m68_ea.proofs.operands.control.Goals as goal
 
 controls : (r : Regs68) (first : ℕ) (e : Size → Operand) (s : Size) (result : Option ℕ) (next : ℕ) (cell : Fault)

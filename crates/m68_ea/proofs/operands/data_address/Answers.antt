@@ -6,7 +6,7 @@ use Rattle.m68_isa.specs.declared.registers.Regs68.{Regs68}
 use Rattle.m68_isa.specs.declared.operand.Operand.{Operand}
 use Rattle.m68_isa.specs.Operands.{operand_at}
 use Rattle.m68_ea.specs.Words.{words_at}
-use Rattle.m68_ea.specs.inner.Finds.{FindsAddress, FindsAt}
+use Rattle.m68_ea.specs.FindsClauses.{FindsAddress, FindsAt}
 use Rattle.m68_ea.proofs.operands.data_address.Goals as goal
 
 stands_at : (r : Regs68) (first : ℕ) (e : Size → Operand) (s : Size) (result : Option ℕ) (next : ℕ) (cell : Fault)

@@ -1,6 +1,6 @@
 use Rattle.std.proofs.Common.{subst}
 use Rattle.m68_isa.specs.Operands.{operand_at}
-use Rattle.m68_ea.specs.inner.Usual.{TakesUsual}
+use Rattle.m68_ea.specs.Usual.{TakesUsual}
 use Rattle.m68_ea.specs.Words.{words_at}
 use Rattle.m68_ea.proofs.Back.{address_kept}
 use Rattle.m68_ea.proofs.Immediate.{immediate_taken, no_immediate}

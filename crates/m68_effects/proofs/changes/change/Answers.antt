@@ -4,8 +4,8 @@ use Rattle.m68_isa.specs.First.{first_of}
 use Rattle.m68_isa.specs.Operands.{operand_at}
 use Rattle.m68_isa.specs.declared.operand.Operand.{Operand}
 use Rattle.m68_alu.specs.declared.sums.Out.{Out}
-use Rattle.m68_ea.specs.inner.Finds.{before}
-use Rattle.m68_effects.specs.inner.Operations.{result_of}
+use Rattle.m68_ea.specs.FindsClauses.{before}
+use Rattle.m68_effects.specs.Operations.{result_of}
 use Rattle.m68_effects.specs.Parts.{with_ccr}
 use Rattle.m68_ea.specs.Words.{words_at}
 use Rattle.m68_effects.proofs.Changing.{found, illegal, read, unread, unwritten, written}

@@ -1,7 +1,7 @@
 use Rattle.std.proofs.Common.{◌+◌, subst}
 use Rattle.m68_isa.specs.Operands.{immediate_at}
 use Rattle.big_memory.specs.StepsClauses.{Does}
-use Rattle.m68_effects.specs.inner.Operations.{changed_at}
+use Rattle.m68_effects.specs.Operations.{changed_at}
 use Rattle.m68_ea.specs.Words.{words_at}
 use Rattle.m68_effects.proofs.changes.change_by_data.Goals as goal
 

@@ -1,4 +1,4 @@
-use Rattle.m68_effects.specs.inner.Operations.{changed_by_data}
+use Rattle.m68_effects.specs.Operations.{changed_by_data}
 use Rattle.m68_effects.proofs.Tried.{then_by_others}
 use Rattle.m68_effects.proofs.changes.change_memory_by_data.Goals as goal
 

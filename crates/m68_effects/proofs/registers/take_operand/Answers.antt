@@ -1,4 +1,4 @@
-use Rattle.m68_effects.specs.inner.Operations.{taken_by}
+use Rattle.m68_effects.specs.Operations.{taken_by}
 use Rattle.m68_effects.proofs.Tried.{then_by_others}
 use Rattle.m68_effects.proofs.registers.take_operand.Goals as goal
 

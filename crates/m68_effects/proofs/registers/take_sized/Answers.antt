@@ -4,7 +4,7 @@ use Rattle.mix_bits.specs.Sizes.{low_replaced}
 use Rattle.m68_isa.specs.declared.registers.Regs68.{Regs68}
 use Rattle.m68_isa.specs.First.{first_of}
 use Rattle.m68_isa.specs.Operands.{operand_at}
-use Rattle.m68_effects.specs.inner.Operations.{result_of}
+use Rattle.m68_effects.specs.Operations.{result_of}
 use Rattle.m68_effects.specs.Parts.{Effect, goes_on, with_ccr, with_result}
 use Rattle.m68_ea.specs.Places.{with_data}
 use Rattle.m68_ea.specs.Words.{words_at}

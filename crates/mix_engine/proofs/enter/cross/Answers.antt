@@ -1,5 +1,5 @@
 use Rattle.std.proofs.Common.{ap}
-use Rattle.mode_switch.specs.inner.Views.{crossing, wanted_of}
+use Rattle.mode_switch.specs.Views.{crossing, wanted_of}
 use Rattle.mixed_machine.specs.Enter.{crosses, enters}
 use Rattle.mixed_machine.specs.Machine.{flat}
 use Rattle.mix_io.specs.StreamsClauses.{output}

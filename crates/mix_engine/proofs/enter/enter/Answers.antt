@@ -2,7 +2,7 @@ use Rattle.std.proofs.Common.{Ok, Err, ap, sym, subst, ◌∙◌}
 use Rattle.big_memory.specs.Faults.{fault_of}
 use Rattle.switch_frame.specs.Records.{isa_of}
 use Rattle.switch_frame.specs.CallsClauses.{IsPlace}
-use Rattle.mode_switch.specs.inner.Views.{crossing, passage}
+use Rattle.mode_switch.specs.Views.{crossing, passage}
 use Rattle.mode_switch.specs.laws.Wanted.{IsMeant}
 use Rattle.mixed_machine.specs.Enter.{enters, enters_with}
 use Rattle.mixed_machine.specs.Machine.{IsWhole}

@@ -1,7 +1,7 @@
 use Rattle.std.proofs.Common.{◌≡◌, Ok, refl, ap, ◌∙◌}
 use Rattle.switch_frame.specs.RecordsClauses.{record_of}
 use Rattle.call_trace.specs.Lines.{call_line}
-use Rattle.mode_switch.specs.inner.Views.{crossing, passage}
+use Rattle.mode_switch.specs.Views.{crossing, passage}
 use Rattle.mixed_machine.specs.Enter.{entered, enters_with, suspended}
 use Rattle.mix_io.specs.StreamsClauses.{output}
 use Rattle.mix_engine.proofs.Doing.{call-some, does-call, does-cut, line-cut, line-taken}

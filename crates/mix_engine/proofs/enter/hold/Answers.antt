@@ -1,6 +1,6 @@
 use Rattle.std.proofs.Common.{◌≡◌, ◌+◌, ◌-◌, ◌^◌, ◌<◌, ◌≤◌, length, arith, ap, sym, ◌∙◌}
 use Rattle.mixed_machine.specs.Machine.{callers_of}
-use Rattle.mode_switch.specs.inner.Views.{crossing, passage}
+use Rattle.mode_switch.specs.Views.{crossing, passage}
 use Rattle.switch_frame.specs.Sets.{caller_isa, frame_size}
 use Rattle.mix_engine.proofs.Framing.{callers-are, held-is, links-are}
 use Rattle.mix_engine.proofs.enter.hold.Goals as goal

@@ -3,7 +3,7 @@ use Rattle.std.proofs.Common.{◌+◌, ◌≤◌, length, arith, ap, sym, subst,
 use Rattle.big_memory.specs.Memory.{floor_of}
 use Rattle.proc_info.specs.Signature.{has_signature}
 use Rattle.mixed_machine.specs.Machine.{IsWhole, callers_of}
-use Rattle.mode_switch.specs.inner.Views.{crossing, passage}
+use Rattle.mode_switch.specs.Views.{crossing, passage}
 use Rattle.switch_frame.specs.CallsClauses.{IsPlace}
 use Rattle.switch_frame.specs.Records.{Record, isa_of}
 use Rattle.switch_frame.specs.Sets.{caller_isa}

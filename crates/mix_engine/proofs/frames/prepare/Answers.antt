@@ -2,7 +2,7 @@ use Rattle.std.proofs.Common.{◌≡◌, ◌+◌, ◌-◌, ◌≤◌, length, ar
 use Rattle.big_memory.specs.Memory.{floor_of, with_bytes}
 use Rattle.switch_frame.specs.Sets.{callee_isa, caller_isa}
 use Rattle.mode_switch.specs.Callee.{stack_of}
-use Rattle.mode_switch.specs.inner.Views.{args_of, crossing}
+use Rattle.mode_switch.specs.Views.{args_of, crossing}
 use Rattle.mode_switch.specs.Wanted.{passed_selector}
 use Rattle.mix_engine.proofs.Framing.{readied}
 use Rattle.mix_engine.proofs.frames.prepare.Goals as goal

@@ -1,5 +1,5 @@
 use Rattle.std.proofs.Common.{◌∷◌, ap, subst, sym, ◌∙◌}
-use Rattle.switch_frame.specs.inner.Calls.{IsInnermost}
+use Rattle.switch_frame.specs.Innermost.{IsInnermost}
 use Rattle.switch_frame.specs.Calls.{active_set}
 use Rattle.switch_frame.specs.Chain.{records}
 use Rattle.mixed_machine.specs.Machine.{callers_of}

@@ -1,6 +1,6 @@
 use Rattle.std.proofs.Common.{subst}
 use Rattle.switch_frame.specs.Records.{isa_of}
-use Rattle.mode_switch.specs.inner.Views.{wanted_of}
+use Rattle.mode_switch.specs.Views.{wanted_of}
 use Rattle.mixed_machine.specs.Enter.{crosses}
 use Rattle.mixed_machine.specs.Machine.{IsWhole}
 use Rattle.mix_engine.specs.inner.Cores.{leaves_code}

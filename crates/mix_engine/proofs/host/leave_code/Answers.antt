@@ -1,6 +1,6 @@
 use Rattle.std.proofs.Common.{refl, sym, ap, subst}
 use Rattle.switch_frame.specs.Records.{isa_of}
-use Rattle.mode_switch.specs.inner.Views.{wanted_of}
+use Rattle.mode_switch.specs.Views.{wanted_of}
 use Rattle.toolbox.specs.Functions.{trap_number}
 use Rattle.mixed_machine.specs.Enter.{crosses}
 use Rattle.mixed_machine.specs.Host.{hosts, traps_to}

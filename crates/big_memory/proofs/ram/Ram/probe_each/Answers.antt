@@ -1,6 +1,6 @@
 use Rattle.std.proofs.Common.{rules, ◌≡◌, ◌-◌, ◌+◌, None, Some, arith, ap, sym, ◌∙◌}
 use Rattle.big_memory.specs.Memory.{refusal}
-use Rattle.big_memory.specs.inner.Stores.{first_refusal, longs_refusal}
+use Rattle.big_memory.specs.StoresWhole.{first_refusal, longs_refusal}
 use Rattle.big_memory.proofs.Longs.{probe-err, probe-ok, probed, long-none}
 use Rattle.mix_bits.specs.Addresses.{onward}
 use Rattle.big_memory.proofs.ram.Ram.probe_each.Goals as goal

@@ -1,5 +1,5 @@
 use Rattle.std.proofs.Common.{◌≡◌, ◌-◌}
-use Rattle.big_memory.specs.inner.Stores.{longs_refusal}
+use Rattle.big_memory.specs.StoresWhole.{longs_refusal}
 use Rattle.big_memory.proofs.ram.Ram.probe_each.Given as goal
 
 abbrev pub invariant-loop-k : goal.invariant-loop-k

@@ -1,6 +1,6 @@
 use Rattle.std.proofs.Common.{arith, ap, sym, ◌∙◌, ◌+◌, drop, length, get_or}
 use Rattle.big_memory.specs.Memory.{stored}
-use Rattle.big_memory.specs.inner.Stores.{longs_refusal, with_longs}
+use Rattle.big_memory.specs.StoresWhole.{longs_refusal, with_longs}
 use Rattle.big_memory.proofs.Longs.{put-next, put-end, here-none, rest-none}
 use Rattle.mix_bits.specs.declared.size.Size.TheVariants.{Four}
 use Rattle.big_memory.proofs.ram.Ram.put_longs.Goals as goal

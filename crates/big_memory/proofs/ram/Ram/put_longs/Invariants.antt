@@ -1,5 +1,5 @@
 use Rattle.std.proofs.Common.{◌≡◌, length, drop, None}
-use Rattle.big_memory.specs.inner.Stores.{longs_refusal, with_longs}
+use Rattle.big_memory.specs.StoresWhole.{longs_refusal, with_longs}
 use Rattle.big_memory.proofs.ram.Ram.put_longs.Given as goal
 
 abbrev pub invariant-loop-value : goal.invariant-loop-value

@@ -2,7 +2,7 @@ use Rattle.std.proofs.Common.{◌≡◌, ◌∙◌, ℕ, ◌<◌, length, slice_
 use Rattle.std.proofs.lemmas.Result.{IfOk-weaker}
 use Rattle.pef_head.specs.inner.Owners.{HasOwners}
 use Rattle.pef_head.specs.Parts.{import_count}
-use Rattle.pef_head.specs.inner.Parts.{library_of}
+use Rattle.pef_head.specs.PartsByNumber.{library_of}
 use Rattle.pef_head.proofs.Views.{count_same, owners_same}
 use Rattle.pef_head.proofs.pef.Pef.owners.Goals as goal
 

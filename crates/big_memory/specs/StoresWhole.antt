@@ -1,4 +1,4 @@
--- Longs stored one after another, done or refused as a whole.
+-- How a store answers: it is done or refused as a whole, longs one after another too.
 use Rattle.std.specs.Prelude.{◌≡◌, Bool, true, false, ℕ, zero, suc, List, [], ◌∷◌, Option, Some, None, Result, Ok, Err}
 use Rattle.mix_bits.specs.declared.size.Size.TheVariants.{Four}
 use Rattle.mix_bits.specs.Addresses.{onward}

@@ -1,4 +1,4 @@
--- Imports cut to the lengths that a caller looks at.
+-- The parts of a container by their numbers: the library of a symbol, its import with names cut, a relocation header.
 use Rattle.std.specs.Prelude.{ℕ, List, take, Option}
 use Rattle.pef_head.specs.Loader.{loader_of}
 use Rattle.pef_head.specs.Parts.{ImportParts, owner_of, header_for}

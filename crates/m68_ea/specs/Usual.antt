@@ -7,12 +7,12 @@ use Rattle.m68_isa.specs.declared.registers.Regs68.{Regs68}
 use Rattle.m68_isa.specs.declared.operand.Operand.{Operand}
 use Rattle.mix_bits.specs.Sizes.{bytes_of}
 use Rattle.big_memory.specs.Memory.{Memory}
-use Rattle.big_memory.specs.inner.Memory.{is_open}
+use Rattle.big_memory.specs.Open.{is_open}
 use Rattle.big_memory.specs.StoresClauses.{OnlyFree}
 use Rattle.m68_ea.specs.declared.usual.Usual.{Usual}
 use Rattle.m68_ea.specs.declared.places.Place68.{Place68}
 use Rattle.m68_ea.specs.declared.places.Place68.TheVariants.{Mem}
-use Rattle.m68_ea.specs.inner.Finds.{KeepsControl}
+use Rattle.m68_ea.specs.FindsClauses.{KeepsControl}
 use Rattle.m68_ea.specs.Finds.{KeepsOthers}
 use Rattle.m68_ea.specs.Operands.{sourced, put_into, value_at}
 use Rattle.m68_ea.specs.Places.{placed, with_address}

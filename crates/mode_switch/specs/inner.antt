@@ -1,3 +1,0 @@
-pub mod Callee
-pub mod Returned
-pub mod Views
