@@ -3,7 +3,7 @@ ghost use Rattle.std.specs.Prelude.{◌≡◌, ℕ, ◌+◌, ◌≤◌, List, Re
 ghost use Rattle.mix_bits.specs.declared.fault.Fault.{Fault};
 ghost use Rattle.big_memory.specs.Memory.{Memory};
 ghost use Rattle.routine_desc.specs.declared.record.Rec.{Rec as ARec};
-ghost use Rattle.routine_desc.specs.inner.Read.{Counts};
+ghost use Rattle.routine_desc.specs.ReadClauses.{Counts};
 ghost use Rattle.mode_switch.specs.Views.{wanted_of};
 ghost use Rattle.mode_switch.specs.Wanted.{Want, settled, wants_desc as wants_desc_lem};
 

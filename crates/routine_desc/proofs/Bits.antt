@@ -4,7 +4,7 @@ use Rattle.std.specs.Int.RustNames.{bit_and}
 use Rattle.std.proofs.lemmas.Bool.Decides.{nat_tests}
 use Rattle.std.proofs.lemmas.Nat.Bits.{and_pow}
 use Rattle.routine_desc.specs.Layout.{has_flag}
-use Rattle.routine_desc.specs.inner.Layout.{is_flag}
+use Rattle.routine_desc.specs.LayoutClauses.{is_flag}
 
 pub bit-test : (flags flag : ℕ) → is_flag flag ≡ true → (bit_and flags flag == flag) ≡ has_flag flags flag
 bit-test flags flag is =

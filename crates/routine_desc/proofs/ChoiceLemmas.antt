@@ -6,7 +6,7 @@ use Rattle.mix_bits.specs.declared.isa.Isa.TheVariants.{Ppc}
 use Rattle.routine_desc.specs.declared.record.Rec.{Rec}
 use Rattle.std.specs.Borrow.{Bor}
 use Rattle.routine_desc.specs.Layout.{has_flag}
-use Rattle.routine_desc.specs.inner.RecordViews.{picked}
+use Rattle.routine_desc.specs.RecordViews.{picked}
 use Rattle.mix_bits.specs.Isas.{is_isa}
 use Rattle.routine_desc.specs.inner.Choice.{Found, Scan, chosen_of, found_before, found_of, matches_selector, or_else, scan_of}
 use Rattle.routine_desc.specs.Choice.{candidates, choice, chosen_among, first_of, has_selector, head_of, is_default}

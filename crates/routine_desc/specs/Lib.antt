@@ -5,6 +5,7 @@ pub mod Layout
 pub mod LayoutClauses
 pub mod Read
 pub mod ReadClauses
+pub mod RecordViews
 pub mod RefusalCodes
-pub mod laws
 pub mod inner
+pub mod laws

@@ -1,7 +1,7 @@
 // The flags of a routine record.
 ghost use Rattle.std.specs.Prelude.{◌≡◌, true, ⊤, [], ◌∷◌, codes};
 ghost use Rattle.routine_desc.specs.Layout.{has_flag};
-ghost use Rattle.routine_desc.specs.inner.Layout.{is_flag};
+ghost use Rattle.routine_desc.specs.LayoutClauses.{is_flag};
 
 use bitflags::{Flag, Flags, bitflag_items};
 

@@ -2,7 +2,7 @@
 use Rattle.routine_desc.specs.declared.choice.Found.{Found as KeptFound}
 use Rattle.routine_desc.specs.declared.choice.Scan.{Scan as KeptScan}
 use Rattle.routine_desc.specs.inner.Choice.{Found, Scan}
-use Rattle.routine_desc.specs.inner.RecordViews.{picked}
+use Rattle.routine_desc.specs.RecordViews.{picked}
 
 abbrev pub found : KeptFound → Found
 found kept = record { first = picked kept.first; native = picked kept.native; own = picked kept.own }
