@@ -73,10 +73,8 @@ moved n cursor = record cursor { position = cursor.position + n }
 
 -- behind an addition: an import is followed by the next one
 abbrev pub passed : Source → Cursor → Cursor
-passed FromC cursor = moved 4 cursor
-passed FromD cursor = moved 4 cursor
 passed FromImport cursor = record cursor { position = cursor.position + 4; index = cursor.index + 1 }
-passed (FromSection n) cursor = moved 4 cursor
+passed _ cursor = moved 4 cursor
 
 -- the section with a value added to the long at a position
 abbrev pub with_long : ℕ → ℕ → List ℕ → List ℕ

@@ -20,19 +20,15 @@ use Rattle.pef_reloc.specs.Additions.{Sources, State, Refused, refused, counted,
 
 -- how many bytes it has; what is no instruction has those of its word
 abbrev pub width : First → ℕ
-width (One i) = 2
 width (Two large high) = 4
-width (Repeat count further) = 2
-width NoRow = 2
+width _ = 2
 
 abbrev pub width_at : List ℕ → ℕ → ℕ
 width_at words place = width (first_of (word_at words place))
 
 abbrev pub is_repeat : First → Bool
-is_repeat (One i) = false
-is_repeat (Two large high) = false
 is_repeat (Repeat count further) = true
-is_repeat NoRow = false
+is_repeat _ = false
 
 -- the instruction that begins so
 abbrev pub reading_by : List ℕ → ℕ → First → Result Reading RelocError
