@@ -29,17 +29,13 @@ moved false size value bit = value / 2 + from_bool bit * half size
 
 -- X follows the bit that goes out, but not in a rotate without it
 abbrev pub extend_after : ShiftOp → Bool → Bool → Bool
-extend_after As x out = out
-extend_after Ls x out = out
-extend_after Rox x out = out
 extend_after Ro x out = x
+extend_after _ x out = out
 
 -- the sign changes in an arithmetic shift to the left
 abbrev pub changes : ShiftOp → Bool → Size → ℕ → ℕ → Bool
 changes As left size before after = left && (if is_negative size before then not (is_negative size after) else is_negative size after)
-changes Ls left size before after = false
-changes Rox left size before after = false
-changes Ro left size before after = false
+changes _ left size before after = false
 
 -- one shift by one bit
 abbrev pub once : ShiftOp → Bool → Size → Shifting → Shifting
@@ -54,10 +50,8 @@ once op left size s =
 
 -- before the first shift nothing went out, but a rotate through X begins with X
 abbrev pub out_before : ShiftOp → Ccr → Bool
-out_before As old = false
-out_before Ls old = false
 out_before Rox old = old.x
-out_before Ro old = false
+out_before _ old = false
 
 abbrev pub begun : ShiftOp → Size → ℕ → Ccr → Shifting
 begun op size v old = record { value = truncated v size; out = out_before op old; x = old.x; changed = false }
