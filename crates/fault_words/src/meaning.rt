@@ -1,7 +1,7 @@
 // What the two numbers of a fault say.
 ghost use Rattle.std.specs.Prelude.{◌≡◌, ◌++◌, OnOk};
 ghost use Rattle.fault_words.specs.Meanings.{front as front_of, meaning_of, middle as middle_of, second as second_of, word_name as name_of_word};
-ghost use Rattle.look_text.specs.inner.Pieces.{piece_text};
+ghost use Rattle.look_text.specs.Pieces.{piece_text};
 
 use crate::reasons::{descriptor_reason, info_reason, vector_reason};
 use look_text::{Piece, add_line};

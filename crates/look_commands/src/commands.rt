@@ -1,7 +1,7 @@
 // What words ask for.
 ghost use Rattle.std.specs.Prelude.{◌≡◌, ◌<◌, ◌++◌, IfOk, codes, map};
 ghost use Rattle.std.specs.String.{string_bytes};
-ghost use Rattle.look_text.specs.inner.Whys.{Explains};
+ghost use Rattle.look_text.specs.Whys.{Explains};
 ghost use Rattle.look_text.specs.declared.why.Why.{Why};
 ghost use Rattle.look_words.specs.inner.Sentences.{why_text as why_of};
 ghost use Rattle.look_commands.specs.inner.Told.{Answers, WritesWhy, behind};

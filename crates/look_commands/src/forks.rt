@@ -1,6 +1,6 @@
 // The forks of files.
 ghost use Rattle.std.specs.Prelude.{◌≡◌, ◌^◌, ◌<◌, length};
-ghost use Rattle.wrapped_forks.specs.inner.Forks.{fork_of};
+ghost use Rattle.wrapped_forks.specs.Forks.{fork_of};
 ghost use Rattle.binhex.specs.Forks.{forks_of};
 ghost use Rattle.binhex.specs.OutcomeClauses.{seen};
 ghost use Rattle.look_commands.specs.inner.Forks.{PutsEncoded, PutsFork, PutsForkOf, PutsUnwrapped, WritesFork, encoded_fork, is_want_of_memory};

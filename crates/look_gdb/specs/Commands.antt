@@ -5,7 +5,7 @@ use Rattle.mix_bits.specs.Numbers.{decimal_number, hexadecimal_number}
 use Rattle.mix_engine.specs.declared.machine.Machine.{Machine}
 use Rattle.mix_debug.specs.CrawlClauses.{crawl_of}
 use Rattle.mixed_machine.specs.Machine.{callers_of}
-use Rattle.look_text.specs.inner.Info.{info_of}
+use Rattle.look_text.specs.Info.{info_of}
 use Rattle.look_report.specs.Blocks.{heap_text}
 use Rattle.look_report.specs.Callers.{frames_text}
 use Rattle.look_gdb.specs.Views.{View}

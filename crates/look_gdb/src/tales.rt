@@ -3,7 +3,7 @@ ghost use Rattle.std.specs.Prelude.{◌≡◌, ◌++◌, [], OnOk};
 ghost use Rattle.switch_frame.specs.Records.{isa_of};
 ghost use Rattle.mixed_machine.specs.Machine.{IsWhole, callers_of};
 ghost use Rattle.mix_debug.specs.CrawlClauses.{crawl_of};
-ghost use Rattle.look_text.specs.inner.Info.{info_of};
+ghost use Rattle.look_text.specs.Info.{info_of};
 ghost use Rattle.look_report.specs.Callers.{frames_text};
 ghost use Rattle.look_gdb.specs.Commands.{help_text, steps_text, tale_text};
 

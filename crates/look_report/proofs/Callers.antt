@@ -6,7 +6,7 @@ use Rattle.switch_frame.specs.Records.{Record}
 use Rattle.switch_frame.specs.RecordsClauses.{held_of, record_of}
 use Rattle.std.specs.Prelude.{codes, decimal}
 use Rattle.mix_bits.specs.Text.{hexadecimal}
-use Rattle.look_text.specs.inner.Pieces.{joined}
+use Rattle.look_text.specs.Pieces.{joined}
 use Rattle.look_report.specs.Callers.{frames_text, told_text}
 
 none-told : (rs : List Record) → innermost rs ≡ None → rs ≡ []

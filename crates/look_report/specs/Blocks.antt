@@ -4,7 +4,7 @@ use Rattle.std.specs.List.{flat_map}
 use Rattle.mix_bits.specs.Text.{hexadecimal}
 use Rattle.host_heap.specs.Space.{Space}
 use Rattle.host_heap.specs.declared.block.Block.{Block}
-use Rattle.look_text.specs.inner.Pieces.{joined}
+use Rattle.look_text.specs.Pieces.{joined}
 use Rattle.std.specs.Prelude.{ℕ}
 
 abbrev pub block_line : Block → List ℕ

@@ -4,8 +4,8 @@ use Rattle.mix_bits.specs.Text.{hexadecimal}
 use Rattle.switch_frame.specs.Files.{pc_of}
 use Rattle.switch_frame.specs.Records.{Record, isa_of}
 use Rattle.call_trace.specs.Names.{set_name}
-use Rattle.look_text.specs.inner.Info.{info_of}
-use Rattle.look_text.specs.inner.Pieces.{joined}
+use Rattle.look_text.specs.Info.{info_of}
+use Rattle.look_text.specs.Pieces.{joined}
 
 -- where a caller's frame lies, where its code goes on, and what it called
 abbrev pub frame_line : ℕ → Record → List ℕ

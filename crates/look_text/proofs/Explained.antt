@@ -2,7 +2,7 @@
 use Rattle.std.proofs.Common.{◌≡◌, ℕ, List, Result, Ok, Err, refl, subst, sym}
 use Rattle.std.specs.Prelude.{IfOk}
 use Rattle.job_words.specs.Words.{bad_at, command_of}
-use Rattle.look_text.specs.inner.Whys.{Explains, ExplainsWord, IsAt, at_place}
+use Rattle.look_text.specs.Whys.{Explains, ExplainsWord, IsAt, at_place}
 use Rattle.look_text.specs.declared.why.Why.{Why}
 use Rattle.look_text.specs.declared.why.Why.TheVariants.{Taken, Empty, Command, Missing, Keyless, Key, Value, Again}
 

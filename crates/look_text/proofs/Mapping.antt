@@ -4,7 +4,7 @@ use Rattle.mix_load.specs.declared.error.LoadError.{LoadError}
 use Rattle.mix_load.specs.declared.error.LoadError.TheVariants.{NoMemory}
 use Rattle.mix_load.specs.declared.files.Files.{Files}
 use Rattle.mix_load.specs.Segments.{id_count}
-use Rattle.look_text.specs.inner.Maps.{files_text}
+use Rattle.look_text.specs.Maps.{files_text}
 
 pub ids_are : 32768 ≡ id_count
 unfolding id_count

@@ -1,7 +1,7 @@
 -- What the keys with a range want, as it is written.
 use Rattle.std.proofs.Common.{◌≡◌, codes, refl}
 use Rattle.std.specs.Fmt.{digits}
-use Rattle.look_text.specs.inner.Wants.{wants_text}
+use Rattle.look_text.specs.Wants.{wants_text}
 use Rattle.look_text.specs.declared.label.Label.TheVariants.{Ram, Steps, Count, Calls, Depth}
 
 pub wants_ram : wants_text Ram ≡ codes "a number of KiB from 128 to 16384, in decimal without a leading zero"

@@ -6,7 +6,7 @@ use Rattle.rsrc_fork.specs.declared.error.RsrcError.{RsrcError}
 use Rattle.rsrc_fork.specs.declared.error.RsrcError.TheVariants.{NoMemory}
 use Rattle.rsrc_fork.specs.References.{resources_of}
 use Rattle.switch_frame.specs.Program.{program_start}
-use Rattle.look_text.specs.inner.Forks.{fork_end, fork_text}
+use Rattle.look_text.specs.Forks.{fork_end, fork_text}
 
 pub refused_text : {E : Type 0} (ids : ℕ) (old bytes : List ℕ) (e : RsrcError) (r : Result ℕ E) → OnOk r (e ≢ NoMemory) → (e ≢ NoMemory → resources_of bytes ≡ Err e)
     → IfOk r (λ _. old ≡ old ++ fork_text ids (resources_of bytes))

@@ -1,1 +1,12 @@
-pub mod inner
+pub mod Containers
+pub mod Forks
+pub mod Info
+pub mod Labels
+pub mod Maps
+pub mod Pieces
+pub mod Places
+pub mod Reasons
+pub mod Tree
+pub mod Wants
+pub mod Whys
+pub mod Words

@@ -1,6 +1,6 @@
 // What `mix_io` says of a command with one word behind it.
 ghost use Rattle.std.specs.Prelude.{◌≡◌, IfOk};
-ghost use Rattle.look_text.specs.inner.Reasons.{is_refused};
+ghost use Rattle.look_text.specs.Reasons.{is_refused};
 
 use job_words::read_words;
 use mix_bits::NoMemory;

@@ -5,8 +5,8 @@ ghost use Rattle.pef_head.specs.Parts.{import_count};
 ghost use Rattle.pef_head.specs.PartsByNumber.{library_of};
 ghost use Rattle.pef_head.specs.PartsClauses.{names};
 ghost use Rattle.mix_load.specs.LoadClauses.{IsSmall};
-ghost use Rattle.look_text.specs.inner.Maps.{container_file_text};
-ghost use Rattle.look_text.specs.inner.Containers.{host_line, host_text, import_line, imports_text, parts_text};
+ghost use Rattle.look_text.specs.Maps.{container_file_text};
+ghost use Rattle.look_text.specs.Containers.{host_line, host_text, import_line, imports_text, parts_text};
 
 use crate::line::{Piece, add_line};
 use crate::pieces::add;
@@ -70,7 +70,7 @@ fn add_imports(text: &mut Vec<u8>, pef: &Pef, owners: &[u32], count: u32) -> Res
 }
 
 /// Appends the line of an import.
-#[tactic(auto, using(std::proofs::Common::append_assoc), unfolding(crate::specs::inner::Containers::import_line))]
+#[tactic(auto, using(std::proofs::Common::append_assoc), unfolding(crate::specs::Containers::import_line))]
 fn add_import(text: &mut Vec<u8>, i: u32, import: Import) -> Result<(), NoMemory>
     ensures { OnOk result (text.new.items ≡ text.old.items ++ import_line i (names import.entry)) }
 {
@@ -99,7 +99,7 @@ fn add_host(text: &mut Vec<u8>, weak: bool, index: Option<u32>) -> Result<(), No
     }
 }
 
-#[tactic(auto, unfolding(crate::specs::inner::Containers::host_line))]
+#[tactic(auto, unfolding(crate::specs::Containers::host_line))]
 fn add_function(text: &mut Vec<u8>, k: u32, vector: u32) -> Result<(), NoMemory>
     ensures { OnOk result (text.new.items ≡ text.old.items ++ host_line k vector) }
 {

@@ -1,7 +1,7 @@
 // The jump table of a fork, which stands in CODE 0.
 ghost use Rattle.std.specs.Prelude.{◌≡◌, ◌+◌, ◌*◌, ◌^◌, ◌<◌, ◌≤◌, ◌++◌, OnOk, length, slice_index};
 ghost use Rattle.mix_load.specs.Segments.{entry_place, header_of, jump_target as target_of};
-ghost use Rattle.look_text.specs.inner.Forks.{entries_text, entry_front, entry_line, target_text};
+ghost use Rattle.look_text.specs.Forks.{entries_text, entry_front, entry_line, target_text};
 
 use crate::line::{Piece, add_line};
 use crate::pieces::add;
@@ -31,7 +31,7 @@ pub fn add_entries(
 }
 
 /// Appends the line of an entry.
-#[tactic(auto, using(std::proofs::Common::append_assoc), unfolding(crate::specs::inner::Forks::entry_line))]
+#[tactic(auto, using(std::proofs::Common::append_assoc), unfolding(crate::specs::Forks::entry_line))]
 fn add_entry(
     text: &mut Vec<u8>,
     fork: &Fork,
@@ -58,7 +58,7 @@ fn add_entry(
     )
 }
 
-#[tactic(auto, unfolding(crate::specs::inner::Forks::entry_front))]
+#[tactic(auto, unfolding(crate::specs::Forks::entry_front))]
 fn add_front(
     text: &mut Vec<u8>,
     i: u32,
@@ -86,7 +86,7 @@ fn add_front(
     )
 }
 
-#[tactic(auto, unfolding(crate::specs::inner::Forks::target_text))]
+#[tactic(auto, unfolding(crate::specs::Forks::target_text))]
 fn add_target(text: &mut Vec<u8>, bad: bool, target: u32) -> Result<(), NoMemory>
     ensures { OnOk result (text.new.items ≡ text.old.items ++ target_text bad target) }
 {

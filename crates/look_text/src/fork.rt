@@ -4,7 +4,7 @@ ghost use Rattle.rsrc_fork.specs.References.{resources_of};
 ghost use Rattle.rsrc_fork.specs.declared.error.RsrcError.TheVariants.{NoMemory as NoForkMemory};
 ghost use Rattle.switch_frame.specs.Program.{program_start};
 ghost use Rattle.mix_load.specs.Segments.{has_table as has_table_by, header_of, segments_end, segments_start as start_in};
-ghost use Rattle.look_text.specs.inner.Forks.{a5_line, fork_end, fork_text, table_line, table_text, world_text};
+ghost use Rattle.look_text.specs.Forks.{a5_line, fork_end, fork_text, table_line, table_text, world_text};
 
 use crate::entries::add_entries;
 use crate::line::{Piece, add_line};
@@ -76,7 +76,7 @@ fn add_world(
     Ok(end)
 }
 
-#[tactic(auto, unfolding(crate::specs::inner::Forks::a5_line))]
+#[tactic(auto, unfolding(crate::specs::Forks::a5_line))]
 fn add_a5(text: &mut Vec<u8>, a5: u64) -> Result<(), NoMemory>
     ensures { OnOk result (text.new.items ≡ text.old.items ++ a5_line a5) }
 {
@@ -102,7 +102,7 @@ fn add_table(text: &mut Vec<u8>, fork: &Fork, code0: &[u8], places: &[u64]) -> R
     add_entries(text, fork, code0, places, count)
 }
 
-#[tactic(auto, unfolding(crate::specs::inner::Forks::table_line))]
+#[tactic(auto, unfolding(crate::specs::Forks::table_line))]
 fn add_table_line(text: &mut Vec<u8>, at: u64, count: u32) -> Result<(), NoMemory>
     ensures { OnOk result (text.new.items ≡ text.old.items ++ table_line at count) }
 {

@@ -2,7 +2,7 @@
 ghost use Rattle.std.specs.Prelude.{◌≡◌, ◌+◌, ◌*◌, ◌≤◌, ◌++◌, IfOk, OnOk, length};
 ghost use Rattle.proc_info.specs.Views.{signature};
 ghost use Rattle.std.specs.Option.{option_map};
-ghost use Rattle.look_text.specs.inner.Info.{first_word as first_of, info_of, param_text, params_text, refusal_of, result_text, selector_text, signed_text, values_text};
+ghost use Rattle.look_text.specs.Info.{first_word as first_of, info_of, param_text, params_text, refusal_of, result_text, selector_text, signed_text, values_text};
 
 use super::line::{Piece, add_line, line_of};
 use super::pieces::add;
@@ -15,7 +15,7 @@ use std::alloc::Global;
 /// What a procInfo word says: its convention, its result and each value that it declares, with the place of each in
 /// 68K code and in PowerPC code; or which rule it breaks. Places of 68K code are those where a callee begins, and that
 /// of a result is the one behind the return.
-#[tactic(auto, unfolding(crate::specs::inner::Info::info_of))]
+#[tactic(auto, unfolding(crate::specs::Info::info_of))]
 pub fn info_text(alloc: Global, word: u32) -> Result<Vec<u8>, NoMemory>
     ensures { IfOk result (λ text. text.items ≡ info_of word) }
 {
@@ -34,7 +34,7 @@ pub fn info_text(alloc: Global, word: u32) -> Result<Vec<u8>, NoMemory>
 }
 
 /// The convention of a procInfo word, and which rule it breaks, where it has no signature.
-#[tactic(auto, unfolding(crate::specs::inner::Info::refusal_of))]
+#[tactic(auto, unfolding(crate::specs::Info::refusal_of))]
 pub fn info_refusal(alloc: Global, word: u32) -> Result<Option<Vec<u8>>, NoMemory>
     ensures { IfOk result (λ text. option_map (λ line. line.items) text ≡ refusal_of word) }
 {

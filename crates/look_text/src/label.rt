@@ -20,8 +20,8 @@ pub enum Label {
 
 impl Label {
     ghost use Rattle.std.specs.Prelude.{◌≡◌};
-    ghost use Rattle.look_text.specs.inner.Labels.{example as example_of, text_of};
-    ghost use Rattle.look_text.specs.inner.Wants.{TakesKind, wants_text};
+    ghost use Rattle.look_text.specs.Labels.{example as example_of, text_of};
+    ghost use Rattle.look_text.specs.Wants.{TakesKind, wants_text};
 
     /// All keys of the words of mixedrun.
     pub const ALL: [Label; 15] = [

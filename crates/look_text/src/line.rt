@@ -1,6 +1,6 @@
 // Lines of pieces.
 ghost use Rattle.std.specs.Prelude.{◌≡◌, ◌++◌, IfOk, OnOk, map};
-ghost use Rattle.look_text.specs.inner.Pieces.{address_text, joined, piece_text};
+ghost use Rattle.look_text.specs.Pieces.{address_text, joined, piece_text};
 
 use super::pieces::{add, add_bytes, add_dec, add_hex};
 use super::place::{add_place, add_ppc_word};
@@ -65,7 +65,7 @@ fn add_piece(text: &mut Vec<u8>, piece: Piece) -> Result<(), NoMemory>
     }
 }
 
-#[tactic(auto, unfolding(crate::specs::inner::Pieces::address_text))]
+#[tactic(auto, unfolding(crate::specs::Pieces::address_text))]
 fn add_address(text: &mut Vec<u8>, address: u64) -> Result<(), NoMemory>
     ensures { OnOk result (text.new.items ≡ text.old.items ++ address_text address) }
 {

@@ -1,7 +1,7 @@
 // What could be read of the files of a program.
 ghost use Rattle.std.specs.Prelude.{◌≡◌, ◌^◌, ◌<◌, ◌≤◌, ◌++◌, IfOk, OnOk};
 ghost use Rattle.mix_load.specs.LoadClauses.{IsSmall};
-ghost use Rattle.look_text.specs.inner.Maps.{files_text, flat_text, fork_file_end, fork_file_text, pieces_text};
+ghost use Rattle.look_text.specs.Maps.{files_text, flat_text, fork_file_end, fork_file_text, pieces_text};
 
 use crate::container::add_container;
 use crate::fork::add_fork;
@@ -12,7 +12,7 @@ use std::alloc::Global;
 use switch_frame::PROGRAM_START;
 
 /// The lines of files, with the CODEs below a count of ids, in `len` bytes of RAM.
-#[tactic(auto, unfolding(crate::specs::inner::Maps::ram_line))]
+#[tactic(auto, unfolding(crate::specs::Maps::ram_line))]
 pub fn listing(alloc: Global, files: &Files, len: u32, ids: u16) -> Result<Vec<u8>, NoMemory>
     requires flat { IsSmall files.now.flat }
     requires rsrc { IsSmall files.now.rsrc }
@@ -47,7 +47,7 @@ fn add_files(alloc: Global, text: &mut Vec<u8>, files: &Files, ids: u16) -> Resu
 }
 
 /// Appends the line of a flat file, if there is one.
-#[tactic(auto, unfolding(crate::specs::inner::Maps::flat_line))]
+#[tactic(auto, unfolding(crate::specs::Maps::flat_line))]
 fn add_flat(text: &mut Vec<u8>, file: &Option<FileBytes>) -> Result<(), NoMemory>
     requires { IsSmall file.now }
     ensures { OnOk result (text.new.items ≡ text.old.items ++ flat_text file.now) }

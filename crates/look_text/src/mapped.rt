@@ -2,7 +2,7 @@
 ghost use Rattle.std.specs.Prelude.{◌≡◌, ◌≢◌, ◌*◌, ◌≤◌, IfOk};
 ghost use Rattle.mix_load.specs.LoadClauses.{AreLoadable};
 ghost use Rattle.mix_load.specs.declared.error.LoadError.TheVariants.{NoMemory as NoLoadMemory};
-ghost use Rattle.look_text.specs.inner.Maps.{IsMapped};
+ghost use Rattle.look_text.specs.Maps.{IsMapped};
 
 use crate::listing::listing;
 use crate::start::add_start;

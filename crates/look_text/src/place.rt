@@ -1,6 +1,6 @@
 // Where 68K code and PowerPC code have the values of a call.
 ghost use Rattle.std.specs.Prelude.{◌≡◌, ◌++◌, OnOk, decimal};
-ghost use Rattle.look_text.specs.inner.Places.{flag_text as text_of_flag, place_text, ppc_place};
+ghost use Rattle.look_text.specs.Places.{flag_text as text_of_flag, place_text, ppc_place};
 
 use super::pieces::{add, add_dec};
 use args_m68::{Flag, Place};
@@ -32,7 +32,7 @@ fn flag_text(flag: Flag) -> &'static str
 }
 
 /// Appends the place of a word of a PowerPC call, counted from 0.
-#[tactic(auto, unfolding(crate::specs::inner::Places::ppc_place))]
+#[tactic(auto, unfolding(crate::specs::Places::ppc_place))]
 pub fn add_ppc_word(text: &mut Vec<u8>, word: u8) -> Result<(), NoMemory>
     ensures { OnOk result (text.new.items ≡ text.old.items ++ ppc_place word) }
 {

@@ -3,7 +3,7 @@ ghost use Rattle.std.specs.Prelude.{◌≡◌, ◌+◌, ◌^◌, ◌≤◌, ◌+
 ghost use Rattle.pef_head.specs.Container.{instantiated_count};
 ghost use Rattle.pef_head.specs.PartsClauses.{parts};
 ghost use Rattle.mix_load.specs.Sections.{base_behind as base_of};
-ghost use Rattle.look_text.specs.inner.Containers.{kind_name as name_of_kind, section_text, sections_text};
+ghost use Rattle.look_text.specs.Containers.{kind_name as name_of_kind, section_text, sections_text};
 
 use crate::line::{Piece, add_line};
 use mix_bits::NoMemory;
@@ -26,7 +26,7 @@ pub fn add_sections(text: &mut Vec<u8>, pef: &Pef, start: u64, count: u32) -> Re
 }
 
 /// Appends the line of a section behind an end, and gives the end behind it.
-#[tactic(auto, unfolding(crate::specs::inner::Containers::section_text))]
+#[tactic(auto, unfolding(crate::specs::Containers::section_text))]
 fn add_section(text: &mut Vec<u8>, k: u32, section: Section, end: u64) -> Result<u64, NoMemory>
     requires near { end ≤ 2 ^ 60 }
     requires aligned { section.align ≤ 4096 }

@@ -2,7 +2,7 @@
 ghost use Rattle.std.specs.Prelude.{◌≡◌, ◌+◌, ◌^◌, ◌<◌, ◌≤◌, ◌++◌, [], IfOk, IfSome, length, option_map};
 ghost use Rattle.mix_bits.specs.Multiples.{rounded_up};
 ghost use Rattle.mix_load.specs.Segments.{segment_places, segments_end, with_segment};
-ghost use Rattle.look_text.specs.inner.Forks.{segment_line, segments_text};
+ghost use Rattle.look_text.specs.Forks.{segment_line, segments_text};
 
 use crate::line::{Piece, add_line};
 use mix_bits::{NoMemory, round_up};
@@ -34,7 +34,7 @@ pub fn add_segments(
 }
 
 /// Appends the line of a segment, if there is one, behind an end, and gives the end behind it.
-#[tactic(auto, unfolding(crate::specs::inner::Forks::code_line))]
+#[tactic(auto, unfolding(crate::specs::Forks::code_line))]
 fn add_segment(
     text: &mut Vec<u8>,
     id: u16,

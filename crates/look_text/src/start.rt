@@ -1,7 +1,7 @@
 // A program as it starts.
 ghost use Rattle.std.specs.Prelude.{◌≡◌, ◌++◌, OnOk};
 ghost use Rattle.switch_frame.specs.ProgramClauses.{IsProgram};
-ghost use Rattle.look_text.specs.inner.Maps.{file_text, room_text, start_text, vector_text};
+ghost use Rattle.look_text.specs.Maps.{file_text, room_text, start_text, vector_text};
 
 use crate::line::{Piece, add_line};
 use m68_isa::Regs68;
@@ -21,7 +21,7 @@ pub fn add_start(text: &mut Vec<u8>, program: &Program) -> Result<(), NoMemory>
 }
 
 /// Appends the main vector, if there is one.
-#[tactic(auto, unfolding(crate::specs::inner::Maps::vector_text))]
+#[tactic(auto, unfolding(crate::specs::Maps::vector_text))]
 fn add_vector(text: &mut Vec<u8>, vector: u32) -> Result<(), NoMemory>
     ensures { OnOk result (text.new.items ≡ text.old.items ++ vector_text vector) }
 {
@@ -47,7 +47,7 @@ fn add_file(text: &mut Vec<u8>, file: &Active) -> Result<(), NoMemory>
     }
 }
 
-#[tactic(auto, unfolding(crate::specs::inner::Maps::file_text))]
+#[tactic(auto, unfolding(crate::specs::Maps::file_text))]
 fn add_m68(text: &mut Vec<u8>, regs: &Regs68) -> Result<(), NoMemory>
     ensures { OnOk result (text.new.items ≡ text.old.items ++ file_text (Active.M68 regs.now)) }
 {
@@ -65,7 +65,7 @@ fn add_m68(text: &mut Vec<u8>, regs: &Regs68) -> Result<(), NoMemory>
     )
 }
 
-#[tactic(auto, unfolding(crate::specs::inner::Maps::file_text))]
+#[tactic(auto, unfolding(crate::specs::Maps::file_text))]
 fn add_ppc(text: &mut Vec<u8>, regs: &RegsPpc) -> Result<(), NoMemory>
     ensures { OnOk result (text.new.items ≡ text.old.items ++ file_text (Active.Ppc regs.now)) }
 {
@@ -84,7 +84,7 @@ fn add_ppc(text: &mut Vec<u8>, regs: &RegsPpc) -> Result<(), NoMemory>
 }
 
 /// Appends the heap from `low` on, and the stack behind it up to `end`.
-#[tactic(auto, unfolding(crate::specs::inner::Maps::room_text))]
+#[tactic(auto, unfolding(crate::specs::Maps::room_text))]
 fn add_room(text: &mut Vec<u8>, low: u32, high: u32, end: u32) -> Result<(), NoMemory>
     ensures { OnOk result (text.new.items ≡ text.old.items ++ room_text low high end) }
 {

@@ -2,8 +2,8 @@
 ghost use Rattle.std.specs.Prelude.{◌≡◌, ◌++◌, IfOk, OnOk};
 ghost use Rattle.proc_info.specs.Signature.{signature_in};
 ghost use Rattle.proc_info.specs.Views.{signature};
-ghost use Rattle.trace_lines.specs.inner.EventLines.{args_of};
-ghost use Rattle.look_text.specs.inner.Tree.{args_text, called_text, event_text, indent_text, sized_text, tree_of, values_text, way_text};
+ghost use Rattle.trace_lines.specs.EventLines.{args_of};
+ghost use Rattle.look_text.specs.Tree.{args_text, called_text, event_text, indent_text, sized_text, tree_of, values_text, way_text};
 
 use super::line::{Piece, add_line};
 use super::pieces::{add, add_bytes};
@@ -19,7 +19,7 @@ pub const DEEPEST: u32 = 256;
 
 /// A line of a trace as a line of a tree: `depth` calls are open around it, and `name` stands for a call's target. What is
 /// neither a call nor a return stays as it is in the trace.
-#[tactic(auto, unfolding(crate::specs::inner::Tree::tree_of))]
+#[tactic(auto, unfolding(crate::specs::Tree::tree_of))]
 pub fn tree_line(
     alloc: Global,
     depth: u32,

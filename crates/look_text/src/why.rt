@@ -1,8 +1,8 @@
 ghost use Rattle.std.specs.Prelude.{◌≡◌, IfOk, map};
 ghost use Rattle.std.specs.String.{string_bytes};
 ghost use Rattle.job_words.specs.Words.{bad_at, command_of};
-ghost use Rattle.look_text.specs.inner.Labels.{label_in, label_of as label_of_word};
-ghost use Rattle.look_text.specs.inner.Whys.{Explains, ExplainsWord, at_place};
+ghost use Rattle.look_text.specs.Labels.{label_in, label_of as label_of_word};
+ghost use Rattle.look_text.specs.Whys.{Explains, ExplainsWord, at_place};
 
 use crate::ask::is_refused;
 use crate::label::Label;
@@ -90,7 +90,7 @@ fn word_reason(alloc: Global, command: &str, word: &str, place: u32) -> Result<W
 }
 
 /// The key of mixedrun's before a word's equals sign.
-#[tactic(auto, unfolding(crate::specs::inner::Labels::label_of))]
+#[tactic(auto, unfolding(crate::specs::Labels::label_of))]
 fn label_of(word: &str) -> Option<Label>
     ensures { result ≡ label_of_word word.now }
 {

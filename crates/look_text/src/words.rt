@@ -1,6 +1,6 @@
 // Words of sizes, conventions and rules.
 ghost use Rattle.std.specs.Prelude.{◌≡◌};
-ghost use Rattle.look_text.specs.inner.Words.{conv_name as name_of_conv, rule_text as text_of_rule, size_name as name_of_size};
+ghost use Rattle.look_text.specs.Words.{conv_name as name_of_conv, rule_text as text_of_rule, size_name as name_of_size};
 
 use mix_bits::Size;
 use proc_info::{BadInfo, Conv};

@@ -4,7 +4,7 @@ ghost use Rattle.std.specs.String.{string_bytes};
 ghost use Rattle.job_words.specs.JobsClauses.{IsProperJob};
 ghost use Rattle.job_words.specs.Words.{command_of};
 ghost use Rattle.mix_load.specs.LoadClauses.{AreLoadable, IsSmall};
-ghost use Rattle.look_text.specs.inner.Whys.{Explains};
+ghost use Rattle.look_text.specs.Whys.{Explains};
 ghost use Rattle.look_text.specs.declared.why.Why.{Why};
 ghost use Rattle.look_words.specs.inner.Looks.{run_words as run_words_of};
 ghost use Rattle.look_words.specs.inner.Requests.{IsLost, IsUnmet, is_run};

@@ -10,7 +10,7 @@ ghost use Rattle.slice_runs.specs.Called.{AreWithin, Called};
 ghost use Rattle.slice_runs.specs.Looks.{Looks};
 ghost use Rattle.slice_runs.specs.Told.{Tells};
 ghost use Rattle.slice_parts.specs.Words.{assemble_words, continue_words, files_of, list_words, run_words};
-ghost use Rattle.look_text.specs.inner.Info.{info_of};
+ghost use Rattle.look_text.specs.Info.{info_of};
 
 use slice_runs::{
     Lent, Program, Seen, Told, VERSION, advance, assemble, explain, list, look, resume, run,

@@ -1,6 +1,6 @@
 // A procInfo word in words.
 ghost use Rattle.std.specs.Prelude.{◌≡◌};
-ghost use Rattle.look_text.specs.inner.Info.{info_of};
+ghost use Rattle.look_text.specs.Info.{info_of};
 ghost use Rattle.slice_parts.specs.Buffers.{IsWithin, buffer};
 ghost use Rattle.slice_runs.specs.Told.{Tells};
 

@@ -13,7 +13,7 @@ use Rattle.mix_bits.proofs.ReadHexadecimals.{reads_hexadecimals}
 use Rattle.dev_rack.specs.declared.answers.Answer.{Answer}
 use Rattle.dev_rack.specs.declared.answers.Answer.TheVariants.{Word, Failed, Empty, Full}
 use Rattle.call_trace.specs.Lines.{answer_text}
-use Rattle.trace_lines.specs.inner.EventLines.{IsAnswer}
+use Rattle.trace_lines.specs.EventLines.{IsAnswer}
 use Rattle.trace_lines.specs.inner.Pieces.{after_mark, first_space, hex_front}
 use Rattle.trace_lines.specs.inner.Reading.{answer_in, ask_of}
 use Rattle.trace_lines.specs.declared.event.Event.{Event}

@@ -8,7 +8,7 @@ use Rattle.proc_info.specs.Cut.{cut}
 use Rattle.proc_info.specs.Signature.{Signature, no_parameters, signature_in, signature_of, signed_or}
 use Rattle.proc_info.specs.declared.bad_info.BadInfo.{BadInfo}
 use Rattle.call_trace.specs.Lines.{arguments, marked}
-use Rattle.trace_lines.specs.inner.EventLines.{IsCrossing, args_of}
+use Rattle.trace_lines.specs.EventLines.{IsCrossing, args_of}
 use Rattle.trace_lines.specs.inner.Pieces.{marked_value, marked_width}
 use Rattle.trace_lines.specs.inner.Reading.{args_in, call_of, crossing_of, head_of, rest_by, values_of}
 use Rattle.trace_lines.specs.declared.calls.Head.{Head}

@@ -17,7 +17,7 @@ use Rattle.mix_bits.specs.declared.size.Size.TheVariants.{Four}
 use Rattle.call_trace.specs.declared.end.End.{End}
 use Rattle.call_trace.specs.declared.end.End.TheVariants.{Fault}
 use Rattle.call_trace.specs.Names.{fault_name, set_name}
-use Rattle.trace_lines.specs.inner.EventLines.{IsFault}
+use Rattle.trace_lines.specs.EventLines.{IsFault}
 use Rattle.trace_lines.specs.inner.Pieces.{first_space, hex_front, marked_value, set_front}
 use Rattle.trace_lines.specs.inner.Reading.{all_kinds, details_of, fault_of, kind_in, place_of}
 use Rattle.trace_lines.proofs.AskLines.{same-text}

@@ -12,8 +12,8 @@ use Rattle.call_trace.specs.Lines.{answer_text, arguments, ask_line, call_line, 
 use Rattle.call_trace.specs.Names.{fault_name, set_name, set_names}
 use Rattle.call_trace.specs.declared.end.End.{End}
 use Rattle.call_trace.specs.declared.end.End.TheVariants.{Exit, Fault, Limit}
-use Rattle.trace_lines.specs.inner.EventLines.{IsEnd, IsEvent, args_of, line_of}
-use Rattle.trace_lines.specs.inner.Exact.{ReadsExactly}
+use Rattle.trace_lines.specs.EventLines.{IsEnd, IsEvent, args_of, line_of}
+use Rattle.trace_lines.specs.Exact.{ReadsExactly}
 use Rattle.trace_lines.specs.inner.Pieces.{after_mark}
 use Rattle.trace_lines.specs.inner.Reading.{ask_or_end, by_mark, call_of, end_of, event_of, exit_or_fault, fault_of, return_or_other}
 use Rattle.trace_lines.specs.declared.event.Crossing.{Crossing}

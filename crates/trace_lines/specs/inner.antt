@@ -1,4 +1,2 @@
-pub mod EventLines
-pub mod Exact
 pub mod Pieces
 pub mod Reading

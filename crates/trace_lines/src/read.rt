@@ -1,5 +1,5 @@
 ghost use Rattle.std.specs.Prelude.{◌≡◌};
-ghost use Rattle.trace_lines.specs.inner.Exact.{ReadsExactly};
+ghost use Rattle.trace_lines.specs.Exact.{ReadsExactly};
 ghost use Rattle.trace_lines.specs.inner.Reading.{event_of};
 
 use crate::calls::read_call;

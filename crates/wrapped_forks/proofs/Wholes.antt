@@ -11,7 +11,7 @@ use Rattle.wrapped_forks.specs.declared.wrapping.ForkPlace.{ForkPlace}
 use Rattle.wrapped_forks.specs.declared.wrapping.ForkError.{ForkError}
 use Rattle.wrapped_forks.specs.declared.wrapping.ForkError.TheVariants.{Unknown, Version, Cut}
 use Rattle.wrapped_forks.specs.declared.wrapping.Wrapping.{Wrapping}
-use Rattle.wrapped_forks.specs.inner.Forks.{apple_fork, apple_wrapping, at_entry, binary_data, binary_fork, by_apple, by_binary, entry_place, fork_entry, fork_of, inside, is_raw, is_version, listed_fork, raw_fork, wrapped_fork}
+use Rattle.wrapped_forks.specs.Forks.{apple_fork, apple_wrapping, at_entry, binary_data, binary_fork, by_apple, by_binary, entry_place, fork_entry, fork_of, inside, is_raw, is_version, listed_fork, raw_fork, wrapped_fork}
 use Rattle.wrapped_forks.specs.laws.Wholes.{AppleGivesBack, BinaryGivesBack, GivesForks, IsAppleFile, IsBinaryFile, RawGivesBack, bytes_at, fork_bytes}
 
 -- the piece behind a front

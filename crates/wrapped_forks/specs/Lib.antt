@@ -1,2 +1,2 @@
+pub mod Forks
 pub mod laws
-pub mod inner

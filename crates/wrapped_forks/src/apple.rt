@@ -1,7 +1,7 @@
 // AppleSingle and AppleDouble: a header of 26 bytes, and an entry of twelve bytes for each part of the file.
 ghost use Rattle.std.specs.Prelude.{◌≡◌, ◌+◌, ◌*◌, ◌^◌, ◌<◌, ◌≤◌, IfOk, IfSome, length};
 ghost use Rattle.std.specs.Option.{option_or};
-ghost use Rattle.wrapped_forks.specs.inner.Forks.{apple_fork as fork_in_apple, entry_kind as kind_of_entry, entry_place as place_of_entry, fork_entry as entry_of_fork, is_fork as names_fork, is_version as is_known_version, listed_fork, named};
+ghost use Rattle.wrapped_forks.specs.Forks.{apple_fork as fork_in_apple, entry_kind as kind_of_entry, entry_place as place_of_entry, fork_entry as entry_of_fork, is_fork as names_fork, is_version as is_known_version, listed_fork, named};
 
 use crate::fork::Fork;
 use crate::wrapping::{ForkError, ForkPlace, Wrapping, inside};

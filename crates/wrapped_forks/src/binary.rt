@@ -2,7 +2,7 @@
 // of 128.
 ghost use Rattle.std.specs.Prelude.{◌≡◌, ◌==◌, ◌+◌, ◌^◌, ◌<◌, ◌≤◌, IfOk, IfSome, length};
 ghost use Rattle.std.specs.List.{list_all};
-ghost use Rattle.wrapped_forks.specs.inner.Forks.{binary_data as data_in_binary, binary_fork as fork_in_binary, binary_wrapping as wrapping_of_binary, has_sum as has_right_sum, is_first as is_first_version, is_header as is_binary_header, level_of};
+ghost use Rattle.wrapped_forks.specs.Forks.{binary_data as data_in_binary, binary_fork as fork_in_binary, binary_wrapping as wrapping_of_binary, has_sum as has_right_sum, is_first as is_first_version, is_header as is_binary_header, level_of};
 
 use crate::fork::Fork;
 use crate::wrapping::{ForkError, ForkPlace, Wrapping, inside};

@@ -1,5 +1,5 @@
 ghost use Rattle.std.specs.Prelude.{◌≡◌, Some};
-ghost use Rattle.wrapped_forks.specs.inner.Forks.{fork_name};
+ghost use Rattle.wrapped_forks.specs.Forks.{fork_name};
 
 use std::fmt;
 

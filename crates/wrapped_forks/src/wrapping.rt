@@ -1,5 +1,5 @@
 ghost use Rattle.std.specs.Prelude.{◌≡◌, ◌+◌, ◌^◌, ◌<◌, ◌≤◌, true, Some, IfOk, length};
-ghost use Rattle.wrapped_forks.specs.inner.Forks.{apple_wrapping as wrapping_of_magic, are_areas, binary_or_refusal as binary_or_refused, fork_of, inside as inside_of, is_raw as is_raw_fork, raw_fork as fork_of_raw, wrapped_fork as fork_of_wrapped, wrapping_name};
+ghost use Rattle.wrapped_forks.specs.Forks.{apple_wrapping as wrapping_of_magic, are_areas, binary_or_refusal as binary_or_refused, fork_of, inside as inside_of, is_raw as is_raw_fork, raw_fork as fork_of_raw, wrapped_fork as fork_of_wrapped, wrapping_name};
 
 use crate::apple::apple_fork;
 use crate::binary::{binary_fork, binary_wrapping, is_header};
@@ -69,7 +69,7 @@ pub enum ForkError {
 }
 
 /// A fork that a file is or wraps, or why there is none.
-#[tactic(auto, unfolding(crate::specs::inner::Forks::fork_of))]
+#[tactic(auto, unfolding(crate::specs::Forks::fork_of))]
 pub fn find_fork(bytes: &[u8], fork: Fork) -> Result<ForkPlace, ForkError>
     requires { length bytes.now < 2 ^ 32 }
     ensures fork { result ≡ fork_of bytes.now fork }

@@ -1,7 +1,7 @@
 -- What the output holds behind a fork of a file, and the status.
 use Rattle.std.specs.Prelude.{◌≡◌, ◌+◌, ◌⊎◌, ℕ, ◌==◌, Bool, true, false, List, length, slice_range, Option, Result, Ok, Err}
 use Rattle.std.specs.Bool.{MatchBool}
-use Rattle.wrapped_forks.specs.inner.Forks.{fork_of}
+use Rattle.wrapped_forks.specs.Forks.{fork_of}
 use Rattle.wrapped_forks.specs.declared.fork.Fork.{Fork}
 use Rattle.wrapped_forks.specs.declared.fork.Fork.TheVariants.{Data, Resource}
 use Rattle.wrapped_forks.specs.declared.wrapping.ForkError.{ForkError}

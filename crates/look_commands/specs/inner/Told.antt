@@ -19,9 +19,9 @@ use Rattle.mix_load.specs.declared.error.LoadError.{LoadError}
 use Rattle.mix_load.specs.declared.files.Files.{Files}
 use Rattle.mix_load.specs.Load.{load_of}
 use Rattle.mix_load.specs.Segments.{id_count}
-use Rattle.look_text.specs.inner.Maps.{files_text, start_text}
-use Rattle.look_text.specs.inner.Info.{info_of}
-use Rattle.look_text.specs.inner.Whys.{Explains}
+use Rattle.look_text.specs.Maps.{files_text, start_text}
+use Rattle.look_text.specs.Info.{info_of}
+use Rattle.look_text.specs.Whys.{Explains}
 use Rattle.look_text.specs.declared.why.Why.{Why}
 use Rattle.look_words.specs.inner.Looks.{look_of, run_words}
 use Rattle.look_words.specs.inner.Requests.{IsLost, is_run}

@@ -5,7 +5,7 @@ use Rattle.m68_isa.specs.declared.registers.Ccr.{Ccr}
 use Rattle.ppc_isa.specs.declared.registers.RegsPpc.{RegsPpc}
 use Rattle.switch_frame.specs.declared.active.Active.{Active}
 use Rattle.switch_frame.specs.declared.active.Active.TheVariants.{M68, Ppc}
-use Rattle.look_text.specs.inner.Pieces.{joined}
+use Rattle.look_text.specs.Pieces.{joined}
 
 abbrev pub register_text : List ℕ → ℕ → ℕ → List ℕ
 register_text bank k v = joined (codes " " ∷ bank ∷ decimal k ∷ codes "=" ∷ hexadecimal 8 v ∷ [])

@@ -13,7 +13,7 @@ use Rattle.pef_head.specs.PartsByNumber.{cut}
 use Rattle.pef_head.specs.Refusals.{refusal_of}
 use Rattle.mix_load.specs.declared.error.LoadError.{LoadError}
 use Rattle.mix_load.specs.declared.error.LoadError.TheVariants.{NoMemory, Empty, Rsrc as NoFork, NoCode, Far, JumpTable, Pef as NoHead, TooLarge, Reloc, Unresolved, NoMain}
-use Rattle.look_text.specs.inner.Pieces.{joined}
+use Rattle.look_text.specs.Pieces.{joined}
 
 -- a file without a byte
 abbrev pub empty_text : File → List ℕ

@@ -7,7 +7,7 @@ use Rattle.wrapped_forks.specs.declared.fork.Fork.TheVariants.{Data, Resource}
 use Rattle.wrapped_forks.specs.declared.wrapping.ForkPlace.{ForkPlace}
 use Rattle.wrapped_forks.specs.declared.wrapping.ForkError.{ForkError}
 use Rattle.wrapped_forks.specs.declared.wrapping.Wrapping.{Wrapping}
-use Rattle.wrapped_forks.specs.inner.Forks.{apple_wrapping, binary_wrapping, entry_place, fork_entry, fork_of, is_raw, is_version}
+use Rattle.wrapped_forks.specs.Forks.{apple_wrapping, binary_wrapping, entry_place, fork_entry, fork_of, is_raw, is_version}
 
 -- the bytes at a place that was found
 abbrev pub bytes_at : List ℕ → Result ForkPlace ForkError → Option (List ℕ)

@@ -2,7 +2,7 @@
 use Rattle.std.proofs.Common.{◌≡◌, ◌++◌, ◌∙◌, inl, ℕ, List, Option, subst}
 use Rattle.std.specs.Prelude.{codes}
 use Rattle.look_words.specs.inner.Sentences.{why_text}
-use Rattle.look_text.specs.inner.Whys.{Explains}
+use Rattle.look_text.specs.Whys.{Explains}
 use Rattle.look_text.specs.declared.why.Why.{Why}
 use Rattle.look_commands.specs.inner.Told.{WritesWhy}
 use Rattle.look_commands.specs.inner.Puts.{Prints}

@@ -1,6 +1,6 @@
 -- The host function of an import stands at its own vector.
 use Rattle.std.proofs.Common.{◌≡◌, ◌++◌, ℕ, Option, OnOk, sym, subst}
-use Rattle.look_text.specs.inner.Containers.{host_line, host_text}
+use Rattle.look_text.specs.Containers.{host_line, host_text}
 use Rattle.look_text.proofs.container.add_host.Goals as goal
 
 pub returns-in-Some : goal.returns-in-Some

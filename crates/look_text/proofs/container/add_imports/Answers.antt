@@ -1,6 +1,6 @@
 -- One import more.
 use Rattle.std.proofs.Common.{◌≡◌, ◌++◌, ℕ, add-one, ap}
-use Rattle.look_text.specs.inner.Containers.{import_line, imports_text}
+use Rattle.look_text.specs.Containers.{import_line, imports_text}
 use Rattle.look_text.proofs.Lines.{at_end, next}
 use Rattle.look_text.proofs.container.add_imports.Goals as goal
 

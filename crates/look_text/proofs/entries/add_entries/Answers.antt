@@ -1,6 +1,6 @@
 -- One entry more.
 use Rattle.std.proofs.Common.{◌≡◌, ◌++◌, ℕ, add-one, refl}
-use Rattle.look_text.specs.inner.Forks.{entries_text}
+use Rattle.look_text.specs.Forks.{entries_text}
 use Rattle.look_text.proofs.Lines.{at_end, next}
 use Rattle.look_text.proofs.entries.add_entries.Goals as goal
 

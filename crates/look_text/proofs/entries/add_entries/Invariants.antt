@@ -1,6 +1,6 @@
 -- The entries so far.
 use Rattle.std.proofs.Common.{◌≡◌, ◌++◌}
-use Rattle.look_text.specs.inner.Forks.{entries_text}
+use Rattle.look_text.specs.Forks.{entries_text}
 use Rattle.look_text.proofs.entries.add_entries.Given as goal
 
 abbrev pub invariant-loop-i : goal.invariant-loop-i

@@ -2,7 +2,7 @@
 use Rattle.std.proofs.Common.{◌≡◌, ◌∙◌, ℕ, ◌+◌, ◌*◌, ◌++◌, Bool, List, OnOk, ap, subst}
 use Rattle.mix_load.specs.declared.header.CodeHeader.{CodeHeader}
 use Rattle.mix_load.specs.Segments.{a5_of, header_of}
-use Rattle.look_text.specs.inner.Forks.{entry_front, entry_line, target_text}
+use Rattle.look_text.specs.Forks.{entry_front, entry_line, target_text}
 use Rattle.look_text.proofs.Lines.{two}
 use Rattle.look_text.proofs.entries.add_entry.Goals as goal
 

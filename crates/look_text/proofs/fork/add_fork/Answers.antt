@@ -2,7 +2,7 @@
 use Rattle.std.proofs.Common.{◌≡◌, ◌++◌, List, Result, IfOk, sym, subst}
 use Rattle.rsrc_fork.specs.Resources.{Resource}
 use Rattle.rsrc_fork.specs.declared.error.RsrcError.{RsrcError}
-use Rattle.look_text.specs.inner.Forks.{fork_end, fork_text}
+use Rattle.look_text.specs.Forks.{fork_end, fork_text}
 use Rattle.look_text.proofs.Refused.{refused_end, refused_text}
 use Rattle.look_text.proofs.fork.add_fork.Goals as goal
 

@@ -2,7 +2,7 @@
 use Rattle.std.proofs.Common.{◌≡◌, ◌∙◌, ◌/◌, ◌++◌, ℕ, Bool, true, OnOk, ap, sym, subst}
 use Rattle.mix_load.specs.declared.header.CodeHeader.{CodeHeader}
 use Rattle.mix_load.specs.Segments.{entry_count, has_table, header_of, table_start}
-use Rattle.look_text.specs.inner.Forks.{entries_text, table_line, table_text}
+use Rattle.look_text.specs.Forks.{entries_text, table_line, table_text}
 use Rattle.look_text.proofs.Lines.{two}
 use Rattle.look_text.proofs.fork.add_table.Goals as goal
 

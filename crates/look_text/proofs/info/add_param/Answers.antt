@@ -1,5 +1,5 @@
 -- The line has the parameter's number, its size, and its place by the route of its convention.
-use Rattle.look_text.specs.inner.Info.{param_line}
+use Rattle.look_text.specs.Info.{param_line}
 use Rattle.look_text.proofs.info.add_param.Goals as goal
 
 pub returns : goal.returns

@@ -6,10 +6,10 @@ use Rattle.mix_bits.specs.declared.size.Size.TheVariants.{Zero, One, Two, Four}
 use Rattle.proc_info.specs.Routes.{route_of}
 use Rattle.args_m68.specs.Places.{result_place}
 use Rattle.args_m68.specs.declared.places.Place.{Place}
-use Rattle.look_text.specs.inner.Info.{sized_result}
-use Rattle.look_text.specs.inner.Pieces.{joined}
-use Rattle.look_text.specs.inner.Places.{place_text}
-use Rattle.look_text.specs.inner.Words.{size_name}
+use Rattle.look_text.specs.Info.{sized_result}
+use Rattle.look_text.specs.Pieces.{joined}
+use Rattle.look_text.specs.Places.{place_text}
+use Rattle.look_text.specs.Words.{size_name}
 use Rattle.look_text.proofs.info.add_result.Goals as goal
 
 -- the name of the size and the place are those of the line

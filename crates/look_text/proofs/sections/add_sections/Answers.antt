@@ -2,7 +2,7 @@
 use Rattle.std.proofs.Common.{◌≡◌, ◌∙◌, ℕ, ◌+◌, ◌++◌, List, add-one, ap, arith}
 use Rattle.pef_head.specs.Parts.{SectionParts, section_at}
 use Rattle.mix_load.specs.Sections.{base_behind, section_base, sections_end}
-use Rattle.look_text.specs.inner.Containers.{section_text, sections_text}
+use Rattle.look_text.specs.Containers.{section_text, sections_text}
 use Rattle.look_text.proofs.Lines.{at_end, next}
 use Rattle.look_text.proofs.sections.add_sections.Goals as goal
 

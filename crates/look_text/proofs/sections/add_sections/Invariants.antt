@@ -1,7 +1,7 @@
 -- The sections so far, and how far the end can have come.
 use Rattle.std.proofs.Common.{◌≡◌, ◌+◌, ◌*◌, ◌^◌, ◌≤◌, ◌++◌}
 use Rattle.mix_load.specs.Sections.{sections_end}
-use Rattle.look_text.specs.inner.Containers.{sections_text}
+use Rattle.look_text.specs.Containers.{sections_text}
 use Rattle.look_text.proofs.sections.add_sections.Given as goal
 
 abbrev pub invariant-loop-k : goal.invariant-loop-k

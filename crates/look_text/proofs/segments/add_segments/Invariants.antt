@@ -1,7 +1,7 @@
 -- The segments so far, and how far the end can have come.
 use Rattle.std.proofs.Common.{◌≡◌, ◌+◌, ◌*◌, ◌^◌, ◌≤◌, ◌++◌}
 use Rattle.mix_load.specs.Segments.{segment_places, segments_end}
-use Rattle.look_text.specs.inner.Forks.{segments_text}
+use Rattle.look_text.specs.Forks.{segments_text}
 use Rattle.look_text.proofs.segments.add_segments.Given as goal
 
 abbrev pub invariant-loop-id : goal.invariant-loop-id

@@ -1,6 +1,6 @@
 -- What is wrong with a word that has a key.
 use Rattle.std.proofs.Common.{◌≡◌, ◌∙◌, List, ℕ, Bool, refl, subst, sym}
-use Rattle.look_text.specs.inner.Reasons.{is_refused}
+use Rattle.look_text.specs.Reasons.{is_refused}
 use Rattle.look_text.proofs.why.word_reason.Goals as goal
 
 -- whether an example is refused, as it was found

@@ -1,6 +1,6 @@
 -- The text, or want of memory.
 use Rattle.std.proofs.Common.{◌≡◌, ◌∙◌, refl, rules}
-use Rattle.look_text.specs.inner.Info.{info_of}
+use Rattle.look_text.specs.Info.{info_of}
 use Rattle.slice_runs.specs.Told.Tells.{no_memory, told}
 use Rattle.slice_runs.proofs.info.explain.Goals as goal
 

@@ -1,7 +1,7 @@
 use Rattle.std.proofs.Common.{◌≡◌, ◌∙◌, ap, sym, ℕ, ◌≤◌, Bool, true, false, List, length, if◌then◌else◌, Option, Some, None, IfSome, leb-true}
 use Rattle.std.proofs.lemmas.Bool.{and_parts}
 use Rattle.wrapped_forks.specs.declared.wrapping.Wrapping.{Wrapping}
-use Rattle.wrapped_forks.specs.inner.Forks.{binary_wrapping, is_header, level_of}
+use Rattle.wrapped_forks.specs.Forks.{binary_wrapping, is_header, level_of}
 use Rattle.wrapped_forks.proofs.binary.binary_wrapping.Goals as goal
 
 -- a header has 128 bytes

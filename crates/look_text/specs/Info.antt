@@ -11,9 +11,9 @@ use Rattle.proc_info.specs.declared.param.Param.{Param}
 use Rattle.proc_info.specs.Routes.{route_of}
 use Rattle.args_m68.specs.Places.{next_base, place_of, result_place, selector_place, selector_width, widths}
 use Rattle.args_m68.specs.declared.places.Place.{Place}
-use Rattle.look_text.specs.inner.Pieces.{joined}
-use Rattle.look_text.specs.inner.Places.{place_text, ppc_place}
-use Rattle.look_text.specs.inner.Words.{conv_name, rule_text, size_name}
+use Rattle.look_text.specs.Pieces.{joined}
+use Rattle.look_text.specs.Places.{place_text, ppc_place}
+use Rattle.look_text.specs.Words.{conv_name, rule_text, size_name}
 
 -- the result, and the place that it has behind the return
 abbrev pub result_line : Size → Place → List ℕ

@@ -9,7 +9,7 @@ use Rattle.pef_head.specs.PartsByNumber.{cut}
 use Rattle.pef_head.specs.Refusals.{refusal_of}
 use Rattle.toolbox.specs.Names.{import_index}
 use Rattle.mix_load.specs.Sections.{section_base}
-use Rattle.look_text.specs.inner.Pieces.{address_text, joined}
+use Rattle.look_text.specs.Pieces.{address_text, joined}
 
 abbrev pub kind_name : ℕ → List ℕ
 kind_name kind =

@@ -1,7 +1,7 @@
 -- Lines of pieces.
 use Rattle.std.specs.Prelude.{ℕ, nat_lt, List, [], ◌∷◌, ◌++◌, codes, decimal, if◌then◌else◌}
 use Rattle.mix_bits.specs.Text.{hexadecimal}
-use Rattle.look_text.specs.inner.Places.{place_text, ppc_place}
+use Rattle.look_text.specs.Places.{place_text, ppc_place}
 use Rattle.look_text.specs.declared.line.Piece.{Piece}
 use Rattle.look_text.specs.declared.line.Piece.TheVariants.{Text, Bytes, Number, Byte, Word, Long, Address, Place, PpcWord}
 

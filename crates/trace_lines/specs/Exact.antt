@@ -1,6 +1,6 @@
 -- What it means that a text is read as an event.
 use Rattle.std.specs.Prelude.{ℕ, ◌≡◌, ◌↔◌, List, ◌++◌, codes, Option, Some}
-use Rattle.trace_lines.specs.inner.EventLines.{IsEvent, line_of}
+use Rattle.trace_lines.specs.EventLines.{IsEvent, line_of}
 use Rattle.trace_lines.specs.declared.event.Event.{Event}
 
 -- the events that are read of a text are exactly those whose line it is, with the line feed that ends the line

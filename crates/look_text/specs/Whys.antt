@@ -1,8 +1,8 @@
 -- What is true of the words where mixedrun refuses them for a reason.
 use Rattle.std.specs.Prelude.{ℕ, ◌≡◌, ◌≤◌, true, false, List, [], length, slice_index_or, Some, None, IsOk, Err}
 use Rattle.job_words.specs.Words.{bad_at, command_of}
-use Rattle.look_text.specs.inner.Labels.{example, label_of}
-use Rattle.look_text.specs.inner.Reasons.{is_refused}
+use Rattle.look_text.specs.Labels.{example, label_of}
+use Rattle.look_text.specs.Reasons.{is_refused}
 use Rattle.look_text.specs.declared.why.Why.{Why}
 use Rattle.look_text.specs.declared.why.Why.TheVariants.{Taken, Empty, Command, Missing, Keyless, Key, Value, Again}
 

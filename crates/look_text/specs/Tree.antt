@@ -8,11 +8,11 @@ use Rattle.proc_info.specs.Signature.{Signature, signature_in}
 use Rattle.switch_frame.specs.Sets.{caller_isa, callee_isa}
 use Rattle.switch_frame.specs.declared.kind.Kind.{Kind}
 use Rattle.call_trace.specs.Names.{set_name}
-use Rattle.trace_lines.specs.inner.EventLines.{args_of}
+use Rattle.trace_lines.specs.EventLines.{args_of}
 use Rattle.trace_lines.specs.declared.event.Crossing.{Crossing}
 use Rattle.trace_lines.specs.declared.event.Event.{Event}
 use Rattle.trace_lines.specs.declared.event.Event.TheVariants.{Called, Returned, Asked, Ended}
-use Rattle.look_text.specs.inner.Pieces.{joined}
+use Rattle.look_text.specs.Pieces.{joined}
 
 -- a value behind a mark and the word for its size
 abbrev pub sized_text : List ℕ → Size → ℕ → List ℕ

@@ -5,7 +5,7 @@ use Rattle.job_words.specs.Settings.{named_by, number_in, number_within, set_of,
 use Rattle.job_words.specs.declared.setting.Value.{Value}
 use Rattle.look_text.specs.declared.label.Label.{Label}
 use Rattle.look_text.specs.declared.label.Label.TheVariants.{Flat, Rsrc, Pef, Main, Ram, Steps, Save, At, Count, Calls, Depth, CodeSet, Text, Image, Script}
-use Rattle.look_text.specs.inner.Labels.{name_of}
+use Rattle.look_text.specs.Labels.{name_of}
 
 -- the name of a file, a set, eight digits of an address, any number, or one from the first to the second; of RAM in KiB
 pub data Kind : Type 0 where

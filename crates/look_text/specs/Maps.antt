@@ -13,9 +13,9 @@ use Rattle.mix_load.specs.Load.{load_of}
 use Rattle.mix_load.specs.Segments.{id_count}
 use Rattle.look_text.specs.declared.mapped.Mapped.{Mapped}
 use Rattle.look_text.specs.declared.mapped.Mapped.TheVariants.{Loaded, Refused}
-use Rattle.look_text.specs.inner.Forks.{fork_end, fork_text}
-use Rattle.look_text.specs.inner.Containers.{container_text}
-use Rattle.look_text.specs.inner.Pieces.{joined}
+use Rattle.look_text.specs.Forks.{fork_end, fork_text}
+use Rattle.look_text.specs.Containers.{container_text}
+use Rattle.look_text.specs.Pieces.{joined}
 
 unfoldable pub ram_line : ℕ → List ℕ
 ram_line len = joined (codes "RAM: " ∷ decimal len ∷ codes " bytes\n" ∷ [])
