@@ -14,7 +14,7 @@ use Rattle.proc_info.specs.Codes.{dispatch_of}
 use Rattle.proc_info.specs.declared.param.Param.{Param}
 use Rattle.proc_info.specs.Signature.{Signature}
 use Rattle.proc_info.specs.declared.conv.Route.{Route}
-use Rattle.proc_info.specs.declared.conv.Route.TheVariants.{PascalStack, CStack, Registers}
+use Rattle.proc_info.specs.declared.conv.Route.TheVariants.{PascalStack, CStack}
 use Rattle.proc_info.specs.Routes.{route_of}
 use Rattle.args_m68.specs.Places.{is_on_stack, params_bytes, place_of, result_bytes, selector_place, selector_width}
 use Rattle.args_m68.specs.Values.{with_value}
@@ -37,13 +37,9 @@ pascal_slot Four v = big_bytes 4 v
 
 -- parameters on the stack, from the lowest address on: in Pascal the last one is lowest, in C the first one
 abbrev pub slots : Route → List Param → List ℕ → List ℕ
-slots PascalStack [] vs = []
-slots PascalStack (p ∷ ps) [] = []
 slots PascalStack (p ∷ ps) (v ∷ vs) = slots PascalStack ps vs ++ pascal_slot p.size v
-slots CStack [] vs = []
-slots CStack (p ∷ ps) [] = []
 slots CStack (p ∷ ps) (v ∷ vs) = big_bytes 4 (truncated v p.size) ++ slots CStack ps vs
-slots Registers ps vs = []
+slots _ _ _ = []
 
 -- a selector on the stack
 abbrev pub stack_selector : Conv → Size → ℕ → List ℕ
@@ -70,9 +66,8 @@ with_selector sig None r = r
 with_selector sig (Some v) r = with_value (selector_place sig.conv) sig.selector v r
 
 abbrev pub with_arguments : Route → List Param → List ℕ → Regs68 → Regs68
-with_arguments route [] vs r = r
-with_arguments route (p ∷ ps) [] r = r
 with_arguments route (p ∷ ps) (v ∷ vs) r = with_arguments route ps vs (with_value (place_of route 0 p 0) p.size v r)
+with_arguments route _ _ r = r
 
 abbrev pub callee_registers : Signature → Option ℕ → List ℕ → ℕ → ℕ → ℕ → Regs68
 callee_registers sig selector values a5 sp target =

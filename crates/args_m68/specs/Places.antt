@@ -3,7 +3,7 @@
 -- All of it is counted from the return address, which is at A7 when a callee begins.
 use Rattle.std.specs.Prelude.{ℕ, ◌+◌, ◌-◌, ◌*◌, ◌==◌, nat_lt, Bool, true, false, if◌then◌else◌, List, [], ◌∷◌, length}
 use Rattle.mix_bits.specs.declared.size.Size.{Size}
-use Rattle.mix_bits.specs.declared.size.Size.TheVariants.{Zero, One, Two, Four}
+use Rattle.mix_bits.specs.declared.size.Size.TheVariants.{Zero, Four}
 use Rattle.mix_bits.specs.Sizes.{bytes_of}
 use Rattle.proc_info.specs.declared.conv.Conv.{Conv}
 use Rattle.proc_info.specs.declared.conv.Dispatch.{Dispatch}
@@ -20,9 +20,8 @@ use Rattle.proc_info.specs.declared.conv.Route.TheVariants.{PascalStack, CStack,
 -- how many bytes a value takes on a Pascal stack, which stays even
 abbrev pub width : Size → ℕ
 width Zero = 0
-width One = 2
-width Two = 2
 width Four = 4
+width _ = 2
 
 abbrev pub widths : List Param → ℕ
 widths [] = 0
@@ -86,5 +85,4 @@ params_bytes Registers ps = 0
 
 abbrev pub result_bytes : Route → Size → ℕ
 result_bytes PascalStack s = width s
-result_bytes CStack s = 0
-result_bytes Registers s = 0
+result_bytes _ s = 0

@@ -6,7 +6,7 @@ use Rattle.big_memory.specs.Memory.{Memory}
 use Rattle.m68_isa.specs.declared.registers.Regs68.{Regs68}
 use Rattle.proc_info.specs.Signature.{Signature}
 use Rattle.proc_info.specs.declared.conv.Route.{Route}
-use Rattle.proc_info.specs.declared.conv.Route.TheVariants.{PascalStack, CStack, Registers}
+use Rattle.proc_info.specs.declared.conv.Route.TheVariants.{PascalStack}
 use Rattle.proc_info.specs.Routes.{route_of}
 use Rattle.args_m68.specs.Places.{result_place, widths}
 use Rattle.args_m68.specs.Values.{Given, above_sp, put_at, value_at}
@@ -16,8 +16,7 @@ use Rattle.args_m68.specs.Deliver.{callee_base}
 -- selector that was passed on the stack
 abbrev pub removed_by : Route → Signature → Bool → ℕ
 removed_by PascalStack sig passed = callee_base sig passed + widths sig.params
-removed_by CStack sig passed = 4
-removed_by Registers sig passed = 4
+removed_by _ sig passed = 4
 
 abbrev pub removed : Signature → Bool → ℕ
 removed sig passed = removed_by (route_of sig.conv) sig passed
