@@ -3,7 +3,7 @@ ghost use Rattle.std.specs.Bool.{OnTrue};
 ghost use Rattle.byteorder.specs.Endian.{big_bytes};
 ghost use Rattle.mix_bits.specs.Sizes.{bytes_of, modulus};
 ghost use Rattle.mix_bits.specs.declared.size.Size.TheVariants.{One, Two, Four};
-ghost use Rattle.big_memory.specs.Lists.{part};
+ghost use Rattle.big_memory.specs.Lists.{part, zeros};
 ghost use Rattle.big_memory.specs.MemoryClauses.{IsDoneUnless, IsDoneUnlessRefused, with_marks};
 ghost use Rattle.big_memory.specs.Memory.{IsRam, copied, copy_refusal, filled, floor_of, in_memory, loaded, meets_gate, meets_guard, refusal, stored, with_bytes, zeroed};
 ghost use Rattle.big_memory.specs.Open.{is_open};
@@ -335,6 +335,14 @@ impl Ram {
         ensures { self.new ≡ with_bytes a bytes.now self.old }
     {
         bytes::write_piece(&mut self.bytes, a as usize, bytes);
+    }
+
+    /// Writes `n` zeros at `a` past the gate page and the guard.
+    pub fn clear(&mut self, a: u32, n: u32)
+        requires { a + n ≤ length self.old.bytes }
+        ensures { self.new ≡ with_bytes a (zeros n) self.old }
+    {
+        bytes::zero(&mut self.bytes, a as usize, n as usize);
     }
 
     /// Writes a long past the gate page and the guard.

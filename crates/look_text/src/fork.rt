@@ -10,7 +10,7 @@ use crate::entries::add_entries;
 use crate::line::{Piece, add_line};
 use crate::segments::add_segments;
 use mix_bits::NoMemory;
-use mix_load::{a5_of, code_at, has_table, read_header, segments_start, table_start};
+use mix_load::{a5_of, code_at, read_header, segments_start, table_header, table_start};
 use rsrc_fork::{Fork, RsrcError};
 use std::alloc::Global;
 use switch_frame::PROGRAM_START;
@@ -93,12 +93,11 @@ fn add_table(text: &mut Vec<u8>, fork: &Fork, code0: &[u8], places: &[u64]) -> R
     requires small { length code0.now ≤ 2 ^ 24 }
     ensures { OnOk result (text.new.items ≡ text.old.items ++ table_text fork.now places.now code0.now (has_table_by code0.now)) }
 {
-    if !has_table(code0) {
+    let Some(header) = table_header(code0) else {
         return Ok(());
-    }
-    let h = read_header(code0);
-    let count = h.table_len / 8;
-    add_table_line(text, table_start(h), count)?;
+    };
+    let count = header.table_len / 8;
+    add_table_line(text, table_start(header), count)?;
     add_entries(text, fork, code0, places, count)
 }
 

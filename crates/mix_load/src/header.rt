@@ -1,4 +1,4 @@
-ghost use Rattle.std.specs.Prelude.{IsTrue, ◌≡◌, ◌+◌, ◌^◌, ◌≤◌, ◌<◌, length};
+ghost use Rattle.std.specs.Prelude.{◌≡◌, ◌+◌, ◌^◌, ◌≤◌, ◌<◌, IfSome, OnSome, is_some, length};
 ghost use Rattle.mix_bits.specs.declared.file.TheConstants.{MOST_BYTES};
 ghost use Rattle.mix_load.specs.inner.Segments.{HasTable};
 ghost use Rattle.mix_load.specs.Segments.{a5_of, has_table, header_of, segments_start, table_start};
@@ -29,21 +29,23 @@ pub fn read_header(code0: &[u8]) -> CodeHeader
     }
 }
 
-/// Whether CODE 0 has its longs and a table that lies in the world above A5.
-pub fn has_table(code0: &[u8]) -> bool
+/// The longs of CODE 0, if it has them and a table that lies in the world above A5.
+pub fn table_header(code0: &[u8]) -> Option<CodeHeader>
     requires { length code0.now ≤ MOST_BYTES }
-    ensures is { result ≡ has_table code0.now }
-    ensures facts { IsTrue result → HasTable code0.now }
-    ensures room { IsTrue result → (header_of code0.now).table_offset + (header_of code0.now).table_len < 2 ^ 32 }
+    ensures is { is_some result ≡ has_table code0.now }
+    ensures header { IfSome result (λ h. h ≡ header_of code0.now) }
+    ensures facts { OnSome result (HasTable code0.now) }
+    ensures room { IfSome result (λ h. h.table_offset + h.table_len < 2 ^ 32) }
 {
     if code0.len() < 16 {
-        return false;
+        return None;
     }
     let h = read_header(code0);
-    0 < h.table_len
+    let lies_above = 0 < h.table_len
         && h.table_len % 8 == 0
         && 16 + h.table_len as u64 <= code0.len() as u64
-        && h.table_offset as u64 + h.table_len as u64 <= h.above as u64
+        && h.table_offset as u64 + h.table_len as u64 <= h.above as u64;
+    if lies_above { Some(h) } else { None }
 }
 
 /// Where A5 points.

@@ -28,7 +28,7 @@ mod vector;
 pub use error::LoadError;
 pub use files::{FileBytes, Files};
 pub use fork::ID_COUNT;
-pub use header::{CodeHeader, a5_of, has_table, read_header, segments_start, table_start};
+pub use header::{CodeHeader, a5_of, read_header, segments_start, table_header, table_start};
 pub use laws::load_laws;
 pub use loader::load;
 pub use mix_bits::File;

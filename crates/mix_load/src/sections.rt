@@ -1,6 +1,6 @@
 //! Where the sections of a container are placed.
-ghost use Rattle.std.specs.Prelude.{◌≡◌, ℕ, ◌+◌, ◌*◌, ◌^◌, ◌≤◌, ◌<◌, length, option_map, IfOk, OnOk};
-ghost use Rattle.pef_head.specs.Container.{instantiated_count};
+ghost use Rattle.std.specs.Prelude.{true, false, ◌≡◌, ℕ, ◌+◌, ◌*◌, ◌^◌, ◌≤◌, ◌<◌, length, option_map, IfOk, OnOk};
+ghost use Rattle.pef_head.specs.Container.{instantiated_count, is_pattern};
 ghost use Rattle.pef_head.specs.PartsClauses.{IsLoadable, parts};
 ghost use Rattle.big_memory.specs.Memory.{with_bytes};
 ghost use Rattle.mix_load.specs.ContainerImage.{patterns_of};
@@ -12,7 +12,7 @@ ghost use Rattle.mix_load.specs.laws.Sections.{total_at};
 
 use crate::contents::contents;
 use crate::error::LoadError;
-use big_memory::Ram;
+use big_memory::{Ram, put_laws};
 use mix_bits::round_up;
 use pef_head::{Pef, Section};
 use std::alloc::{AllocError, Global};
@@ -82,9 +82,25 @@ fn place_first(alloc: Global, pef: &Pef, start: u32, count: u32) -> Result<Place
     })
 }
 
-/// Puts a section, unpacked.
-fn put_section(alloc: Global, ram: &mut Ram, section: Section, base: u32) -> Result<(), LoadError>
+/// Puts a section whose bytes stand in the file as they are.
+fn put_plain(ram: &mut Ram, section: Section, base: u32)
     requires loadable { IsLoadable (parts section) }
+    requires plain { is_pattern section.kind ≡ false }
+    requires fits { base + section.total ≤ length ram.old.bytes }
+    requires small { length ram.old.bytes ≤ 2 ^ 24 }
+    ensures memory { ram.new ≡ with_bytes base (contents (parts section.entry)) ram.old }
+    ensures size { length (contents (parts section.entry)) ≡ section.entry.total }
+    ensures len { length ram.new.bytes ≡ length ram.old.bytes }
+{
+    put_laws();
+    ram.fix(base, section.bytes);
+    ram.clear(base + section.unpacked, section.total - section.unpacked);
+}
+
+/// Puts a section whose bytes stand in the file as pattern data.
+fn put_pattern(alloc: Global, ram: &mut Ram, section: Section, base: u32) -> Result<(), LoadError>
+    requires loadable { IsLoadable (parts section) }
+    requires pattern { is_pattern section.kind ≡ true }
     requires fits { base + section.total ≤ length ram.old.bytes }
     ensures refusal { Finds result (option_map (λ e. LoadError.Reloc e) (pattern_refusal (parts section.entry))) }
     ensures memory { OnOk result (ram.new ≡ with_bytes base (contents (parts section.entry)) ram.old) }
@@ -93,6 +109,23 @@ fn put_section(alloc: Global, ram: &mut Ram, section: Section, base: u32) -> Res
 {
     let bytes = contents(alloc, section)?;
     ram.fix(base, &bytes);
+    Ok(())
+}
+
+/// Puts a section, unpacked.
+fn put_section(alloc: Global, ram: &mut Ram, section: Section, base: u32) -> Result<(), LoadError>
+    requires loadable { IsLoadable (parts section) }
+    requires fits { base + section.total ≤ length ram.old.bytes }
+    requires small { length ram.old.bytes ≤ 2 ^ 24 }
+    ensures refusal { Finds result (option_map (λ e. LoadError.Reloc e) (pattern_refusal (parts section.entry))) }
+    ensures memory { OnOk result (ram.new ≡ with_bytes base (contents (parts section.entry)) ram.old) }
+    ensures size { OnOk result (length (contents (parts section.entry)) ≡ section.entry.total) }
+    ensures len { length ram.new.bytes ≡ length ram.old.bytes }
+{
+    if section.is_pattern() {
+        return put_pattern(alloc, ram, section, base);
+    }
+    put_plain(ram, section, base);
     Ok(())
 }
 

@@ -1,5 +1,5 @@
 //! The jump table, which stands in CODE 0 and is loaded into the world above A5.
-ghost use Rattle.std.specs.Prelude.{◌≡◌, ◌+◌, ◌*◌, ◌^◌, ◌≤◌, ◌<◌, length, IfSome, OnOk};
+ghost use Rattle.std.specs.Prelude.{◌≡◌, ◌+◌, ◌*◌, ◌^◌, ◌≤◌, ◌<◌, length, IfOk, IfSome, OnOk};
 ghost use Rattle.mix_bits.specs.declared.file.TheConstants.{MOST_BYTES};
 ghost use Rattle.std.specs.Result.{result_err};
 ghost use Rattle.mix_bits.specs.Search.{least};
@@ -9,7 +9,7 @@ ghost use Rattle.mix_load.specs.inner.Segments.{HasTable};
 ghost use Rattle.mix_load.specs.Segments.{entry_count, entry_place, header_of, is_bad_entry, is_unloaded, jump_target, offset_in, reaches, segment_at, segment_in, table_pieces, table_start};
 
 use crate::error::LoadError;
-use crate::header::{has_table, read_header, table_start};
+use crate::header::{CodeHeader, table_header, table_start};
 use crate::segments::segment_at;
 use big_memory::Ram;
 use mix_bits::word_at;
@@ -96,18 +96,19 @@ fn bad_entry(fork: &Fork, code0: &[u8], count: u32) -> Option<u32>
     None
 }
 
-/// Tests the table of CODE 0 and its entries.
-pub fn test_table(fork: &Fork, code0: &[u8]) -> Result<(), LoadError>
+/// Tests the table of CODE 0 and its entries, and gives the longs before it.
+pub fn test_table(fork: &Fork, code0: &[u8]) -> Result<CodeHeader, LoadError>
     requires { length code0.now ≤ MOST_BYTES }
     ensures refusal { result_err result ≡ table_refusal fork.now code0.now }
+    ensures header { IfOk result (λ h. h ≡ header_of code0.now) }
     ensures table { OnOk result (HasTable code0.now) }
 {
-    if !has_table(code0) {
+    let Some(header) = table_header(code0) else {
         return Err(LoadError::JumpTable(0));
-    }
-    match bad_entry(fork, code0, read_header(code0).table_len / 8) {
+    };
+    match bad_entry(fork, code0, header.table_len / 8) {
         Some(i) => Err(LoadError::JumpTable(entry_place(i))),
-        None => Ok(()),
+        None => Ok(header),
     }
 }
 
@@ -142,15 +143,16 @@ fn put_entries(ram: &mut Ram, table: u32, code0: &[u8], places: &[u32], count: u
     }
 }
 
-/// Puts the jump table of CODE 0, whose segments are loaded at these places.
-pub fn put_table(ram: &mut Ram, code0: &[u8], places: &[u32])
+/// Puts the jump table of CODE 0, which has these longs, and whose segments are loaded at these places.
+pub fn put_table(ram: &mut Ram, code0: &[u8], header: CodeHeader, places: &[u32])
     requires table { HasTable code0.now }
+    requires header { header ≡ header_of code0.now }
     requires brief { length code0.now ≤ MOST_BYTES }
-    requires room { table_start (header_of code0.now) + (header_of code0.now).table_len ≤ length ram.old.bytes }
+    requires room { table_start header + header.table_len ≤ length ram.old.bytes }
     requires small { length ram.old.bytes ≤ 2 ^ 24 }
     ensures memory { ram.new ≡ with_pieces (table_pieces places.now (table_start (header_of code0.now)) code0.now (entry_count code0.now)) ram.old }
     ensures len { length ram.new.bytes ≡ length ram.old.bytes }
 {
-    let h = read_header(code0);
-    put_entries(ram, table_start(h) as u32, code0, places, h.table_len / 8);
+    let table = table_start(header) as u32;
+    put_entries(ram, table, code0, places, header.table_len / 8);
 }

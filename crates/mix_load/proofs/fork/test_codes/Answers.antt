@@ -8,11 +8,11 @@ use Rattle.mix_load.proofs.fork.test_codes.Goals as goal
 pub returns-clause-room : goal.returns-clause-room
 returns-clause-room c =
     let end_is : c.segments_end-end.result ≡ fork_end c.args.ids c.args.fork.now (header_of c.args.code0.now) =
-    c.segments_end-end.ensures.is ∙ ap (λ (s : ℕ). segments_end c.args.fork.now s c.args.ids) (c.segments_start-start.ensures.is ∙ ap segments_start c.read_header.ensures) in
+    c.segments_end-end.ensures.is ∙ ap (λ (s : ℕ). segments_end c.args.fork.now s c.args.ids) (c.segments_start-start.ensures.is ∙ ap segments_start c.in_ok-header.ensures.header) in
     let fits : rounded_up 16 (fork_end c.args.ids c.args.fork.now (header_of c.args.code0.now)) ≤ c.args.floor =
     subst (λ (n : ℕ). rounded_up 16 n ≤ c.args.floor) end_is (not_too_large c.args.floor c.segments_end-end.result (sym c.in_ok-test_end.ensures)) in
     record {
-      table = c.in_ok-test_table.ensures.table;
+      table = c.in_ok-header.ensures.table;
       end_fits = fits;
       world_fits = world_within c.args.ids c.args.floor c.args.fork.now (header_of c.args.code0.now) fits;
     }

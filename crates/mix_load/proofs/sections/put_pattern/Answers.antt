@@ -2,7 +2,7 @@ use Rattle.std.proofs.Common.{◌≡◌, ℕ, ◌+◌, ◌≤◌, List, length, 
 use Rattle.std.proofs.lemmas.Result.{err_from_is_err_and}
 use Rattle.big_memory.proofs.Lists.{length-put}
 use Rattle.big_memory.specs.Memory.{Memory, with_bytes}
-use Rattle.mix_load.proofs.sections.put_section.Goals as goal
+use Rattle.mix_load.proofs.sections.put_pattern.Goals as goal
 
 fits : (base total room : ℕ) (xs ys : List ℕ) → ys ≡ xs → length xs ≡ total → base + total ≤ room → base + length ys ≤ room
 fits base total room xs ys same len le = rw (same, len) le
