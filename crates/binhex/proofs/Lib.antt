@@ -1,3 +1,6 @@
+pub mod Puts
+pub mod Reaching
+pub mod Rests
 pub mod Steps
 pub mod Numbers
 pub mod Packed
