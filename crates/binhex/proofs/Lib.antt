@@ -4,4 +4,5 @@ pub mod Rests
 pub mod Steps
 pub mod Numbers
 pub mod Packed
+pub mod Sixths
 pub mod Wholes

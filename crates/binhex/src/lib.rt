@@ -19,4 +19,4 @@ mod text;
 pub use error::{BinHexError, Part};
 pub use file::{Forks, read};
 pub use fork::Fork;
-pub use laws::{forks_law, packed_law};
+pub use laws::{forks_law, packed_law, text_law};
