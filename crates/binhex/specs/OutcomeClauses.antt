@@ -1,9 +1,7 @@
 -- How the answer of a call shows a reading, or want of memory.
 use Rattle.std.specs.Prelude.{◌≡◌, ◌≢◌, Result, Ok, Err}
-use Rattle.binhex.specs.Forks.{ForkBytes}
 use Rattle.binhex.specs.declared.error.BinHexError.{BinHexError}
 use Rattle.binhex.specs.declared.error.BinHexError.TheVariants.{NoMemory}
-use Rattle.binhex.specs.declared.file.Forks.{Forks}
 
 -- the answer is this reading
 abbrev pub Says : {A B : Type 0} → (A → B) → Result A BinHexError → Result B BinHexError → Type 0
@@ -14,10 +12,3 @@ Says view (Err e) reading = reading ≡ Err e
 abbrev pub Gives : {A B : Type 0} → (A → B) → Result A BinHexError → Result B BinHexError → Type 0
 Gives view (Ok x) reading = reading ≡ Ok (view x)
 Gives view (Err e) reading = e ≢ NoMemory → reading ≡ Err e
-
--- the forks by their bytes
-abbrev pub seen : Forks → ForkBytes
-seen forks = record {
-  data_fork = forks.data_fork.items;
-  resource_fork = forks.resource_fork.items;
-}

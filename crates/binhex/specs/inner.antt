@@ -1,1 +1,4 @@
+pub mod Measured
+pub mod Spread
+pub mod Steps
 pub mod Within

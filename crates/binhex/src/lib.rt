@@ -6,13 +6,17 @@
 #![tactic(auto)]
 
 mod error;
+mod expanded;
 mod file;
+mod fork;
 mod laws;
 mod packing;
 mod parts;
+mod rest;
 mod runs;
 mod text;
 
 pub use error::{BinHexError, Part};
 pub use file::{Forks, read};
-pub use laws::{forks_law, packed_law};
+pub use fork::Fork;
+pub use laws::{forks_law, packed_law, text_law};

@@ -5,44 +5,36 @@ ghost use Rattle.binhex.specs.Parts.{data_length, data_start, forks_refusal, hea
 ghost use Rattle.binhex.specs.inner.Within.{Within};
 
 use crate::error::{BinHexError, Part};
-use crc16::checksum;
-use mix_bits::{long_at, word_at};
-
-/// Where a part lies, but for its check sum.
-#[derive(Clone, Copy)]
-pub struct Place {
-    pub start: u64,
-    pub length: u32,
-}
+use crate::expanded::{Expanded, Place};
 
 /// Where the header lies.
-pub fn header(bytes: &[u8]) -> Place
+pub fn header(bytes: &Expanded) -> Place
     requires { 1 ≤ length bytes.now }
     ensures start { result.start ≡ 0 }
     ensures length { result.length ≡ header_length bytes.now }
 {
     Place {
         start: 0,
-        length: u32::from(bytes[0]) + 20,
+        length: u32::from(bytes.first()) + 20,
     }
 }
 
 /// Where the data fork lies.
-pub fn data_fork(bytes: &[u8]) -> Place
+pub fn data_fork(bytes: &Expanded) -> Place
     requires whole { header_length bytes.now ≤ length bytes.now }
     ensures start { result.start ≡ data_start bytes.now }
     ensures length { result.length ≡ data_length bytes.now }
     ensures near { result.start < 300 }
 {
-    let length = u32::from(bytes[0]) + 20;
+    let length = u32::from(bytes.first()) + 20;
     Place {
         start: u64::from(length) + 2,
-        length: long_at(bytes, length - 8),
+        length: bytes.long_at(length - 8),
     }
 }
 
 /// Where the resource fork lies.
-pub fn resource_fork(bytes: &[u8]) -> Place
+pub fn resource_fork(bytes: &Expanded) -> Place
     requires whole { header_length bytes.now ≤ length bytes.now }
     ensures start { result.start ≡ resource_start bytes.now }
     ensures length { result.length ≡ resource_length bytes.now }
@@ -51,17 +43,16 @@ pub fn resource_fork(bytes: &[u8]) -> Place
     let data = data_fork(bytes);
     Place {
         start: data.start + u64::from(data.length) + 2,
-        length: long_at(bytes, u32::from(bytes[0]) + 16),
+        length: bytes.long_at(u32::from(bytes.first()) + 16),
     }
 }
 
 /// Why bytes are no file with a header and two forks whose check sums are right, if they are none.
-pub fn refusal(bytes: &[u8]) -> Option<BinHexError>
-    requires { length bytes.now < 2 ^ 32 }
+pub fn refusal(bytes: &Expanded) -> Option<BinHexError>
     ensures first { result ≡ refusal_of bytes.now }
     ensures inside { IfNone result (Within bytes.now) }
 {
-    if bytes.is_empty() {
+    if bytes.len() == 0 {
         return Some(BinHexError::Cut(Part::Header));
     }
     match part_refusal(bytes, Part::Header, header(bytes)) {
@@ -71,8 +62,7 @@ pub fn refusal(bytes: &[u8]) -> Option<BinHexError>
 }
 
 /// The same of both forks behind a header that is right.
-fn fork_refusal(bytes: &[u8]) -> Option<BinHexError>
-    requires small { length bytes.now < 2 ^ 32 }
+fn fork_refusal(bytes: &Expanded) -> Option<BinHexError>
     requires whole { header_length bytes.now ≤ length bytes.now }
     ensures first { result ≡ forks_refusal bytes.now }
     ensures inside { IfNone result (Within bytes.now) }
@@ -84,16 +74,15 @@ fn fork_refusal(bytes: &[u8]) -> Option<BinHexError>
 }
 
 /// Whether a part is cut, or has another check sum behind it than its own.
-fn part_refusal(bytes: &[u8], part: Part, place: Place) -> Option<BinHexError>
-    requires small { length bytes.now < 2 ^ 32 }
+fn part_refusal(bytes: &Expanded, part: Part, place: Place) -> Option<BinHexError>
     requires near { place.start < 2 ^ 34 }
     ensures first { result ≡ refusal_at bytes.now part place.start (place.start + place.length) }
     ensures inside { IfNone result (place.start + place.length + 2 ≤ length bytes.now) }
 {
     let end = place.start + u64::from(place.length);
-    if (bytes.len() as u64) < end + 2 {
+    if u64::from(bytes.len()) < end + 2 {
         Some(BinHexError::Cut(part))
-    } else if checksum(&bytes[place.start as usize..end as usize]) == word_at(bytes, end as u32) {
+    } else if bytes.checksum(place) == bytes.word_at(end as u32) {
         None
     } else {
         Some(BinHexError::Sum(part))

@@ -1,86 +1,99 @@
 // Runs of equal bytes.
-ghost use Rattle.std.specs.Prelude.{◌≡◌, ◌^◌, ◌<◌, ◌≤◌, [], IfOk, length};
-ghost use Rattle.binhex.specs.OutcomeClauses.{Gives};
-ghost use Rattle.binhex.specs.Runs.{expanded, taken, taken_below, with_equal, with_run};
+ghost use Rattle.std.specs.Prelude.{◌≡◌, ◌+◌, ◌^◌, ◌<◌, ◌≤◌, IfOk};
+ghost use Rattle.binhex.specs.inner.Measured.{Measures};
+ghost use Rattle.binhex.specs.inner.Spread.{no_run, one_of, run_behind};
+ghost use Rattle.binhex.specs.inner.Steps.{Takes};
 
 use crate::error::BinHexError;
-use std::alloc::Global;
 
 /// What stands before the length of a run.
 const MARK: u8 = 0x90;
 
 /// How many bytes a file may stand for, both forks and their header.
-const MOST: usize = 0x0200_0000;
+const MOST: u32 = 0x0200_0000;
 
-/// The bytes for which packed ones stand.
-pub fn expand(alloc: Global, packed: &[u8]) -> Result<Vec<u8>, BinHexError>
-    ensures bytes { Gives (λ bytes. bytes.items) result (expanded packed.now) }
-    ensures few { IfOk result (λ bytes. length bytes.items ≤ 2 ^ 25) }
+/// What a packed byte stands for: so many equal bytes.
+#[derive(Clone, Copy)]
+pub struct Run {
+    /// The last byte so far where there are none.
+    pub byte: u8,
+    pub count: u8,
+    /// Whether the next packed byte is the length of a run.
+    pub is_marked: bool,
+}
+
+impl Run {
+    /// None, before the first packed byte.
+    pub fn none() -> Run
+        ensures { result ≡ no_run }
+    {
+        Run {
+            byte: 0,
+            count: 0,
+            is_marked: false,
+        }
+    }
+
+    fn one(byte: u8) -> Run
+        ensures { result ≡ one_of byte }
+    {
+        Run {
+            byte,
+            count: 1,
+            is_marked: false,
+        }
+    }
+
+    /// What the next packed byte stands for. The first of a run of bytes stood before its mark; the length 0 stands for a
+    /// mark itself.
+    pub fn behind(self, packed: u8) -> Run
+        ensures { result ≡ run_behind self packed }
+    {
+        match (self.is_marked, packed) {
+            (true, 0) => Run::one(MARK),
+            (true, length) => Run {
+                count: length - 1,
+                is_marked: false,
+                ..self
+            },
+            (false, MARK) => Run {
+                count: 0,
+                is_marked: true,
+                ..self
+            },
+            (false, byte) => Run::one(byte),
+        }
+    }
+}
+
+/// How many bytes packed ones stand for.
+pub fn measure(packed: &[u8]) -> Result<u32, BinHexError>
+    ensures { Measures packed.now result }
 {
-    let mut bytes = Vec::new(alloc);
-    let marked = take_all(&mut bytes, packed)?;
-    if marked {
+    let mut run = Run::none();
+    let mut count = 0;
+    for k in 0..packed.len() {
+        count = with_run(run, count, packed[k])?;
+        run = run.behind(packed[k]);
+    }
+    if run.is_marked {
         return Err(BinHexError::Run);
     }
-    Ok(bytes)
+    Ok(count)
 }
 
-/// Appends all that packed bytes stand for, and answers whether the length of a run is missing behind them.
-fn take_all(bytes: &mut Vec<u8>, packed: &[u8]) -> Result<bool, BinHexError>
-    requires { bytes.old.items ≡ [] }
-    ensures taken { Gives (λ marked. record { bytes = bytes.new.items; marked = marked }) result (taken_below packed.now (length packed.now)) }
-    ensures few { length bytes.new.items ≤ 2 ^ 25 }
+/// The count of bytes with those for which a packed one stands behind a run, where they may be.
+fn with_run(run: Run, count: u32, packed: u8) -> Result<u32, BinHexError>
+    requires { count ≤ 2 ^ 25 }
+    ensures takes { Takes run count packed result }
+    ensures few { IfOk result (λ more. more ≤ 2 ^ 25) }
 {
-    let mut marked = false;
-    for k in 0..packed.len() {
-        marked = take(bytes, marked, packed[k])?;
+    if run.is_marked && packed != 0 && count == 0 {
+        return Err(BinHexError::Run);
     }
-    Ok(marked)
-}
-
-/// Appends what a packed byte stands for, behind a mark or not, and answers whether it is a mark itself.
-fn take(bytes: &mut Vec<u8>, marked: bool, byte: u8) -> Result<bool, BinHexError>
-    requires { length bytes.old.items ≤ 2 ^ 25 }
-    ensures taken { Gives (λ marks. record { bytes = bytes.new.items; marked = marks }) result (taken (record { bytes = bytes.old.items; marked = marked }) byte) }
-    ensures few { length bytes.new.items ≤ 2 ^ 25 }
-{
-    if marked {
-        add_run(bytes, byte)?;
-        Ok(false)
-    } else if byte == MARK {
-        Ok(true)
-    } else {
-        add(bytes, byte, 1)?;
-        Ok(false)
-    }
-}
-
-/// Appends the rest of a run of so many bytes, the first of which is the last one so far; a mark itself where it is 0.
-fn add_run(bytes: &mut Vec<u8>, count: u8) -> Result<(), BinHexError>
-    requires { length bytes.old.items ≤ 2 ^ 25 }
-    ensures run { Gives (λ _. bytes.new.items) result (with_run bytes.old.items count) }
-    ensures few { length bytes.new.items ≤ 2 ^ 25 }
-{
-    if count == 0 {
-        return add(bytes, MARK, 1);
-    }
-    match bytes.last().copied() {
-        Some(last) => add(bytes, last, usize::from(count) - 1),
-        None => Err(BinHexError::Run),
-    }
-}
-
-/// Appends so many equal bytes, where there is room.
-fn add(bytes: &mut Vec<u8>, byte: u8, count: usize) -> Result<(), BinHexError>
-    requires count { count < 256 }
-    requires few { length bytes.old.items ≤ 2 ^ 25 }
-    ensures bytes { Gives (λ _. bytes.new.items) result (with_equal bytes.old.items byte count) }
-    ensures few { length bytes.new.items ≤ 2 ^ 25 }
-{
-    let end = bytes.len() + count;
-    if MOST < end {
+    let more = count + u32::from(run.behind(packed).count);
+    if MOST < more {
         return Err(BinHexError::Long);
     }
-    bytes.resize(end, byte)?;
-    Ok(())
+    Ok(more)
 }

@@ -9,4 +9,4 @@ mod laws;
 mod sum;
 
 pub use laws::checksum_law;
-pub use sum::checksum;
+pub use sum::{checksum, with_byte};

@@ -20,8 +20,8 @@ fn remainder(bytes: &[u8]) -> u16
     sum
 }
 
-/// The remainder with one byte more.
-fn with_byte(sum: u16, byte: u8) -> u16
+/// The remainder with one byte more. It is 0 of no byte, and the check sum is that with two zeros behind the bytes.
+pub fn with_byte(sum: u16, byte: u8) -> u16
     ensures { result ≡ with_one_byte sum byte }
 {
     let first = shifted_twice(shifted_twice(sum));

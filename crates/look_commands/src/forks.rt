@@ -2,15 +2,14 @@
 ghost use Rattle.std.specs.Prelude.{◌≡◌, ◌^◌, ◌<◌, length};
 ghost use Rattle.wrapped_forks.specs.Forks.{fork_of};
 ghost use Rattle.binhex.specs.Forks.{forks_of};
-ghost use Rattle.binhex.specs.OutcomeClauses.{seen};
 ghost use Rattle.look_commands.specs.inner.Forks.{PutsEncoded, PutsFork, PutsForkOf, PutsUnwrapped, WritesFork, encoded_fork, is_want_of_memory};
 
 use crate::said::{fail, print, say};
 use crate::streams::Streams;
-use binhex::{BinHexError, Forks, read};
+use binhex::{BinHexError, Fork as EncodedFork, Forks, read};
 use job_words::Key;
 use look_words::fetch;
-use look_words::status::{NO_MEMORY, REFUSED};
+use look_words::status::{NO_MEMORY, OUTPUT_FAILED, REFUSED, SUCCESS};
 use mix_bits::File;
 use std::alloc::{AllocError, Global};
 use std::io::{Read, Write};
@@ -133,24 +132,27 @@ fn print_encoded<R: Read + Drop, W: Write + Drop, E: Write + Drop>(
     which: Fork,
     streams: &mut Streams<R, W, E>,
 ) -> u8
-    ensures { PutsFork (encoded_fork which (seen forks.now)) (W.contents streams.old.out) (W.contents streams.new.out) result }
+    ensures { PutsFork (encoded_fork which forks.now) (W.contents streams.old.out) (W.contents streams.new.out) result }
 {
-    let bytes = fork_in(forks, which);
-    if bytes.is_empty() {
+    let encoded = fork_in(forks, which);
+    if encoded.is_empty() {
         return refuse(
             format!(in alloc; "{name}: it is BinHex, without a {which}"),
             &mut streams.errors,
         );
     }
-    print(&mut streams.out, bytes)
+    match encoded.put(&mut streams.out) {
+        Ok(()) => SUCCESS,
+        Err(_) => OUTPUT_FAILED,
+    }
 }
 
-fn fork_in(forks: &Forks, which: Fork) -> &[u8]
-    ensures { result.now ≡ encoded_fork which (seen forks.now) }
+fn fork_in(forks: &Forks, which: Fork) -> EncodedFork<'_>
+    ensures { result ≡ encoded_fork which forks.now }
 {
     match which {
-        Fork::Data => &forks.data_fork,
-        Fork::Resource => &forks.resource_fork,
+        Fork::Data => forks.data_fork(),
+        Fork::Resource => forks.resource_fork(),
     }
 }
 

@@ -2,4 +2,5 @@ pub mod Looks
 pub mod Refusals
 pub mod Requests
 pub mod Sentences
+pub mod Typed
 pub mod Unmade

@@ -3,6 +3,7 @@ ghost use Rattle.std.specs.Prelude.{◌≡◌, ◌+◌, ◌^◌, ◌<◌, ◌++�
 ghost use Rattle.std.specs.String.{string_bytes};
 ghost use Rattle.job_words.specs.Settings.{value_in};
 ghost use Rattle.look_words.specs.inner.Looks.{end_of, has_key as has_key_by, is_frames as is_frames_by, is_last as is_last_by, is_own as is_own_by, is_session as is_session_by, is_unmapped as is_unmapped_by, map_of, run_words as run_words_of, told_by, with_frames, with_last};
+ghost use Rattle.look_words.specs.inner.Typed.{typed_behind as behind_typed, typed_place as place_typed};
 
 use crate::look::{Frames, Key, Look, Refusal};
 use mix_bits::{NoMemory, read_decimal};
@@ -49,6 +50,40 @@ fn add_words(run: &mut Vec<String>, words: &[String]) -> Result<(), NoMemory>
                 run.push(word.clone()?)?;
             }
             add_words(run, rest)
+        }
+    }
+}
+
+/// The place among words of one that has this place in `run_words` of them.
+pub fn typed_behind(words: &[String], place: u32) -> u32
+    ensures { result ≡ behind_typed (map string_bytes words.now) place }
+{
+    match words {
+        [] => place,
+        [_, rest @ ..] => {
+            if place == 0 {
+                0
+            } else {
+                typed_place(rest, place - 1).saturating_add(1)
+            }
+        }
+    }
+}
+
+/// The same of the words behind a command.
+fn typed_place(words: &[String], place: u32) -> u32
+    ensures { result ≡ place_typed (map string_bytes words.now) place }
+{
+    match words {
+        [] => place,
+        [word, rest @ ..] => {
+            if is_own(word.as_str()) {
+                typed_place(rest, place).saturating_add(1)
+            } else if place == 0 {
+                0
+            } else {
+                typed_place(rest, place - 1).saturating_add(1)
+            }
         }
     }
 }

@@ -8,15 +8,16 @@ ghost use Rattle.look_text.specs.Whys.{Explains};
 ghost use Rattle.look_text.specs.declared.why.Why.{Why};
 ghost use Rattle.look_words.specs.inner.Looks.{run_words as run_words_of};
 ghost use Rattle.look_words.specs.inner.Requests.{IsLost, IsUnmet, is_run};
-ghost use Rattle.look_words.specs.inner.Sentences.{why_by, why_text as why_of};
+ghost use Rattle.look_words.specs.inner.Sentences.{why_text as why_of};
+ghost use Rattle.look_words.specs.inner.Typed.{typed_why as typed_why_of};
 
 use crate::failure::Failure;
 use crate::files::{fetch, name_at};
-use crate::program::run_words;
-use crate::sentence::{command_why, why_text};
+use crate::program::{run_words, typed_behind};
+use crate::sentence::why_text;
 use crate::status::BAD_WORDS;
 use job_words::{Command, Job, Key, read_words};
-use look_text::{explain, word_at};
+use look_text::{Why, explain};
 use mix_bits::{File, NoMemory};
 use mix_load::{FileBytes, Files as Program};
 use std::alloc::Global;
@@ -42,15 +43,15 @@ pub fn requested<F: Files>(alloc: Global, files: &F, words: &[String]) -> Result
     };
     match read_words(&run) {
         Ok(Command::Run(job)) => fetch_files(alloc, files, &run, job),
-        _ => Err(unmet(alloc, word_at(words, 0), &run)),
+        _ => Err(unmet(alloc, words, &run)),
     }
 }
 
 /// Why mixedrun refuses the words of a run that stand for those of another command.
-fn unmet(alloc: Global, command: &str, run: &[String]) -> Failure
+fn unmet(alloc: Global, words: &[String], run: &[String]) -> Failure
     ensures { IsUnmet false result.status }
 {
-    match unmet_text(alloc, command, run) {
+    match unmet_text(alloc, words, run) {
         Ok(text) => Failure {
             status: BAD_WORDS,
             sentence: Some(text.into_bytes()),
@@ -59,12 +60,25 @@ fn unmet(alloc: Global, command: &str, run: &[String]) -> Failure
     }
 }
 
-/// The same in a sentence, which names the command.
-fn unmet_text(alloc: Global, command: &str, run: &[String]) -> Result<String, NoMemory>
-    ensures { IfOk result (λ text. (why : Why) × Explains (map string_bytes run.now) why × (string_bytes text ≡ why_by command.now (map string_bytes run.now) why)) }
+/// The same in a sentence, which names the command and places words as they were typed.
+fn unmet_text(alloc: Global, words: &[String], run: &[String]) -> Result<String, NoMemory>
+    ensures { IfOk result (λ text. (why : Why) × Explains (map string_bytes run.now) why × (string_bytes text ≡ why_of (map string_bytes words.now) (typed_why_of (map string_bytes words.now) why))) }
 {
     let why = explain(alloc, run)?;
-    command_why(alloc, command, run, why)
+    why_text(alloc, words, typed_why(words, why))
+}
+
+/// The same reason, with the place of its word as it was typed.
+fn typed_why(words: &[String], why: Why) -> Why
+    ensures { result ≡ typed_why_of (map string_bytes words.now) why }
+{
+    match why {
+        Why::Keyless(place) => Why::Keyless(typed_behind(words, place)),
+        Why::Key(place, label) => Why::Key(typed_behind(words, place), label),
+        Why::Value(place, label) => Why::Value(typed_behind(words, place), label),
+        Why::Again(place, label) => Why::Again(typed_behind(words, place), label),
+        why => why,
+    }
 }
 
 /// Why mixedrun refuses words, in a sentence.
