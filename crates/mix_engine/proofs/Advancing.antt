@@ -17,9 +17,11 @@ use Rattle.mix_engine.specs.declared.code.Code.{Code}
 use Rattle.mix_engine.specs.declared.code.Code.TheVariants.{Next as Goes_on, Leave, Stop, Gate}
 use Rattle.mix_engine.specs.laws.Laws.{AreLaws}
 use Rattle.mix_engine.specs.inner.Cores.{AreOwn, Codes, CodesAfter, IsOwn, leaves_code}
+use Rattle.mix_engine.specs.Worlds.{Seen, TracesOnly}
+use Rattle.mix_engine.specs.inner.Beside.{machine_in}
 use Rattle.mix_engine.specs.inner.Does.{Does}
 use Rattle.mix_engine.specs.inner.Advances.{Advances, GoesOn}
-use Rattle.mix_engine.proofs.Amid.{acts-from, amid, does-change}
+use Rattle.mix_engine.proofs.Amid.{acts-from, amid, amid-seen, does-change}
 use Rattle.mix_engine.proofs.Leavings.{same-at, stopped}
 
 -- one more
@@ -66,14 +68,14 @@ advances-stop laws k cell before after b new o a whole codes =
     }
 
 -- or one at a gate
-pub advances-gate : AreLaws → (k : ℕ) (did : Did) (told cell : AFault) (before mid after : Active) (b body new : Body) (o : Outside) (a t : Output) → CodesAfter k Gate told before mid b body
-    → Does at_gate did cell body new mid after a t → Advances k did cell (at b before o a) (at new after o t)
-advances-gate laws k did told cell before mid after b body new o a t codes does =
+pub advances-gate : AreLaws → (k : ℕ) (did : Did) (told cell : AFault) (before mid after : Active) (b body new : Body) (a t : Seen) → CodesAfter k Gate told before mid b body → TracesOnly a t
+    → Does at_gate did cell body new mid after a.trace t.trace → Advances k did cell (machine_in b before a) (machine_in new after t)
+advances-gate laws k did told cell before mid after b body new a t codes rest does =
     record {
-      last = at codes.body codes.active o a;
-      goes = own-goes laws k before codes.active b codes.body o a codes.own;
-      acts = acts-from step at_gate did cell (at codes.body codes.active o a) (at body mid o a) (at new after o t)
-          (same-at codes.body body codes.active mid o a codes.last.1 codes.last.2) codes.last.0 (amid laws at_gate did cell body new mid after o a t does);
+      last = machine_in codes.body codes.active a;
+      goes = own-goes laws k before codes.active b codes.body a.outside a.trace codes.own;
+      acts = acts-from step at_gate did cell (machine_in codes.body codes.active a) (machine_in body mid a) (machine_in new after t)
+          (same-at codes.body body codes.active mid a.outside a.trace codes.last.1 codes.last.2) codes.last.0 (amid-seen laws at_gate did cell body new mid after a t rest does);
     }
 
 -- or one of the host

@@ -23,6 +23,8 @@ use Rattle.mixed_machine.specs.Runs.{Sinks}
 use Rattle.mixed_machine.specs.RunsClauses.{sinks_of}
 use Rattle.mixed_machine.specs.laws.Acts.{Acts, Done, broken_by}
 use Rattle.mix_engine.specs.laws.Laws.{AreLaws}
+use Rattle.mix_engine.specs.Worlds.{Seen, TracesOnly}
+use Rattle.mix_engine.specs.inner.Beside.{machine_in}
 use Rattle.mix_engine.specs.inner.Does.{Does, IsInside, beside}
 use Rattle.mixed_machine.proofs.Over.{told-none}
 use Rattle.mix_engine.proofs.Over.{over-quiet}
@@ -58,6 +60,12 @@ amid laws x did cell old new before after o a b does =
       step = over-quiet (λ s t. Done (x s) did cell s t (beside o.out a) (beside o.out b)) (at old before o a) (at new after o b) refl (told-none o.input.left)
           (λ input answers. does.done (around_at o input answers) o.out);
     }
+
+-- the same by what is seen of it
+pub amid-seen : AreLaws → (x : State → Next) (did : Did) (cell : AFault) (old new : Body) (before after : Active) (a b : Seen) → TracesOnly a b
+    → Does x did cell old new before after a.trace b.trace → Acts x did cell (machine_in old before a) (machine_in new after b)
+amid-seen laws x did cell old new before after a b rest does =
+    subst (λ o. Acts x did cell (machine_in old before a) (at new after o b.trace)) (sym rest.outside) (amid laws x did cell old new before after a.outside a.trace b.trace does)
 
 -- an equal step of an equal machine
 pub acts-from : (x y : State → Next) (did : Did) (cell : AFault) (a mid b : At) → mid ≡ a

@@ -35,6 +35,8 @@ use Rattle.toolbox.specs.Calls.{around_at}
 use Rattle.mixed_machine.specs.RunsClauses.{sinks_of}
 use Rattle.mixed_machine.specs.laws.Acts.{Acts, Done}
 use Rattle.mix_engine.specs.laws.Laws.{AreLaws}
+use Rattle.mix_engine.specs.Worlds.{KeepsTrace, Seen, TracesOnly}
+use Rattle.mix_engine.specs.inner.Beside.{machine_in}
 use Rattle.mix_engine.proofs.Changed.{altered, changed, seen-is}
 use Rattle.mixed_machine.proofs.Over.{told-none}
 use Rattle.mix_engine.proofs.Over.{over-quiet, over-taken, some-took, told-kept}
@@ -148,50 +150,71 @@ went-untold laws crossing index asked cell b n h before after o p a t whole goes
     }
 
 -- the trace took the line of an ask, or a part of it
-pub put-ask : (slot word : ℕ) (answer : Answer) (a t : Output) → Appends a.held t.held (ask_line slot word answer) → t.faults ≡ a.faults → Grows a t (line_of_ask (Some (ask_of slot word answer)))
+put-ask : (slot word : ℕ) (answer : Answer) (a t : Output) → Appends a.held t.held (ask_line slot word answer) → t.faults ≡ a.faults → Grows a t (line_of_ask (Some (ask_of slot word answer)))
 put-ask slot word answer a t taken calm = record { taken = taken; calm = calm }
 
-pub broke-ask : (slot word : ℕ) (answer : Answer) (a t : Output)
+broke-ask : (slot word : ℕ) (answer : Answer) (a t : Output)
     → (k : ℕ) × (k ≤ length (ask_line slot word answer)) × Appends a.held t.held (take k (ask_line slot word answer)) → Rose a.faults t.faults
     → Breaks a t [] (line_of_ask (Some (ask_of slot word answer)))
 broke-ask slot word answer a t puts rose = record { kept = puts.0; within = puts.1; taken = puts.2; rose = rose }
 
-pub ask-tells : (slot word : ℕ) (answer : Answer) → 0 < length (line_of_ask (Some (ask_of slot word answer)))
-ask-tells slot word answer = asks-tell slot word answer
+-- nothing was put on an equal trace
+pub grows-same : (a t : Output) → t ≡ a → Grows a t []
+grows-same a t same = subst (λ y. Grows a y []) (sym same) (grows-none a)
+
+-- a call that asked, and whose line the trace took or failed at
+pub asked-on : AreLaws → (crossing : Crossings) (index slot word : ℕ) (answer : Answer) (cell : AFault) (b : Body) (n : Memory) (h : Space) (before after : Active) (a mid t : Seen)
+    → IsWhole b (isa_of before) → GoesOn (host_at index before) (goes_at after) (Some (ask_of slot word answer)) (place b.ram b.heap a.outside) (place n h mid.outside)
+    → KeepsTrace a mid → Appends mid.trace.held t.trace.held (ask_line slot word answer) → t.trace.faults ≡ mid.trace.faults → TracesOnly mid t
+    → Acts (host_step crossing index) IsNext cell (machine_in b before a) (machine_in (altered b n h) after t)
+asked-on laws crossing index slot word answer cell b n h before after a mid t whole goes keeps puts calm rest =
+    subst (λ p. Acts (host_step crossing index) IsNext cell (machine_in b before a) (at (altered b n h) after p t.trace)) (sym rest.outside)
+    (went-on laws crossing index (Some (ask_of slot word answer)) cell b n h before after a.outside mid.outside a.trace t.trace whole goes
+    (subst (λ o. Grows o t.trace (line_of_ask (Some (ask_of slot word answer)))) keeps.trace (put-ask slot word answer mid.trace t.trace puts calm)))
+
+pub asked-untold : AreLaws → (crossing : Crossings) (index slot word : ℕ) (answer : Answer) (cell : AFault) (b : Body) (n : Memory) (h : Space) (before after : Active) (a mid t : Seen)
+    → IsWhole b (isa_of before) → GoesOn (host_at index before) (goes_at after) (Some (ask_of slot word answer)) (place b.ram b.heap a.outside) (place n h mid.outside)
+    → KeepsTrace a mid → (k : ℕ) × (k ≤ length (ask_line slot word answer)) × Appends mid.trace.held t.trace.held (take k (ask_line slot word answer))
+    → Rose mid.trace.faults t.trace.faults → TracesOnly mid t
+    → Acts (host_step crossing index) TraceFault cell (machine_in b before a) (machine_in (altered b n h) after t)
+asked-untold laws crossing index slot word answer cell b n h before after a mid t whole goes keeps puts rose rest =
+    subst (λ p. Acts (host_step crossing index) TraceFault cell (machine_in b before a) (at (altered b n h) after p t.trace)) (sym rest.outside)
+    (went-untold laws crossing index (Some (ask_of slot word answer)) cell b n h before after a.outside mid.outside a.trace t.trace whole goes (asks-tell slot word answer)
+    (subst (λ o. Breaks o t.trace [] (line_of_ask (Some (ask_of slot word answer)))) keeps.trace (broke-ask slot word answer mid.trace t.trace puts rose)))
 
 -- a claim of a machine on which a call has changed nothing
-stays-at : (P : At → Type 0) (b : Body) (n : Memory) (h : Space) (before after : Active) (o p q : Outside) (a : Output)
-    → place n h p ≡ place b.ram b.heap q → after ≡ before → P (at b before q a) → P (at (altered b n h) after p a)
-stays-at P b n h before after o p q a same active holds =
-    subst (λ w. P (at (altered b n h) w p a)) (sym active) (subst (λ x. P (at (altered b x.memory x.heap) before x.outside a)) (sym same) holds)
+stays-at : (P : At → Type 0) (b : Body) (n : Memory) (h : Space) (before after : Active) (o p q : Outside) (a t : Output)
+    → place n h p ≡ place b.ram b.heap q → after ≡ before → t ≡ a → P (at b before q a) → P (at (altered b n h) after p t)
+stays-at P b n h before after o p q a t same active trace holds =
+    subst (λ w. P (at (altered b n h) w p t)) (sym active) (subst (λ x. P (at (altered b x.memory x.heap) before x.outside t)) (sym same) (subst (λ y. P (at b before q y)) (sym trace) holds))
 
 -- the program ends
-pub exited : AreLaws → (crossing : Crossings) (index code : ℕ) (cell : AFault) (b : Body) (n : Memory) (h : Space) (before after : Active) (o p : Outside) (a : Output)
-    → IsWhole b (isa_of before) → Stays (host_at index before) (Leaves code) (place b.ram b.heap o) (place n h p) → after ≡ before
-    → Acts (host_step crossing index) (Exit code) cell (at b before o a) (at (altered b n h) after p a)
-exited laws crossing index code cell b n h before after o p a whole stays active =
-    stays-at (λ z. Acts (host_step crossing index) (Exit code) cell (at b before o a) z) b n h before after o p o a stays.same active
+pub exited : AreLaws → (crossing : Crossings) (index code : ℕ) (cell : AFault) (b : Body) (n : Memory) (h : Space) (before after : Active) (o p : Outside) (a t : Output)
+    → IsWhole b (isa_of before) → Stays (host_at index before) (Leaves code) (place b.ram b.heap o) (place n h p) → after ≡ before → t ≡ a
+    → Acts (host_step crossing index) (Exit code) cell (at b before o a) (at (altered b n h) after p t)
+exited laws crossing index code cell b n h before after o p a t whole stays active trace =
+    stays-at (λ z. Acts (host_step crossing index) (Exit code) cell (at b before o a) z) b n h before after o p o a t stays.same active trace
     (amid laws (host_step crossing index) (Exit code) cell b b before before o a a
     (does-exit grows-none (host_step crossing index) code cell b before a whole
     (λ around. ap (hosted_by (crossing (flat b before around)) (flat b before around)) (host-is laws index b before o around whole ∙ stays.does around))))
 
 -- the call is refused an access
-pub refused : AreLaws → (crossing : Crossings) (index : ℕ) (cell : AFault) (b : Body) (n : Memory) (h : Space) (before after : Active) (o p : Outside) (a : Output)
-    → IsWhole b (isa_of before) → Stays (host_at index before) (Stops cell) (place b.ram b.heap o) (place n h p) → after ≡ before
-    → Acts (host_step crossing index) Fault cell (at b before o a) (at (altered b n h) after p a)
-refused laws crossing index cell b n h before after o p a whole stays active =
-    stays-at (λ z. Acts (host_step crossing index) Fault cell (at b before o a) z) b n h before after o p o a stays.same active
+pub refused : AreLaws → (crossing : Crossings) (index : ℕ) (cell : AFault) (b : Body) (n : Memory) (h : Space) (before after : Active) (o p : Outside) (a t : Output)
+    → IsWhole b (isa_of before) → Stays (host_at index before) (Stops cell) (place b.ram b.heap o) (place n h p) → after ≡ before → t ≡ a
+    → Acts (host_step crossing index) Fault cell (at b before o a) (at (altered b n h) after p t)
+refused laws crossing index cell b n h before after o p a t whole stays active trace =
+    stays-at (λ z. Acts (host_step crossing index) Fault cell (at b before o a) z) b n h before after o p o a t stays.same active trace
     (amid laws (host_step crossing index) Fault cell b b before before o a a
     (does-fault grows-none (host_step crossing index) cell b before a whole
     (λ around. ap (hosted_by (crossing (flat b before around)) (flat b before around)) (host-is laws index b before o around whole ∙ stays.does around))))
 
 -- the call crosses
-pub crossed : AreLaws → (index pointer info : ℕ) (b : Body) (n : Memory) (h : Space) (before after : Active) (o p : Outside) (a : Output)
-    → IsWhole b (isa_of before) → Stays (host_at index before) (Crosses pointer info) (place b.ram b.heap o) (place n h p) → after ≡ before
-    → ((around : Around) → host index (host_of (flat b before around)) ≡ Crosses pointer info) × (at (altered b n h) after p a ≡ at b before o a)
-crossed laws index pointer info b n h before after o p a whole stays active = (
+pub crossed : AreLaws → (index pointer info : ℕ) (b : Body) (n : Memory) (h : Space) (before after : Active) (o p : Outside) (a t : Output)
+    → IsWhole b (isa_of before) → Stays (host_at index before) (Crosses pointer info) (place b.ram b.heap o) (place n h p) → after ≡ before → t ≡ a
+    → ((around : Around) → host index (host_of (flat b before around)) ≡ Crosses pointer info) × (at (altered b n h) after p t ≡ at b before o a)
+crossed laws index pointer info b n h before after o p a t whole stays active trace = (
   λ around. host-is laws index b before o around whole ∙ stays.does around,
-  stays-at (λ z. z ≡ at b before o a) b n h before after o p o a stays.same active refl,
+  stays-at (λ z. z ≡ at b before o a) b n h before after o p o a t stays.same active trace refl,
 )
 
 -- the input failed
@@ -201,12 +224,12 @@ reads-of crossing s (Crosses pointer info) reads = absurd reads
 reads-of crossing s (Leaves code) reads = absurd reads
 reads-of crossing s (Stops fault) reads = absurd reads
 
-pub read-broke : AreLaws → (crossing : Crossings) (index : ℕ) (cell : AFault) (b : Body) (n : Memory) (h : Space) (before after : Active) (o p : Outside) (a : Output)
-    → IsWhole b (isa_of before) → ReadBreaks (host_at index before) HostReads (place b.ram b.heap o) (place n h p) → after ≡ before
-    → Acts (host_step crossing index) ReadFault cell (at b before o a) (at (altered b n h) after p a)
-read-broke laws crossing index cell b n h before after o p a whole breaks active =
+pub read-broke : AreLaws → (crossing : Crossings) (index : ℕ) (cell : AFault) (b : Body) (n : Memory) (h : Space) (before after : Active) (o p : Outside) (a t : Output)
+    → IsWhole b (isa_of before) → ReadBreaks (host_at index before) HostReads (place b.ram b.heap o) (place n h p) → after ≡ before → t ≡ a
+    → Acts (host_step crossing index) ReadFault cell (at b before o a) (at (altered b n h) after p t)
+read-broke laws crossing index cell b n h before after o p a t whole breaks active trace =
     let q : Outside = record o { input = p.input } in
-    stays-at (λ z. Acts (host_step crossing index) ReadFault cell (at b before o a) z) b n h before after o p q a breaks.same active
+    stays-at (λ z. Acts (host_step crossing index) ReadFault cell (at b before o a) z) b n h before after o p q a t breaks.same active trace
     (record {
       whole = whole;
       callers = refl;
@@ -230,12 +253,12 @@ says-of crossing s piece (Crosses pointer info) says = absurd says
 says-of crossing s piece (Leaves code) says = absurd says
 says-of crossing s piece (Stops fault) says = absurd says
 
-pub put-broke : AreLaws → (crossing : Crossings) (index : ℕ) (cell : AFault) (b : Body) (n : Memory) (h : Space) (before after : Active) (o p : Outside) (a : Output)
-    → IsWhole b (isa_of before) → PutBreaks (host_at index before) HostSays (place b.ram b.heap o) (place n h p) → after ≡ before
-    → Acts (host_step crossing index) OutFault cell (at b before o a) (at (altered b n h) after p a)
-put-broke laws crossing index cell b n h before after o p a whole breaks active =
+pub put-broke : AreLaws → (crossing : Crossings) (index : ℕ) (cell : AFault) (b : Body) (n : Memory) (h : Space) (before after : Active) (o p : Outside) (a t : Output)
+    → IsWhole b (isa_of before) → PutBreaks (host_at index before) HostSays (place b.ram b.heap o) (place n h p) → after ≡ before → t ≡ a
+    → Acts (host_step crossing index) OutFault cell (at b before o a) (at (altered b n h) after p t)
+put-broke laws crossing index cell b n h before after o p a t whole breaks active trace =
     let q : Outside = record o { out = p.out } in
-    stays-at (λ z. Acts (host_step crossing index) OutFault cell (at b before o a) z) b n h before after o p q a breaks.same active
+    stays-at (λ z. Acts (host_step crossing index) OutFault cell (at b before o a) z) b n h before after o p q a t breaks.same active trace
     (record {
       whole = whole;
       callers = refl;

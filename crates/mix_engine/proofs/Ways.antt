@@ -1,5 +1,5 @@
 -- A run that is on its way, and what runs of callees make of it.
-use Rattle.std.proofs.Common.{◌≡◌, ℕ, ◌-◌, ◌<◌, ◌≤◌, length, None, arith, ◌∙◌}
+use Rattle.std.proofs.Common.{ℕ, ◌-◌, ◌<◌, ◌≤◌, length, None, arith}
 use Rattle.mix_bits.specs.declared.fault.Fault.{Fault}
 use Rattle.switch_frame.specs.declared.active.Active.{Active}
 use Rattle.switch_frame.specs.Records.{isa_of}
@@ -102,8 +102,3 @@ whole-back n left l a b c file way came = way-back 0 n left l a b c file (omega 
 
 pub whole-stopped : (n left l : ℕ) (a b c : At) (file : Active) (stop : Stop) → Way 0 n left a b → Turned left l b c (Stopped file stop) → Ended 0 n l a c stop
 whole-stopped n left l a b c file stop way turn = way-stopped 0 n left l a b c file stop (omega arith) way turn
-
--- the same is lent on and on
-pub same-more : {A B C D : Type 0} {a a2 a3 : A} {b b2 b3 : B} {c c2 c3 : C} {d d2 d3 : D} → (a2 ≡ a) × (b2 ≡ b) × (c2 ≡ c) × (d2 ≡ d)
-    → (a3 ≡ a2) × (b3 ≡ b2) × (c3 ≡ c2) × (d3 ≡ d2) → (a3 ≡ a) × (b3 ≡ b) × (c3 ≡ c) × (d3 ≡ d)
-same-more first more = (more.0 ∙ first.0, more.1 ∙ first.1, more.2 ∙ first.2, more.3 ∙ first.3)

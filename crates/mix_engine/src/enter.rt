@@ -14,7 +14,7 @@ ghost use Rattle.mode_switch.specs.laws.Wanted.{IsMeant, Means};
 ghost use Rattle.mode_switch.specs.Wanted.{or_zero, passed_selector as passed_selector_of};
 ghost use Rattle.mixed_machine.specs.Enter.{crosses as crosses_of, enters, enters_with, suspended};
 ghost use Rattle.mixed_machine.specs.Machine.{IsWhole, callers_of};
-ghost use Rattle.mix_io.specs.StreamsClauses.{output};
+ghost use Rattle.mix_engine.specs.Worlds.{TracesOnly};
 ghost use Rattle.mix_engine.specs.inner.Does.{Does};
 ghost use Rattle.mix_engine.specs.inner.Frames.{IsEntered};
 
@@ -22,30 +22,30 @@ use crate::call_laws::call_laws;
 use crate::frames::{prepare, suspend};
 use crate::laws::body_laws;
 use crate::refuse::{refuse, refuse_full};
-use call_trace::put_call;
+use crate::world::World;
 use mix_bits::Fault;
-use mix_io::Sink;
 use mixed_machine::{Body, Did};
 use mode_switch::{Call, Passed, Wanted, below, pass, wanted_sp};
 use switch_frame::{Active, Held, depth, room};
 
 /// Does what code wants when it switches modes.
 #[inline(never)]
-pub fn cross<T: Sink>(
+pub fn cross<W: World>(
     body: &mut Body,
     active: &mut Active,
     wanted: &Wanted,
-    trace: &mut T,
+    world: &mut W,
     fault: &mut Fault,
 ) -> Did
     requires whole { IsWhole body.old (isa_of active.old) }
     requires meant { Means (isa_of active.old) (wanted_of wanted.now) }
-    ensures { Does (λ s. crosses_of s (wanted_of wanted.now)) result fault.new body.old body.new active.old active.new
-        (output (T.held trace.old) (T.faults trace.old)) (output (T.held trace.new) (T.faults trace.new)) }
+    ensures does { Does (λ s. crosses_of s (wanted_of wanted.now)) result fault.new body.old body.new active.old active.new
+        (W.seen world.old).trace (W.seen world.new).trace }
+    ensures rest { TracesOnly (W.seen world.old) (W.seen world.new) }
 {
     call_laws();
     match wanted {
-        Wanted::Calls(call) => enter(body, active, call, trace, fault),
+        Wanted::Calls(call) => enter(body, active, call, world, fault),
         Wanted::Jumps(target) => {
             active.go_to(*target);
             Did::Next
@@ -58,24 +58,25 @@ pub fn cross<T: Sink>(
 }
 
 /// Suspends the caller in a frame, if there is room for one, and starts the callee.
-fn enter<T: Sink>(
+fn enter<W: World>(
     body: &mut Body,
     active: &mut Active,
     call: &Call,
-    trace: &mut T,
+    world: &mut W,
     fault: &mut Fault,
 ) -> Did
     requires whole { IsWhole body.old (isa_of active.old) }
     requires meant { IsMeant (isa_of active.old) (crossing call.now) }
-    ensures { Does (λ s. enters s (crossing call.now)) result fault.new body.old body.new active.old active.new
-        (output (T.held trace.old) (T.faults trace.old)) (output (T.held trace.new) (T.faults trace.new)) }
+    ensures does { Does (λ s. enters s (crossing call.now)) result fault.new body.old body.new active.old active.new
+        (W.seen world.old).trace (W.seen world.new).trace }
+    ensures rest { TracesOnly (W.seen world.old) (W.seen world.new) }
 {
     body_laws();
     call_laws();
     let below = below(call.kind.callee(), &call.sig, passes_selector(call));
     match room(&body.ram, body.top, active.sp(), call.kind, below) {
         Ok(range) => match pass(&body.ram, body.a5, active, call) {
-            Ok(passed) => enter_with(body, active, call, range, below, &passed, trace),
+            Ok(passed) => enter_with(body, active, call, range, below, &passed, world),
             Err(access) => refuse(active, access, fault),
         },
         Err(full) => refuse_full(body, active, full, fault),
@@ -84,14 +85,14 @@ fn enter<T: Sink>(
 
 /// Suspends the caller, which has its pc behind the call, in a frame of this range, and starts the callee,
 /// whose stack has so many bytes.
-fn enter_with<T: Sink>(
+fn enter_with<W: World>(
     body: &mut Body,
     active: &mut Active,
     call: &Call,
     range: (u32, u32),
     below: u32,
     passed: &Passed,
-    trace: &mut T,
+    world: &mut W,
 ) -> Did
     requires whole { IsWhole body.old (isa_of active.old) }
     requires meant { IsMeant (isa_of active.old) (crossing call.now) }
@@ -99,15 +100,16 @@ fn enter_with<T: Sink>(
     requires below { below ≡ below_of (callee_isa call.now.kind) (crossing call.now).sig (is_some (passed_selector_of (crossing call.now))) }
     requires floor { floor_of body.old.ram + below ≤ range.0 }
     requires count { passed.now.args.count ≡ call.now.sig.count }
-    ensures { (cell : AFault) (before : AnActive) → Does (λ s. enters_with s (crossing call.now) range (Ok (passage active.old passed.now))) result cell body.old body.new before active.new
-        (output (T.held trace.old) (T.faults trace.old)) (output (T.held trace.new) (T.faults trace.new)) }
+    ensures does { (cell : AFault) (before : AnActive) → Does (λ s. enters_with s (crossing call.now) range (Ok (passage active.old passed.now))) result cell body.old body.new before active.new
+        (W.seen world.old).trace (W.seen world.new).trace }
+    ensures rest { TracesOnly (W.seen world.old) (W.seen world.new) }
 {
     call_laws();
     let values = values(passed);
     let _params = call.sig.params();
     let held = hold(body, active, call, range, below);
     start(body, active, call, range, below, passed, &held);
-    match put_call(trace, &held, &call.sig, values) {
+    match world.tell_call(&held, &call.sig, values) {
         Ok(()) => Did::Call,
         Err(_) => Did::TraceFault,
     }

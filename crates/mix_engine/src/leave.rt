@@ -8,17 +8,16 @@ ghost use Rattle.mode_switch.specs.Returned.{given_back};
 ghost use Rattle.mixed_machine.specs.Leave.{at_gate, is_exit as is_exit_of, is_return as is_return_of, leaves, leaves_with};
 ghost use Rattle.mixed_machine.specs.Machine.{IsWhole, callers_of};
 ghost use Rattle.mixed_machine.specs.State.{seen};
-ghost use Rattle.mix_io.specs.StreamsClauses.{output};
+ghost use Rattle.mix_engine.specs.Worlds.{TracesOnly};
 ghost use Rattle.mix_engine.specs.inner.Does.{Does};
 
 use crate::call_laws::call_laws;
 use crate::frames::resume;
 use crate::laws::body_laws;
 use crate::refuse::{refuse, unmatched};
+use crate::world::World;
 use big_memory::{exit_gate, return_gate};
-use call_trace::put_ret;
 use mix_bits::Fault;
-use mix_io::Sink;
 use mixed_machine::{Body, Did};
 use mode_switch::give_back;
 use proc_info::{Sig, read_signed};
@@ -26,13 +25,19 @@ use switch_frame::{Active, Held, top};
 
 /// A step at a gate.
 #[inline(never)]
-pub fn leave<T: Sink>(body: &mut Body, active: &mut Active, trace: &mut T, fault: &mut Fault) -> Did
+pub fn leave<W: World>(
+    body: &mut Body,
+    active: &mut Active,
+    world: &mut W,
+    fault: &mut Fault,
+) -> Did
     requires { IsWhole body.old (isa_of active.old) }
-    ensures { Does at_gate result fault.new body.old body.new active.old active.new
-        (output (T.held trace.old) (T.faults trace.old)) (output (T.held trace.new) (T.faults trace.new)) }
+    ensures does { Does at_gate result fault.new body.old body.new active.old active.new
+        (W.seen world.old).trace (W.seen world.new).trace }
+    ensures rest { TracesOnly (W.seen world.old) (W.seen world.new) }
 {
     match top(&body.ram, body.top) {
-        Some(mut held) => leave_callee(body, active, &mut held, trace, fault),
+        Some(mut held) => leave_callee(body, active, &mut held, world, fault),
         None => leave_program(body, active, fault),
     }
 }
@@ -52,21 +57,22 @@ fn leave_program(body: &Body, active: &Active, fault: &mut Fault) -> Did
 }
 
 /// A callee returns at its return gate to the innermost caller.
-fn leave_callee<T: Sink>(
+fn leave_callee<W: World>(
     body: &mut Body,
     active: &mut Active,
     held: &mut Held,
-    trace: &mut T,
+    world: &mut W,
     fault: &mut Fault,
 ) -> Did
     requires whole { IsWhole body.old (isa_of active.old) }
     requires first { callers_of body.old ≡ record_of held.old ∷ drop 1 (callers_of body.old) }
-    ensures { Does at_gate result fault.new body.old body.new active.old active.new
-        (output (T.held trace.old) (T.faults trace.old)) (output (T.held trace.new) (T.faults trace.new)) }
+    ensures does { Does at_gate result fault.new body.old body.new active.old active.new
+        (W.seen world.old).trace (W.seen world.new).trace }
+    ensures rest { TracesOnly (W.seen world.old) (W.seen world.new) }
 {
     call_laws();
     if is_return(active, held) {
-        return_to(body, active, held, trace, fault)
+        return_to(body, active, held, world, fault)
     } else {
         unmatched(active, held.want_sp, fault)
     }
@@ -89,36 +95,38 @@ fn is_exit(body: &Body, active: &Active) -> bool
 }
 
 /// The innermost caller goes on behind its call.
-fn return_to<T: Sink>(
+fn return_to<W: World>(
     body: &mut Body,
     active: &mut Active,
     held: &mut Held,
-    trace: &mut T,
+    world: &mut W,
     fault: &mut Fault,
 ) -> Did
     requires whole { IsWhole body.old (isa_of active.old) }
     requires first { callers_of body.old ≡ record_of held.old ∷ drop 1 (callers_of body.old) }
-    ensures { Does (λ s. leaves s (record_of held.old) (drop 1 (callers_of body.old))) result fault.new body.old body.new active.old active.new
-        (output (T.held trace.old) (T.faults trace.old)) (output (T.held trace.new) (T.faults trace.new)) }
+    ensures does { Does (λ s. leaves s (record_of held.old) (drop 1 (callers_of body.old))) result fault.new body.old body.new active.old active.new
+        (W.seen world.old).trace (W.seen world.new).trace }
+    ensures rest { TracesOnly (W.seen world.old) (W.seen world.new) }
 {
     call_laws();
     let sig = read_signed(held.info);
-    return_by(body, active, held, &sig, trace, fault)
+    return_by(body, active, held, &sig, world, fault)
 }
 
 /// The same by the signature of the call. The result is stored while the frame is live.
-fn return_by<T: Sink>(
+fn return_by<W: World>(
     body: &mut Body,
     active: &mut Active,
     held: &mut Held,
     sig: &Sig,
-    trace: &mut T,
+    world: &mut W,
     fault: &mut Fault,
 ) -> Did
     requires whole { IsWhole body.old (isa_of active.old) }
     requires first { callers_of body.old ≡ record_of held.old ∷ drop 1 (callers_of body.old) }
-    ensures { Does (λ s. leaves_with s (drop 1 (callers_of body.old)) (signature sig.now) (given_back (seen s) (signature sig.now) s.active held.old.caller)) result fault.new body.old body.new active.old active.new
-        (output (T.held trace.old) (T.faults trace.old)) (output (T.held trace.new) (T.faults trace.new)) }
+    ensures does { Does (λ s. leaves_with s (drop 1 (callers_of body.old)) (signature sig.now) (given_back (seen s) (signature sig.now) s.active held.old.caller)) result fault.new body.old body.new active.old active.new
+        (W.seen world.old).trace (W.seen world.new).trace }
+    ensures rest { TracesOnly (W.seen world.old) (W.seen world.new) }
 {
     body_laws();
     call_laws();
@@ -126,7 +134,7 @@ fn return_by<T: Sink>(
         Ok(value) => {
             resume(body, held);
             *active = held.caller;
-            match put_ret(trace, sig, value) {
+            match world.tell_return(sig, value) {
                 Ok(()) => Did::Return,
                 Err(_) => Did::TraceFault,
             }

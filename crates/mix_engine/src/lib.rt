@@ -24,6 +24,7 @@ mod refuse;
 mod runs;
 mod stepping;
 mod turn;
+mod world;
 
 pub use machine::{Machine, run, run_counted};
 pub use mixed_machine::{Body, Stop};
@@ -32,3 +33,4 @@ pub use outside::Outside;
 pub use runs::{run_m68, run_ppc};
 pub use stepping::{advance, advance_once};
 pub use turn::Turn;
+pub use world::World;

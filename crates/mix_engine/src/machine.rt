@@ -10,12 +10,12 @@ ghost use Rattle.mixed_machine.specs.CountsClauses.{Blames};
 ghost use Rattle.mixed_machine.specs.Machine.{IsWhole, flat};
 ghost use Rattle.mixed_machine.specs.OutsideClauses.{at};
 ghost use Rattle.mixed_machine.specs.RunsClauses.{Runs};
-ghost use Rattle.mix_engine.specs.inner.Beside.{AreSame, machine_beside, outside_lent, trace_lent};
+ghost use Rattle.mix_engine.specs.inner.Beside.{machine_in};
 ghost use Rattle.mix_io.specs.StreamsClauses.{output};
 ghost use Rattle.mix_engine.specs.Start.{start_of};
 ghost use Rattle.mix_engine.specs.Counted.{RunsTo};
 
-use super::Outside;
+use super::{Outside, World};
 use crate::runs::run_turns;
 use crate::turn::TurnEnd;
 use dev_rack::Devices;
@@ -115,25 +115,20 @@ pub fn run_counted<I: Source, O: Sink, T: Sink, D: Devices>(
 }
 
 /// The same beside what lies outside. Each turn but the last gives up a suspended caller.
-fn run_beside<'i, 'o, 't, 'd, I: Source, O: Sink, T: Sink, D: Devices>(
-    body: &mut Body,
-    active: &mut Active,
-    outside: &mut Outside<'i, 'o, 't, 'd, I, O, T, D>,
-    left: &mut u32,
-) -> Stop
+fn run_beside<W: World>(body: &mut Body, active: &mut Active, world: &mut W, left: &mut u32) -> Stop
     requires { IsWhole body.old (isa_of active.old) }
     ensures whole { IsWhole body.new (isa_of active.new) }
     ensures run { RunsTo left.old left.new
-        (machine_beside I.left I.faults O.held O.faults T.held T.faults D.state body.old active.old outside.old)
-        (machine_beside I.left I.faults O.held O.faults T.held T.faults D.state body.new active.new outside.new) result }
+        (machine_in body.old active.old (W.seen world.old))
+        (machine_in body.new active.new (W.seen world.new)) result }
     ensures blames { Blames result
-        (counts_beside (outside_lent I.left I.faults O.held O.faults D.state outside.old) (trace_lent T.held T.faults outside.old))
-        (counts_beside (outside_lent I.left I.faults O.held O.faults D.state outside.new) (trace_lent T.held T.faults outside.new)) }
-    ensures devices { Accounts (D.state outside.old.rack.now) (D.state outside.new.rack.now) }
-    ensures same { AreSame outside.old outside.new }
+        (counts_beside (W.seen world.old).outside (W.seen world.old).trace)
+        (counts_beside (W.seen world.new).outside (W.seen world.new).trace) }
+    ensures devices { Accounts (W.seen world.old).outside.rack (W.seen world.new).outside.rack }
+    ensures same { (W.seen world.new).lent ≡ (W.seen world.old).lent }
 {
     'turns: loop {
-        match run_turns(body, active, outside, left) {
+        match run_turns(body, active, world, left) {
             TurnEnd::Back => {}
             TurnEnd::Stop(stop) => return stop,
         }

@@ -8,11 +8,11 @@ ghost use Rattle.mixed_machine.specs.CountsClauses.{Blames};
 ghost use Rattle.mixed_machine.specs.Machine.{IsWhole};
 ghost use Rattle.mixed_machine.specs.OutsideClauses.{at};
 ghost use Rattle.mixed_machine.specs.RunsClauses.{Runs};
-ghost use Rattle.mix_engine.specs.inner.Beside.{AreSame, machine_beside, outside_lent, trace_lent};
+ghost use Rattle.mix_engine.specs.inner.Beside.{machine_in};
 ghost use Rattle.mix_io.specs.StreamsClauses.{output};
 ghost use Rattle.mix_engine.specs.inner.Ends.{goes_on};
 
-use super::{Outside, advance_once};
+use super::{Outside, World, advance_once};
 use crate::machine::Machine;
 use dev_rack::Devices;
 use mix_bits::{Fault, FaultKind};
@@ -50,26 +50,22 @@ pub fn step<I: Source, O: Sink, T: Sink, D: Devices>(
 /// The same beside what lies outside: whether the program goes on. How the step stopped stands in the cell, which holds
 /// `Limit` before.
 #[inline(always)]
-pub fn step_beside<'i, 'o, 't, 'd, I: Source, O: Sink, T: Sink, D: Devices>(
-    m: &mut Machine,
-    outside: &mut Outside<'i, 'o, 't, 'd, I, O, T, D>,
-    stop: &mut Stop,
-) -> bool
+pub fn step_beside<W: World>(m: &mut Machine, world: &mut W, stop: &mut Stop) -> bool
     requires whole { IsWhole m.old.body (isa_of m.old.active) }
     requires cell { stop.old ≡ Stop.Limit }
     ensures answer { result ≡ goes_on stop.new }
     ensures whole { IsWhole m.new.body (isa_of m.new.active) }
     ensures run { Runs 1
-        (machine_beside I.left I.faults O.held O.faults T.held T.faults D.state m.old.body m.old.active outside.old)
-        (machine_beside I.left I.faults O.held O.faults T.held T.faults D.state m.new.body m.new.active outside.new) stop.new }
+        (machine_in m.old.body m.old.active (W.seen world.old))
+        (machine_in m.new.body m.new.active (W.seen world.new)) stop.new }
     ensures blames { Blames stop.new
-        (counts_beside (outside_lent I.left I.faults O.held O.faults D.state outside.old) (trace_lent T.held T.faults outside.old))
-        (counts_beside (outside_lent I.left I.faults O.held O.faults D.state outside.new) (trace_lent T.held T.faults outside.new)) }
-    ensures devices { Accounts (D.state outside.old.rack.now) (D.state outside.new.rack.now) }
-    ensures same { AreSame outside.old outside.new }
+        (counts_beside (W.seen world.old).outside (W.seen world.old).trace)
+        (counts_beside (W.seen world.new).outside (W.seen world.new).trace) }
+    ensures devices { Accounts (W.seen world.old).outside.rack (W.seen world.new).outside.rack }
+    ensures same { (W.seen world.new).lent ≡ (W.seen world.old).lent }
 {
     let mut fault = Fault::at(0, FaultKind::Illegal, 0);
-    match advance_once(&mut m.body, &mut m.active, outside, &mut fault) {
+    match advance_once(&mut m.body, &mut m.active, world, &mut fault) {
         Did::Next => true,
         Did::Call => true,
         Did::Return => true,

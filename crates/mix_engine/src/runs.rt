@@ -1,4 +1,5 @@
 // A loop of steps that calls itself for each callee, and the ways into it for each instruction set.
+ghost use Rattle.std.specs.Prelude.{◌≡◌};
 ghost use Rattle.mix_bits.specs.declared.isa.Isa.TheVariants.{M68 as set_m68, Ppc as set_ppc};
 ghost use Rattle.switch_frame.specs.declared.active.Active.TheVariants.{M68, Ppc};
 ghost use Rattle.switch_frame.specs.Records.{isa_of};
@@ -6,11 +7,11 @@ ghost use Rattle.toolbox.specs.CallsClauses.{outside as outside_of};
 ghost use Rattle.mixed_machine.specs.Machine.{IsWhole};
 ghost use Rattle.mixed_machine.specs.OutsideClauses.{at};
 ghost use Rattle.mix_io.specs.StreamsClauses.{output};
-ghost use Rattle.mix_engine.specs.inner.Beside.{AreSame, machine_beside};
+ghost use Rattle.mix_engine.specs.inner.Beside.{machine_in};
 ghost use Rattle.mix_engine.specs.Turns.{Turned, file_of};
 ghost use Rattle.mix_engine.specs.inner.Turns.{turn_of};
 
-use super::{Outside, advance};
+use super::{Outside, World, advance};
 use crate::turn::{Turn, TurnEnd};
 use dev_rack::Devices;
 use m68_isa::Regs68;
@@ -83,25 +84,25 @@ fn run_active<I: Source, O: Sink, T: Sink, D: Devices>(
 }
 
 /// Steps, and at each crossing runs the callee. The registers are those of the set that is active.
-pub fn run_turns<'i, 'o, 't, 'd, I: Source, O: Sink, T: Sink, D: Devices>(
+pub fn run_turns<W: World>(
     body: &mut Body,
     active: &mut Active,
-    outside: &mut Outside<'i, 'o, 't, 'd, I, O, T, D>,
+    world: &mut W,
     steps: &mut u32,
 ) -> TurnEnd
     requires { IsWhole body.old (isa_of active.old) }
     ensures turned { Turned steps.old steps.new
-        (machine_beside I.left I.faults O.held O.faults T.held T.faults D.state body.old active.old outside.old)
-        (machine_beside I.left I.faults O.held O.faults T.held T.faults D.state body.new active.new outside.new) (turn_of active.new result) }
-    ensures same { AreSame outside.old outside.new }
+        (machine_in body.old active.old (W.seen world.old))
+        (machine_in body.new active.new (W.seen world.new)) (turn_of active.new result) }
+    ensures same { (W.seen world.new).lent ≡ (W.seen world.old).lent }
 {
     let mut fault = Fault::at(0, FaultKind::Illegal, 0);
     'steps: while *steps > 0 {
-        match advance(body, active, outside, &mut fault, steps) {
+        match advance(body, active, world, &mut fault, steps) {
             Did::Next => *steps -= 1,
             Did::Call => {
                 *steps -= 1;
-                match run_turns(body, active, outside, steps) {
+                match run_turns(body, active, world, steps) {
                     TurnEnd::Back => {}
                     TurnEnd::Stop(stop) => return TurnEnd::Stop(stop),
                 }

@@ -8,7 +8,12 @@ use Rattle.mixed_machine.specs.declared.body.Body.{Body}
 use Rattle.mixed_machine.specs.OutsideClauses.{At, at}
 use Rattle.mix_io.specs.Streams.{Output}
 use Rattle.mix_io.specs.StreamsClauses.{output}
+use Rattle.mix_engine.specs.Worlds.{Seen}
 use Rattle.mix_engine.specs.declared.outside.Outside.{Outside}
+
+-- a machine beside what it sees of the outside
+abbrev pub machine_in : Body → Active → Seen → At
+machine_in body active seen = at body active seen.outside seen.trace
 
 -- what the outside tells, and what the trace does
 abbrev pub outside_lent : {I O T D : Type 0} → (I → Option (List ℕ)) → (I → ℕ) → (O → Option (List ℕ)) → (O → ℕ) → (D → State) → Outside I O T D → ToldOutside

@@ -1,18 +1,16 @@
-use Rattle.std.proofs.Common.{refl, sym, ap, subst}
-use Rattle.switch_frame.specs.Records.{isa_of}
-use Rattle.mode_switch.specs.Views.{wanted_of}
+use Rattle.std.proofs.Common.{refl, ap}
 use Rattle.toolbox.specs.Functions.{trap_number}
-use Rattle.mixed_machine.specs.Enter.{crosses}
 use Rattle.mixed_machine.specs.Host.{hosts, traps_to}
-use Rattle.mixed_machine.specs.Machine.{IsWhole, flat}
+use Rattle.mixed_machine.specs.Machine.{flat}
 use Rattle.mix_engine.specs.inner.Cores.{leaves_code}
-use Rattle.mix_engine.proofs.Amid.{acts-from, amid}
-use Rattle.mix_engine.proofs.Leavings.{does-from, m68-crosses, m68-traps, same-at}
+use Rattle.mix_engine.proofs.Amid.{acts-from, amid-seen}
+use Rattle.mix_engine.proofs.Leavings.{m68-traps}
 use Rattle.mix_engine.proofs.host.leave_code.Goals as goal
 
 pub returns-then-number-eq-MIXED_MODE_MAGIC-clause-does : goal.returns-then-number-eq-MIXED_MODE_MAGIC-clause-does
 returns-then-number-eq-MIXED_MODE_MAGIC-clause-does g c =
-    amid c.body_laws.ensures (λ s. leaves_code c.args.active.now s c.args.fault.now.detail) _ _ _ _ _ _ _ _ _ c.cross_from_68k.ensures
+    amid-seen c.body_laws.ensures (λ s. leaves_code c.args.active.now s c.args.fault.now.detail) _ _ _ _ _ _ (g.W.World.seen c.args.world.now) (g.W.World.seen c.cross_from_68k.new.world)
+    c.cross_from_68k.ensures.rest c.cross_from_68k.ensures.does
 
 pub returns-else-number-eq-MIXED_MODE_MAGIC-clause-does : goal.returns-else-number-eq-MIXED_MODE_MAGIC-clause-does
 returns-else-number-eq-MIXED_MODE_MAGIC-clause-does g c =

@@ -5,13 +5,12 @@ use Rattle.mode_switch.specs.Returned.{given_back}
 use Rattle.mixed_machine.specs.Leave.{leaves, leaves_by, leaves_with}
 use Rattle.mixed_machine.specs.Machine.{callers_of, flat}
 use Rattle.mixed_machine.specs.State.{seen}
-use Rattle.mix_io.specs.StreamsClauses.{output}
 use Rattle.mix_engine.proofs.Doing.{does-same}
 use Rattle.mix_engine.proofs.leave.return_to.Goals as goal
 
-pub returns : goal.returns
+pub returns-clause-does : goal.returns-clause-does
 unfolding leaves
-returns g c =
+returns-clause-does g c =
     let body = c.args.body.now in
     let active = c.args.active.now in
     let held = c.args.held.now in
@@ -19,5 +18,5 @@ returns g c =
     let sig = signature c.read_signed-sig.result in
     does-same (λ s. leaves_with s outer sig (given_back (seen s) sig s.active held.caller)) (λ s. leaves s (record_of held) outer)
     c.return_by.result c.return_by.new.fault body c.return_by.new.body active c.return_by.new.active
-    (output (g.T.Sink.held c.args.trace.now) (g.T.Sink.faults c.args.trace.now)) (output (g.T.Sink.held c.return_by.new.trace) (g.T.Sink.faults c.return_by.new.trace))
-    (λ around. ap (leaves_by (flat body active around) (record_of held) outer) (sym c.read_signed-sig.ensures.value)) c.return_by.ensures
+    (g.W.World.seen c.args.world.now).trace (g.W.World.seen c.return_by.new.world).trace
+    (λ around. ap (leaves_by (flat body active around) (record_of held) outer) (sym c.read_signed-sig.ensures.value)) c.return_by.ensures.does

@@ -14,7 +14,7 @@ pub returns-in-Stop-clause-does : goal.returns-in-Stop-clause-does
 returns-in-Stop-clause-does g c = advances-stop c.body_laws.ensures 0 _ _ _ _ _ _ _ c.in-Stop.ensures.whole (once Stop c.run_once.new.fault _ _ _ _ c.in-Stop.ensures.codes)
 
 pub returns-in-Gate-clause-does : goal.returns-in-Gate-clause-does
-returns-in-Gate-clause-does g c = advances-gate c.body_laws.ensures 0 _ c.run_once.new.fault _ _ _ _ _ _ _ _ _ _ (once Gate c.run_once.new.fault _ _ _ _ c.in-Gate.ensures.codes) c.leave.ensures
+returns-in-Gate-clause-does g c = advances-gate c.body_laws.ensures 0 _ c.run_once.new.fault _ _ _ _ _ _ _ (g.W.World.seen c.args.world.now) (g.W.World.seen c.leave.new.world) (once Gate c.run_once.new.fault _ _ _ _ c.in-Gate.ensures.codes) c.leave.ensures.rest c.leave.ensures.does
 
 pub returns-in-Leave-clause-does : goal.returns-in-Leave-clause-does
 returns-in-Leave-clause-does g c = advances-leave c.body_laws.ensures 0 _ c.run_once.new.fault _ _ _ _ _ _ _ _ (once Leave c.run_once.new.fault _ _ _ _ c.in-Leave.ensures.codes) c.leave_code.ensures.does
