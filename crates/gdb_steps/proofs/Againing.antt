@@ -22,6 +22,7 @@ use Rattle.gdb_steps.specs.Walkers.{run_of, sinks}
 use Rattle.gdb_steps.specs.Walks.{Comes, GoesForward, Strays, Tells}
 use Rattle.gdb_steps.specs.declared.halt.Halt.TheVariants.{End}
 use Rattle.gdb_steps.specs.declared.halt.Until.{Until}
+use Rattle.gdb_steps.specs.declared.snapshot.Snapshot.{Snapshot}
 use Rattle.gdb_steps.specs.declared.used.Used.{Used}
 use Rattle.gdb_steps.specs.declared.walker.Walker.{Walker}
 use Rattle.gdb_steps.specs.inner.Goings.{given}
@@ -40,8 +41,8 @@ use Rattle.gdb_steps.proofs.Stood.{again-stood}
 real-same : (i j : List ℕ) (r s : Rack) → j ≡ i → s ≡ r → given j s.journal (length s.slots) ≡ given i r.journal (length r.slots)
 real-same i j r s same real = ap (λ x. given x s.journal (length s.slots)) same ∙ ap (λ x. given i x.journal (length x.slots)) real
 
-rerack : (b : Begin) (i : List ℕ) (e : Trail) (v : Used) (r s : Rack) (k : ℕ) (us : List Used) (f : ℕ) → s ≡ r → IsRun b (run i e v r k us f) → IsRun b (run i e v s k us f)
-rerack b i e v r s k us f same is = subst (λ x. IsRun b (run i e v x k us f)) (sym same) is
+rerack : (b : Begin) (i : List ℕ) (e : Trail) (v : Used) (r s : Rack) (k : ℕ) (us : List Used) (f : ℕ) (ss : List Snapshot) → s ≡ r → IsRun b (run i e v r k us f ss) → IsRun b (run i e v s k us f ss)
+rerack b i e v r s k us f ss same is = subst (λ x. IsRun b (run i e v x k us f ss)) (sym same) is
 
 no-steps : (k f : ℕ) → k ≡ f → k - f ≡ 0
 no-steps k f e = omega (arith, e)
@@ -56,14 +57,14 @@ again-went w v b x one is before =
     let i : List ℕ = w.input.items in
     let steps : Steps w.debug v.debug (stands w.debug (drop w.used.input i) one.old nothing nothing) (stands v.debug (drop v.used.input i) one.new nothing nothing) By.Limit =
     subst (λ n. Steps w.debug v.debug (stands w.debug (drop w.used.input i) one.old nothing nothing) (stands v.debug (drop n i) one.new nothing nothing) By.Limit) (sym counted.input) one.step in
-    let done : Again b i w.debug v.debug w.used v.used w.real w.steps w.furthest w.past.items w.past.capacity =
-    again-done b i w.debug v.debug w.used v.used w.real one.old one.new w.steps w.furthest w.past.items w.past.capacity nothing nothing nothing nothing By.Limit refl
+    let done : Again b i w.debug v.debug w.used v.used w.real w.steps w.furthest w.past.items w.past.capacity w.snapshots =
+    again-done b i w.debug v.debug w.used v.used w.real one.old one.new w.steps w.furthest w.past.items w.past.capacity w.snapshots nothing nothing nothing nothing By.Limit refl
     steps is before one.at one.count front counted.asks counted.held in
     let g_is : (run_of v).given ≡ (run_of w).given = real-same i v.input.items w.real v.real one.keeps.input one.real in
     record {
-      run = rerack b v.input.items v.debug v.used w.real v.real v.steps v.past.items v.furthest one.real
-          (rerun b i v.input.items v.debug v.used v.used w.real (suc w.steps) v.steps (take w.past.capacity (w.used ∷ w.past.items)) v.past.items w.furthest v.furthest
-          one.keeps.input refl counted.steps counted.past far done.is);
+      run = rerack b v.input.items v.debug v.used w.real v.real v.steps v.past.items v.furthest v.snapshots one.real
+          (rerun b i v.input.items v.debug v.used v.used w.real (suc w.steps) v.steps (take w.past.capacity (w.used ∷ w.past.items)) v.past.items w.furthest v.furthest w.snapshots v.snapshots
+          one.keeps.input refl counted.steps counted.past far one.keeps.snapshots done.is);
       more = record { asks = (more-none (run_of w).given).asks; is = g_is ∙ (more-none (run_of w).given).is };
       steps = counted.steps;
       further = same-most w.furthest v.furthest far;
@@ -79,7 +80,7 @@ again-went w v b x one is before =
 
 -- ---- it ends the program
 
-not-gone : (stop : Stop) → goes_on stop ≡ false → (stop ≡ By.TraceFault → ⊥) → is_done stop ≡ false
+pub not-gone : (stop : Stop) → goes_on stop ≡ false → (stop ≡ By.TraceFault → ⊥) → is_done stop ≡ false
 not-gone (By.Exit code) off never = refl
 not-gone (By.Fault fault) off never = refl
 not-gone By.Limit off never = cc
@@ -90,7 +91,7 @@ not-gone By.TraceFault off never = absurd (never refl)
 no-rise : Rose 0 0 → ⊥
 no-rise rose = grind arith
 
-never-traces : (d e : Trail) (xs ys : List ℕ) (r s : Rack) (stop : Stop) → Steps d e (stands d xs r nothing nothing) (stands e ys s nothing nothing) stop → stop ≡ By.TraceFault → ⊥
+pub never-traces : (d e : Trail) (xs ys : List ℕ) (r s : Rack) (stop : Stop) → Steps d e (stands d xs r nothing nothing) (stands e ys s nothing nothing) stop → stop ≡ By.TraceFault → ⊥
 never-traces d e xs ys r s (By.Exit code) steps is = cc
 never-traces d e xs ys r s (By.Fault fault) steps is = cc
 never-traces d e xs ys r s By.Limit steps is = cc
@@ -98,7 +99,7 @@ never-traces d e xs ys r s By.ReadFault steps is = cc
 never-traces d e xs ys r s By.OutFault steps is = cc
 never-traces d e xs ys r s By.TraceFault steps is = no-rise steps.blames.trace
 
-never-says : (d e : Trail) (xs ys : List ℕ) (r s : Rack) (stop : Stop) → Steps d e (stands d xs r nothing nothing) (stands e ys s nothing nothing) stop → stop ≡ By.OutFault → ⊥
+pub never-says : (d e : Trail) (xs ys : List ℕ) (r s : Rack) (stop : Stop) → Steps d e (stands d xs r nothing nothing) (stands e ys s nothing nothing) stop → stop ≡ By.OutFault → ⊥
 never-says d e xs ys r s (By.Exit code) steps is = cc
 never-says d e xs ys r s (By.Fault fault) steps is = cc
 never-says d e xs ys r s By.Limit steps is = cc
@@ -122,12 +123,12 @@ again-ended w v stop asked b points until m x off one is =
     let stays : Stays w v = (subst (λ on. AfterAgain on asked one.taken one.new w v) off one.after).0 in
     let traced = never-traces w.debug v.debug _ _ one.old one.new stop one.step in
     let not_done = not-gone stop off traced in
-    let stood = again-stood b i w.debug v.debug w.used (drop one.taken i) w.real one.old one.new w.steps w.furthest w.past.items nothing nothing nothing nothing stop not_done one.step is one.at in
+    let stood = again-stood b i w.debug v.debug w.used (drop one.taken i) w.real one.old one.new w.steps w.furthest w.past.items w.snapshots nothing nothing nothing nothing stop not_done one.step is one.at in
     let g_is : (run_of v).given ≡ (run_of w).given = real-same i v.input.items w.real v.real one.keeps.input one.real in
     let ended : Ended b (run_of w) (run_of v) = record {
-      run = rerack b v.input.items v.debug v.used w.real v.real v.steps v.past.items v.furthest one.real
-          (rerun b i v.input.items v.debug w.used v.used w.real w.steps v.steps w.past.items v.past.items w.furthest v.furthest
-          one.keeps.input stays.used stays.steps stays.past stays.furthest stood.is);
+      run = rerack b v.input.items v.debug v.used w.real v.real v.steps v.past.items v.furthest v.snapshots one.real
+          (rerun b i v.input.items v.debug w.used v.used w.real w.steps v.steps w.past.items v.past.items w.furthest v.furthest w.snapshots v.snapshots
+          one.keeps.input stays.used stays.steps stays.past stays.furthest one.keeps.snapshots stood.is);
       more = record { asks = (more-none (run_of w).given).asks; is = g_is ∙ (more-none (run_of w).given).is };
       steps = stays.steps;
       furthest = stays.furthest;
@@ -142,7 +143,7 @@ again-ended w v stop asked b points until m x off one is =
 
 -- ---- it goes on otherwise
 
-strays-at : {D : Type 0} {G : Ghosts D} (w v : Walker D G) (b : Begin) → AgainStep w v By.Limit false → IsRun b (run_of w) → w.steps < w.furthest → Strays b (run_of w).given (run_of w).furthest
+pub strays-at : {D : Type 0} {G : Ghosts D} (w v : Walker D G) (b : Begin) → AgainStep w v By.Limit false → IsRun b (run_of w) → w.steps < w.furthest → Strays b (run_of w).given (run_of w).furthest
 strays-at w v b one is before =
     let i : List ℕ = w.input.items in
     let over = one.step.run.run in

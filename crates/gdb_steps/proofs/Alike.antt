@@ -3,10 +3,11 @@ use Rattle.std.proofs.Common.{◌≡◌, ℕ, List, All, ap, ◌∙◌}
 use Rattle.std.proofs.Props.{props}
 use Rattle.dev_rack.specs.Rack.{State}
 use Rattle.dev_rack.specs.declared.devices.Devices.{Ghosts}
+use Rattle.gdb_steps.specs.declared.snapshot.Snapshot.{Snapshot}
 use Rattle.gdb_steps.specs.declared.used.Used.{Used}
 use Rattle.gdb_steps.specs.declared.walker.Walker.{Walker}
 use Rattle.gdb_steps.specs.declared.watch.Watch.{Watch}
-use Rattle.gdb_steps.specs.inner.Held.{IsCounted, IsHeld, IsWithin}
+use Rattle.gdb_steps.specs.inner.Held.{IsCounted, IsHeld, IsSafe, IsWithin}
 
 held-prop : (i : List ℕ) (r p : State) (u : Used) → IsProp (IsHeld i r p u)
 held-prop i r p u = hlevel props
@@ -17,13 +18,17 @@ kept-prop i r us = hlevel props
 counted-prop : (us : List Used) (k f : ℕ) → IsProp (IsCounted us k f)
 counted-prop us k f = hlevel props
 
+safe-prop : (i : List ℕ) (r : State) (ss : List Snapshot) → IsProp (All (IsSafe i r) ss)
+safe-prop i r ss = hlevel props
+
 -- where it is to stop, with proofs of what it holds
-abbrev pub stopping : {D : Type 0} {G : Ghosts D} (w : Walker D G) → List ℕ → List Watch → IsHeld w.input.items w.real w.replay w.used → All (IsWithin w.input.items w.real) w.past.items → IsCounted w.past.items w.steps w.furthest → Walker D G
-stopping w bs ws held kept counted = record w { breakpoints = bs; watches = ws; held = held; kept = kept; counted = counted }
+abbrev pub stopping : {D : Type 0} {G : Ghosts D} (w : Walker D G) → List ℕ → List Watch → IsHeld w.input.items w.real w.replay w.used → All (IsWithin w.input.items w.real) w.past.items → IsCounted w.past.items w.steps w.furthest → All (IsSafe w.input.items w.real) w.snapshots → Walker D G
+stopping w bs ws held kept counted safe = record w { breakpoints = bs; watches = ws; held = held; kept = kept; counted = counted; safe = safe }
 
 pub same-walker : {D : Type 0} {G : Ghosts D} (w : Walker D G) (bs : List ℕ) (ws : List Watch) (held : IsHeld w.input.items w.real w.replay w.used) (kept : All (IsWithin w.input.items w.real) w.past.items)
-    (counted : IsCounted w.past.items w.steps w.furthest) → stopping w bs ws held kept counted ≡ record w { breakpoints = bs; watches = ws }
-same-walker w bs ws held kept counted =
-    ap (λ x. stopping w bs ws x kept counted) (held-prop w.input.items w.real w.replay w.used held w.held)
-    ∙ (ap (λ x. stopping w bs ws w.held x counted) (kept-prop w.input.items w.real w.past.items kept w.kept)
-    ∙ ap (λ x. stopping w bs ws w.held w.kept x) (counted-prop w.past.items w.steps w.furthest counted w.counted))
+    (counted : IsCounted w.past.items w.steps w.furthest) (safe : All (IsSafe w.input.items w.real) w.snapshots) → stopping w bs ws held kept counted safe ≡ record w { breakpoints = bs; watches = ws }
+same-walker w bs ws held kept counted safe =
+    ap (λ x. stopping w bs ws x kept counted safe) (held-prop w.input.items w.real w.replay w.used held w.held)
+    ∙ (ap (λ x. stopping w bs ws w.held x counted safe) (kept-prop w.input.items w.real w.past.items kept w.kept)
+    ∙ (ap (λ x. stopping w bs ws w.held w.kept x safe) (counted-prop w.past.items w.steps w.furthest counted w.counted)
+    ∙ ap (λ x. stopping w bs ws w.held w.kept w.counted x) (safe-prop w.input.items w.real w.snapshots safe w.safe)))

@@ -1,13 +1,22 @@
--- A walk back, one step after the other.
-use Rattle.std.proofs.Common.{◌≡◌, ℕ, suc, ◌+◌, ◌-◌, ◌≤◌, true, false, List, [], ◌∷◌, Option, None, Some, refl, sym, ap, ◌∙◌, subst, arith}
-use Rattle.gdb_steps.specs.Backs.{backed_or, walk_back}
-use Rattle.gdb_steps.specs.Places.{ArePlaces, Begin, IsPlace, IsRun, Place, Run}
+-- Other places of the same run, and what would stop a walk back on the way.
+use Rattle.std.proofs.Common.{◌≡◌, ℕ, suc, ◌+◌, ◌<◌, ◌≤◌, ◌⊎◌, inl, inr, true, false, List, [], ◌∷◌, MatchResult, Option, None, Some, Result, Ok, Err, refl, sym, ap, ◌∙◌, subst, arith}
+use Rattle.std.proofs.lemmas.Bool.{cases_lt}
+use Rattle.mixed_machine.specs.Exec.{Leads}
+use Rattle.mixed_machine.specs.State.{seen}
+use Rattle.mixed_machine.proofs.Runs.{exec-continues}
+use Rattle.mix_debug.specs.Machines.{IsSound}
+use Rattle.gdb_steps.specs.Backs.{Passes, StopsBack, halt_back}
+use Rattle.gdb_steps.specs.Places.{ArePlaces, Begin, Given, IsPlace, IsRun, Place, Run, first_state, state_at}
 use Rattle.gdb_steps.specs.Points.{Points, halt_at}
-use Rattle.gdb_steps.specs.WalkersClauses.{Backs}
+use Rattle.gdb_steps.specs.Walks.{Strays}
+use Rattle.gdb_steps.specs.declared.found.Found.{Found}
 use Rattle.gdb_steps.specs.declared.halt.Halt.{Halt}
-use Rattle.gdb_steps.specs.declared.halt.Halt.TheVariants.{Beginning, Spent}
 use Rattle.gdb_steps.specs.declared.halt.Until.{Until}
-use Rattle.gdb_steps.specs.inner.Backing.{Returning, Returns}
+use Rattle.gdb_steps.specs.declared.lost.Lost.{Lost}
+use Rattle.gdb_steps.specs.declared.lost.Lost.TheVariants as By
+use Rattle.gdb_steps.specs.inner.Backing.{IsFirst, IsLast, IsLost, Moved, Returns, StopsAt}
+use Rattle.gdb_steps.proofs.Firsting.{only-state}
+use Rattle.gdb_steps.proofs.Onward.{seen-bytes}
 
 suc-same : (m n : ℕ) → suc m ≡ suc n → m ≡ n
 suc-same m n e = omega (arith, e)
@@ -24,6 +33,7 @@ back-at b r p ps n is are run =
       reached = run.reached;
       asked = run.asked;
       held = run.held;
+      kept = run.kept;
     }
   where
     less : (n k f : ℕ) → k ≡ suc n → k ≤ f → n ≤ f
@@ -37,94 +47,115 @@ back-by b r s (p ∷ ps) is returns run =
 pub back-run : (b : Begin) (r s : Run) → Returns true r.past r s → IsRun b r → IsRun b s
 back-run b r s returns run = back-by b r s r.past refl returns run
 
-none-by : (r s : Run) (ps : List Place) → r.past ≡ ps → Returns false ps r s → (r.past ≡ []) × (s ≡ r)
+pub none-by : (r s : Run) (ps : List Place) → r.past ≡ ps → Returns false ps r s → (r.past ≡ []) × (s ≡ r)
 none-by r s [] is returns = (is, returns)
 none-by r s (p ∷ ps) is returns = absurd returns
 
--- so many steps of a walk back were taken
-pub returning-none : (p : Points) (until : Until) (n : ℕ) (r : Run) → Returning p until n n r r
-returning-none p until n r = record { earlier = at-most r.steps; less = at-most n; count = refl; walk = refl; same = refl }
-  where
-    at-most : (k : ℕ) → k ≤ k
-    at-most k = omega arith
-
-walk-by : (p : Points) (until : Until) (left : ℕ) (r s : Run) (ps : List Place) (halt : Option Halt) → r.past ≡ ps → Returns true ps r s
-    → halt_at p until r.here.machine.body.ram.bytes s.here.machine.body.ram.bytes s.here.machine.active ≡ halt
-    → walk_back p until (suc left) r.here r.past ≡ backed_or halt left s.here s.past (walk_back p until left)
-unfolding walk_back
-walk-by p until left r s [] halt is returns test = absurd returns
-walk-by p until left r s (q ∷ qs) halt is returns test =
-    let here : s.here ≡ q = ap (λ (x : Run). x.here) returns.1 in
-    let past : s.past ≡ qs = ap (λ (x : Run). x.past) returns.1 in
-    ap (walk_back p until (suc left) r.here) is
-    ∙ (ap (λ (x : Place). backed_or (halt_at p until r.here.machine.body.ram.bytes x.machine.body.ram.bytes x.machine.active) left x qs (walk_back p until left)) (sym here)
-    ∙ (ap (λ (xs : List Place). backed_or (halt_at p until r.here.machine.body.ram.bytes s.here.machine.body.ram.bytes s.here.machine.active) left s.here xs (walk_back p until left)) (sym past)
-    ∙ ap (λ (h : Option Halt). backed_or h left s.here s.past (walk_back p until left)) test))
-
-same-run : (r s t : Run) (ps : List Place) → r.past ≡ ps → s ≡ record r { here = s.here; past = s.past; steps = s.steps } → t ≡ record s { here = t.here; past = t.past; steps = t.steps }
-    → t ≡ record r { here = t.here; past = t.past; steps = t.steps }
-same-run r s t ps is first then = then ∙ ap (λ (x : Run). record x { here = t.here; past = t.past; steps = t.steps }) first
-
-returned : (r s : Run) (ps : List Place) → Returns true ps r s → (r.steps ≡ suc s.steps) × (s ≡ record r { here = s.here; past = s.past; steps = s.steps })
+pub returned : (r s : Run) (ps : List Place) → Returns true ps r s → (r.steps ≡ suc s.steps) × (s ≡ record r { here = s.here; past = s.past; steps = s.steps })
 returned r s [] returns = absurd returns
 returned r s (p ∷ ps) returns =
     (returns.0, returns.1 ∙ ap (λ (x : Run). record r { here = x.here; past = x.past; steps = s.steps }) (sym returns.1))
 
-pub returning-on : (p : Points) (until : Until) (n left : ℕ) (r s t : Run) → Returning p until n (suc left) r s → Returns true s.past s t
-    → halt_at p until s.here.machine.body.ram.bytes t.here.machine.body.ram.bytes t.here.machine.active ≡ None → Returning p until n left r t
-returning-on p until n left r s t so_far returns none =
-    let own = returned s t s.past returns in
+-- ---- another place of the same run
+
+pub moved-none : (r : Run) → Moved r r
+moved-none r = record { run = λ b is. is; same = refl }
+
+pub moved-join : (r s t : Run) → Moved r s → Moved s t → Moved r t
+moved-join r s t first more =
     record {
-      earlier = (let one = own.0 in let two = so_far.earlier in omega (arith, one, two));
-      less = (let one = so_far.less in omega (arith, one));
-      count = (let one = own.0 in let two = so_far.count in omega (arith, one, two));
-      walk = so_far.walk ∙ walk-by p until left s t s.past None refl returns none;
-      same = same-run r s t r.past refl so_far.same own.1;
+      run = λ b is. more.run b (first.run b is);
+      same = more.same ∙ ap (λ (x : Run). record x { here = t.here; past = t.past; steps = t.steps }) first.same;
     }
 
-pub returning-halts : (p : Points) (until : Until) (n left : ℕ) (halt : Halt) (r s t : Run) → Returning p until n (suc left) r s → Returns true s.past s t
-    → halt_at p until s.here.machine.body.ram.bytes t.here.machine.body.ram.bytes t.here.machine.active ≡ Some halt → Backs p until n halt r t
-returning-halts p until n left halt r s t so_far returns some =
-    let own = returned s t s.past returns in
-    let one = own.0 in
-    let two = so_far.earlier in
-    let three = so_far.count in
-    record {
-      earlier = omega (arith, one, two);
-      walk = so_far.walk ∙ (walk-by p until left s t s.past (Some halt) refl returns some
-          ∙ ap (λ k. record { left = k; here = t.here; past = t.past; halt = halt }) (left-is left n r.steps s.steps t.steps one three));
-      same = same-run r s t r.past refl so_far.same own.1;
-    }
-  where
-    left-is : (left n r s t : ℕ) → s ≡ suc t → r + suc left ≡ s + n → left ≡ n + t - r
-    left-is left n r s t e h = omega (arith, e, h)
+pub moved-back : (r s : Run) → Returns true r.past r s → Moved r s
+moved-back r s returns = record { run = λ b is. back-run b r s returns is; same = (returned r s r.past returns).1 }
 
-pub returning-begins : (p : Points) (until : Until) (n left : ℕ) (r s t : Run) → Returning p until n (suc left) r s → Returns false s.past s t → Backs p until n Beginning r t
-unfolding walk_back
-returning-begins p until n left r s t so_far returns =
-    let own = none-by s t s.past refl returns in
-    let three = so_far.count in
-    subst (Backs p until n Beginning r) (sym own.1) (record {
-      earlier = so_far.earlier;
-      walk = so_far.walk ∙ (ap (walk_back p until (suc left) s.here) own.0
-          ∙ (ap (λ k. record { left = k; here = s.here; past = []; halt = Beginning }) (left-is left n r.steps s.steps three)
-          ∙ ap (λ (ps : List Place). record { left = n + s.steps - r.steps; here = s.here; past = ps; halt = Beginning }) (sym own.0)));
-      same = so_far.same;
-    })
-  where
-    left-is : (left n r s : ℕ) → r + suc left ≡ s + n → suc left ≡ n + s - r
-    left-is left n r s h = omega (arith, h)
+pub moved-given : (r s : Run) → Moved r s → s.given ≡ r.given
+moved-given r s moved = ap (λ (x : Run). x.given) moved.same
 
-pub returning-ends : (p : Points) (until : Until) (n left : ℕ) (r s : Run) → left ≡ 0 → Returning p until n left r s → Backs p until n Spent r s
-unfolding walk_back
-returning-ends p until n left r s none so_far =
-    let three = so_far.count in
-    record {
-      earlier = so_far.earlier;
-      walk = so_far.walk ∙ (ap (λ k. walk_back p until k s.here s.past) none
-          ∙ ap (λ k. record { left = k; here = s.here; past = s.past; halt = Spent }) (left-is left n r.steps s.steps none three));
-      same = so_far.same;
-    }
+pub moved-furthest : (r s : Run) → Moved r s → s.furthest ≡ r.furthest
+moved-furthest r s moved = ap (λ (x : Run). x.furthest) moved.same
+
+pub lost-after : (lost : Lost) (r s t : Run) → Moved r s → IsLost lost s t → IsLost lost r t
+lost-after By.NoMemory r s t first more = moved-join r s t first more
+lost-after By.Strayed r s t first more = λ b is. subst (λ (x : Run). Strays b x.given x.furthest) first.same (more b (first.run b is))
+
+pub moved-same : (r s : Run) → s ≡ r → Moved r s
+moved-same r s same = subst (λ x. Moved r x) (sym same) (moved-none r)
+
+pub moved-rack : (r s : Run) → Moved r s → s.rack ≡ r.rack
+moved-rack r s moved = ap (λ (x : Run). x.rack) moved.same
+
+pub lost-result : {A : Type 0} (result : Result A Lost) (lost : Lost) (done : A → Type 0) (r s t : Run) → result ≡ Err lost → Moved r s → IsLost lost s t → MatchResult result done (λ l. IsLost l r t)
+lost-result result lost done r s t is first more = subst (λ e. MatchResult e done (λ l. IsLost l r t)) (sym is) (lost-after lost r s t first more)
+
+pub moves-result : {A : Type 0} (r s t : Run) (there : Type 0) (result : Result A Lost) → Moved r s → MatchResult result (λ done. Moved s t × there) (λ lost. IsLost lost s t)
+    → MatchResult result (λ done. Moved r t × there) (λ lost. IsLost lost r t)
+moves-result r s t there (Ok done) first is = (moved-join r s t first is.0, is.1)
+moves-result r s t there (Err lost) first is = lost-after lost r s t first is
+
+-- ---- what stops a walk back over a step between two places
+
+one-more : (n : ℕ) → n + 1 ≡ suc n
+one-more n = omega arith
+
+pub stops-between : (b : Begin) (p : Points) (until : Until) (g : Given) (n : ℕ) (x y : Place) (halt : Option Halt) → IsPlace b g n x → IsPlace b g (suc n) y → IsSound x.machine → IsSound y.machine
+    → halt_at p until y.machine.body.ram.bytes x.machine.body.ram.bytes x.machine.active ≡ halt → StopsBack b p until g n halt
+stops-between b p until g n x y halt here there old new is =
+    λ more s t one two.
+    let from : state_at g x more ≡ s = only-state n _ _ _ (here.leads more) one in
+    let led : Leads 0 (suc n) (first_state b g more) t = subst (λ k. Leads 0 k (first_state b g more) t) (one-more n) (exec-continues 0 n 1 (first_state b g more) s one ∙ two) in
+    let to : state_at g y more ≡ t = only-state (suc n) _ _ _ (there.leads more) led in
+    subst (λ u. halt_back p until u t ≡ halt) from
+    (subst (λ u. halt_back p until (state_at g x more) u ≡ halt) to
+    (ap (λ bytes. halt_at p until (seen (state_at g y more)).bytes bytes x.machine.active) (seen-bytes x.machine (state_at g x more).around old)
+    ∙ (ap (λ bytes. halt_at p until bytes x.machine.body.ram.bytes x.machine.active) (seen-bytes y.machine (state_at g y more).around new) ∙ is)))
+
+-- ---- steps that nothing stops
+
+pub passes-none : (b : Begin) (p : Points) (until : Until) (g : Given) (n : ℕ) → Passes b p until g n n
+passes-none b p until g n = λ k low high. absurd (omega (arith, low, high))
+
+pub passes-join : (b : Begin) (p : Points) (until : Until) (g : Given) (low mid high : ℕ) → Passes b p until g low mid → Passes b p until g mid high → Passes b p until g low high
+passes-join b p until g low mid high first more = λ k from to. by k from to (cases_lt k mid)
   where
-    left-is : (left n r s : ℕ) → left ≡ 0 → r + left ≡ s + n → 0 ≡ n + s - r
-    left-is left n r s e h = omega (arith, e, h)
+    by : (k : ℕ) → low ≤ k → k < high → (k < mid) ⊎ (mid ≤ k) → StopsBack b p until g k None
+    by k from to (inl less) = first k from less
+    by k from to (inr past) = more k past to
+
+pub passes-one : (b : Begin) (p : Points) (until : Until) (g : Given) (n : ℕ) → StopsBack b p until g n None → Passes b p until g n (suc n)
+passes-one b p until g n is = λ k low high. let same : n ≡ k = omega (arith, low, high) in subst (λ m. StopsBack b p until g m None) same is
+
+pub first-join : (b : Begin) (p : Points) (until : Until) (g : Given) (low mid high : ℕ) (halt : Option Halt) → mid ≤ high → IsFirst b p until g low mid halt → Passes b p until g mid high → IsFirst b p until g low high halt
+first-join b p until g low mid high None few first more = passes-join b p until g low mid high first more
+first-join b p until g low mid high (Some halt) few first more =
+    (less low mid high first.0 few, first.1, passes-join b p until g (suc low) mid high first.2 more)
+  where
+    less : (l m h : ℕ) → l < m → m ≤ h → l < h
+    less l m h x y = omega (arith, x, y)
+
+pub first-stop : (b : Begin) (p : Points) (until : Until) (g : Given) (n : ℕ) (halt : Halt) → StopsAt b p until g n halt → IsFirst b p until g n (suc n) (Some halt)
+first-stop b p until g n halt is = (up n, is, passes-none b p until g (suc n))
+  where
+    up : (k : ℕ) → k < suc k
+    up k = omega arith
+
+-- ---- the last place at which it stops
+
+pub last-none : (b : Begin) (p : Points) (until : Until) (g : Given) (n : ℕ) → IsLast b p until g n n None
+last-none b p until g n = passes-none b p until g n
+
+pub last-more : (b : Begin) (p : Points) (until : Until) (g : Given) (low n : ℕ) (found : Option Found) → StopsBack b p until g n None → IsLast b p until g low n found → IsLast b p until g low (suc n) found
+last-more b p until g low n None is so_far = passes-join b p until g low n (suc n) so_far (passes-one b p until g n is)
+last-more b p until g low n (Some found) is so_far =
+    (so_far.0, up found.steps n so_far.1, so_far.2, passes-join b p until g (suc found.steps) n (suc n) so_far.3 (passes-one b p until g n is))
+  where
+    up : (k m : ℕ) → k < m → k < suc m
+    up k m h = omega (arith, h)
+
+pub last-new : (b : Begin) (p : Points) (until : Until) (g : Given) (low n : ℕ) (halt : Halt) → low ≤ n → StopsAt b p until g n halt → IsLast b p until g low (suc n) (Some (record { steps = n; halt = halt }))
+last-new b p until g low n halt few is = (few, up n, is, passes-none b p until g (suc n))
+  where
+    up : (k : ℕ) → k < suc k
+    up k = omega arith

@@ -1,20 +1,24 @@
 -- A walker before its first step.
-use Rattle.std.proofs.Common.{◌≡◌, ℕ, ◌≤◌, Bool, true, List, [], length, map, take, is_some, replicate, refl, sym, ap, ◌∙◌, subst, arith}
+use Rattle.std.proofs.Common.{◌≡◌, ℕ, ◌≤◌, Bool, true, List, [], ◌∷◌, length, map, take, is_some, replicate, refl, sym, ap, ◌∙◌, subst, arith}
 use Rattle.dev_rack.specs.Rack.{State as Rack}
 use Rattle.dev_rack.specs.declared.devices.Devices.{Ghosts}
 use Rattle.mix_engine.specs.declared.machine.Machine.{Machine}
 use Rattle.mix_debug.specs.TrailsClauses.{Trail}
 use Rattle.mixed_machine.specs.Exec.{Leads}
 use Rattle.mixed_machine.specs.Machine.{flat}
-use Rattle.gdb_steps.specs.Places.{Begin, IsPlace, IsRun, answers_of, first_state}
+use Rattle.std.proofs.lemmas.List.Elements.{All-cons, All-nil}
+use Rattle.gdb_steps.specs.Places.{Begin, IsKept, IsPlace, IsRun, answers_of, first_state}
 use Rattle.gdb_steps.specs.Walkers.{IsFresh, begin_of, places}
 use Rattle.gdb_steps.specs.WalkersClauses.{Begins}
+use Rattle.gdb_steps.specs.declared.snapshot.Snapshot.{Snapshot}
 use Rattle.gdb_steps.specs.declared.used.Used.{Used}
 use Rattle.gdb_steps.specs.declared.walker.Walker.{Walker}
 use Rattle.gdb_steps.specs.inner.Goings.{given}
+use Rattle.gdb_steps.specs.inner.Images.{IsImage}
 use Rattle.gdb_steps.proofs.Alone.{stays-led}
 use Rattle.gdb_steps.proofs.Firsting.{rerun}
 use Rattle.gdb_steps.proofs.Firsts.{run}
+use Rattle.gdb_steps.proofs.Keeping.{kept-image}
 
 abbrev pub unused : List Bool → Used
 unused held = record { input = 0; asks = 0; held = held }
@@ -37,10 +41,10 @@ fresh-place m i n held r slots =
     none : (k : ℕ) → 0 ≤ k
     none k = omega arith
 
-fresh-run : (m : Machine) (i : List ℕ) (n : ℕ) (held : List Bool) (r : Rack) → IsFresh n r → take (length r.slots) held ≡ map is_some r.slots
-    → IsRun (begin_of m i n) (run i (fresh_trail m) (unused held) r 0 [] 0)
+fresh-run : (m : Machine) (i : List ℕ) (n : ℕ) (held : List Bool) (r : Rack) (s : Snapshot) → IsImage m (unused held) 0 s → IsFresh n r → take (length r.slots) held ≡ map is_some r.slots
+    → IsRun (begin_of m i n) (run i (fresh_trail m) (unused held) r 0 [] 0 (s ∷ []))
 unfolding places
-fresh-run m i n held r fresh known =
+fresh-run m i n held r s image fresh known =
     let here = fresh-place m i n held r (known ∙ fresh.slots) in
     record {
       input = refl;
@@ -51,17 +55,18 @@ fresh-run m i n held r fresh known =
       reached = here;
       asked = sym (ap length fresh.journal);
       held = known;
+      kept = All-cons (IsKept (begin_of m i n) (given i r.journal (length r.slots))) s [] (kept-image (begin_of m i n) (given i r.journal (length r.slots)) m (unused held) 0 s image here) (All-nil (IsKept (begin_of m i n) (given i r.journal (length r.slots))));
     }
   where
     at-most : (k : ℕ) → k ≤ k
     at-most k = omega arith
 
-pub fresh-begins : {D : Type 0} {G : Ghosts D} (m : Machine) (i : List ℕ) (n : ℕ) (held : List Bool) (w : Walker D G) → w.debug ≡ fresh_trail m → w.input.items ≡ i → IsFresh n w.real → w.used ≡ unused held
-    → take (length w.real.slots) held ≡ map is_some w.real.slots → w.past.items ≡ [] → w.steps ≡ 0 → w.furthest ≡ 0 → w.breakpoints ≡ [] → w.watches ≡ [] → Begins m i n w
-fresh-begins m i n held w debug input fresh used known past steps furthest breaks watches =
+pub fresh-begins : {D : Type 0} {G : Ghosts D} (m : Machine) (i : List ℕ) (n : ℕ) (held : List Bool) (w : Walker D G) (s : Snapshot) → IsImage m (unused held) 0 s → w.debug ≡ fresh_trail m → w.input.items ≡ i → IsFresh n w.real → w.used ≡ unused held
+    → take (length w.real.slots) held ≡ map is_some w.real.slots → w.past.items ≡ [] → w.steps ≡ 0 → w.furthest ≡ 0 → w.snapshots ≡ s ∷ [] → w.breakpoints ≡ [] → w.watches ≡ [] → Begins m i n w
+fresh-begins m i n held w s image debug input fresh used known past steps furthest kept breaks watches =
     record {
-      run = subst (λ d. IsRun (begin_of m i n) (run w.input.items d w.used w.real w.steps w.past.items w.furthest)) (sym debug)
-          (rerun (begin_of m i n) i w.input.items (fresh_trail m) (unused held) w.used w.real 0 w.steps [] w.past.items 0 w.furthest input used steps past furthest (fresh-run m i n held w.real fresh known));
+      run = subst (λ d. IsRun (begin_of m i n) (run w.input.items d w.used w.real w.steps w.past.items w.furthest w.snapshots)) (sym debug)
+          (rerun (begin_of m i n) i w.input.items (fresh_trail m) (unused held) w.used w.real 0 w.steps [] w.past.items 0 w.furthest (s ∷ []) w.snapshots input used steps past furthest kept (fresh-run m i n held w.real s image fresh known));
       machine = ap (λ (d : Trail). d.machine) debug;
       steps = steps;
       furthest = furthest;

@@ -22,6 +22,7 @@ use Rattle.gdb_steps.specs.Walkers.{run_of, sinks}
 use Rattle.gdb_steps.specs.Walks.{Comes, GoesForward, Tells, walk}
 use Rattle.gdb_steps.specs.declared.halt.Halt.TheVariants.{End}
 use Rattle.gdb_steps.specs.declared.halt.Until.{Until}
+use Rattle.gdb_steps.specs.declared.snapshot.Snapshot.{Snapshot}
 use Rattle.gdb_steps.specs.declared.used.Used.{Used}
 use Rattle.gdb_steps.specs.declared.walker.Walker.{Walker}
 use Rattle.gdb_steps.specs.inner.Goings.{given}
@@ -35,14 +36,15 @@ use Rattle.gdb_steps.proofs.Onward.{Ended, Went, ended-halts, walk-exits, walk-f
 use Rattle.gdb_steps.proofs.Stood.{Stood, first-stood}
 
 -- the same run, by other words
-pub rerun : (b : Begin) (i j : List ℕ) (e : Trail) (v w : Used) (s : Rack) (k l : ℕ) (us vs : List Used) (f g : ℕ) → j ≡ i → w ≡ v → l ≡ k → vs ≡ us → g ≡ f
-    → IsRun b (run i e v s k us f) → IsRun b (run j e w s l vs g)
-rerun b i j e v w s k l us vs f g same used steps past furthest is =
-    subst (λ x. IsRun b (run x e w s l vs g)) (sym same)
-    (subst (λ x. IsRun b (run i e x s l vs g)) (sym used)
-    (subst (λ x. IsRun b (run i e v s x vs g)) (sym steps)
-    (subst (λ x. IsRun b (run i e v s k x g)) (sym past)
-    (subst (λ x. IsRun b (run i e v s k us x)) (sym furthest) is))))
+pub rerun : (b : Begin) (i j : List ℕ) (e : Trail) (v w : Used) (s : Rack) (k l : ℕ) (us vs : List Used) (f g : ℕ) (ss ts : List Snapshot) → j ≡ i → w ≡ v → l ≡ k → vs ≡ us → g ≡ f → ts ≡ ss
+    → IsRun b (run i e v s k us f ss) → IsRun b (run j e w s l vs g ts)
+rerun b i j e v w s k l us vs f g ss ts same used steps past furthest kept is =
+    subst (λ x. IsRun b (run x e w s l vs g ts)) (sym same)
+    (subst (λ x. IsRun b (run i e x s l vs g ts)) (sym used)
+    (subst (λ x. IsRun b (run i e v s x vs g ts)) (sym steps)
+    (subst (λ x. IsRun b (run i e v s k x g ts)) (sym past)
+    (subst (λ x. IsRun b (run i e v s k us x ts)) (sym furthest)
+    (subst (λ x. IsRun b (run i e v s k us f x)) (sym kept) is)))))
 
 -- where the input is the same
 pub given-same : (i j : List ℕ) (r : Rack) → j ≡ i → given j r.journal (length r.slots) ≡ given i r.journal (length r.slots)
@@ -61,16 +63,16 @@ stepped : {D : Type 0} {G : Ghosts D} (w v : Walker D G) (o p t u : Output) (sto
 stepped w v o p t u stop n is steps = subst (λ k. Steps w.debug v.debug (stands w.debug (drop w.used.input w.input.items) w.real o t) (stands v.debug (drop k w.input.items) v.real p u) stop) (sym is) steps
 
 by-done : {D : Type 0} {G : Ghosts D} (w v : Walker D G) (o p t u : Output) (stop : Stop) (b : Begin) (first : FirstStep w v o p t u stop) → is_done stop ≡ true → Counted first.taken v.real w v
-    → IsRun b (run_of w) → w.steps ≡ w.furthest → First b w.input.items w.debug v.debug w.used v.used w.real v.real w.steps w.past.items w.past.capacity o p t u stop
+    → IsRun b (run_of w) → w.steps ≡ w.furthest → First b w.input.items w.debug v.debug w.used v.used w.real v.real w.steps w.past.items w.past.capacity w.snapshots o p t u stop
 by-done w v o p t u stop b first done counted is same =
-    first-done b w.input.items w.debug v.debug w.used v.used w.real v.real w.steps w.furthest w.past.items w.past.capacity o p t u stop done
+    first-done b w.input.items w.debug v.debug w.used v.used w.real v.real w.steps w.furthest w.past.items w.past.capacity w.snapshots o p t u stop done
     (stepped w v o p t u stop first.taken counted.input first.step) is same counted.asks counted.held
 
 done-run : {D : Type 0} {G : Ghosts D} (w v : Walker D G) (o p t u : Output) (stop : Stop) (b : Begin) (first : FirstStep w v o p t u stop) → Counted first.taken v.real w v → v.furthest ≡ v.steps
-    → First b w.input.items w.debug v.debug w.used v.used w.real v.real w.steps w.past.items w.past.capacity o p t u stop → IsRun b (run_of v)
+    → First b w.input.items w.debug v.debug w.used v.used w.real v.real w.steps w.past.items w.past.capacity w.snapshots o p t u stop → IsRun b (run_of v)
 done-run w v o p t u stop b first counted far done =
-    rerun b w.input.items v.input.items v.debug v.used v.used v.real (suc w.steps) v.steps (take w.past.capacity (w.used ∷ w.past.items)) v.past.items (suc w.steps) v.furthest
-    first.keeps.input refl counted.steps counted.past (far ∙ counted.steps) done.is
+    rerun b w.input.items v.input.items v.debug v.used v.used v.real (suc w.steps) v.steps (take w.past.capacity (w.used ∷ w.past.items)) v.past.items (suc w.steps) v.furthest w.snapshots v.snapshots
+    first.keeps.input refl counted.steps counted.past (far ∙ counted.steps) first.keeps.snapshots done.is
 
 one-further : (k f g : ℕ) → k ≡ f → g ≡ suc k → g - f ≡ 1
 one-further k f g e h = omega (arith, e, h)
@@ -131,20 +133,20 @@ first-went w v o p t u b first is same =
 
 by-stood : {D : Type 0} {G : Ghosts D} (w v : Walker D G) (o p t u : Output) (stop : Stop) (b : Begin) (first : FirstStep w v o p t u stop) → is_done stop ≡ false → Stays w v
     → IsRun b (run_of w) → w.steps ≡ w.furthest
-    → Stood b w.input.items w.debug v.debug w.used w.real (given w.input.items v.real.journal (length v.real.slots)) (run w.input.items v.debug w.used v.real w.steps w.past.items w.furthest) o p t u stop
+    → Stood b w.input.items w.debug v.debug w.used w.real (given w.input.items v.real.journal (length v.real.slots)) (run w.input.items v.debug w.used v.real w.steps w.past.items w.furthest w.snapshots) o p t u stop
 by-stood w v o p t u stop b first not_done stays is same =
-    first-stood b w.input.items w.debug v.debug w.used (drop first.taken w.input.items) w.real v.real w.steps w.furthest w.past.items o p t u stop not_done first.step is same
+    first-stood b w.input.items w.debug v.debug w.used (drop first.taken w.input.items) w.real v.real w.steps w.furthest w.past.items w.snapshots o p t u stop not_done first.step is same
 
 pub same-place : (d e : Trail) (u v : Used) → e.machine ≡ d.machine → v ≡ u → place e v ≡ place d u
 same-place d e u v machine used = ap (λ m. record { machine = m; used = v }) machine ∙ ap (λ x. record { machine = d.machine; used = x }) used
 
 stood-ended : {D : Type 0} {G : Ghosts D} (w v : Walker D G) (o p t u : Output) (stop : Stop) (b : Begin) (first : FirstStep w v o p t u stop) → Stays w v
-    → Stood b w.input.items w.debug v.debug w.used w.real (given w.input.items v.real.journal (length v.real.slots)) (run w.input.items v.debug w.used v.real w.steps w.past.items w.furthest) o p t u stop
+    → Stood b w.input.items w.debug v.debug w.used w.real (given w.input.items v.real.journal (length v.real.slots)) (run w.input.items v.debug w.used v.real w.steps w.past.items w.furthest w.snapshots) o p t u stop
     → Ended b (run_of w) (run_of v)
 stood-ended w v o p t u stop b first stays stood =
     record {
-      run = rerun b w.input.items v.input.items v.debug w.used v.used v.real w.steps v.steps w.past.items v.past.items w.furthest v.furthest
-          first.keeps.input stays.used stays.steps stays.past stays.furthest stood.is;
+      run = rerun b w.input.items v.input.items v.debug w.used v.used v.real w.steps v.steps w.past.items v.past.items w.furthest v.furthest w.snapshots v.snapshots
+          first.keeps.input stays.used stays.steps stays.past stays.furthest first.keeps.snapshots stood.is;
       more = record { asks = stood.more.asks; is = given-same w.input.items v.input.items v.real first.keeps.input ∙ stood.more.is };
       steps = stays.steps;
       furthest = stays.furthest;

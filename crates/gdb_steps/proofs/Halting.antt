@@ -1,5 +1,5 @@
 -- What stops a walk, as it is tested.
-use Rattle.std.proofs.Common.{◌≡◌, ℕ, ◌==◌, bytes_eq, Bool, true, false, if◌then◌else◌, List, [], ◌∷◌, map, Option, None, Some, All, refl, ap, ◌∙◌, subst}
+use Rattle.std.proofs.Common.{◌≡◌, ℕ, ◌==◌, bytes_eq, Bool, true, false, if◌then◌else◌, List, [], ◌∷◌, map, IfSome, Option, None, Some, All, refl, sym, ap, ◌∙◌, subst}
 use Rattle.std.specs.List.{list_any}
 use Rattle.std.proofs.lemmas.List.Elements.{All-cons, All-head, All-nil, All-tail}
 use Rattle.std.proofs.lemmas.Slice.Eq.{bytes_eq-Decides}
@@ -8,13 +8,14 @@ use Rattle.big_memory.specs.Lists.{part}
 use Rattle.switch_frame.specs.Files.{pc_of}
 use Rattle.switch_frame.specs.Records.{isa_of}
 use Rattle.mix_engine.specs.declared.machine.Machine.{Machine}
-use Rattle.gdb_steps.specs.Points.{first_changed, halt_at, halt_by, is_set, range_of}
+use Rattle.gdb_steps.specs.Points.{Range, first_changed, halt_at, halt_by, is_set, range_of}
 use Rattle.gdb_steps.specs.declared.halt.Halt.{Halt}
-use Rattle.gdb_steps.specs.declared.halt.Halt.TheVariants.{Arrived, Breakpoint, Watched}
+use Rattle.gdb_steps.specs.declared.halt.Halt.TheVariants.{Arrived, Breakpoint}
 use Rattle.gdb_steps.specs.declared.halt.Until.{Until}
 use Rattle.gdb_steps.specs.declared.halt.Until.TheVariants as Wanted
 use Rattle.gdb_steps.specs.declared.watch.Watch.{Watch}
-use Rattle.gdb_steps.specs.inner.Looks.{HasSeen, first_unlike}
+use Rattle.gdb_steps.specs.inner.Looks.{HasSeen, Plain, first_unlike}
+use Rattle.gdb_steps.specs.inner.Looks.Plain.{AtBreak, AtWatch, There}
 use Rattle.gdb_steps.specs.inner.Onces.{halt_seen}
 
 -- ---- bytes that were seen are those of the memory before
@@ -36,11 +37,6 @@ seen-halt breaks ws until old m all =
     ap (λ (o : Option ℕ). if list_any (λ b. b == pc_of m.active) breaks then Some Breakpoint else halt_by until (isa_of m.active) o) (unlike-changed old m.body.ram.bytes ws all)
 
 -- ---- a walk is not stopped by an end of the program there
-
-pub data Plain : Halt → Type 0 where
-  AtBreak : Plain Breakpoint
-  AtWatch : (a : ℕ) → Plain (Watched a)
-  There : Plain Arrived
 
 some-is : {x y : Halt} → Some x ≡ Some y → x ≡ y
 some-is e = cc
@@ -85,3 +81,28 @@ none-if false until set o is = none-by until set o is
 pub still-seen : (breaks : List ℕ) (ws : List Watch) (until : Until) (m : Machine) → halt_seen breaks ws until m ≡ None → All (HasSeen m.body.ram.bytes) ws
 still-seen breaks ws until m is =
     still-unlike m.body.ram.bytes ws (none-if (list_any (λ b. b == pc_of m.active) breaks) until (isa_of m.active) (first_unlike ws m.body.ram.bytes) is)
+
+pub plain-some : (b : Bool) (until : Until) (set : Isa) (o : Option ℕ) (halt : Option Halt) → halt ≡ (if b then Some Breakpoint else halt_by until set o) → IfSome halt Plain
+plain-some b until set o None is = tt
+plain-some b until set o (Some halt) is = plain-if b until set o halt (sym is)
+
+-- ---- bytes changed either way
+
+bool-same : (t u : Bool) → (t ≡ true → u ≡ true) → (u ≡ true → t ≡ true) → t ≡ u
+bool-same true u to from = sym (to refl)
+bool-same false true to from = from refl
+bool-same false false to from = refl
+
+bytes-either : (xs ys : List ℕ) → bytes_eq xs ys ≡ bytes_eq ys xs
+bytes-either xs ys =
+    bool-same (bytes_eq xs ys) (bytes_eq ys xs) (λ e. (bytes_eq-Decides ys xs).1 (sym ((bytes_eq-Decides xs ys).0 e))) (λ e. (bytes_eq-Decides xs ys).1 (sym ((bytes_eq-Decides ys xs).0 e)))
+
+either-by : (t u : Bool) (rest rest_too : Option ℕ) (a : ℕ) → t ≡ u → rest ≡ rest_too → (if t then rest else Some a) ≡ (if u then rest_too else Some a)
+either-by t u rest rest_too a is same = ap (λ (b : Bool). if b then rest else Some a) is ∙ ap (λ (o : Option ℕ). if u then o else Some a) same
+
+pub changed-either : (rs : List Range) (old new : List ℕ) → first_changed rs old new ≡ first_changed rs new old
+unfolding first_changed
+changed-either [] old new = refl
+changed-either (r ∷ rs) old new =
+    either-by (bytes_eq (part r.at r.count old) (part r.at r.count new)) (bytes_eq (part r.at r.count new) (part r.at r.count old)) (first_changed rs old new) (first_changed rs new old) r.at
+    (bytes-either (part r.at r.count old) (part r.at r.count new)) (changed-either rs old new)

@@ -7,8 +7,9 @@ use Rattle.dev_rack.specs.Accounts.{Accounts}
 use Rattle.dev_rack.specs.Rack.{State}
 use Rattle.dev_rack.specs.declared.answers.Asked.{Asked}
 use Rattle.gdb_steps.specs.Places.{IsFront}
+use Rattle.gdb_steps.specs.declared.snapshot.Snapshot.{Snapshot}
 use Rattle.gdb_steps.specs.declared.used.Used.{Used}
-use Rattle.gdb_steps.specs.inner.Held.{IsCounted, IsHeld, IsWithin}
+use Rattle.gdb_steps.specs.inner.Held.{IsCounted, IsHeld, IsSafe, IsWithin}
 use Rattle.gdb_steps.proofs.Fronts.{front-short}
 
 front-more : (xs ys more zs : List Asked) → zs ≡ ys ++ more → IsFront xs ys → IsFront xs zs
@@ -59,6 +60,9 @@ counted-more cap u us vs k f is counted =
 
 pub kept-later : (i : List ℕ) (r s : State) (us : List Used) → Accounts r s → All (IsWithin i r) us → All (IsWithin i s) us
 kept-later i r s us devices all = All-weaker (IsWithin i r) (IsWithin i s) (λ u is. record { fits = is.fits; asks = grown r s u.asks devices is.asks }) us all
+
+pub safe-later : (i : List ℕ) (r s : State) (ss : List Snapshot) → Accounts r s → All (IsSafe i r) ss → All (IsSafe i s) ss
+safe-later i r s ss devices all = All-weaker (IsSafe i r) (IsSafe i s) (λ k is. record { fits = is.fits; asks = grown r s k.used.asks devices is.asks }) ss all
 
 pub kept-more : (i : List ℕ) (r s p : State) (u : Used) (us vs : List Used) (cap : ℕ) → Accounts r s → vs ≡ take cap (u ∷ us) → IsHeld i r p u → All (IsWithin i r) us → All (IsWithin i s) vs
 kept-more i r s p u us vs cap devices is held all =

@@ -21,5 +21,10 @@ mod Marking
 mod Looking
 mod Leaving
 mod Alike
+mod Overing
+mod Restoring
 mod Backing
+mod Passing
+mod Overlooking
+mod Keeping
 mod Beginnings

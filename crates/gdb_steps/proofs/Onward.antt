@@ -21,8 +21,8 @@ use Rattle.gdb_steps.specs.declared.halt.Halt.{Halt}
 use Rattle.gdb_steps.specs.declared.halt.Halt.TheVariants.{End}
 use Rattle.gdb_steps.specs.declared.halt.Until.{Until}
 use Rattle.gdb_steps.specs.inner.Goings.{Going, More}
-use Rattle.gdb_steps.proofs.Halting.{Plain}
-use Rattle.gdb_steps.proofs.Halting.Plain.{AtBreak, AtWatch, There}
+use Rattle.gdb_steps.specs.inner.Looks.{Plain}
+use Rattle.gdb_steps.specs.inner.Looks.Plain.{AtBreak, AtWatch, There}
 
 -- bytes of memory, as the state tells them
 pub seen-bytes : (m : Machine) (around : Around) → IsSound m → (seen (flat m.body m.active around)).bytes ≡ m.body.ram.bytes

@@ -7,6 +7,7 @@ use Rattle.mix_debug.specs.CostsClauses.{Kept}
 use Rattle.mix_debug.specs.TrailsClauses.{TakesBack, Trail}
 use Rattle.gdb_steps.specs.Places.{Place, Run}
 use Rattle.gdb_steps.specs.Walkers.{places}
+use Rattle.gdb_steps.specs.declared.snapshot.Snapshot.{Snapshot}
 use Rattle.gdb_steps.specs.declared.used.Used.{Used}
 use Rattle.gdb_steps.specs.inner.Backing.{Returns}
 use Rattle.gdb_steps.proofs.Fronts.{no-used}
@@ -39,18 +40,18 @@ none-kept [] us d e r s back past same = subst (λ ps. Returns false ps r s) (sy
 none-kept (k ∷ ks) us d e r s back past same = absurd (false-true back.0)
 
 -- the newest of both
-pub back-one : (ks : List Kept) (us : List Used) (i : List ℕ) (d e : Trail) (u : Used) (r : Rack) (n : ℕ) (f : ℕ) (v : Used) → ks ≡ d.kept → TakesBack true ks d e → slice_get us 0 ≡ Some v → 0 < n
-    → Returns true (places ks us) (run i d u r n us f) (run i e v r (n - 1) (drop 1 us) f)
+pub back-one : (ks : List Kept) (us : List Used) (i : List ℕ) (d e : Trail) (u : Used) (r : Rack) (n : ℕ) (f : ℕ) (ss : List Snapshot) (v : Used) → ks ≡ d.kept → TakesBack true ks d e → slice_get us 0 ≡ Some v → 0 < n
+    → Returns true (places ks us) (run i d u r n us f ss) (run i e v r (n - 1) (drop 1 us) f ss)
 unfolding places
-back-one [] us i d e u r n f v same back got some = absurd (false-true (sym back.0))
-back-one (k ∷ ks) [] i d e u r n f v same back got some = absurd (none-some got)
-back-one (k ∷ ks) (x ∷ us) i d e u r n f v same back got some =
+back-one [] us i d e u r n f ss v same back got some = absurd (false-true (sym back.0))
+back-one (k ∷ ks) [] i d e u r n f ss v same back got some = absurd (none-some got)
+back-one (k ∷ ks) (x ∷ us) i d e u r n f ss v same back got some =
     let x_is : x ≡ v = some-is got in
     let machine : e.machine ≡ k.machine = ap (λ (t : Trail). t.machine) back.1 in
     let kept : e.kept ≡ ks = ap (λ (t : Trail). t.kept) back.1 in (
       one-less n some,
-      ap (λ (q : Place). record (run i d u r n (x ∷ us) f) { here = q; past = places e.kept us; steps = n - 1 }) (place-is e.machine k.machine v x machine (sym x_is))
-          ∙ ap (λ (ls : List Kept). record (run i d u r n (x ∷ us) f) { here = record { machine = k.machine; used = x }; past = places ls us; steps = n - 1 }) kept,
+      ap (λ (q : Place). record (run i d u r n (x ∷ us) f ss) { here = q; past = places e.kept us; steps = n - 1 }) (place-is e.machine k.machine v x machine (sym x_is))
+          ∙ ap (λ (ls : List Kept). record (run i d u r n (x ∷ us) f ss) { here = record { machine = k.machine; used = x }; past = places ls us; steps = n - 1 }) kept,
     )
   where
     some-is : {a b : Used} → Some a ≡ Some b → a ≡ b

@@ -14,14 +14,15 @@ use Rattle.gdb_steps.specs.Walks.{Forward, GoesForward}
 use Rattle.gdb_steps.specs.declared.halt.Halt.{Halt}
 use Rattle.gdb_steps.specs.declared.halt.Halt.TheVariants.{End, Strayed}
 use Rattle.gdb_steps.specs.declared.halt.Until.{Until}
+use Rattle.gdb_steps.specs.declared.snapshot.Snapshot.{Snapshot}
 use Rattle.gdb_steps.specs.declared.walker.Walker.{Walker}
 use Rattle.gdb_steps.specs.declared.watch.Watch.{Watch}
-use Rattle.gdb_steps.specs.inner.Backing.{Returning}
+use Rattle.gdb_steps.specs.inner.Backing.{Moved}
 use Rattle.gdb_steps.specs.inner.Goings.{Going, OneMore}
 use Rattle.gdb_steps.specs.inner.Looks.{HasSeen}
 use Rattle.gdb_steps.specs.inner.Onces.{AfterAgain, AgainStep, FirstStep, Keeps, halt_seen}
 use Rattle.gdb_steps.proofs.Againing.{again-ended, again-strays, again-went}
-use Rattle.gdb_steps.proofs.Backward.{returning-none}
+use Rattle.gdb_steps.proofs.Backward.{moved-none}
 use Rattle.gdb_steps.proofs.Goings.{going-none}
 use Rattle.gdb_steps.proofs.Firsting.{first-ended, first-traced, first-went}
 use Rattle.gdb_steps.proofs.Halting.{plain-seen, seen-halt, still-seen}
@@ -90,7 +91,7 @@ first-ends b until w v o p t u stop off first same is =
 
 -- ---- again
 
-again-limit : {D : Type 0} {G : Ghosts D} (w v : Walker D G) (stop : Stop) (asked : Bool) → goes_on stop ≡ true → AgainStep w v stop asked → AgainStep w v By.Limit asked
+pub again-limit : {D : Type 0} {G : Ghosts D} (w v : Walker D G) (stop : Stop) (asked : Bool) → goes_on stop ≡ true → AgainStep w v stop asked → AgainStep w v By.Limit asked
 again-limit w v stop asked on one = subst (λ x. AgainStep w v x asked) (limit-on stop on) one
 
 pub again-goes : {D : Type 0} {G : Ghosts D} (b : Begin) (until : Until) (w v : Walker D G) (x : Sinks) (stop : Stop) (asked : Bool) (halt : Option Halt) → asked ≡ true → goes_on stop ≡ true → AgainStep w v stop asked
@@ -106,7 +107,7 @@ pub again-ends : {D : Type 0} {G : Ghosts D} (b : Begin) (until : Until) (w v : 
 again-ends b until w v x stop asked off one is =
     λ m. subst (λ n. Forward b (points_of w) until n (End stop) (run_of w) (run_of v) x x) (one-more m) (again-ended w v stop asked b (points_of w) until m x off one is)
 
-strayed-on : {D : Type 0} {G : Ghosts D} (on : Bool) (taken : ℕ) (rack : Rack) (w v : Walker D G) → AfterAgain on false taken rack w v → on ≡ true
+pub strayed-on : {D : Type 0} {G : Ghosts D} (on : Bool) (taken : ℕ) (rack : Rack) (w v : Walker D G) → AfterAgain on false taken rack w v → on ≡ true
 strayed-on true taken rack w v after = refl
 strayed-on false taken rack w v after = absurd (false-true after.1)
   where
@@ -142,11 +143,33 @@ pub looked-going : {D : Type 0} {G : Ghosts D} (b : Begin) (p : Points) (until :
 looked-going b p until last w v x same is =
     subst (λ (r : Run). Going b p until (last - w.steps) (last - r.steps) (run_of w) r x x) (sym (looked-run w v same)) (going-none b p until (last - w.steps) (run_of w) x is)
 
-pub looked-returning : {D : Type 0} {G : Ghosts D} (p : Points) (until : Until) (n : ℕ) (w v : Walker D G) → v ≡ record w { watches = v.watches } → Returning p until n n (run_of w) (run_of v)
-looked-returning p until n w v same = subst (Returning p until n n (run_of w)) (sym (looked-run w v same)) (returning-none p until n (run_of w))
+pub looked-moved : {D : Type 0} {G : Ghosts D} (w v : Walker D G) → v ≡ record w { watches = v.watches } → Moved (run_of w) (run_of v)
+looked-moved w v same = subst (Moved (run_of w)) (sym (looked-run w v same)) (moved-none (run_of w))
 
 pub looked-steps : {D : Type 0} {G : Ghosts D} (w v : Walker D G) → v ≡ record w { watches = v.watches } → v.steps ≡ w.steps
 looked-steps {D} {G} w v same = ap (λ (x : Walker D G). x.steps) same
 
 pub looked-real : {D : Type 0} {G : Ghosts D} (w v : Walker D G) → v ≡ record w { watches = v.watches } → v.real ≡ w.real
 looked-real {D} {G} w v same = ap (λ (x : Walker D G). x.real) same
+
+-- ---- where the machine was kept
+
+going-kept : (b : Begin) (p : Points) (until : Until) (n left : ℕ) (r s : Run) (kept : List Snapshot) (x y : Sinks) → Going b p until n left r s x y → IsRun b (record s { kept = kept })
+    → Going b p until n left r (record s { kept = kept }) x y
+going-kept b p until n left r s kept x y going is =
+    record { run = is; more = going.more; few = going.few; count = going.count; less = going.less; further = going.further; walks = going.walks; told = going.told }
+
+pub kept-going : {D : Type 0} {G : Ghosts D} (b : Begin) (p : Points) (until : Until) (n last : ℕ) (r : Run) (w v : Walker D G) (x y : Sinks) → run_of v ≡ record (run_of w) { kept = v.snapshots }
+    → (IsRun b (run_of w) → IsRun b (run_of v)) → Going b p until n (last - w.steps) r (run_of w) x y → Going b p until n (last - v.steps) r (run_of v) x y
+kept-going b p until n last r w v x y same kept going =
+    subst (λ (s : Run). Going b p until n (last - s.steps) r s x y) (sym same)
+    (going-kept b p until n (last - w.steps) r (run_of w) v.snapshots x y going (subst (IsRun b) same (kept going.run)))
+
+pub kept-points : {D : Type 0} {G : Ghosts D} (w v : Walker D G) → v.breakpoints ≡ w.breakpoints → v.watches ≡ w.watches → points_of v ≡ points_of w
+kept-points w v breaks watches = ap (λ (bs : List ℕ). record { breaks = bs; watches = map range_of v.watches }) breaks ∙ ap (λ (ws : List Watch). record { breaks = w.breakpoints; watches = map range_of ws }) watches
+
+pub kept-steps : {D : Type 0} {G : Ghosts D} (w v : Walker D G) → run_of v ≡ record (run_of w) { kept = v.snapshots } → v.steps ≡ w.steps
+kept-steps w v same = ap (λ (r : Run). r.steps) same
+
+pub kept-real : {D : Type 0} {G : Ghosts D} (w v : Walker D G) → run_of v ≡ record (run_of w) { kept = v.snapshots } → v.real ≡ w.real
+kept-real w v same = ap (λ (r : Run). r.rack) same

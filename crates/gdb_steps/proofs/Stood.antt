@@ -10,10 +10,11 @@ use Rattle.mix_debug.specs.CostsClauses.{Kept}
 use Rattle.mix_debug.specs.TrailsClauses.{Keeps, Trail, is_done}
 use Rattle.gdb_steps.specs.Places.{ArePlaces, Begin, Given, IsPlace, IsRun, Run, state_at}
 use Rattle.gdb_steps.specs.Walkers.{places, sinks}
+use Rattle.gdb_steps.specs.declared.snapshot.Snapshot.{Snapshot}
 use Rattle.gdb_steps.specs.declared.used.Used.{Used}
 use Rattle.gdb_steps.specs.inner.Steps.{AreAt, Steps, stands}
 use Rattle.gdb_steps.proofs.Doing.{between, not-done-stays, place}
-use Rattle.gdb_steps.proofs.Firsts.{place-after, places-after, regiven, run}
+use Rattle.gdb_steps.proofs.Firsts.{kept-after, place-after, places-after, regiven, run}
 use Rattle.gdb_steps.proofs.Goings.{more-none}
 use Rattle.gdb_steps.specs.inner.Goings.{More, given}
 use Rattle.gdb_steps.proofs.Standing.{at-furthest}
@@ -62,10 +63,10 @@ moved-past : (b : Begin) (g : Given) (n : ℕ) (us : List Used) (ks ls : List Ke
 moved-past b g n us ks ls same are = subst (λ zs. ArePlaces b g n (places zs us)) (sym same) are
 
 -- at the furthest place
-pub first-stood : (b : Begin) (i : List ℕ) (d e : Trail) (u : Used) (ys : List ℕ) (r s : Rack) (k f : ℕ) (us : List Used) (o w t x : Output) (stop : Stop) → is_done stop ≡ false
-    → Steps d e (stands d (drop u.input i) r o t) (stands e ys s w x) stop → IsRun b (run i d u r k us f) → k ≡ f
-    → Stood b i d e u r (given i s.journal (length s.slots)) (run i e u s k us f) o w t x stop
-first-stood b i d e u ys r s k f us o w t x stop not_done steps is same =
+pub first-stood : (b : Begin) (i : List ℕ) (d e : Trail) (u : Used) (ys : List ℕ) (r s : Rack) (k f : ℕ) (us : List Used) (ss : List Snapshot) (o w t x : Output) (stop : Stop) → is_done stop ≡ false
+    → Steps d e (stands d (drop u.input i) r o t) (stands e ys s w x) stop → IsRun b (run i d u r k us f ss) → k ≡ f
+    → Stood b i d e u r (given i s.journal (length s.slots)) (run i e u s k us f ss) o w t x stop
+first-stood b i d e u ys r s k f us ss o w t x stop not_done steps is same =
     let around = same-around d e (drop u.input i) ys r s o w t x stop not_done steps in
     let kept = same-machine (is_done stop) d e not_done steps.keeps in
     let noted : s.journal ≡ r.journal ++ steps.devices.entries = steps.devices.noted in
@@ -89,6 +90,7 @@ first-stood b i d e u ys r s k f us o w t x stop not_done steps is same =
         reached = place-after b i r s steps.devices.entries f is.last noted slots is.reached;
         asked = is.asked ∙ ap length (sym around.journal);
         held = ap (λ n. take n is.last.used.held) slots ∙ (is.held ∙ sym around.slots);
+        kept = kept-after b i r s steps.devices.entries ss noted slots is.kept;
       };
       here = here;
       more = record { asks = steps.devices.entries; is = sym (regiven i r s steps.devices.entries noted slots) };
@@ -99,10 +101,10 @@ first-stood b i d e u ys r s k f us o w t x stop not_done steps is same =
     }
 
 -- before it
-pub again-stood : (b : Begin) (i : List ℕ) (d e : Trail) (u : Used) (ys : List ℕ) (r p q : Rack) (k f : ℕ) (us : List Used) (o w t x : Output) (stop : Stop) → is_done stop ≡ false
-    → Steps d e (stands d (drop u.input i) p o t) (stands e ys q w x) stop → IsRun b (run i d u r k us f) → AreAt (given i r.journal (length r.slots)) (place d u) p
-    → Stood b i d e u r (given i r.journal (length r.slots)) (run i e u r k us f) o w t x stop
-again-stood b i d e u ys r p q k f us o w t x stop not_done steps is at_old =
+pub again-stood : (b : Begin) (i : List ℕ) (d e : Trail) (u : Used) (ys : List ℕ) (r p q : Rack) (k f : ℕ) (us : List Used) (ss : List Snapshot) (o w t x : Output) (stop : Stop) → is_done stop ≡ false
+    → Steps d e (stands d (drop u.input i) p o t) (stands e ys q w x) stop → IsRun b (run i d u r k us f ss) → AreAt (given i r.journal (length r.slots)) (place d u) p
+    → Stood b i d e u r (given i r.journal (length r.slots)) (run i e u r k us f ss) o w t x stop
+again-stood b i d e u ys r p q k f us ss o w t x stop not_done steps is at_old =
     let around = same-around d e (drop u.input i) ys p q o w t x stop not_done steps in
     let kept = same-machine (is_done stop) d e not_done steps.keeps in
     let g : Given = given i r.journal (length r.slots) in
@@ -118,6 +120,7 @@ again-stood b i d e u ys r p q k f us o w t x stop not_done steps is at_old =
         reached = is.reached;
         asked = is.asked;
         held = is.held;
+        kept = is.kept;
       };
       here = is.here;
       more = more-none g;

@@ -1,25 +1,28 @@
--- A walk back over the places that are kept.
-use Rattle.std.specs.Prelude.{ℕ, zero, suc, List, [], ◌∷◌, Option, None, Some}
+-- A walk back over the states of a run, until something stops it.
+use Rattle.std.specs.Prelude.{◌≡◌, ℕ, suc, ◌+◌, ◌<◌, ◌≤◌, List, Option, None, Some}
+use Rattle.mixed_machine.specs.Exec.{Leads}
+use Rattle.mixed_machine.specs.State.{State, seen}
+use Rattle.gdb_steps.specs.Places.{Begin, Given, first_state}
 use Rattle.gdb_steps.specs.Points.{Points, halt_at}
-use Rattle.gdb_steps.specs.Places.{Place}
 use Rattle.gdb_steps.specs.declared.halt.Halt.{Halt}
 use Rattle.gdb_steps.specs.declared.halt.Halt.TheVariants.{Beginning, Spent}
 use Rattle.gdb_steps.specs.declared.halt.Until.{Until}
 
--- where a walk back ended, the places before it, why it ended, and how many of its steps were left
-pub record Backed : Type 0 where
-  pub left : ℕ
-  pub here : Place
-  pub past : List Place
-  pub halt : Halt
+-- what stops a walk back over a step that led from one state to another
+abbrev pub halt_back : Points → Until → State → State → Option Halt
+halt_back p until s t = halt_at p until (seen t).bytes (seen s).bytes s.active
 
-abbrev pub backed_or : Option Halt → ℕ → Place → List Place → (Place → List Place → Backed) → Backed
-backed_or None left here past rest = rest here past
-backed_or (Some halt) left here past rest = record { left = left; here = here; past = past; halt = halt }
+-- what stops it over the step of the run that has so many in front of it, whatever the devices answer later
+abbrev pub StopsBack : Begin → Points → Until → Given → ℕ → Option Halt → Type 0
+StopsBack b p until g n halt = (more : List (Option ℕ)) (s t : State) → Leads 0 n (first_state b g more) s → Leads 0 1 s t → halt_back p until s t ≡ halt
 
--- up to so many steps back: up to the first behind which something stops it
-unfoldable pub walk_back : Points → Until → ℕ → Place → List Place → Backed
-walk_back p until zero here past = record { left = 0; here = here; past = past; halt = Spent }
-walk_back p until (suc n) here [] = record { left = suc n; here = here; past = []; halt = Beginning }
-walk_back p until (suc n) here (q ∷ qs) =
-    backed_or (halt_at p until here.machine.body.ram.bytes q.machine.body.ram.bytes q.machine.active) n q qs (walk_back p until n)
+-- nothing stops it over any of the steps from a place of the run to a later one
+abbrev pub Passes : Begin → Points → Until → Given → ℕ → ℕ → Type 0
+Passes b p until g low high = (n : ℕ) → low ≤ n → n < high → StopsBack b p until g n None
+
+-- a walk of n steps back from one place of the run ends at an earlier one: at the first of all, or where its steps are
+-- done, if nothing stops it; else in front of the last step that stops it
+abbrev pub EndsBack : Begin → Points → Until → Given → ℕ → Halt → ℕ → ℕ → Type 0
+EndsBack b p until g n Beginning high low = (low ≡ 0) × (high < n) × Passes b p until g 0 high
+EndsBack b p until g n Spent high low = (high ≡ low + n) × Passes b p until g low high
+EndsBack b p until g n halt high low = (low < high) × StopsBack b p until g low (Some halt) × Passes b p until g (suc low) high

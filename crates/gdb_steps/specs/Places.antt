@@ -1,11 +1,14 @@
 -- The run of a machine from its beginning, over the whole input and over what the devices answered, and places in it.
-use Rattle.std.specs.Prelude.{◌≡◌, ℕ, suc, ◌≤◌, Bool, List, [], ◌∷◌, ◌++◌, length, map, take, drop, is_some, Option}
+use Rattle.std.specs.Prelude.{◌≡◌, ℕ, suc, ◌≤◌, All, Bool, List, [], ◌∷◌, ◌++◌, length, map, take, drop, is_some, Option}
 use Rattle.dev_rack.specs.Rack.{State as Rack}
 use Rattle.dev_rack.specs.declared.answers.Asked.{Asked}
 use Rattle.mixed_machine.specs.Exec.{Leads}
 use Rattle.mixed_machine.specs.Machine.{flat}
 use Rattle.mixed_machine.specs.State.{State}
 use Rattle.mix_engine.specs.declared.machine.Machine.{Machine}
+use Rattle.mix_image.specs.Spelling.{HasSpelling, spell}
+use Rattle.mix_io.specs.Memory.{kept_as}
+use Rattle.gdb_steps.specs.declared.snapshot.Snapshot.{Snapshot}
 use Rattle.gdb_steps.specs.declared.used.Used.{Used}
 
 -- asks are a beginning of a journal
@@ -59,8 +62,12 @@ abbrev pub ArePlaces : Begin → Given → ℕ → List Place → Type 0
 ArePlaces b g n [] = Unit {0}
 ArePlaces b g n (p ∷ ps) = (m : ℕ) × (n ≡ suc m) × IsPlace b g m p × ArePlaces b g m ps
 
+-- the image that is kept is that of the machine after so many steps of the run
+abbrev pub IsKept : Begin → Given → Snapshot → Type 0
+IsKept b g s = (m : Machine) × HasSpelling m × (kept_as s.image [] ≡ spell m) × IsPlace b g s.steps (record { machine = m; used = s.used })
+
 -- a run that stands at a place after so many steps, with the places before the steps that can be taken back, and that
--- reached another at the furthest, at which the devices are
+-- reached another at the furthest, at which the devices are; and the machines that are kept on the way
 pub record Run : Type 0 where
   pub given : Given
   pub rack : Rack
@@ -68,6 +75,7 @@ pub record Run : Type 0 where
   pub steps : ℕ
   pub past : List Place
   pub furthest : ℕ
+  pub kept : List Snapshot
 
 pub record IsRun (b : Begin) (r : Run) : Type 0 where
   pub input : r.given.input ≡ b.input
@@ -78,3 +86,4 @@ pub record IsRun (b : Begin) (r : Run) : Type 0 where
   pub reached : IsPlace b r.given r.furthest last
   pub asked : last.used.asks ≡ length r.given.journal
   pub held : take r.given.slots last.used.held ≡ map is_some r.rack.slots
+  pub kept : All (IsKept b r.given) r.kept

@@ -36,6 +36,7 @@ run_of w =
       steps = w.steps;
       past = places w.debug.kept w.past.items;
       furthest = w.furthest;
+      kept = w.snapshots;
     }
 
 abbrev pub points_of : {D : Type 0} {G : Ghosts D} → Walker D G → Points

@@ -1,12 +1,14 @@
 -- How a walker begins, and what a walk back leaves.
-use Rattle.std.specs.Prelude.{◌≡◌, ℕ, ◌+◌, ◌-◌, ◌≤◌, List, []}
+use Rattle.std.specs.Prelude.{◌≡◌, ℕ, ◌+◌, ◌≤◌, List, []}
 use Rattle.mix_engine.specs.declared.machine.Machine.{Machine}
 use Rattle.dev_rack.specs.declared.devices.Devices.{Ghosts}
-use Rattle.gdb_steps.specs.Backs.{walk_back}
-use Rattle.gdb_steps.specs.Places.{IsRun, Run}
+use Rattle.gdb_steps.specs.Backs.{EndsBack}
+use Rattle.gdb_steps.specs.Places.{Begin, IsRun, Run}
 use Rattle.gdb_steps.specs.Points.{Points}
 use Rattle.gdb_steps.specs.Walkers.{begin_of, run_of}
+use Rattle.gdb_steps.specs.Walks.{Strays}
 use Rattle.gdb_steps.specs.declared.halt.Halt.{Halt}
+use Rattle.gdb_steps.specs.declared.halt.Halt.TheVariants.{Strayed}
 use Rattle.gdb_steps.specs.declared.halt.Until.{Until}
 use Rattle.gdb_steps.specs.declared.walker.Walker.{Walker}
 
@@ -20,7 +22,13 @@ pub record Begins {D : Type 0} {G : Ghosts D} (first : Machine) (input : List �
   pub watches : w.watches ≡ []
 
 -- a walk back from one place of a run to another, in which nothing is told and no device asked
-pub record Backs (p : Points) (until : Until) (n : ℕ) (halt : Halt) (r s : Run) : Type 0 where
+pub record GoesBack (b : Begin) (p : Points) (until : Until) (n : ℕ) (halt : Halt) (r s : Run) : Type 0 where
+  pub run : IsRun b s
   pub earlier : s.steps ≤ r.steps
-  pub walk : walk_back p until n r.here r.past ≡ record { left = n + s.steps - r.steps; here = s.here; past = s.past; halt = halt }
+  pub within : r.steps ≤ s.steps + n
+  pub ends : EndsBack b p until r.given n halt r.steps s.steps
   pub same : s ≡ record r { here = s.here; past = s.past; steps = s.steps }
+
+abbrev pub Backs : Begin → Points → Until → ℕ → Halt → Run → Run → Type 0
+Backs b p until n Strayed r s = Strays b r.given r.furthest
+Backs b p until n halt r s = GoesBack b p until n halt r s

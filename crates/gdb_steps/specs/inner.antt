@@ -1,6 +1,7 @@
 pub mod Backing
 pub mod Goings
 pub mod Held
+pub mod Images
 pub mod Looks
 pub mod Marks
 pub mod Onces

@@ -1,4 +1,4 @@
-// A walker: how it begins, where it is, where it is to stop, and its walks forward and back.
+// A walker: how it begins, where it is, where it is to stop, and its walks forward.
 ghost use Rattle.std.specs.Prelude.{◌≡◌, ◌==◌, ◌&&◌, ◌+◌, ◌-◌, ◌^◌, ◌≤◌, ◌<◌, ◌++◌, ◌∷◌, [], All, IfOk, IfNone, ℕ, filter, if◌then◌else◌, length, map, min, nat_le, nat_lt, not, take};
 ghost use Rattle.std.specs.List.{list_any};
 ghost use Rattle.mix_io.specs.StreamsClauses.{output};
@@ -6,13 +6,11 @@ ghost use Rattle.mixed_machine.specs.Machine.{IsWhole};
 ghost use Rattle.mixed_machine.specs.Runs.{Sinks};
 ghost use Rattle.switch_frame.specs.Records.{isa_of};
 ghost use Rattle.dev_rack.specs.Accounts.{Accounts};
-ghost use Rattle.gdb_steps.specs.Backs.{walk_back};
 ghost use Rattle.gdb_steps.specs.Places.{Begin, IsFront, IsRun};
 ghost use Rattle.gdb_steps.specs.Points.{Points, is_same_range, is_set, range_of};
 ghost use Rattle.gdb_steps.specs.Walkers.{IsFresh, points_of, run_of, sinks};
-ghost use Rattle.gdb_steps.specs.WalkersClauses.{Backs, Begins};
+ghost use Rattle.gdb_steps.specs.WalkersClauses.{Begins};
 ghost use Rattle.gdb_steps.specs.Walks.{Forward};
-ghost use Rattle.gdb_steps.specs.inner.Backing.{StepsBack};
 ghost use Rattle.gdb_steps.specs.inner.Goings.{OneMore};
 ghost use Rattle.gdb_steps.specs.inner.Looks.{HasSeen};
 ghost use Rattle.gdb_steps.specs.inner.Onces.{AgainStep, FirstStep, halt_seen};
@@ -27,6 +25,7 @@ use crate::once::step_once;
 use crate::real::Real;
 use crate::replay::Replay;
 use crate::silent::Silent;
+use crate::snapshots::Snapshots;
 use crate::used::Used;
 use crate::walker::{MOST_STEPS, Walker};
 use crate::watches::Watches;
@@ -61,7 +60,9 @@ impl<D: Devices + Drop> Walker<D> {
             asks: 0,
             held: real.held(),
         };
+        let snapshots = Snapshots::new(alloc, &machine, used)?;
         Ok(Walker {
+            alloc,
             debug: Debug::new(alloc, machine)?,
             input,
             real,
@@ -70,6 +71,7 @@ impl<D: Devices + Drop> Walker<D> {
             past: HeapCircularBuffer::with_capacity(alloc, MOST_STEPS)?,
             steps: 0,
             furthest: 0,
+            snapshots,
             breakpoints: Breakpoints::new(alloc)?,
             watches: Watches::new(alloc)?,
         })
@@ -170,6 +172,7 @@ impl<D: Devices + Drop> Walker<D> {
         let last = self.steps.saturating_add(u64::from(budget));
         self.look();
         'steps: while self.steps < last {
+            self.keep();
             if let Some(halt) = self.step(until, out, trace) {
                 return halt;
             }
@@ -177,35 +180,39 @@ impl<D: Devices + Drop> Walker<D> {
         Halt::Spent
     }
 
-    /// Takes up to so many steps back, until something stops it, as on the way forward, or no earlier step is kept.
-    /// Nothing is told.
-    pub fn back(&mut self, until: Until, budget: u32) -> Halt
-        ensures walks { Backs (points_of self.old) until budget result (run_of self.old) (run_of self.new) }
-        ensures run { (b : Begin) → IsRun b (run_of self.old) → IsRun b (run_of self.new) }
-        ensures points { points_of self.new ≡ points_of self.old }
-    {
-        self.look();
-        let mut left = budget;
-        'steps: while left > 0 {
-            if !self.step_back() {
-                return Halt::Beginning;
-            }
-            left -= 1;
-            if let Some(halt) = self.halt_here(until) {
-                return halt;
-            }
-        }
-        Halt::Spent
-    }
-
     /// Sees the bytes of the watched ranges.
-    fn look(&mut self)
+    pub(crate) fn look(&mut self)
         ensures seen { All (HasSeen self.new.debug.machine.body.ram.bytes) self.new.watches }
         ensures ranges { map range_of self.new.watches ≡ map range_of self.old.watches }
         ensures beside { self.new ≡ record self.old { watches = self.new.watches } }
     {
         let machine = self.debug.machine();
         self.watches.look(machine.body.ram.bytes());
+    }
+
+    /// Keeps the machine, where it is time for that.
+    #[inline(always)]
+    fn keep(&mut self)
+        ensures kept { (b : Begin) → IsRun b (run_of self.old) → IsRun b (run_of self.new) }
+        ensures same { run_of self.new ≡ record (run_of self.old) { kept = self.new.snapshots } }
+        ensures breakpoints { self.new.breakpoints ≡ self.old.breakpoints }
+        ensures watches { self.new.watches ≡ self.old.watches }
+    {
+        if self.snapshots.is_due(self.steps) {
+            self.keep_here();
+        }
+    }
+
+    /// Keeps the machine.
+    #[inline(never)]
+    fn keep_here(&mut self)
+        ensures kept { (b : Begin) → IsRun b (run_of self.old) → IsRun b (run_of self.new) }
+        ensures same { run_of self.new ≡ record (run_of self.old) { kept = self.new.snapshots } }
+        ensures breakpoints { self.new.breakpoints ≡ self.old.breakpoints }
+        ensures watches { self.new.watches ≡ self.old.watches }
+    {
+        self.snapshots
+            .keep(self.alloc, self.debug.machine(), self.used, self.steps);
     }
 
     /// Does a step, and says what stops the walk at it or behind it, if anything does.
@@ -314,7 +321,7 @@ impl<D: Devices + Drop> Walker<D> {
 
     /// Does a step again: whether the asks in it were those of the journal.
     #[inline(never)]
-    fn again(&mut self, stop: &mut Stop) -> bool
+    pub(crate) fn again(&mut self, stop: &mut Stop) -> bool
         requires cell { stop.old ≡ Stop.Limit }
         requires before { self.old.steps < self.old.furthest }
         ensures step { AgainStep self.old self.new stop.new result }
@@ -348,28 +355,9 @@ impl<D: Devices + Drop> Walker<D> {
         true
     }
 
-    /// Takes a step back, if one is kept.
-    #[inline(always)]
-    fn step_back(&mut self) -> bool
-        ensures { StepsBack result self.old self.new }
-    {
-        if self.past.is_empty() {
-            return false;
-        }
-        if !self.debug.back() {
-            return false;
-        }
-        let Some(used) = self.past.pop_front() else {
-            unreachable!()
-        };
-        self.used = used;
-        self.steps -= 1;
-        true
-    }
-
     /// What stops a walk here, if anything does.
     #[inline(always)]
-    fn halt_here(&self, until: Until) -> Option<Halt>
+    pub(crate) fn halt_here(&self, until: Until) -> Option<Halt>
         ensures value { result ≡ halt_seen self.now.breakpoints self.now.watches until self.now.debug.machine }
     {
         let machine = self.debug.machine();
@@ -409,7 +397,7 @@ fn is_done(stop: Stop) -> bool
 
 /// Whether the program goes on behind a step.
 #[inline(always)]
-fn does_go_on(stop: Stop) -> bool
+pub(crate) fn does_go_on(stop: Stop) -> bool
     ensures { result ≡ goes_on stop }
 {
     match stop {
@@ -420,7 +408,7 @@ fn does_go_on(stop: Stop) -> bool
 
 /// Whether two sets of instructions are the same.
 #[inline(always)]
-fn is_set(a: Isa, b: Isa) -> bool
+pub(crate) fn is_set(a: Isa, b: Isa) -> bool
     ensures { result ≡ is_set a b }
 {
     match (a, b) {

@@ -21,7 +21,7 @@ pub enum Halt {
     Arrived,
     /// As many steps were done as were allowed.
     Spent,
-    /// No earlier step is kept.
+    /// No step is in front of it.
     Beginning,
     /// The step in front ends the program, or something outside failed at it.
     End(Stop),

@@ -6,14 +6,19 @@
 //! and devices are asked then; when it is done again, nothing is told, and the answers are those of the journal.
 #![tactic(auto)]
 
+mod back;
 mod breakpoints;
 mod forward;
+mod found;
 mod halt;
 mod input;
+mod lost;
 mod once;
 mod real;
 mod replay;
 mod silent;
+mod snapshot;
+mod snapshots;
 mod used;
 mod walker;
 mod watch;

@@ -38,10 +38,10 @@ pub record GoesOn (p : Points) (until : Until) (n : ℕ) (came : Came) (traced :
   pub devices : Accounts r.rack s.rack
   pub tells : console ≡ bytes_put out.held ++ bytes_put trace.held
 
--- a walk back, at which nothing is put
+-- a walk back, at which nothing is put and no device is asked
 pub record GoesBack (p : Points) (until : Until) (n : ℕ) (came : Came) (console : List ℕ) (r s : Run) : Type 0 where
-  pub walks : Backs p until n came r s
-  pub run : (b : Begin) → IsRun b r → IsRun b s
+  pub walks : (b : Begin) → IsRun b r → Backs b p until n came r s
+  pub devices : s.rack ≡ r.rack
   pub tells : console ≡ []
 
 abbrev pub Goes : Bool → Goal → Came → List ℕ → View → View → Type 0

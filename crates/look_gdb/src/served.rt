@@ -84,7 +84,7 @@ impl<D: Devices + Drop> Served<D> {
             steps: steps_for(walk.goal, self.budget),
         };
         if walk.is_back {
-            Ok(self.walker.back(bounds.until, bounds.steps))
+            self.walker.back(bounds.until, u64::from(bounds.steps))
         } else {
             go_on(
                 self.alloc,

@@ -2,4 +2,6 @@
 #![tactic(auto)]
 
 #[cfg(test)]
+mod far;
+#[cfg(test)]
 mod walks;

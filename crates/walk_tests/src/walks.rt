@@ -48,7 +48,7 @@ fn walk_out_and_back<D: Devices + Drop>(rt: &impl Abort, alloc: Global, rack: D,
         assert!(rt; out.held() == b"A".as_slice());
         assert!(rt; trace.held() == b"ask 0 00000005 00000005\n".as_slice());
         assert_eq!(rt; walker.journal().len(), 1);
-        assert_eq!(rt; walker.back(Until::Stopped, 100), Halt::Beginning);
+        assert_eq!(rt; walker.back(Until::Stopped, 100), Ok(Halt::Beginning));
         assert_eq!(rt; walker.steps(), 0);
         assert_eq!(rt; walker.furthest(), 9);
     }
@@ -78,7 +78,10 @@ fn walk_to_stops<D: Devices + Drop>(rt: &impl Abort, alloc: Global, rack: D, slo
     assert_eq!(rt; second, Halt::Watched(0x10100));
     assert_eq!(rt; walker.steps(), 3);
     assert!(rt; walker.clear_break(0x10004));
-    assert_eq!(rt; walker.back(Until::Stopped, 100), Halt::Watched(0x10100));
+    assert_eq!(rt;
+        walker.back(Until::Stopped, 100),
+        Ok(Halt::Watched(0x10100))
+    );
     assert_eq!(rt; walker.steps(), 2);
     assert!(rt; walker.clear_watch(0x10100, 2));
     let one = walker.forward(Until::Active(Isa::M68), 100, &mut out, &mut trace);
@@ -136,7 +139,7 @@ fn walk_and_look<D: Devices + Drop>(rt: &impl Abort, alloc: Global, rack: D, slo
     let _end = walker.forward(Until::Stopped, 100, &mut out, &mut trace);
     assert_eq!(rt; walker.machine().active.pc(), 0x10016);
     assert_eq!(rt; walker.debug().kept(), 9);
-    assert_eq!(rt; walker.back(Until::Stopped, 4), Halt::Spent);
+    assert_eq!(rt; walker.back(Until::Stopped, 4), Ok(Halt::Spent));
     assert_eq!(rt; walker.machine().active.pc(), 0x1000E);
     assert_eq!(rt; walker.debug().kept(), 5);
 }
@@ -172,38 +175,52 @@ fn walker<D: Devices + Drop>(rt: &impl Abort, alloc: Global, rack: D, slots: usi
     requires few { slots ≤ 8 }
     requires fresh { IsFresh slots (D.state rack) }
 {
-    let Ok(machine) = Machine::start(alloc, program(rt, alloc)) else {
+    walker_of(rt, alloc, &CODE, rack, slots)
+}
+
+/// A walker before the first step of other code.
+pub fn walker_of<D: Devices + Drop>(
+    rt: &impl Abort,
+    alloc: Global,
+    code: &[u8],
+    rack: D,
+    slots: usize,
+) -> Walker<D>
+    requires few { slots ≤ 8 }
+    requires fresh { IsFresh slots (D.state rack) }
+{
+    let Ok(machine) = Machine::start(alloc, program(rt, alloc, code)) else {
         panic!(rt; "no machine")
     };
     let input = b"A".to_vec(alloc).expect(rt, "no input");
     Walker::new(alloc, machine, input, rack, slots).expect(rt, "no walker")
 }
 
-/// The program of the code, in 64 KiB of RAM or more.
-fn program(rt: &impl Abort, alloc: Global) -> Program
+/// The program of the code, in 128 KiB of RAM.
+fn program(rt: &impl Abort, alloc: Global, code: &[u8]) -> Program
     ensures { IsProgram result }
 {
     let files = Files {
-        flat: Some(FileBytes::of(image(rt, alloc))),
+        flat: Some(FileBytes::of(image(rt, alloc, code))),
         rsrc: None,
         pef: None,
     };
-    let Ok(program) = load(alloc, &files, Isa::M68, 4096) else {
+    let Ok(program) = load(alloc, &files, Isa::M68, 128) else {
         panic!(rt; "no program")
     };
     program
 }
 
 /// The code, and room behind it.
-fn image(rt: &impl Abort, alloc: Global) -> Vec<u8>
+fn image(rt: &impl Abort, alloc: Global, code: &[u8]) -> Vec<u8>
     ensures { vec_len result ≤ 16777216 }
 {
-    let mut bytes = CODE.to_vec(alloc).expect(rt, "no image");
+    let mut bytes = code.to_vec(alloc).expect(rt, "no image");
     bytes.resize(0x200, 0).expect(rt, "no room");
     bytes
 }
 
 /// An output with room for so many bytes.
-fn sink(rt: &impl Abort, alloc: Global, room: u32) -> MemSink {
+pub fn sink(rt: &impl Abort, alloc: Global, room: u32) -> MemSink {
     MemSink::new(alloc, room, Vec::new(alloc)).expect(rt, "no output")
 }

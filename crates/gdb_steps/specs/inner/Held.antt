@@ -1,6 +1,7 @@
 -- What a walker holds at each place.
 use Rattle.std.specs.Prelude.{◌≡◌, ℕ, ◌≤◌, List, length}
 use Rattle.dev_rack.specs.Rack.{State}
+use Rattle.gdb_steps.specs.declared.snapshot.Snapshot.{Snapshot}
 use Rattle.gdb_steps.specs.declared.used.Used.{Used}
 use Rattle.gdb_steps.specs.Places.{IsFront}
 
@@ -20,3 +21,7 @@ pub record IsHeld (input : List ℕ) (real replay : State) (used : Used) : Type 
 pub record IsCounted (past : List Used) (steps furthest : ℕ) : Type 0 where
   pub few : length past ≤ steps
   pub order : steps ≤ furthest
+
+-- nor at a machine that is kept
+abbrev pub IsSafe : List ℕ → State → Snapshot → Type 0
+IsSafe input real s = IsWithin input real s.used

@@ -42,6 +42,7 @@ pub record Keeps {D : Type 0} {G : Ghosts D} (w v : Walker D G) : Type 0 where
   pub input : v.input.items ≡ w.input.items
   pub breakpoints : v.breakpoints ≡ w.breakpoints
   pub watches : v.watches ≡ w.watches
+  pub snapshots : v.snapshots ≡ w.snapshots
 
 abbrev pub AfterFirst : {D : Type 0} {G : Ghosts D} → Bool → ℕ → Walker D G → Walker D G → Type 0
 AfterFirst true taken w v = Counted taken v.real w v × (v.furthest ≡ v.steps)

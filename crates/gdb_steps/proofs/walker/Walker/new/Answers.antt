@@ -7,7 +7,7 @@ use Rattle.gdb_steps.proofs.walker.Walker.new.Goals as goal
 
 pub returns-clause-begins : goal.returns-clause-begins
 returns-clause-begins g c =
-    fresh-begins c.args.machine c.args.input.items c.args.slots c.held.result _ c.in_ok-new.ensures refl
+    fresh-begins c.args.machine c.args.input.items c.args.slots c.held.result _ c.in_ok-snapshots.ensures.0 c.in_ok-snapshots.ensures.1 c.in_ok-new.ensures refl
     (subst (IsFresh c.args.slots) (sym (c.real.view_is ∙ c.new-real.ensures)) c.requires.fresh) refl
     (subst (λ (r : State). take (length r.slots) c.held.result ≡ map is_some r.slots) (sym c.real.view_is) c.held.ensures.held)
-    (ap (λ b. b.items) c.in_ok-with_capacity.ensures) refl refl c.in_ok-new-2.ensures c.in_ok-new-3.ensures
+    (ap (λ b. b.items) c.in_ok-with_capacity.ensures) refl refl (c.snapshots.view_is ∙ c.in_ok-snapshots.ensures.2) c.in_ok-new-2.ensures c.in_ok-new-3.ensures
