@@ -1,4 +1,5 @@
 // Far back in a run that is longer than the steps that can be taken back.
+ghost use Rattle.std.specs.Prelude.{◌≤◌};
 ghost use Rattle.gdb_steps.specs.Walkers.{IsFresh};
 
 use crate::walks::{sink, walker_of};
