@@ -34,12 +34,12 @@ both low some q = ap (λ b. b && some) (sym q)
 
 -- what a section of zeros at the address 0 shows of one of its size
 pub refused_alike : HasSameRefusal → (bytes zeros sizes addresses words : List ℕ) (k start : ℕ) (m : Memory) → HasSizes bytes zeros sizes addresses → k < instantiated_count bytes
-    → length m.bytes ≡ 16777216 → slice_index sizes k ≤ 16777216 → words ≡ relocs_of bytes k
+    → length m.bytes ≤ 16777216 → slice_index sizes k ≤ length m.bytes → words ≡ relocs_of bytes k
     → (relocated_in k words zeros sizes addresses m).refusal ≡ (relocated (sources bytes start) (relocs_of bytes k) (replicate (total_at bytes k) 0)).refusal
 refused_alike same bytes zeros sizes addresses words k start m has below large low is =
     let one : Sources = record { bases = zeros; imports = addresses } in
     let held : List ℕ = part (slice_index zeros k) (slice_index sizes k) m.bytes in
-    let within : slice_index zeros k + slice_index sizes k ≤ length m.bytes = omega (arith, has.low k, large, low) in
+    let within : slice_index zeros k + slice_index sizes k ≤ length m.bytes = omega (arith, has.low k, low) in
     let long : length held ≡ length (replicate (total_at bytes k) 0) =
     length-part (slice_index zeros k) (slice_index sizes k) m.bytes within ∙ (has.totals k below ∙ sym (length-replicate (total_at bytes k) 0)) in
     let bases : length zeros ≡ length (numbered (section_base bytes start) (instantiated_count bytes)) =
@@ -50,17 +50,17 @@ refused_alike same bytes zeros sizes addresses words k start m has below large l
 
 -- the answer of a run on such a section
 pub refused_anywhere : {T : Type 0} → HasSameRefusal → (bytes zeros sizes addresses words : List ℕ) (k : ℕ) (m : Memory) (r : Result T RelocError)
-    → HasSizes bytes zeros sizes addresses → k < instantiated_count bytes → length m.bytes ≡ 16777216 → slice_index sizes k ≤ 16777216 → words ≡ relocs_of bytes k
+    → HasSizes bytes zeros sizes addresses → k < instantiated_count bytes → length m.bytes ≤ 16777216 → slice_index sizes k ≤ length m.bytes → words ≡ relocs_of bytes k
     → result_err r ≡ (relocated_in k words zeros sizes addresses m).refusal → (start : ℕ) → is_err r ≡ is_badly_relocated bytes start k
 refused_anywhere same bytes zeros sizes addresses words k m r has below large low is refusal start =
-    let fits : nat_le (total_at bytes k) 16777216 ≡ true = grind (arith, nat_tests, has.totals k below, low) in
+    let fits : nat_le (total_at bytes k) 16777216 ≡ true = grind (arith, nat_tests, has.totals k below, large, low) in
     error_is r ∙ (ap (λ (why : Option RelocError). is_some why) (refusal ∙ refused_alike same bytes zeros sizes addresses words k start m has below large low is)
     ∙ both (nat_le (total_at bytes k) 16777216) (is_some (relocated (sources bytes start) (relocs_of bytes k) (replicate (total_at bytes k) 0)).refusal) fits)
 
 -- the same of lists that are these
 pub refused_by : {T : Type 0} → HasSameRefusal → (bytes zeros sizes addresses words zs ss xs : List ℕ) (k : ℕ) (m : Memory) (r : Result T RelocError)
     → zs ≡ zeros → ss ≡ sizes → xs ≡ addresses
-    → HasSizes bytes zeros sizes addresses → k < instantiated_count bytes → length m.bytes ≡ 16777216 → slice_index sizes k ≤ 16777216 → words ≡ relocs_of bytes k
+    → HasSizes bytes zeros sizes addresses → k < instantiated_count bytes → length m.bytes ≤ 16777216 → slice_index sizes k ≤ length m.bytes → words ≡ relocs_of bytes k
     → result_err r ≡ (relocated_in k words zs ss xs m).refusal → (start : ℕ) → is_err r ≡ is_badly_relocated bytes start k
 refused_by same bytes zeros sizes addresses words zs ss xs k m r z s a has below large low is refusal =
     refused_anywhere same bytes zeros sizes addresses words k m r has below large low is

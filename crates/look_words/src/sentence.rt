@@ -65,12 +65,7 @@ pub fn why_text(alloc: Global, words: &[String], why: Why) -> Result<String, NoM
 }
 
 /// The same for a command whose words mixedrun judges.
-pub fn command_why(
-    alloc: Global,
-    command: &str,
-    words: &[String],
-    why: Why,
-) -> Result<String, NoMemory>
+fn command_why(alloc: Global, command: &str, words: &[String], why: Why) -> Result<String, NoMemory>
     ensures { IfOk result (λ text. string_bytes text ≡ why_by command.now (map string_bytes words.now) why) }
 {
     Ok(why_sentence(alloc, command, words, why)?)

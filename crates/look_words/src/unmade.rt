@@ -6,16 +6,19 @@ ghost use Rattle.pef_head.specs.PartsClauses.{IsLoadable, parts};
 ghost use Rattle.pef_head.specs.PartsByNumber.{reloc_header_of};
 ghost use Rattle.mix_load.specs.Sections.{pattern_refusal};
 ghost use Rattle.mix_load.specs.laws.Sections.{total_at};
-ghost use Rattle.look_words.specs.inner.Unmade.{HasSizes, IsBadlyRelocated, IsUnmade, is_badly_packed as is_packed_badly, is_badly_relocated as is_relocated_badly};
+ghost use Rattle.look_words.specs.inner.Unmade.{HasSizes, Holds, IsBadlyRelocated, IsUnmade, is_badly_packed as is_packed_badly, is_badly_relocated as is_relocated_badly};
 
 use big_memory::Ram;
-use mix_bits::NoMemory;
+use mix_bits::{NoMemory, round_up};
 use pef_head::{Pef, Section};
 use pef_reloc::{RelocError, plan_laws, relocate, unpack};
 use std::alloc::Global;
 
 /// As many bytes as RAM has at most.
 const MOST: u32 = 16_777_216;
+
+/// As many as it has at least.
+const LEAST: u32 = 131_072;
 
 /// Sections of these sizes at these addresses, and the addresses of imports.
 #[derive(Drop)]
@@ -77,7 +80,7 @@ fn badly_relocated(alloc: Global, pef: &Pef) -> Result<Option<u32>, NoMemory>
 {
     let headers = pef.reloc_headers(alloc)?;
     let sections = zeroed(alloc, pef)?;
-    let mut ram = memory(alloc, MOST)?;
+    let mut ram = memory(alloc, room_for(&sections.totals))?;
     Ok(first_refused(&mut ram, pef, &headers, &sections, pef.sections()))
 }
 
@@ -92,6 +95,22 @@ fn zeroed(alloc: Global, pef: &Pef) -> Result<Sections, NoMemory>
         totals: totals(alloc, pef, count)?,
         imports: vec![in alloc; 0; pef.imports() as usize]?,
     })
+}
+
+/// How many bytes of memory hold the largest of sections of these sizes that memory can hold.
+fn room_for(totals: &[u32]) -> u32
+    ensures least { 131072 ≤ result }
+    ensures most { result ≤ 16777216 }
+    ensures whole { result % 1024 ≡ 0 }
+    ensures holds { Holds totals.now result }
+{
+    let mut room = LEAST;
+    for &total in totals {
+        if room < total && total <= MOST {
+            room = total;
+        }
+    }
+    round_up(u64::from(room), 1024) as u32
 }
 
 /// Memory of so many bytes.
@@ -126,7 +145,8 @@ fn first_refused(
     count: u32,
 ) -> Option<u32>
     requires below { count ≤ instantiated_count pef.now }
-    requires large { length ram.old.bytes ≡ 16777216 }
+    requires most { length ram.old.bytes ≤ 16777216 }
+    requires holds { Holds sections.now.totals.items (length ram.old.bytes) }
     requires headers { (k : ℕ) → k < instantiated_count pef.now → slice_index_or headers.now k None ≡ reloc_header_of pef.now k }
     requires noted { length headers.now ≡ instantiated_count pef.now }
     requires few { length sections.now.imports.items < 2 ^ 32 }
@@ -151,12 +171,13 @@ fn is_badly_relocated(
     sections: &Sections,
 ) -> bool
     requires below { k < instantiated_count pef.now }
-    requires large { length ram.old.bytes ≡ 16777216 }
+    requires most { length ram.old.bytes ≤ 16777216 }
+    requires holds { Holds sections.now.totals.items (length ram.old.bytes) }
     requires header { header ≡ reloc_header_of pef.now k }
     requires few { length sections.now.imports.items < 2 ^ 32 }
     requires sizes { HasSizes pef.now sections.now.bases.items sections.now.totals.items sections.now.imports.items }
     ensures is { (start : ℕ) → result ≡ is_relocated_badly pef.now start k }
-    ensures large { length ram.new.bytes ≡ 16777216 }
+    ensures len { length ram.new.bytes ≡ length ram.old.bytes }
 {
     plan_laws();
     let words = pef.relocs_by(k, header);

@@ -1,5 +1,5 @@
 -- The section of a container that was refused while it was made.
-use Rattle.std.specs.Prelude.{◌≡◌, ℕ, Bool, Option, List, is_some, ◌<◌, ◌&&◌, nat_le, length, replicate, slice_index}
+use Rattle.std.specs.Prelude.{◌≡◌, ℕ, Bool, Option, List, is_some, ◌<◌, ◌≤◌, ◌&&◌, nat_le, length, replicate, slice_index}
 use Rattle.mix_bits.specs.Search.{least}
 use Rattle.pef_head.specs.Container.{instantiated_count}
 use Rattle.pef_head.specs.Parts.{import_count, relocs_of}
@@ -40,3 +40,7 @@ pub record HasSizes (bytes zeros sizes addresses : List ℕ) : Type 0 where
   pub long : length sizes ≡ instantiated_count bytes
   pub totals : (k : ℕ) → k < instantiated_count bytes → slice_index sizes k ≡ total_at bytes k
   pub imports : length addresses ≡ import_count bytes
+
+-- so many bytes hold each of sections of these sizes that memory can hold
+abbrev pub Holds : List ℕ → ℕ → Type 0
+Holds sizes room = (k : ℕ) → k < length sizes → slice_index sizes k ≤ 16777216 → slice_index sizes k ≤ room

@@ -10,9 +10,6 @@ use Rattle.look_words.proofs.unmade.badly_relocated.Goals as goal
 no_section : {T E : Type 0} (r : Result T E) (P : T → Type 0) (Q : E → Type 0) → IsErrAnd r Q → IfOk r P
 no_section r P Q refused = let p = err_from_is_err_and {Q = Q} r refused in rw p.1 tt
 
-pub first_refused-requires-clause-large : goal.first_refused-requires-clause-large
-first_refused-requires-clause-large c = c.in_ok-ram.ensures
-
 pub first_refused-requires-clause-sizes : goal.first_refused-requires-clause-sizes
 first_refused-requires-clause-sizes c = c.in_ok-sections.ensures.sizes
 

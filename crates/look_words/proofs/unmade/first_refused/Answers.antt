@@ -1,12 +1,12 @@
 -- The first section that is refused is the least one.
-use Rattle.std.proofs.Common.{◌≡◌, refl, ◌<◌, arith}
+use Rattle.std.proofs.Common.{◌≡◌, ◌∙◌, refl, ◌<◌, arith}
 use Rattle.pef_head.specs.Container.{instantiated_count}
 use Rattle.look_words.specs.inner.Unmade.{is_badly_relocated}
 use Rattle.look_words.proofs.Firsts.{first_at, none_more, none_to}
 use Rattle.look_words.proofs.unmade.first_refused.Goals as goal
 
 pub loop-k-init : goal.loop-k-init
-loop-k-init c = record { none = λ start. refl; large = c.requires.large }
+loop-k-init c = record { none = λ start. refl; len = refl }
 
 pub is_badly_relocated-requires-clause-header : goal.is_badly_relocated-requires-clause-header
 is_badly_relocated-requires-clause-header c =
@@ -26,7 +26,7 @@ loop-k-preserved c = record {
   none = λ start.
       none_more (is_badly_relocated c.args.pef.now start) c.loop-k.k c.is_badly_relocated.result
       (c.loop-k.invariant.none start) (c.is_badly_relocated.ensures.is start) c.if-is_badly_relocated.false;
-  large = c.is_badly_relocated.ensures.large;
+  len = c.is_badly_relocated.ensures.len ∙ c.loop-k.invariant.len;
 }
 
 pub returns-clause-is : goal.returns-clause-is

@@ -5,4 +5,4 @@ use Rattle.look_words.specs.inner.Unmade.{is_badly_relocated}
 use Rattle.look_words.proofs.unmade.first_refused.Given as goal
 
 abbrev pub invariant-loop-k : goal.invariant-loop-k
-invariant-loop-k l = record { none : (start : ℕ) → least (is_badly_relocated l.pef start) l.k ≡ None; large : length l.ram.bytes ≡ 16777216 }
+invariant-loop-k l = record { none : (start : ℕ) → least (is_badly_relocated l.pef start) l.k ≡ None; len : length l.ram.bytes ≡ length l.initial.ram.bytes }
