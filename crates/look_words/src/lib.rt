@@ -25,4 +25,4 @@ pub use files::{fetch, name_at, unread};
 pub use load_error::load_error_text;
 pub use look::{Frames, Key, Look, Refusal, Span, read_look};
 pub use request::{Request, explanation, requested};
-pub use sentence::{command_why, refusal_text, why_text};
+pub use sentence::{refusal_text, why_text};
