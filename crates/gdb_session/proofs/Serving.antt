@@ -3,7 +3,7 @@ use Rattle.std.proofs.Common.{◌≡◌, ℕ, ◌+◌, ◌-◌, ◌^◌, List, [
 use Rattle.std.specs.Io.KnownBytes.{Consumes, IsAtEnd, Keeps}
 use Rattle.std.proofs.KnownBytes.{Consumes-kept, Consumes-nil, Consumes-trans}
 use Rattle.mix_io.specs.declared.errors.Failed.{Failed}
-use Rattle.mix_io.specs.inner.Told.{Takes}
+use Rattle.mix_io.specs.Takes.{Takes}
 use Rattle.mix_io.specs.Streams.{Grows, Output}
 use Rattle.mix_io.proofs.Streams.{grows-more, grows-none}
 use Rattle.gdb_packets.specs.Reading.{Reading, after, event_at, fresh, telling, told_with}

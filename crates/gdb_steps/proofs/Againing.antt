@@ -12,7 +12,7 @@ use Rattle.mixed_machine.specs.Next.Next.{Goes}
 use Rattle.mixed_machine.specs.Runs.{Sinks}
 use Rattle.mixed_machine.specs.State.{State}
 use Rattle.mixed_machine.specs.Step.{step}
-use Rattle.mix_engine.specs.inner.Ends.{goes_on}
+use Rattle.mix_engine.specs.Ends.{goes_on}
 use Rattle.mix_debug.specs.TrailsClauses.{Trail, is_done}
 use Rattle.dev_rack.specs.declared.devices.Devices.{Ghosts}
 use Rattle.toolbox.specs.Calls.{answers_since, around_of}

@@ -7,7 +7,7 @@ use Rattle.dev_rack.specs.declared.answers.Asked.{Asked}
 use Rattle.dev_rack.specs.declared.devices.Devices.{Ghosts}
 use Rattle.dev_rack.proofs.Steps.{accounts-none}
 use Rattle.mixed_machine.specs.declared.stop.Stop.{Stop}
-use Rattle.mix_engine.specs.inner.Ends.{goes_on}
+use Rattle.mix_engine.specs.Ends.{goes_on}
 use Rattle.mix_debug.specs.TrailsClauses.{is_done}
 use Rattle.gdb_steps.specs.Places.{IsFront}
 use Rattle.gdb_steps.specs.Walkers.{run_of}

@@ -6,7 +6,7 @@ use Rattle.mixed_machine.specs.declared.stop.Stop.{Stop}
 use Rattle.mixed_machine.specs.declared.stop.Stop.TheVariants as By
 use Rattle.mixed_machine.specs.Exec.{Leads}
 use Rattle.mixed_machine.proofs.Runs.{exec-continues}
-use Rattle.mix_engine.specs.inner.Ends.{goes_on}
+use Rattle.mix_engine.specs.Ends.{goes_on}
 use Rattle.gdb_steps.specs.Places.{Begin, Given, IsPlace, IsRun, Place, Run, first_state, state_at}
 use Rattle.gdb_steps.specs.Walkers.{run_of, sinks}
 use Rattle.gdb_steps.specs.Walks.{Strays}

@@ -5,7 +5,7 @@ use Rattle.dev_rack.specs.Rack.{State as Rack}
 use Rattle.mixed_machine.specs.declared.stop.Stop.{Stop}
 use Rattle.mixed_machine.specs.declared.stop.Stop.TheVariants as By
 use Rattle.mixed_machine.specs.Runs.{Sinks}
-use Rattle.mix_engine.specs.inner.Ends.{goes_on}
+use Rattle.mix_engine.specs.Ends.{goes_on}
 use Rattle.dev_rack.specs.declared.devices.Devices.{Ghosts}
 use Rattle.gdb_steps.specs.Places.{Begin, IsRun, Run}
 use Rattle.gdb_steps.specs.Points.{Points, Range, halt_at, range_of}

@@ -14,7 +14,7 @@ ghost use Rattle.gdb_steps.specs.Walks.{Forward};
 ghost use Rattle.gdb_steps.specs.inner.Goings.{OneMore};
 ghost use Rattle.gdb_steps.specs.inner.Looks.{HasSeen};
 ghost use Rattle.gdb_steps.specs.inner.Onces.{AgainStep, FirstStep, halt_seen};
-ghost use Rattle.mix_engine.specs.inner.Ends.{goes_on};
+ghost use Rattle.mix_engine.specs.Ends.{goes_on};
 ghost use Rattle.mix_debug.specs.TrailsClauses.{is_done as is_done_by};
 ghost use Rattle.circular_buffer.specs.Buffer.{buffer};
 ghost use Rattle.std.specs.Bool.{OnFalse, OnTrue};

@@ -1,7 +1,7 @@
 // One step, for the first time or again.
 ghost use Rattle.std.specs.Prelude.{◌≡◌, ◌≤◌, drop, length};
 ghost use Rattle.mix_io.specs.StreamsClauses.{output};
-ghost use Rattle.mix_engine.specs.inner.Ends.{goes_on};
+ghost use Rattle.mix_engine.specs.Ends.{goes_on};
 ghost use Rattle.gdb_steps.specs.inner.Steps.{Steps, stands};
 
 use crate::input::Rest;

@@ -2,7 +2,7 @@
 use Rattle.std.proofs.Common.{◌≡◌, ℕ, suc, ◌-◌, ◌<◌, ◌≤◌, List, length, arith, subst, refl}
 use Rattle.mix_bits.specs.Addresses.{onward}
 use Rattle.mix_bits.specs.declared.isa.Isa.{Isa}
-use Rattle.mix_top.specs.inner.Scripts.{behind_line, first_line}
+use Rattle.mix_top.specs.ScriptLines.{behind_line, first_line}
 use Rattle.look_why.specs.Places.{HasCount, Leads}
 
 -- what the rest of the lines leads to, all of them lead to

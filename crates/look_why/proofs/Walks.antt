@@ -3,7 +3,7 @@ use Rattle.std.proofs.Common.{◌≡◌, ℕ, ◌-◌, ◌<◌, ◌≤◌, List,
 use Rattle.std.proofs.lemmas.Bool.Decides.{nat_tests}
 use Rattle.std.proofs.lemmas.List.{length-take-le}
 use Rattle.mix_top.specs.Scripts.{lines_of}
-use Rattle.mix_top.specs.inner.Scripts.{behind_line, first_line}
+use Rattle.mix_top.specs.ScriptLines.{behind_line, first_line}
 use Rattle.mix_top.proofs.Splits.{lines-split}
 use Rattle.look_why.specs.Lines.{line_behind}
 

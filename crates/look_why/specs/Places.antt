@@ -3,7 +3,7 @@ use Rattle.std.specs.Prelude.{ℕ, zero, suc, ◌≡◌, List, length, Ok}
 use Rattle.mix_bits.specs.Addresses.{onward}
 use Rattle.mix_bits.specs.declared.isa.Isa.{Isa}
 use Rattle.mix_text.specs.Assembling.{IsAssembled}
-use Rattle.mix_top.specs.inner.Scripts.{behind_line, first_line}
+use Rattle.mix_top.specs.ScriptLines.{behind_line, first_line}
 
 -- a line gives so many bytes at its address
 abbrev pub HasCount : Isa → List ℕ → ℕ → ℕ → Type 0

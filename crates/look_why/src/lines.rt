@@ -1,6 +1,6 @@
 // Lines of a text by their numbers.
 ghost use Rattle.std.specs.Prelude.{◌≡◌, ◌≤◌, length};
-ghost use Rattle.mix_top.specs.inner.Scripts.{behind_line, first_line, line_length as line_length_of};
+ghost use Rattle.mix_top.specs.ScriptLines.{behind_line, first_line, line_length as line_length_of};
 ghost use Rattle.look_why.specs.Lines.{nth_line as nth_line_of, without_feed as without_feed_of};
 
 /// The line with a number, counted from 1, and its line feed; nothing where there is none.

@@ -18,9 +18,9 @@ use Rattle.mix_engine.specs.declared.code.Code.TheVariants.{Next as Goes_on, Lea
 use Rattle.mix_engine.specs.laws.Laws.{AreLaws}
 use Rattle.mix_engine.specs.inner.Cores.{AreOwn, Codes, CodesAfter, IsOwn, leaves_code}
 use Rattle.mix_engine.specs.Worlds.{Seen, TracesOnly}
-use Rattle.mix_engine.specs.inner.Beside.{machine_in}
+use Rattle.mix_engine.specs.Beside.{machine_in}
 use Rattle.mix_engine.specs.inner.Does.{Does}
-use Rattle.mix_engine.specs.inner.Advances.{Advances, GoesOn}
+use Rattle.mix_engine.specs.Advances.{Advances, GoesOn}
 use Rattle.mix_engine.proofs.Amid.{acts-from, amid, amid-seen, does-change}
 use Rattle.mix_engine.proofs.Leavings.{same-at, stopped}
 

@@ -36,7 +36,7 @@ use Rattle.mixed_machine.specs.RunsClauses.{sinks_of}
 use Rattle.mixed_machine.specs.laws.Acts.{Acts, Done}
 use Rattle.mix_engine.specs.laws.Laws.{AreLaws}
 use Rattle.mix_engine.specs.Worlds.{KeepsTrace, Seen, TracesOnly}
-use Rattle.mix_engine.specs.inner.Beside.{machine_in}
+use Rattle.mix_engine.specs.Beside.{machine_in}
 use Rattle.mix_engine.proofs.Changed.{altered, changed, seen-is}
 use Rattle.mixed_machine.proofs.Over.{told-none}
 use Rattle.mix_engine.proofs.Over.{over-quiet, over-taken, some-took, told-kept}

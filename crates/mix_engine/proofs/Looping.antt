@@ -13,7 +13,7 @@ use Rattle.mixed_machine.specs.CountsClauses.{counts_of}
 use Rattle.mixed_machine.specs.Machine.{IsWhole, callers_of}
 use Rattle.mixed_machine.specs.OutsideClauses.{At}
 use Rattle.mixed_machine.specs.Step.{step}
-use Rattle.mix_engine.specs.inner.Advances.{Advances, GoesOn}
+use Rattle.mix_engine.specs.Advances.{Advances, GoesOn}
 use Rattle.mixed_machine.proofs.Machines.{comes-back-at, exits-at, faults-at, limit-at, out-breaks-at, read-breaks-at, trace-breaks-at}
 use Rattle.toolbox.proofs.Blaming.{blamed-after}
 use Rattle.mix_engine.specs.Turns.{Turned}

@@ -13,7 +13,7 @@ use Rattle.mixed_machine.specs.laws.Events.{IsDone}
 use Rattle.mixed_machine.specs.Machine.{IsWhole}
 use Rattle.mixed_machine.specs.OutsideClauses.{At}
 use Rattle.mixed_machine.specs.Step.{step}
-use Rattle.mix_engine.specs.inner.Advances.{Advances}
+use Rattle.mix_engine.specs.Advances.{Advances}
 use Rattle.mixed_machine.proofs.Machines.{exits-at, faults-at, limit-at, out-breaks-at, read-breaks-at, trace-breaks-at}
 use Rattle.mix_engine.proofs.Ways.{Ended, Way, way-ends, way-on, whole-begins}
 

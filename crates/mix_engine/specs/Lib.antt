@@ -1,4 +1,7 @@
+pub mod Advances
+pub mod Beside
 pub mod Counted
+pub mod Ends
 pub mod Start
 pub mod Turns
 pub mod Worlds

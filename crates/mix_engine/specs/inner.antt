@@ -1,9 +1,6 @@
-pub mod Advances
-pub mod Beside
 pub mod Called
 pub mod Changes
 pub mod Cores
 pub mod Does
-pub mod Ends
 pub mod Frames
 pub mod Turns

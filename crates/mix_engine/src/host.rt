@@ -12,7 +12,7 @@ ghost use Rattle.mixed_machine.specs.Machine.{IsWhole};
 ghost use Rattle.routine_desc.specs.Layout.{mixed_mode_magic};
 ghost use Rattle.switch_frame.specs.Files.{pc_of};
 ghost use Rattle.mix_engine.specs.Worlds.{TracesOnly};
-ghost use Rattle.mix_engine.specs.inner.Beside.{machine_in};
+ghost use Rattle.mix_engine.specs.Beside.{machine_in};
 ghost use Rattle.mix_engine.specs.inner.Called.{IsCalled};
 ghost use Rattle.mix_engine.specs.inner.Cores.{IsNumber, leaves_code};
 ghost use Rattle.mix_engine.specs.inner.Does.{Does};

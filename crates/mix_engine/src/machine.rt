@@ -10,7 +10,7 @@ ghost use Rattle.mixed_machine.specs.CountsClauses.{Blames};
 ghost use Rattle.mixed_machine.specs.Machine.{IsWhole, flat};
 ghost use Rattle.mixed_machine.specs.OutsideClauses.{at};
 ghost use Rattle.mixed_machine.specs.RunsClauses.{Runs};
-ghost use Rattle.mix_engine.specs.inner.Beside.{machine_in};
+ghost use Rattle.mix_engine.specs.Beside.{machine_in};
 ghost use Rattle.mix_io.specs.StreamsClauses.{output};
 ghost use Rattle.mix_engine.specs.Start.{start_of};
 ghost use Rattle.mix_engine.specs.Counted.{RunsTo};

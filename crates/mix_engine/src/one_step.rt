@@ -8,9 +8,9 @@ ghost use Rattle.mixed_machine.specs.CountsClauses.{Blames};
 ghost use Rattle.mixed_machine.specs.Machine.{IsWhole};
 ghost use Rattle.mixed_machine.specs.OutsideClauses.{at};
 ghost use Rattle.mixed_machine.specs.RunsClauses.{Runs};
-ghost use Rattle.mix_engine.specs.inner.Beside.{machine_in};
+ghost use Rattle.mix_engine.specs.Beside.{machine_in};
 ghost use Rattle.mix_io.specs.StreamsClauses.{output};
-ghost use Rattle.mix_engine.specs.inner.Ends.{goes_on};
+ghost use Rattle.mix_engine.specs.Ends.{goes_on};
 
 use super::{Outside, World, advance_once};
 use crate::machine::Machine;

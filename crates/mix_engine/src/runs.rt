@@ -7,7 +7,7 @@ ghost use Rattle.toolbox.specs.CallsClauses.{outside as outside_of};
 ghost use Rattle.mixed_machine.specs.Machine.{IsWhole};
 ghost use Rattle.mixed_machine.specs.OutsideClauses.{at};
 ghost use Rattle.mix_io.specs.StreamsClauses.{output};
-ghost use Rattle.mix_engine.specs.inner.Beside.{machine_in};
+ghost use Rattle.mix_engine.specs.Beside.{machine_in};
 ghost use Rattle.mix_engine.specs.Turns.{Turned, file_of};
 ghost use Rattle.mix_engine.specs.inner.Turns.{turn_of};
 

@@ -2,8 +2,8 @@
 ghost use Rattle.std.specs.Prelude.{◌≡◌, ◌<◌, ◌≤◌, ◌-◌};
 ghost use Rattle.switch_frame.specs.Records.{isa_of};
 ghost use Rattle.mixed_machine.specs.Machine.{IsWhole};
-ghost use Rattle.mix_engine.specs.inner.Advances.{Advances};
-ghost use Rattle.mix_engine.specs.inner.Beside.{machine_in};
+ghost use Rattle.mix_engine.specs.Advances.{Advances};
+ghost use Rattle.mix_engine.specs.Beside.{machine_in};
 
 use crate::code::{Code, run_code, run_once};
 use crate::host::leave_code;

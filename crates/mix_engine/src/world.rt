@@ -8,7 +8,7 @@ ghost use Rattle.toolbox.specs.CallsClauses.{Blames, HeapLies, Hosts, place};
 ghost use Rattle.toolbox.specs.declared.table.TheConstants.{FUNCTIONS};
 ghost use Rattle.mix_engine.specs.Worlds.{KeepsTrace, Seen, Tells};
 ghost use Rattle.mix_engine.specs.Worlds.Lent.{Lends};
-ghost use Rattle.mix_engine.specs.inner.Beside.{outside_lent, trace_lent};
+ghost use Rattle.mix_engine.specs.Beside.{outside_lent, trace_lent};
 
 use crate::outside::Outside;
 use big_memory::Ram;

@@ -2,11 +2,15 @@ pub mod Calls
 pub mod Counts
 pub mod CountsClauses
 pub mod Devices
+pub mod FetchCauses
+pub mod InMemory
 pub mod Kept
 pub mod KeptClauses
 pub mod Memory
+pub mod NumberedCalls
 pub mod Streams
 pub mod StreamsClauses
+pub mod Takes
 pub mod Texts
 pub mod Told
 pub mod laws

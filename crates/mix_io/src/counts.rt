@@ -1,7 +1,7 @@
 // Counts that stand still at their last value, and the numbers of the calls that are to fail.
 ghost use Rattle.std.specs.Prelude.{◌≡◌};
 ghost use Rattle.mix_io.specs.Calls.{CallNumbers, counted};
-ghost use Rattle.mix_io.specs.inner.Calls.{fails_next, after_call, calls_from_one};
+ghost use Rattle.mix_io.specs.NumberedCalls.{fails_next, after_call, calls_from_one};
 
 use std::marker::Model;
 

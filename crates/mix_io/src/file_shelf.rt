@@ -1,7 +1,7 @@
 // A shelf over the files of the system.
 ghost use Rattle.std.specs.Prelude.{◌≡◌, ◌≤◌, ℕ, List, None, IfErr, IfOk, IfSome, IsErrAnd, length};
 ghost use Rattle.std.specs.IoError.{error_kind};
-ghost use Rattle.mix_io.specs.inner.Told.{NamesLimit};
+ghost use Rattle.mix_io.specs.Takes.{NamesLimit};
 ghost use Rattle.mix_io.specs.inner.Files.{IsRefusal, ReadsWhole};
 
 use super::counts::count_fault;

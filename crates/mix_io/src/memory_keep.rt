@@ -1,10 +1,10 @@
 // A keeper in memory, of one name, with room for a given number of bytes.
 ghost use Rattle.std.specs.Prelude.{◌≡◌, ℕ, List, [], Some, IfOk, is_err, is_ok, string_bytes};
-ghost use Rattle.mix_io.specs.inner.Calls.{calls_from_one};
+ghost use Rattle.mix_io.specs.NumberedCalls.{calls_from_one};
 ghost use Rattle.mix_io.specs.CountsClauses.{NamedCause};
 ghost use Rattle.mix_io.specs.KeptClauses.{Saves};
 ghost use Rattle.mix_io.specs.Memory.{MemoryKeep, keep_faults, kept_as};
-ghost use Rattle.mix_io.specs.inner.Memory.{after_keep, keeps_piece};
+ghost use Rattle.mix_io.specs.InMemory.{after_keep, keeps_piece};
 
 use super::counts::count_fault;
 use super::errors::Failed;

@@ -1,11 +1,11 @@
 // A shelf of files in memory.
 ghost use Rattle.std.specs.Prelude.{◌≡◌, ◌≤◌, ℕ, List, Option, None, Some, IfOk, MatchOption, false, IsTrue, length, map, vec_len, vec_items, string_bytes, bytes_eq};
 ghost use Rattle.std.specs.List.{list_any};
-ghost use Rattle.mix_io.specs.inner.Calls.{calls_from_one};
-ghost use Rattle.mix_io.specs.inner.Counts.{ExcessCause, FetchCause, has_failed, is_too_long};
-ghost use Rattle.mix_io.specs.inner.Told.{Fetches};
+ghost use Rattle.mix_io.specs.NumberedCalls.{calls_from_one};
+ghost use Rattle.mix_io.specs.FetchCauses.{ExcessCause, FetchCause, has_failed, is_too_long};
+ghost use Rattle.mix_io.specs.Takes.{Fetches};
 ghost use Rattle.mix_io.specs.Memory.{MemoryShelf, file_named, file_of, faults_of};
-ghost use Rattle.mix_io.specs.inner.Memory.{are_distinct, lacks, exceeds, after_fetch};
+ghost use Rattle.mix_io.specs.InMemory.{are_distinct, lacks, exceeds, after_fetch};
 
 use super::counts::{Calls, count_fault};
 use super::errors::FetchError;

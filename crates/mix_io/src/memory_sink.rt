@@ -1,11 +1,11 @@
 // A sink in memory, with room for a given number of bytes.
 ghost use Rattle.std.specs.Prelude.{◌≡◌, ◌≤◌, ◌+◌, ◌++◌, [], Some, IfOk, length, is_ok, vec_capacity, vec_len};
-ghost use Rattle.mix_io.specs.inner.Calls.{calls_from_one};
+ghost use Rattle.mix_io.specs.NumberedCalls.{calls_from_one};
 ghost use Rattle.mix_io.specs.Calls.{one_more};
 ghost use Rattle.mix_io.specs.CountsClauses.{HasCause};
 ghost use Rattle.mix_io.specs.Told.{Puts};
 ghost use Rattle.mix_io.specs.Memory.{MemorySink};
-ghost use Rattle.mix_io.specs.inner.Memory.{takes_piece, after_put, passed_by};
+ghost use Rattle.mix_io.specs.InMemory.{takes_piece, after_put, passed_by};
 
 use super::counts::{Calls, count_fault};
 use super::errors::Failed;

@@ -1,11 +1,11 @@
 // A source over bytes in memory.
 ghost use Rattle.std.specs.Prelude.{◌≡◌, Option, Some};
 ghost use Rattle.std.specs.Vec.Iter.{into_iter_items};
-ghost use Rattle.mix_io.specs.inner.Calls.{calls_from_one};
+ghost use Rattle.mix_io.specs.NumberedCalls.{calls_from_one};
 ghost use Rattle.mix_io.specs.CountsClauses.{HasCause};
-ghost use Rattle.mix_io.specs.inner.Told.{Takes};
+ghost use Rattle.mix_io.specs.Takes.{Takes};
 ghost use Rattle.mix_io.specs.Memory.{MemorySource};
-ghost use Rattle.mix_io.specs.inner.Memory.{taken, after_take};
+ghost use Rattle.mix_io.specs.InMemory.{taken, after_take};
 
 use super::counts::{Calls, count_fault};
 use super::errors::Failed;

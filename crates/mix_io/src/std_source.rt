@@ -2,7 +2,7 @@
 ghost use Rattle.std.specs.Prelude.{◌≡◌, ◌↔◌, Option, None, Some, [], Ok, IsTrue, if◌then◌else◌};
 ghost use Rattle.std.specs.Bool.{OnTrue};
 ghost use Rattle.mix_io.specs.CountsClauses.{HasCause};
-ghost use Rattle.mix_io.specs.inner.Told.{Takes};
+ghost use Rattle.mix_io.specs.Takes.{Takes};
 
 use super::counts::count_fault;
 use super::errors::Failed;

@@ -4,9 +4,9 @@
 ghost use Rattle.std.specs.Prelude.{◌≡◌, ℕ, ◌≤◌, List, Option, None, length, IfOk, is_err};
 ghost use Rattle.mix_io.specs.Calls.{one_more};
 ghost use Rattle.mix_io.specs.CountsClauses.{HasCause, NamedCause};
-ghost use Rattle.mix_io.specs.inner.Counts.{ExcessCause, FetchCause};
+ghost use Rattle.mix_io.specs.FetchCauses.{ExcessCause, FetchCause};
 ghost use Rattle.mix_io.specs.KeptClauses.{Saves};
-ghost use Rattle.mix_io.specs.inner.Told.{Takes, Fetches};
+ghost use Rattle.mix_io.specs.Takes.{Takes, Fetches};
 ghost use Rattle.mix_io.specs.Told.{Puts, Hears};
 
 use super::errors::{Failed, FetchError};

@@ -1,5 +1,6 @@
 pub mod ContainerImage
 pub mod ForkImage
+pub mod JumpTable
 pub mod Load
 pub mod LoadClauses
 pub mod Outcome

@@ -2,4 +2,3 @@ pub mod ForkImage
 pub mod Loaded
 pub mod Outcome
 pub mod Sections
-pub mod Segments

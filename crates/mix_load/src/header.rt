@@ -1,6 +1,6 @@
 ghost use Rattle.std.specs.Prelude.{◌≡◌, ◌+◌, ◌^◌, ◌≤◌, ◌<◌, IfSome, OnSome, is_some, length};
 ghost use Rattle.mix_bits.specs.declared.file.TheConstants.{MOST_BYTES};
-ghost use Rattle.mix_load.specs.inner.Segments.{HasTable};
+ghost use Rattle.mix_load.specs.JumpTable.{HasTable};
 ghost use Rattle.mix_load.specs.Segments.{a5_of, has_table, header_of, segments_start, table_start};
 
 use mix_bits::{long_at, round_up};

@@ -4,7 +4,7 @@ ghost use Rattle.ppc_isa.specs.Fields.{fields_of};
 ghost use Rattle.ppc_isa.specs.Rows.{decoded};
 ghost use Rattle.ppc_integer.specs.Storage.{index_address as index_address_of, offset_address as offset_address_of};
 ghost use Rattle.mix_reach.specs.laws.Ranges.{range as range_of};
-ghost use Rattle.mix_reach.specs.inner.Ranges.{stored_at};
+ghost use Rattle.mix_reach.specs.Ranges.{stored_at};
 ghost use Rattle.mix_reach.specs.laws.RowsPpc.{string_at as string_at_of};
 ghost use Rattle.mix_reach.specs.laws.Steps.{word_decoded};
 

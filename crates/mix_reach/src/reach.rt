@@ -1,6 +1,6 @@
 ghost use Rattle.std.specs.Prelude.{◌≡◌};
 ghost use Rattle.mix_reach.specs.laws.Ranges.{filling as filling_of, nothing as nothing_of, plain as plain_of, range as range_of};
-ghost use Rattle.mix_reach.specs.inner.Ranges.{stored_at as stored_at_of};
+ghost use Rattle.mix_reach.specs.Ranges.{stored_at as stored_at_of};
 
 /// A range of bytes outside of which none changes, from the address of the first up to the one behind the last. It may
 /// reach beyond memory.

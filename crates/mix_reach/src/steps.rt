@@ -4,7 +4,7 @@ ghost use Rattle.big_memory.specs.Map.{host_code as host_code_of};
 ghost use Rattle.toolbox.specs.Functions.{trap_number};
 ghost use Rattle.toolbox.specs.Registers.{operands_of};
 ghost use Rattle.toolbox.specs.declared.function.Function.TheVariants.{BlockMove, NewPtrClear};
-ghost use Rattle.mix_reach.specs.inner.Ranges.{IsTold, stored_at as stored_at_of};
+ghost use Rattle.mix_reach.specs.Ranges.{IsTold, stored_at as stored_at_of};
 ghost use Rattle.mix_reach.specs.laws.Ranges.{nothing as nothing_of, plain as plain_of, range as range_of};
 ghost use Rattle.mix_reach.specs.laws.Steps.{decoded_stores as decoded_stores_of, frame_given_up as frame_given_up_of, frame_made as frame_made_of, host_stores as host_stores_of, is_made, next_stores as next_stores_of, reach, word_stores as word_stores_of};
 ghost use Rattle.big_memory.specs.Memory.{loaded};

@@ -10,9 +10,9 @@ use Rattle.toolbox.specs.Calls.{around_at}
 use Rattle.mixed_machine.specs.State.{State}
 use Rattle.mix_engine.specs.declared.machine.Machine.{Machine}
 use Rattle.mix_debug.specs.TrailsClauses.{Trail}
-use Rattle.mix_top.specs.inner.Places.{place, stop_in}
+use Rattle.mix_top.specs.Places.{place, stop_in}
 use Rattle.toolbox.specs.Blames.{BlamesOnly}
-use Rattle.mix_top.specs.inner.Plays.{Plays}
+use Rattle.mix_top.specs.Performing.{Plays}
 use Rattle.mix_top.specs.declared.command.ScriptCommand.{ScriptCommand}
 use Rattle.toolbox.specs.declared.broken.Broken.{Broken}
 use Rattle.mix_top.specs.World.{Accounted, Beside, Keep, beside}

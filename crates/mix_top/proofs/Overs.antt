@@ -10,8 +10,8 @@ use Rattle.toolbox.specs.Calls.{around_at}
 use Rattle.mixed_machine.proofs.Over.{since-more, since-none, told-both, told-none, took-append}
 use Rattle.mix_debug.specs.TrailsClauses.{Trail}
 use Rattle.mix_top.specs.Sessions.{Session}
-use Rattle.mix_top.specs.inner.Sessions.{session_of}
-use Rattle.mix_top.specs.inner.Places.{Over, Place, counts_in, place, session_at}
+use Rattle.mix_top.specs.Debuggers.{session_of}
+use Rattle.mix_top.specs.Places.{Over, Place, counts_in, place, session_at}
 use Rattle.toolbox.specs.declared.broken.Broken.{Broken}
 
 -- nothing was taken, and no device asked

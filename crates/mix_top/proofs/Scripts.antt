@@ -8,7 +8,7 @@ use Rattle.std.proofs.lemmas.Slice.Eq.{ends_is}
 use Rattle.std.proofs.Math.Seq.{drop-append_seam, take-append_seam}
 use Rattle.mix_top.specs.laws.Commands.{IsProper, text_of}
 use Rattle.mix_top.specs.Commands.{command_of}
-use Rattle.mix_top.specs.inner.Scripts.{behind_line, first_line, line_length}
+use Rattle.mix_top.specs.ScriptLines.{behind_line, first_line, line_length}
 use Rattle.mix_top.specs.Scripts.{command_in, commands_from, in_front, lines_of, read_then, script_of}
 use Rattle.mix_top.specs.laws.SpellingLaws.{BadLinesAreFirst, ScriptsAreLines, written}
 use Rattle.mix_top.specs.declared.command.ScriptCommand.{ScriptCommand}

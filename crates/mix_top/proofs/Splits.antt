@@ -4,7 +4,8 @@ use Rattle.std.specs.Prelude.{IsSome, MatchOption, is_some}
 use Rattle.std.specs.Option.{option_to_list}
 use Rattle.std.proofs.lemmas.List.{length-drop}
 use Rattle.mix_top.specs.declared.command.ScriptCommand.{ScriptCommand}
-use Rattle.mix_top.specs.inner.Scripts.{AreCommands, bad_in, behind_line, commands_among, first_line, line_length}
+use Rattle.mix_top.specs.inner.Scripts.{AreCommands, bad_in, commands_among}
+use Rattle.mix_top.specs.ScriptLines.{behind_line, first_line, line_length}
 use Rattle.mix_top.specs.Scripts.{command_in, commands_from, in_front, lines_of, read_then, script_of, with_byte}
 
 by-feed : (b : Bool) (byte : ℕ) (text : List ℕ) → (0 < length text → lines_of text ≡ first_line text ∷ lines_of (behind_line text))

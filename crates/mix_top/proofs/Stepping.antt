@@ -32,9 +32,9 @@ use Rattle.mix_debug.specs.Changes.{runs_cost, runs_from}
 use Rattle.mix_debug.specs.TrailsClauses.{Keeps, Trail, is_done}
 use Rattle.mix_debug.specs.Trails.{history_room}
 use Rattle.mix_top.specs.Sessions.{Past, Session, cost_of, fitting, stepped}
-use Rattle.mix_top.specs.inner.Sessions.{past_of, session_of}
+use Rattle.mix_top.specs.Debuggers.{past_of, session_of}
 use Rattle.mix_top.specs.Events.{Event, after, lines_by, said_by, steps_to}
-use Rattle.mix_top.specs.inner.Places.{Over, Place, counts_in, place, sinks_in}
+use Rattle.mix_top.specs.Places.{Over, Place, counts_in, place, sinks_in}
 use Rattle.mix_top.specs.Plays.{AllDone}
 use Rattle.mix_top.specs.inner.ScriptParts.{DoesOnce, halt_in, once_in, once_of}
 use Rattle.mix_top.specs.declared.walk.Once.{Once}

@@ -17,11 +17,11 @@ use Rattle.mix_debug.specs.Crawl.{caller_lines, here_line, place_of}
 use Rattle.mix_debug.specs.CrawlClauses.{crawl_of}
 use Rattle.mix_debug.specs.TrailsClauses.{Trail}
 use Rattle.mix_top.specs.Sessions.{Session}
-use Rattle.mix_top.specs.inner.Sessions.{session_of}
+use Rattle.mix_top.specs.Debuggers.{session_of}
 use Rattle.mix_top.specs.Events.{Event, Walk, after, answer, at_line, can_set, is_set, end_events, events_in, events_of, lines_by, said_by, tells, told, told_behind}
-use Rattle.mix_top.specs.inner.Places.{Over, Place, counts_in, place, sinks_in}
+use Rattle.mix_top.specs.Places.{Over, Place, counts_in, place, sinks_in}
 use Rattle.mix_top.specs.Plays.{AllDone, Played}
-use Rattle.mix_top.specs.inner.Plays.{Does}
+use Rattle.mix_top.specs.Performing.{Does}
 use Rattle.mix_top.specs.inner.ScriptParts.{TellsEnd, TellsTo, Walks, WalksBack}
 use Rattle.mix_top.specs.declared.command.ScriptCommand.{ScriptCommand}
 use Rattle.mix_top.specs.declared.command.ScriptCommand.TheVariants.{Break, Clear, Where}

@@ -11,16 +11,16 @@ use Rattle.mixed_machine.specs.declared.stop.Stop.{Stop}
 use Rattle.mixed_machine.specs.declared.stop.Stop.TheVariants as By
 use Rattle.mix_bits.specs.declared.isa.Isa.{Isa}
 use Rattle.std.specs.Prelude.{Result}
-use Rattle.mix_engine.specs.inner.Ends.{goes_on}
+use Rattle.mix_engine.specs.Ends.{goes_on}
 use Rattle.toolbox.specs.declared.broken.Broken.TheVariants as Halt
 use Rattle.mix_top.specs.declared.walk.Walked.{Walked}
 use Rattle.mix_engine.specs.declared.machine.Machine.{Machine}
 use Rattle.mix_debug.specs.CostsClauses.{Kept}
 use Rattle.mix_debug.specs.TrailsClauses.{TakesBack, Trail}
 use Rattle.mix_top.specs.Sessions.{Past, Session, returned, stepped}
-use Rattle.mix_top.specs.inner.Sessions.{past_of, session_of}
+use Rattle.mix_top.specs.Debuggers.{past_of, session_of}
 use Rattle.mix_top.specs.Events.{Event, Walk, after, back_by, backward, forward, goes_back, halts, lines_by, onward, said_by, steps_to, stops, walk_by}
-use Rattle.mix_top.specs.inner.Places.{Over, Place, sinks_in}
+use Rattle.mix_top.specs.Places.{Over, Place, sinks_in}
 use Rattle.mix_top.specs.Plays.{AllDone, Played}
 use Rattle.mix_top.specs.inner.ScriptParts.{DoesOnce, EndsAt, GoesForward, GoesOn, Walks, WalksBack, ended_by, halt_in, once_of}
 use Rattle.mix_top.specs.declared.walk.Once.TheVariants.{Went, Ended, Halted}

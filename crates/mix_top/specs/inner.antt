@@ -1,9 +1,6 @@
 pub mod Lines
 pub mod Parts
-pub mod Places
-pub mod Plays
 pub mod Samples
 pub mod ScriptParts
 pub mod Scripts
-pub mod Sessions
 pub mod World

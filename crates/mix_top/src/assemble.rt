@@ -1,7 +1,7 @@
 // A text of lines, from its lines to the last byte.
 ghost use Rattle.std.specs.Prelude.{◌≤◌, length};
 ghost use Rattle.mix_bits.specs.declared.file.TheConstants.{MOST_BYTES};
-ghost use Rattle.mix_engine.specs.inner.Beside.{AreSame};
+ghost use Rattle.mix_engine.specs.Beside.{AreSame};
 ghost use Rattle.mix_io.specs.StreamsClauses.{output};
 ghost use Rattle.mix_text.specs.AssemblingClauses.{HasBytes};
 ghost use Rattle.mix_text.specs.AssemblingClauses.{OfBytes};

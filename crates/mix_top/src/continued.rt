@@ -1,7 +1,7 @@
 // A machine that was kept, from its image to its end.
 ghost use Rattle.std.specs.Prelude.{◌≤◌, length, option_copied};
 ghost use Rattle.mix_bits.specs.declared.file.TheConstants.{IMAGE_BYTES};
-ghost use Rattle.mix_engine.specs.inner.Beside.{AreSame};
+ghost use Rattle.mix_engine.specs.Beside.{AreSame};
 ghost use Rattle.mix_top.specs.inner.World.{EndsIn};
 ghost use Rattle.mix_top.specs.WorldClauses.{keeping};
 ghost use Rattle.mix_top.specs.Continuing.{ContinueWay};

@@ -2,7 +2,7 @@
 ghost use Rattle.job_words.specs.JobsClauses.{IsProperJob};
 ghost use Rattle.mix_text.specs.Listing.{listing};
 ghost use Rattle.mix_load.specs.LoadClauses.{AreLoadable};
-ghost use Rattle.mix_engine.specs.inner.Beside.{AreSame};
+ghost use Rattle.mix_engine.specs.Beside.{AreSame};
 ghost use Rattle.mix_io.specs.StreamsClauses.{output};
 ghost use Rattle.mix_top.specs.inner.World.{EndsIn};
 ghost use Rattle.mix_top.specs.World.{Keep, PutsText};

@@ -1,9 +1,9 @@
 // The commands of a script, one after the other.
 ghost use Rattle.std.specs.Prelude.{◌≡◌, length};
-ghost use Rattle.mix_engine.specs.inner.Beside.{AreSame};
+ghost use Rattle.mix_engine.specs.Beside.{AreSame};
 ghost use Rattle.mix_top.specs.Events.{events_of, forward, told, told_behind};
-ghost use Rattle.mix_top.specs.inner.Places.{place_beside, stop_in};
-ghost use Rattle.mix_top.specs.inner.Plays.{Does, Plays};
+ghost use Rattle.mix_top.specs.Places.{place_beside, stop_in};
+ghost use Rattle.mix_top.specs.Performing.{Does, Plays};
 
 use crate::command::ScriptCommand;
 use crate::script::Script;

@@ -5,7 +5,7 @@ ghost use Rattle.job_words.specs.JobsClauses.{IsProperJob};
 ghost use Rattle.switch_frame.specs.ProgramClauses.{IsProgram};
 ghost use Rattle.switch_frame.specs.Records.{isa_of};
 ghost use Rattle.mixed_machine.specs.Machine.{IsWhole, flat};
-ghost use Rattle.mix_engine.specs.inner.Beside.{AreSame};
+ghost use Rattle.mix_engine.specs.Beside.{AreSame};
 ghost use Rattle.mix_top.specs.inner.World.{EndsIn};
 ghost use Rattle.mix_top.specs.WorldClauses.{keeping};
 ghost use Rattle.mix_top.specs.Running.{MachineRan};

@@ -1,6 +1,6 @@
 // The sample, from its run to its line.
 ghost use Rattle.std.specs.Prelude.{◌≡◌, ◌+◌, ◌≤◌, ◌++◌, length};
-ghost use Rattle.mix_engine.specs.inner.Beside.{AreSame};
+ghost use Rattle.mix_engine.specs.Beside.{AreSame};
 ghost use Rattle.mix_io.specs.StreamsClauses.{output};
 ghost use Rattle.mix_top.specs.inner.World.{EndsIn};
 ghost use Rattle.mix_top.specs.World.{Keep, PutsText};

@@ -1,6 +1,6 @@
 // The lines of a text, each with the line feed that ends it.
 ghost use Rattle.std.specs.Prelude.{◌≡◌, ◌<◌, ◌≤◌, length};
-ghost use Rattle.mix_top.specs.inner.Scripts.{behind_line, first_line, line_length as line_length_of};
+ghost use Rattle.mix_top.specs.ScriptLines.{behind_line, first_line, line_length as line_length_of};
 ghost use Rattle.mix_top.specs.Scripts.{command_in};
 
 use crate::command::{ScriptCommand, read_command};

@@ -4,7 +4,7 @@ ghost use Rattle.mix_io.specs.StreamsClauses.{output};
 ghost use Rattle.mix_debug.specs.CrawlClauses.{crawl_of};
 ghost use Rattle.mix_top.specs.Events.{answer, at_line};
 ghost use Rattle.mix_top.specs.inner.ScriptParts.{TellsEnd, TellsTo, traced_of};
-ghost use Rattle.mix_top.specs.inner.Places.{stop_in};
+ghost use Rattle.mix_top.specs.Places.{stop_in};
 
 use call_trace::{End, put_end, set_name};
 use mix_bits::Line;

@@ -3,7 +3,7 @@ ghost use Rattle.std.specs.String.{string_bytes};
 ghost use Rattle.toolbox.specs.CallsClauses.{outside as outside_of};
 ghost use Rattle.job_words.specs.JobsClauses.{IsProper, IsProperJob, NamesSave, job_in};
 ghost use Rattle.job_words.specs.Words.{command_of};
-ghost use Rattle.mix_engine.specs.inner.Beside.{AreSame};
+ghost use Rattle.mix_engine.specs.Beside.{AreSame};
 ghost use Rattle.mix_io.specs.StreamsClauses.{output};
 ghost use Rattle.mix_top.specs.inner.World.{EndsIn};
 ghost use Rattle.mix_top.specs.World.{beside};

@@ -2,12 +2,12 @@
 ghost use Rattle.std.specs.Prelude.{◌≡◌, ◌≤◌, length};
 ghost use Rattle.toolbox.specs.Effects.{Around};
 ghost use Rattle.mixed_machine.specs.Machine.{callers_of};
-ghost use Rattle.mix_engine.specs.inner.Ends.{goes_on};
-ghost use Rattle.mix_engine.specs.inner.Beside.{AreSame};
+ghost use Rattle.mix_engine.specs.Ends.{goes_on};
+ghost use Rattle.mix_engine.specs.Beside.{AreSame};
 ghost use Rattle.mix_top.specs.Events.{backward, stops};
 ghost use Rattle.mix_top.specs.inner.ScriptParts.{DoesOnce, GoesForward, WalksBack, ended_by, halt_in, once_in, once_of as once_by};
-ghost use Rattle.mix_top.specs.inner.Places.{Over, place_beside, sinks_in};
-ghost use Rattle.mix_top.specs.inner.Sessions.{session_of};
+ghost use Rattle.mix_top.specs.Places.{Over, place_beside, sinks_in};
+ghost use Rattle.mix_top.specs.Debuggers.{session_of};
 
 use crate::sample_run;
 use call_trace::End;

@@ -3,7 +3,7 @@ use Rattle.std.specs.Prelude.{◌≡◌, ℕ, suc, Bool, true, false, if◌then�
 use Rattle.mix_io.specs.Streams.{Output}
 use Rattle.dev_rack.specs.Rack.{State as Rack}
 use Rattle.mixed_machine.specs.declared.stop.Stop.{Stop}
-use Rattle.mix_engine.specs.inner.Ends.{goes_on}
+use Rattle.mix_engine.specs.Ends.{goes_on}
 use Rattle.mix_engine.specs.declared.machine.Machine.{Machine}
 use Rattle.mix_debug.specs.TrailsClauses.{is_done}
 use Rattle.switch_frame.specs.Files.{pc_of}

@@ -2,7 +2,7 @@
 use Rattle.std.specs.Prelude.{ℕ, ◌+◌, ◌≤◌, List}
 use Rattle.rsrc_fork.specs.Resources.{Resource}
 use Rattle.mix_bits.specs.Multiples.{rounded_up}
-use Rattle.mix_load.specs.inner.Segments.{HasTable}
+use Rattle.mix_load.specs.JumpTable.{HasTable}
 use Rattle.mix_load.specs.Segments.{header_of, a5_of}
 use Rattle.mix_load.specs.ForkImage.{fork_end}
 

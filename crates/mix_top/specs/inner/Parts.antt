@@ -11,7 +11,7 @@ use Rattle.dev_rack.specs.Rack.{State}
 use Rattle.mixed_machine.specs.Exec.How.{Limited, Exited, Faulted}
 use Rattle.mixed_machine.specs.declared.stop.Stop.{Stop}
 use Rattle.mixed_machine.specs.declared.stop.Stop.TheVariants.{Exit, Fault, Limit, ReadFault, OutFault, TraceFault}
-use Rattle.mix_engine.specs.inner.Beside.{outside_lent, trace_lent}
+use Rattle.mix_engine.specs.Beside.{outside_lent, trace_lent}
 use Rattle.mix_engine.specs.declared.outside.Outside.{Outside}
 use Rattle.call_trace.specs.Lines.{end_line}
 use Rattle.job_words.specs.JobsClauses.{job_in}

@@ -17,7 +17,7 @@ use Rattle.mixed_machine.specs.declared.stop.Stop.TheVariants.{Exit, Fault, Limi
 use Rattle.mix_debug.specs.TrailsClauses.{Trail}
 use Rattle.mix_top.specs.Sessions.{Session}
 use Rattle.mix_top.specs.Events.{Walk, after, forward, lines_by, said_by, steps_to}
-use Rattle.mix_top.specs.inner.Places.{Over, Place, sinks_in, stop_in}
+use Rattle.mix_top.specs.Places.{Over, Place, sinks_in, stop_in}
 use Rattle.mix_top.specs.Plays.{AllDone, Played}
 use Rattle.mix_top.specs.declared.walk.Once.{Once}
 use Rattle.mix_top.specs.declared.walk.Once.TheVariants.{Went, Ended, Halted}

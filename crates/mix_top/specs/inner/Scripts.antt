@@ -1,5 +1,5 @@
 -- The lines of a script, one by one.
-use Rattle.std.specs.Prelude.{ℕ, suc, ◌+◌, ◌==◌, List, [], ◌∷◌, ◌++◌, take, drop, IsSome, Option, Some, None, Result, Ok, Err, if◌then◌else◌}
+use Rattle.std.specs.Prelude.{ℕ, ◌+◌, List, [], ◌∷◌, ◌++◌, IsSome, Option, Some, None, Result, Ok, Err}
 use Rattle.std.specs.Option.{option_to_list}
 use Rattle.mix_top.specs.declared.command.ScriptCommand.{ScriptCommand}
 use Rattle.mix_top.specs.Scripts.{command_in}
@@ -17,15 +17,3 @@ commands_among (line ∷ lines) = option_to_list (command_in line) ++ commands_a
 abbrev pub AreCommands : List (List ℕ) → Type 0
 AreCommands [] = Unit {0}
 AreCommands (line ∷ lines) = IsSome (command_in line) × AreCommands lines
-
--- how many bytes the first line has; all, where there is no line feed
-abbrev pub line_length : List ℕ → ℕ
-line_length [] = 0
-line_length (byte ∷ text) = if byte == 10 then 1 else suc (line_length text)
-
-abbrev pub first_line : List ℕ → List ℕ
-first_line text = take (line_length text) text
-
--- what stands behind it
-abbrev pub behind_line : List ℕ → List ℕ
-behind_line text = drop (line_length text) text

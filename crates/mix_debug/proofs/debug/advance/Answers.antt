@@ -3,7 +3,7 @@ use Rattle.switch_frame.specs.Records.{isa_of}
 use Rattle.switch_frame.specs.declared.active.Active.{Active}
 use Rattle.mixed_machine.specs.declared.stop.Stop.{Stop}
 use Rattle.mixed_machine.specs.declared.stop.Stop.TheVariants.{Exit, Fault, Limit, ReadFault, OutFault, TraceFault}
-use Rattle.mix_engine.specs.inner.Ends.{goes_on}
+use Rattle.mix_engine.specs.Ends.{goes_on}
 use Rattle.mix_debug.specs.Entries.{within}
 use Rattle.mix_debug.specs.Histories.{IsHistory}
 use Rattle.mix_debug.specs.inner.Histories.{KeepsBeside, entry_of}

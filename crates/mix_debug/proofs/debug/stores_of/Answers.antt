@@ -1,6 +1,6 @@
 use Rattle.std.proofs.Common.{◌∙◌, subst, sym}
 use Rattle.mix_reach.specs.declared.reach.Told.{Told}
-use Rattle.mix_reach.specs.inner.Ranges.{IsTold}
+use Rattle.mix_reach.specs.Ranges.{IsTold}
 use Rattle.mix_reach.specs.laws.Steps.{next_stores}
 use Rattle.mix_debug.proofs.debug.stores_of.Goals as goal
 

@@ -1,7 +1,7 @@
 -- Each turn but the last gives up a suspended caller.
 use Rattle.std.proofs.Common.{◌≡◌, length}
 use Rattle.mixed_machine.specs.Machine.{callers_of}
-use Rattle.mix_engine.specs.inner.Beside.{machine_in}
+use Rattle.mix_engine.specs.Beside.{machine_in}
 use Rattle.mix_engine.proofs.Ways.{Way}
 use Rattle.mix_engine.proofs.machine.run_beside.Given as goal
 

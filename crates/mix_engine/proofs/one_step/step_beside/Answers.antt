@@ -1,5 +1,5 @@
 use Rattle.std.proofs.Common.{ap, refl, sym}
-use Rattle.mix_engine.specs.inner.Ends.{goes_on}
+use Rattle.mix_engine.specs.Ends.{goes_on}
 use Rattle.mix_engine.proofs.Once.{once-breaks_out, once-breaks_read, once-breaks_trace, once-exits, once-faults, once-on, single}
 use Rattle.mix_engine.proofs.one_step.step_beside.Goals as goal
 

@@ -1,7 +1,7 @@
 -- The callers are those at entry, and the steps done so far lead from the machine at entry to the machine now. Each call
 -- of a callee is made with fewer steps left.
 use Rattle.std.proofs.Common.{◌≡◌}
-use Rattle.mix_engine.specs.inner.Beside.{machine_in}
+use Rattle.mix_engine.specs.Beside.{machine_in}
 use Rattle.mix_engine.proofs.Looping.{Turning}
 use Rattle.mix_engine.proofs.runs.+run_turns.Given as goal
 

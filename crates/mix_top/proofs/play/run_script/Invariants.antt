@@ -1,7 +1,7 @@
 -- The commands before are done.
 use Rattle.std.proofs.Common.{length}
-use Rattle.mix_engine.specs.inner.Beside.{AreSame}
-use Rattle.mix_top.specs.inner.Places.{place_beside}
+use Rattle.mix_engine.specs.Beside.{AreSame}
+use Rattle.mix_top.specs.Places.{place_beside}
 use Rattle.mix_top.proofs.Telling.{RunningAt}
 use Rattle.mix_top.proofs.play.run_script.Given as goal
 

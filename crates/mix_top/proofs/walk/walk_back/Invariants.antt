@@ -1,7 +1,7 @@
 -- So many steps are taken back.
 use Rattle.std.proofs.Common.{◌-◌, ◌≤◌}
 use Rattle.toolbox.specs.Effects.{Around}
-use Rattle.mix_top.specs.inner.Sessions.{session_of}
+use Rattle.mix_top.specs.Debuggers.{session_of}
 use Rattle.mix_top.proofs.Walking.{Backing}
 use Rattle.mix_top.proofs.walk.walk_back.Given as goal
 

@@ -1,6 +1,6 @@
 -- One step after the other.
 use Rattle.std.proofs.Common.{◌≡◌, true, false, ◌∙◌, arith, refl, sym}
-use Rattle.mix_engine.specs.inner.Ends.{goes_on}
+use Rattle.mix_engine.specs.Ends.{goes_on}
 use Rattle.mix_top.proofs.Walking.{going-begins, going-ends, going-off_by, going-on_by, going-there_by, limit-on}
 use Rattle.mix_top.proofs.walk.walk_forward.Goals as goal
 

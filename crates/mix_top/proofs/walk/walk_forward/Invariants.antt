@@ -1,8 +1,8 @@
 -- So many steps are done.
 use Rattle.std.proofs.Common.{◌≡◌, ◌-◌, ◌≤◌}
 use Rattle.mixed_machine.specs.declared.stop.Stop.TheVariants.{Limit}
-use Rattle.mix_engine.specs.inner.Beside.{AreSame}
-use Rattle.mix_top.specs.inner.Places.{place_beside}
+use Rattle.mix_engine.specs.Beside.{AreSame}
+use Rattle.mix_top.specs.Places.{place_beside}
 use Rattle.mix_top.proofs.Walking.{GoingAt}
 use Rattle.mix_top.proofs.walk.walk_forward.Given as goal
 

@@ -1,7 +1,7 @@
 -- What the objects in memory answer and hold.
 use Rattle.std.specs.Prelude.{ℕ, ◌-◌, Bool, true, not, ◌&&◌, ◌||◌, List, [], ◌∷◌, ◌++◌, length, take, drop, Option, Result, Ok, Err, is_none, is_some, unwrap_or, nat_le, nat_lt, slice_get, bytes_eq, if◌then◌else◌}
 use Rattle.std.specs.List.{list_any}
-use Rattle.mix_io.specs.inner.Calls.{after_call, fails_next}
+use Rattle.mix_io.specs.NumberedCalls.{after_call, fails_next}
 use Rattle.mix_io.specs.Calls.{counted_if}
 use Rattle.mix_io.specs.declared.errors.Failed.{Failed}
 use Rattle.mix_io.specs.Memory.{MemorySource, MemorySink, MemoryShelf, file_of, MemoryKeep}

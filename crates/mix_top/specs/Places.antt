@@ -10,10 +10,10 @@ use Rattle.mixed_machine.specs.Outside.{Between}
 use Rattle.toolbox.specs.Calls.{around_at}
 use Rattle.mixed_machine.specs.Runs.{Sinks}
 use Rattle.mix_debug.specs.TrailsClauses.{Trail}
-use Rattle.mix_engine.specs.inner.Beside.{outside_lent, trace_lent}
+use Rattle.mix_engine.specs.Beside.{outside_lent, trace_lent}
 use Rattle.mix_engine.specs.declared.outside.Outside.{Outside as Lent}
 use Rattle.mix_top.specs.Sessions.{Session}
-use Rattle.mix_top.specs.inner.Sessions.{session_of}
+use Rattle.mix_top.specs.Debuggers.{session_of}
 use Rattle.toolbox.specs.declared.broken.Broken.{Broken}
 
 -- a debugger, and what the outside tells

@@ -2,7 +2,7 @@
 use Rattle.std.specs.Prelude.{List, Option, Result}
 use Rattle.mix_top.specs.Sessions.{Session}
 use Rattle.mix_top.specs.Events.{Event, events_in}
-use Rattle.mix_top.specs.inner.Places.{Over, Place, sinks_in, stop_in}
+use Rattle.mix_top.specs.Places.{Over, Place, sinks_in, stop_in}
 use Rattle.mix_top.specs.declared.command.ScriptCommand.{ScriptCommand}
 use Rattle.toolbox.specs.declared.broken.Broken.{Broken}
 use Rattle.mix_top.specs.Plays.{Played}
