@@ -1,5 +1,5 @@
 -- The lines of a script, one by one.
-use Rattle.std.specs.Prelude.{ℕ, ◌+◌, List, [], ◌∷◌, ◌++◌, IsSome, Option, Some, None, Result, Ok, Err}
+use Rattle.std.specs.Prelude.{ℕ, List, [], ◌∷◌, ◌++◌, IsSome, Option, Some, None, Result, Ok, Err}
 use Rattle.std.specs.Option.{option_to_list}
 use Rattle.mix_top.specs.declared.command.ScriptCommand.{ScriptCommand}
 use Rattle.mix_top.specs.Scripts.{command_in}
