@@ -1,7 +1,7 @@
 // Traps in code.
 ghost use Rattle.std.specs.Prelude.{◌≡◌, ◌+◌, ◌*◌, ◌/◌, ◌^◌, ◌<◌, ◌≤◌, ◌++◌, IfSome, OnOk, length};
 ghost use Rattle.mix_bits.specs.Search.{least};
-ghost use Rattle.look_scan.specs.inner.Code.{is_lacking as is_lacking_at, is_lacking_word, is_trap as is_trap_word, trap_in, traps_below, traps_of};
+ghost use Rattle.look_scan.specs.Code.{is_lacking as is_lacking_at, is_lacking_word, is_trap as is_trap_word, trap_in, traps_below, traps_of};
 
 use mix_bits::{NoMemory, word_at};
 use toolbox::{trap_index, trap_laws};

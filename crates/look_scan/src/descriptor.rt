@@ -3,7 +3,7 @@ ghost use Rattle.std.specs.Prelude.{◌≡◌, ◌+◌, ◌*◌, ◌^◌, ◌≤
 ghost use Rattle.proc_info.specs.Signature.{signature_of};
 ghost use Rattle.routine_desc.specs.Layout.{are_good_flags, code_at};
 ghost use Rattle.mix_bits.specs.Fields.{word_at as word_in};
-ghost use Rattle.look_scan.specs.inner.Descriptors.{is_descriptor as is_descriptor_at, is_header as is_header_at, is_record as is_record_at, record_place as place_of_record};
+ghost use Rattle.look_scan.specs.Descriptors.{is_descriptor as is_descriptor_at, is_header as is_header_at, is_record as is_record_at, record_place as place_of_record};
 
 use mix_bits::{long_at, word_at};
 use proc_info::read;
