@@ -55,7 +55,7 @@ pub fn count_records(ram: &Ram, a: u32) -> Result<u32, BadDesc>
 }
 
 /// Fills the list with all records of a descriptor whose header is good, or answers the first rule that
-/// they break; then the list may hold anything. It leaves the procInfo that was read last with its signature.
+/// they break; then the list may hold anything. It may change `signed`, to the procInfo of any record.
 #[inline(always)]
 pub fn read_all(ram: &Ram, a: u32, recs: &mut [Rec], signed: &mut Signed) -> Result<(), BadDesc>
     requires header { a + 12 ≤ length ram.now.bytes }
