@@ -13,7 +13,8 @@ use Rattle.proc_info.specs.Signature.{Signature, no_parameters, signature_in, si
 use Rattle.routine_desc.specs.declared.record.Rec.{Rec}
 use Rattle.routine_desc.specs.declared.record.BadDesc.TheVariants.{Access, Magic, Version, Reserved, Count, Mixed}
 use Rattle.routine_desc.specs.Layout.{bad_header, bad_record, record_at}
-use Rattle.routine_desc.specs.Read.{all_alike, body_of, desc_of, first_records, if_alike, if_signed, is_alike, read_record}
+use Rattle.routine_desc.specs.Read.{all_alike, body_of, desc_of, first_records, is_alike, read_record}
+use Rattle.routine_desc.specs.inner.Read.{if_alike, if_signed}
 use Rattle.routine_desc.specs.laws.Laws.{HoldsRecords, InfosAreSigned, RecordsAreAlike}
 use Rattle.routine_desc.proofs.RecordChains.{both, chain_done, if_kept, none_broken, ok_same, unbroken}
 use Rattle.routine_desc.proofs.Alike.{alike-same, called-alike}

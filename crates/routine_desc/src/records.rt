@@ -6,9 +6,9 @@ ghost use Rattle.big_memory.specs.Numbers.{number_at};
 ghost use Rattle.routine_desc.specs.Layout.{are_good_flags, bad_header, bad_record, code_at, record_at, target_of};
 ghost use Rattle.routine_desc.specs.LayoutClauses.{no_record};
 ghost use Rattle.proc_info.specs.Codes.{conv_at};
-ghost use Rattle.routine_desc.specs.inner.Read.{FillsRecord, FillsRecords, ReadsBody};
+ghost use Rattle.routine_desc.specs.inner.Read.{FillsRecord, FillsRecords, ReadsBody, is_dispatched_in};
 ghost use Rattle.routine_desc.specs.ReadClauses.{Counts, FillsBody, Reads, TellsHeader};
-ghost use Rattle.routine_desc.specs.Read.{all_alike as all_alike_lem, is_alike as is_alike_lem, is_dispatched_in};
+ghost use Rattle.routine_desc.specs.Read.{all_alike as all_alike_lem, is_alike as is_alike_lem};
 
 use super::flags::RoutineFlags;
 use super::record::{BadDesc, Desc, MIXED_MODE_MAGIC, MOST_RECORDS, Rec};
