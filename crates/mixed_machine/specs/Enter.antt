@@ -1,7 +1,7 @@
 -- Crossings: 68K code calls PowerPC or CFM-68K code, or PowerPC code calls by CallUniversalProc. The caller is suspended
 -- in a switch frame, and the callee starts with a fresh register file
 -- (Inside Macintosh: PowerPC System Software, chapter 2; the order of the tests is this project's own).
-use Rattle.std.specs.Prelude.{ℕ, ◌-◌, ◌∷◌, ◌++◌, is_some, Result, Ok, Err}
+use Rattle.std.specs.Prelude.{ℕ, ◌-◌, ◌∷◌, ◌++◌, is_some, unwrap_or, Result, Ok, Err}
 use Rattle.mix_bits.specs.declared.fault.FaultKind.TheVariants.{FramesFull, StackOutside, StackCrossed, StackFull}
 use Rattle.big_memory.specs.declared.refusals.Access.{Access}
 use Rattle.big_memory.specs.Lists.{put}
@@ -15,7 +15,7 @@ use Rattle.switch_frame.specs.Records.{Record}
 use Rattle.switch_frame.specs.Chain.{most_frames}
 use Rattle.big_memory.specs.Lists.{zeros}
 use Rattle.switch_frame.specs.Calls.{room_of}
-use Rattle.mode_switch.specs.Wanted.{Crossing, Want, address_of, passed_selector, or_zero}
+use Rattle.mode_switch.specs.Wanted.{Crossing, Want, address_of, passed_selector}
 use Rattle.mode_switch.specs.Wanted.Want.{Calls, Jumps, Refuses}
 use Rattle.mode_switch.specs.Passed.{Passage, passed}
 use Rattle.mode_switch.specs.Callee.{below, callee_sp, stack_of, fresh, return_sp}
@@ -35,7 +35,7 @@ suspended c range p =
       kind = c.kind;
       caller = p.caller;
       info = c.info;
-      selector = or_zero c.selector;
+      selector = unwrap_or c.selector 0;
       target = address_of c.target;
       lo = range.0;
       hi = range.1;
