@@ -28,8 +28,9 @@ use Rattle.mode_switch.specs.Wanted.{Crossing, address_of, passed_selector}
 use Rattle.std.specs.Prelude.{is_some, unwrap_or}
 use Rattle.mixed_machine.specs.declared.body.Body.{Body}
 use Rattle.mixed_machine.specs.State.{State}
-use Rattle.mixed_machine.specs.Enter.{entered, sp_in, started, suspended}
-use Rattle.mixed_machine.specs.Machine.{HasChain, IsWhole, callers_of, flat, memory_of}
+use Rattle.mixed_machine.specs.Enter.{entered, sp_in, suspended}
+use Rattle.mixed_machine.specs.inner.Parts.{started, HasChain}
+use Rattle.mixed_machine.specs.Machine.{IsWhole, callers_of, flat, memory_of}
 use Rattle.mixed_machine.specs.inner.Machine.{seen_of}
 use Rattle.mix_engine.specs.laws.Laws.{AreLaws}
 use Rattle.mix_engine.specs.laws.CallLaws.{AreCallLaws}

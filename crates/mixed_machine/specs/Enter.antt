@@ -6,7 +6,6 @@ use Rattle.mix_bits.specs.declared.fault.FaultKind.TheVariants.{FramesFull, Stac
 use Rattle.big_memory.specs.declared.refusals.Access.{Access}
 use Rattle.big_memory.specs.Lists.{put}
 use Rattle.big_memory.specs.Memory.{floor_of}
-use Rattle.switch_frame.specs.declared.active.Active.{Active}
 use Rattle.switch_frame.specs.declared.full.Full.{Full}
 use Rattle.switch_frame.specs.declared.full.Full.TheVariants.{Frames, Outside, Crossed, Stack}
 use Rattle.switch_frame.specs.Sets.{callee_isa}
@@ -42,17 +41,13 @@ suspended c range p =
       want = return_sp (callee_isa c.kind) c.sig (passed_selector c) (sp_in c range);
     }
 
--- the callee's registers
-abbrev pub started : Crossing → ℕ × ℕ → Passage → Active
-started c range p = fresh (callee_isa c.kind) c.sig (passed_selector c) p.args (sp_in c range) p.entry
-
 -- the state in which the callee starts: its stack ends where the frame begins, and in the memory beside the frames
 -- the frame's range is 0
 abbrev pub entered : State → Crossing → ℕ × ℕ → Passage → State
 entered s c range p =
     record s {
       memory = put (sp_in c range) (stack_of (callee_isa c.kind) c.sig (passed_selector c) p.args ++ zeros (range.1 - range.0)) s.memory;
-      active = started c range p;
+      active = fresh (callee_isa c.kind) c.sig (passed_selector c) p.args (sp_in c range) p.entry;
       callers = suspended c range p ∷ s.callers;
     }
 
