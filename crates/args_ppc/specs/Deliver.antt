@@ -24,7 +24,8 @@ below sig passed = frame_bytes ((if passed then 1 else 0) + length sig.params)
 
 -- a callee's words: its selector, if it is passed, and the parameters
 abbrev pub callee_words : Signature → Option ℕ → List ℕ → List ℕ
-callee_words sig selector values = option_map_or (λ v. truncated v sig.selector ∷ []) selector [] ++ cut sig.params values
+callee_words sig selector values =
+    option_map_or (λ v. truncated v sig.selector ∷ []) selector [] ++ cut sig.params values
 
 -- some bytes, and zeros up to a length
 abbrev pub padded : ℕ → List ℕ → List ℕ

@@ -24,7 +24,8 @@ host_of s = record { active = s.active; resources = record { memory = seen s; he
 
 -- an ask has a line of the trace
 abbrev pub effects_of : HostEffects → Effects
-effects_of e = record { said = e.said; line = option_map_or (λ a. ask_line a.slot a.word a.answer) e.asked []; reads = e.reads }
+effects_of e =
+    record { said = e.said; line = option_map_or (λ a. ask_line a.slot a.word a.answer) e.asked []; reads = e.reads }
 
 -- the state after a host call
 abbrev pub after_host : State → Host → State

@@ -29,7 +29,8 @@ leaves_with s outer sig (Err e) = access_fault s e
 
 -- by the signature of the call: every live frame's procInfo has one
 unfoldable pub leaves : State → Record → List Record → Next
-leaves s r outer = leaves_with s outer (signature_in r.info) (given_back (seen s) (signature_in r.info) s.active r.caller)
+leaves s r outer =
+    leaves_with s outer (signature_in r.info) (given_back (seen s) (signature_in r.info) s.active r.caller)
 
 -- whether a callee is at its return gate, with the stack pointer that is expected of it
 abbrev pub is_return : Active → Record → Bool

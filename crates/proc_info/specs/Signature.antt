@@ -55,7 +55,8 @@ is_twice (p ∷ ps) = list_any (λ q. q.reg == p.reg) ps || is_twice ps
 
 -- the signature of a word that has these parameters, with a place of the result and a selector's size
 abbrev pub of_word : Conv → ℕ → ℕ → Size → List Param → Signature
-of_word conv w place selector ps = record { conv = conv; result = size_at (w / 16 % 4); place = place; selector = selector; params = ps }
+of_word conv w place selector ps =
+    record { conv = conv; result = size_at (w / 16 % 4); place = place; selector = selector; params = ps }
 
 -- the signature of a word whose convention has this shape: the result's size stands in bits 4 and 5, on top of it
 -- the selector's size or the result's place where the shape has one, and then the parameters

@@ -1,5 +1,5 @@
 -- Which record of a descriptor is taken; the choice among several is this project's own.
-use Rattle.std.specs.Prelude.{ℕ, ◌==◌, Bool, if◌then◌else◌, List, [], ◌∷◌, filter, slice_get, Option, Some, None}
+use Rattle.std.specs.Prelude.{ℕ, ◌==◌, if◌then◌else◌, List, [], ◌∷◌, filter, slice_get, Option, Some, None}
 use Rattle.mix_bits.specs.declared.isa.Isa.{Isa}
 use Rattle.mix_bits.specs.declared.isa.Isa.TheVariants.{Ppc}
 use Rattle.mix_bits.specs.Isas.{is_isa}
@@ -14,7 +14,8 @@ first_of (r ∷ rs) others = r ∷ rs
 -- the candidates: all records, or, with a selector, those with an equal one, or else the defaults
 abbrev pub candidates : List Rec → Option ℕ → List Rec
 candidates records None = records
-candidates records (Some selector) = first_of (filter (λ r. r.selector == selector) records) (filter (λ r. has_flag r.flags 16) records)
+candidates records (Some selector) =
+    first_of (filter (λ r. r.selector == selector) records) (filter (λ r. has_flag r.flags 16) records)
 
 -- the first of the first filter that leaves a record: the PowerPC candidates where the first candidate says so, those
 -- of the caller's set, all

@@ -2,8 +2,10 @@
 use Rattle.std.specs.Prelude.{ℕ, ◌+◌, List, [], ◌∷◌, ◌++◌}
 use Rattle.mix_bits.specs.declared.isa.Isa.{Isa}
 use Rattle.mix_bits.specs.declared.isa.Isa.TheVariants.{M68 as set_m68, Ppc as set_ppc}
+use Rattle.m68_isa.specs.declared.registers.Regs68.{Regs68}
 use Rattle.m68_isa.specs.Registers.{ccr_of}
 use Rattle.m68_isa.specs.Longs.{longs_of as longs_of_m68}
+use Rattle.ppc_isa.specs.declared.registers.RegsPpc.{RegsPpc}
 use Rattle.ppc_isa.specs.Longs.{longs_of as longs_of_ppc}
 use Rattle.big_memory.specs.Numbers.{long_at, longs_at, bytes_of_longs}
 use Rattle.switch_frame.specs.declared.active.Active.{Active}
@@ -48,14 +50,17 @@ abbrev pub image : Record → ℕ → ℕ → List ℕ
 image r outer depth = bytes_of_longs (head_of r outer depth ++ (longs_of_file r.caller ++ fill_of (isa_of r.caller)))
 
 -- the register file whose longs stand at an address
+abbrev pub m68_at : ℕ → List ℕ → Regs68
+m68_at a bytes =
+    record { d = longs_at 8 a bytes; a = longs_at 8 (a + 32) bytes; pc = long_at (a + 64) bytes; ccr = ccr_of (long_at (a + 68) bytes) }
+
+abbrev pub ppc_at : ℕ → List ℕ → RegsPpc
+ppc_at a bytes =
+    record { gpr = longs_at 32 a bytes; cr = long_at (a + 128) bytes; lr = long_at (a + 132) bytes; ctr = long_at (a + 136) bytes; xer = long_at (a + 140) bytes; pc = long_at (a + 144) bytes }
+
 abbrev pub file_at : Isa → ℕ → List ℕ → Active
-file_at set_m68 a bytes =
-    M68 (record { d = longs_at 8 a bytes; a = longs_at 8 (a + 32) bytes; pc = long_at (a + 64) bytes; ccr = ccr_of (long_at (a + 68) bytes) })
-file_at set_ppc a bytes =
-    Ppc (record {
-      gpr = longs_at 32 a bytes; cr = long_at (a + 128) bytes; lr = long_at (a + 132) bytes;
-      ctr = long_at (a + 136) bytes; xer = long_at (a + 140) bytes; pc = long_at (a + 144) bytes;
-    })
+file_at set_m68 a bytes = M68 (m68_at a bytes)
+file_at set_ppc a bytes = Ppc (ppc_at a bytes)
 
 -- the record whose frame begins at an address
 abbrev pub record_at : ℕ → List ℕ → Record

@@ -3,8 +3,7 @@ ghost use Rattle.std.specs.Prelude.{◌≡◌, ◌+◌, ◌≤◌, ◌++◌, len
 ghost use Rattle.big_memory.specs.Memory.{IsRam, with_bytes};
 ghost use Rattle.switch_frame.specs.Chain.{IsFile};
 ghost use Rattle.big_memory.specs.Numbers.{bytes_of_longs};
-ghost use Rattle.switch_frame.specs.Records.{file_at, fill_of, isa_of, longs_of_file};
-ghost use Rattle.switch_frame.specs.inner.Parts.{m68_at, ppc_at};
+ghost use Rattle.switch_frame.specs.Records.{file_at, fill_of, isa_of, longs_of_file, m68_at, ppc_at};
 ghost use Rattle.m68_isa.specs.Longs.{longs_of as longs_of_m68};
 ghost use Rattle.ppc_isa.specs.Longs.{longs_of as longs_of_ppc};
 ghost use Rattle.switch_frame.specs.Sets.{frame_size};

@@ -156,7 +156,8 @@ effect ExitToShell o r = Leaves 0
 effect PutByte o r = says r (o.first % 256 ∷ [])
 effect GetByte o r = takes_from r r.around.input
 effect PutBlock o r =
-    if in_memory r.memory o.first o.second then says r (part o.first o.second r.memory.bytes) else Refuses (Outside o.first)
+    if in_memory r.memory o.first o.second then says r (part o.first o.second r.memory.bytes)
+    else Refuses (Outside o.first)
 effect AskDevice o r = asks_for r o.first o.second (answer_in r.around o.first)
 effect EjectDevice o r = ejects r o.first
 effect ExitWith o r = Leaves o.first
