@@ -42,12 +42,9 @@ slots CStack (p ∷ ps) (v ∷ vs) = big_bytes 4 (truncated v p.size) ++ slots C
 slots _ _ _ = []
 
 -- a selector on the stack
-abbrev pub stack_selector : Conv → Size → ℕ → List ℕ
-stack_selector conv s v = if is_on_stack (dispatch_of conv) then pascal_slot s v else []
-
 abbrev pub selector_slot : Conv → Size → Option ℕ → List ℕ
 selector_slot conv s None = []
-selector_slot conv s (Some v) = stack_selector conv s v
+selector_slot conv s (Some v) = if is_on_stack (dispatch_of conv) then pascal_slot s v else []
 
 -- the bytes of a callee's stack from its A7 on
 abbrev pub stack_of : Signature → Option ℕ → List ℕ → List ℕ

@@ -50,9 +50,8 @@ place_of Registers base p later = place_numbered p.reg
 
 -- where the lowest of the later parameters begins: in C behind this one's long
 abbrev pub next_base : Route → ℕ → ℕ
-next_base PascalStack base = base
 next_base CStack base = base + 4
-next_base Registers base = base
+next_base _ base = base
 
 -- the place of a selector; only dispatched conventions have one, of some size
 abbrev pub place_by : Dispatch → Place

@@ -21,17 +21,13 @@ removed_by _ sig passed = 4
 abbrev pub removed : Signature → Bool → ℕ
 removed sig passed = removed_by (route_of sig.conv) sig passed
 
--- the same for a caller, which has always passed its selector
-abbrev pub popped : Signature → ℕ
-popped sig = removed sig true
-
 -- a callee's result after its return, or the refusal of its bytes
 abbrev pub result_in : Signature → Regs68 → Memory → Result ℕ Access
 result_in sig r m = value_at r m (result_place (route_of sig.conv) sig.place) sig.result
 
--- a caller's registers with the bytes removed that a return removes
+-- a caller's registers with the bytes removed that a return removes; it has always passed its selector
 abbrev pub after_call : Signature → Regs68 → Regs68
-after_call sig r = record r { a = slice_set r.a 7 (above_sp r (popped sig)) }
+after_call sig r = record r { a = slice_set r.a 7 (above_sp r (removed sig true)) }
 
 -- a caller's registers and memory with a result in its place behind the call, or the refusal of a store there
 abbrev pub with_result : Signature → ℕ → Regs68 → Memory → Result Given Access

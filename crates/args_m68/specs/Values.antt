@@ -58,6 +58,4 @@ pub record Given : Type 0 where
 -- registers and memory with a value at a place, or the refusal of a store there
 abbrev pub put_at : Place → Size → ℕ → Regs68 → Memory → Result Given Access
 put_at (Stack from) s v r m = stored_value m (above_sp r from) s v >>= λ n. Ok (record { regs = r; memory = n })
-put_at (Data n) s v r m = Ok (record { regs = with_value (Data n) s v r; memory = m })
-put_at (Address n) s v r m = Ok (record { regs = with_value (Address n) s v r; memory = m })
-put_at (Condition flag) s v r m = Ok (record { regs = with_value (Condition flag) s v r; memory = m })
+put_at place s v r m = Ok (record { regs = with_value place s v r; memory = m })

@@ -1,9 +1,9 @@
 // What a return removes, and results.
-ghost use Rattle.std.specs.Prelude.{◌≡◌, ◌+◌, ◌%◌, ◌<◌, ◌≤◌, ◌^◌, OnOk, slice_index, slice_set, length};
+ghost use Rattle.std.specs.Prelude.{◌≡◌, ◌+◌, ◌%◌, ◌<◌, ◌≤◌, ◌^◌, OnOk, true, slice_index, slice_set, length};
 ghost use Rattle.proc_info.specs.Views.{signature};
 ghost use Rattle.big_memory.specs.StoresClauses.{OnlyFree};
 ghost use Rattle.args_m68.specs.ResultsClauses.{Leaves};
-ghost use Rattle.args_m68.specs.Results.{popped as popped_lem, removed, result_in, with_result};
+ghost use Rattle.args_m68.specs.Results.{removed, result_in, with_result};
 
 use super::deliver::callee_base;
 use super::places::{result_place, widths};
@@ -27,7 +27,7 @@ pub fn removed68(sig: &Sig, selector: bool) -> u32
 
 /// How many bytes are removed from a caller's stack behind its call, the return address among them.
 pub fn popped(sig: &Sig) -> u32
-    ensures value { result ≡ popped_lem (signature sig.now) }
+    ensures value { result ≡ removed (signature sig.now) true }
     ensures small { result ≤ 60 }
 {
     removed68(sig, true)
@@ -53,7 +53,7 @@ pub fn result68(sig: &Sig, regs: &Regs68, ram: &Ram) -> Result<u32, Access>
 pub fn put_result68(sig: &Sig, value: u32, regs: &mut Regs68, ram: &mut Ram) -> Result<(), Access>
     ensures exact { Leaves result (record { regs = regs.old; memory = ram.old }) (record { regs = regs.new; memory = ram.new })
         (with_result (signature sig.now) value regs.old ram.old) }
-    ensures popped { OnOk result (slice_index regs.new.a 7 ≡ (slice_index regs.old.a 7 + popped_lem (signature sig.now)) % 2 ^ 32) }
+    ensures popped { OnOk result (slice_index regs.new.a 7 ≡ (slice_index regs.old.a 7 + removed (signature sig.now) true) % 2 ^ 32) }
     ensures free { OnlyFree ram.old ram.new }
 {
     let sp = regs.a[7];

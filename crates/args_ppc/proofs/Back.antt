@@ -16,8 +16,8 @@ use Rattle.proc_info.specs.declared.param.Param.{Param}
 use Rattle.proc_info.specs.Cut.{cut}
 use Rattle.proc_info.specs.Signature.{Signature}
 use Rattle.args_ppc.specs.Words.{value_at, values_at, word_at}
-use Rattle.args_ppc.specs.DeliverClauses.{callee_sp, delivered}
-use Rattle.args_ppc.specs.Deliver.{callee_words, first_param, frame_bytes, frame_of, registers_with}
+use Rattle.args_ppc.specs.DeliverClauses.{callee_sp, delivered, first_param}
+use Rattle.args_ppc.specs.Deliver.{callee_words, frame_bytes, frame_of, registers_with}
 use Rattle.args_ppc.specs.Results.{with_sized}
 use Rattle.args_ppc.specs.laws.Laws.{ComesBack, ResultComesBack, SelectorComesBack, TouchesNothingElse}
 use Rattle.args_ppc.proofs.Frames.{frame-from, length-frame, length-stack, length-words, loads, long-back, top-back, word-back_registers}

@@ -12,7 +12,8 @@ use Rattle.big_memory.proofs.Numbers.{length_of_bytes, loads_number}
 use Rattle.proc_info.specs.declared.param.Param.{Param}
 use Rattle.proc_info.specs.Cut.{cut}
 use Rattle.proc_info.specs.Signature.{Signature}
-use Rattle.args_ppc.specs.Deliver.{callee_words, first_param, frame_bytes, frame_of, registers_with}
+use Rattle.args_ppc.specs.Deliver.{callee_words, frame_bytes, frame_of, registers_with}
+use Rattle.args_ppc.specs.DeliverClauses.{first_param}
 use Rattle.args_ppc.specs.laws.Laws.{FillsItsStack}
 
 -- how many bytes so many zeros are

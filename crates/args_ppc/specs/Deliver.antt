@@ -1,6 +1,7 @@
 -- What a PowerPC callee is given (Inside Macintosh: PowerPC System Software, chapter 1, for words and the stack frame; a
 -- callee's fresh registers and the selector as its first word are this project's own).
-use Rattle.std.specs.Prelude.{ℕ, ◌+◌, ◌-◌, ◌*◌, max, Bool, if◌then◌else◌, List, [], ◌∷◌, ◌++◌, length, take, drop, slice_set, Option, Some, None}
+use Rattle.std.specs.Prelude.{ℕ, ◌+◌, ◌-◌, ◌*◌, max, Bool, if◌then◌else◌, List, [], ◌∷◌, ◌++◌, length, take, drop, slice_set, Option}
+use Rattle.std.specs.Option.{option_map_or}
 use Rattle.mix_bits.specs.Multiples.{rounded_up}
 use Rattle.mix_bits.specs.Sizes.{truncated}
 use Rattle.mix_bits.specs.declared.isa.Isa.TheVariants.{Ppc}
@@ -17,21 +18,14 @@ use Rattle.proc_info.specs.Signature.{Signature}
 abbrev pub frame_bytes : ℕ → ℕ
 frame_bytes words = rounded_up 16 (24 + 4 * max 8 words)
 
--- how many words a callee is passed before its parameters: its selector or none
-abbrev pub first_param : Bool → ℕ
-first_param passed = if passed then 1 else 0
-
--- how many bytes of stack a callee is given
+-- how many bytes of stack a callee is given: it has a word for a selector that it is passed, and one for each parameter
 abbrev pub below : Signature → Bool → ℕ
-below sig passed = frame_bytes (first_param passed + length sig.params)
+below sig passed = frame_bytes ((if passed then 1 else 0) + length sig.params)
 
 -- a callee's words: its selector, if it is passed, and the parameters
-abbrev pub passed_selector : Signature → Option ℕ → List ℕ
-passed_selector sig None = []
-passed_selector sig (Some v) = truncated v sig.selector ∷ []
-
 abbrev pub callee_words : Signature → Option ℕ → List ℕ → List ℕ
-callee_words sig selector values = passed_selector sig selector ++ cut sig.params values
+callee_words sig selector values =
+    option_map_or (λ v. truncated v sig.selector ∷ []) selector [] ++ cut sig.params values
 
 -- some bytes, and zeros up to a length
 abbrev pub padded : ℕ → List ℕ → List ℕ

@@ -28,12 +28,9 @@ abbrev pub values_at : RegsPpc → Memory → ℕ → List Param → Result (Lis
 values_at r m i [] = Ok []
 values_at r m i (p ∷ ps) = value_at r m i p.size >>= λ v. values_at r m (i + 1) ps >>= λ vs. Ok (v ∷ vs)
 
--- CallUniversalProc's own arguments are words 0 and 1; a dispatched call's selector is word 2, and the parameters follow
-abbrev pub first_passed : Signature → ℕ
-first_passed sig = if is_dispatched sig.conv then 3 else 2
-
 abbrev pub selector_in : Signature → RegsPpc → ℕ
 selector_in sig r = truncated (slice_index r.gpr 5) sig.selector
 
+-- CallUniversalProc's own arguments are words 0 and 1; a dispatched call's selector is word 2, and the parameters follow
 abbrev pub gathered : Signature → RegsPpc → Memory → Result (List ℕ) Access
-gathered sig r m = values_at r m (first_passed sig) sig.params
+gathered sig r m = values_at r m (if is_dispatched sig.conv then 3 else 2) sig.params

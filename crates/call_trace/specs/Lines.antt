@@ -24,9 +24,8 @@ marked mark Four v = mark ++ hexadecimal 8 v
 
 -- the arguments of a call, each behind a space
 unfoldable pub arguments : List Param → List ℕ → List ℕ
-arguments [] vs = []
-arguments (p ∷ ps) [] = []
 arguments (p ∷ ps) (v ∷ vs) = marked (codes " ") p.size v ++ arguments ps vs
+arguments _ _ = []
 
 -- a frame is made: `call FROM TO TARGET PROCINFO`, then `#` and the selector of a dispatched call, then the arguments
 abbrev pub call_head : Record → Signature → List ℕ
@@ -54,15 +53,12 @@ ask_line slot word answer =
     codes "ask " ++ decimal slot ++ codes " " ++ hexadecimal 8 word ++ codes " " ++ answer_text answer ++ codes "\n"
 
 -- a run ends: `exit CODE` in decimal, `fault NAME SET PC DETAIL ALSO`, or `limit`
-abbrev pub exit_line : ℕ → List ℕ
-exit_line code = codes "exit " ++ decimal code ++ codes "\n"
-
 abbrev pub fault_line : Isa → AFault → List ℕ
 fault_line set f =
     codes "fault " ++ fault_name f.kind ++ codes " " ++ set_name set
     ++ codes " " ++ hexadecimal 8 f.pc ++ codes " " ++ hexadecimal 8 f.detail ++ codes " " ++ hexadecimal 8 f.also ++ codes "\n"
 
 unfoldable pub end_line : End → List ℕ
-end_line (Exit code) = exit_line code
+end_line (Exit code) = codes "exit " ++ decimal code ++ codes "\n"
 end_line (Fault set fault) = fault_line set fault
 end_line Limit = codes "limit\n"

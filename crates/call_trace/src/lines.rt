@@ -1,7 +1,7 @@
 // The text of each line, put into an empty one.
-ghost use Rattle.std.specs.Prelude.{◌≡◌, ◌+◌, ◌*◌, ◌≤◌, ◌⊎◌, ◌++◌, [], length};
+ghost use Rattle.std.specs.Prelude.{◌≡◌, ◌+◌, ◌*◌, ◌≤◌, ◌⊎◌, ◌++◌, [], length, codes, decimal};
 ghost use Rattle.mix_bits.specs.Text.{hexadecimal};
-ghost use Rattle.call_trace.specs.Lines.{answer_text as text_of_answer, arguments, ask_line, call_head, call_line, end_line, exit_line, fault_line, marked, ret_line};
+ghost use Rattle.call_trace.specs.Lines.{answer_text as text_of_answer, arguments, ask_line, call_head, call_line, end_line, fault_line, marked, ret_line};
 ghost use Rattle.proc_info.specs.Views.{signature};
 ghost use Rattle.switch_frame.specs.RecordsClauses.{record_of};
 
@@ -83,7 +83,7 @@ pub fn put_end_text(line: &mut Line, end: &End)
 
 fn put_exit_text(line: &mut Line, code: u32)
     requires empty { line.old ≡ [] }
-    ensures { line.new ≡ exit_line code }
+    ensures { line.new ≡ codes "exit " ++ decimal code ++ codes "\n" }
 {
     line.add("exit ");
     line.add_dec(code);

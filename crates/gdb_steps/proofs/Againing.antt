@@ -15,7 +15,8 @@ use Rattle.mixed_machine.specs.Step.{step}
 use Rattle.mix_engine.specs.Ends.{goes_on}
 use Rattle.mix_debug.specs.TrailsClauses.{Trail, is_done}
 use Rattle.dev_rack.specs.declared.devices.Devices.{Ghosts}
-use Rattle.toolbox.specs.Calls.{answers_since, around_of}
+use Rattle.toolbox.specs.Calls.{answers_since}
+use Rattle.toolbox.specs.inner.Parts.{around_of}
 use Rattle.gdb_steps.specs.Places.{Begin, IsFront, IsRun, answers_of, state_at}
 use Rattle.gdb_steps.specs.Points.{Points}
 use Rattle.gdb_steps.specs.Walkers.{run_of, sinks}

@@ -2,7 +2,8 @@
 use Rattle.std.proofs.Common.{◌≡◌, ℕ, suc, Bool, true, false, arith, ap, sym, ◌∙◌}
 use Rattle.std.proofs.lemmas.Bool.Decides.{nat_tests}
 use Rattle.mix_bits.specs.declared.fault.Fault.{Fault as AFault}
-use Rattle.mixed_machine.specs.Exec.{GoesTo, Leads, Tells, exec_to, goes_on, is_back, rests}
+use Rattle.mixed_machine.specs.Exec.{GoesTo, Leads, exec_to, goes_on, is_back, rests}
+use Rattle.mixed_machine.specs.StepClauses.{Tells}
 use Rattle.mixed_machine.specs.Exec.How.{Limited, Exited, Faulted}
 use Rattle.mixed_machine.specs.Exec.End.{Ended}
 use Rattle.mixed_machine.specs.Next.{Next, Effects}

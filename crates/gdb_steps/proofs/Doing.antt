@@ -9,7 +9,8 @@ use Rattle.mixed_machine.specs.Next.{Effects}
 use Rattle.mixed_machine.specs.Next.Next.{Goes}
 use Rattle.mixed_machine.specs.Outside.{TookAll}
 use Rattle.mixed_machine.specs.Machine.{flat}
-use Rattle.toolbox.specs.Calls.{answers_since, around_of}
+use Rattle.toolbox.specs.Calls.{answers_since}
+use Rattle.toolbox.specs.inner.Parts.{around_of}
 use Rattle.mixed_machine.specs.Runs.{Sinks, Stops}
 use Rattle.mixed_machine.specs.State.{State}
 use Rattle.mixed_machine.specs.Step.{step}

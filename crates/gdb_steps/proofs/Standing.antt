@@ -10,7 +10,8 @@ use Rattle.mixed_machine.specs.Exec.End.{Ended}
 use Rattle.mixed_machine.specs.Exec.How.{Limited}
 use Rattle.mixed_machine.specs.Machine.{flat}
 use Rattle.mixed_machine.specs.State.{State}
-use Rattle.toolbox.specs.Calls.{answers_since, around_of}
+use Rattle.toolbox.specs.Calls.{answers_since}
+use Rattle.toolbox.specs.inner.Parts.{around_of}
 use Rattle.gdb_steps.specs.Places.{Begin, Given, IsPlace, Place, answers_of, state_at}
 use Rattle.gdb_steps.specs.inner.Steps.{AreAt}
 

@@ -9,7 +9,8 @@ use Rattle.switch_frame.specs.Sets.{caller_isa, frame_size}
 use Rattle.switch_frame.specs.Records.{Record, isa_of}
 use Rattle.switch_frame.specs.Calls.{IsOutermost, active_set}
 use Rattle.switch_frame.specs.laws.Chain.{Above, IsFrameRange}
-use Rattle.switch_frame.specs.Chain.{Chain, Fits, IsInside, Links, covered, in_range, outer_of}
+use Rattle.switch_frame.specs.Chain.{Chain, Fits, IsInside, Links, covered, outer_of}
+use Rattle.switch_frame.specs.ChainClauses.{in_range}
 use Rattle.switch_frame.proofs.Marked.{fits_is_range, mark_at, marks_kept, marks_same, range_moves as range-moves, top_tells}
 use Rattle.mixed_machine.specs.declared.body.Body.{Body}
 use Rattle.mixed_machine.specs.Machine.{IsWhole, callers_of}

@@ -24,12 +24,13 @@ use Rattle.toolbox.specs.CallsClauses.{KeepsBounds}
 use Rattle.toolbox.specs.Effects.{Around}
 use Rattle.mode_switch.specs.Callee.{below, fresh, return_sp, stack_of}
 use Rattle.mode_switch.specs.Passed.{Passage}
-use Rattle.mode_switch.specs.Wanted.{Crossing, address_of, or_zero, passed_selector}
-use Rattle.std.specs.Prelude.{is_some}
+use Rattle.mode_switch.specs.Wanted.{Crossing, address_of, passed_selector}
+use Rattle.std.specs.Prelude.{is_some, unwrap_or}
 use Rattle.mixed_machine.specs.declared.body.Body.{Body}
 use Rattle.mixed_machine.specs.State.{State}
-use Rattle.mixed_machine.specs.Enter.{entered, sp_in, started, suspended}
-use Rattle.mixed_machine.specs.Machine.{HasChain, IsWhole, callers_of, flat, memory_of}
+use Rattle.mixed_machine.specs.Enter.{entered, sp_in, suspended}
+use Rattle.mixed_machine.specs.inner.Parts.{started, HasChain}
+use Rattle.mixed_machine.specs.Machine.{IsWhole, callers_of, flat, memory_of}
 use Rattle.mixed_machine.specs.inner.Machine.{seen_of}
 use Rattle.mix_engine.specs.laws.Laws.{AreLaws}
 use Rattle.mix_engine.specs.laws.CallLaws.{AreCallLaws}
@@ -212,7 +213,7 @@ entered-now laws more b mid new set file c range p held bytes chain place least 
 
 -- what a frame keeps of a call
 pub held-is : (c : Crossing) (range : ℕ × ℕ) (p : Passage) (bytes selector target want depth : ℕ) → bytes ≡ below (callee_isa c.kind) c.sig (is_some (passed_selector c))
-    → selector ≡ or_zero c.selector → target ≡ address_of c.target → want ≡ return_sp (callee_isa c.kind) c.sig (passed_selector c) (range.0 - bytes)
+    → selector ≡ unwrap_or c.selector 0 → target ≡ address_of c.target → want ≡ return_sp (callee_isa c.kind) c.sig (passed_selector c) (range.0 - bytes)
     → record_of (record { kind = c.kind; caller = p.caller; info = c.info; selector = selector; target = target; lo = range.0; hi = range.1; want_sp = want; depth = depth }) ≡ suspended c range p
 held-is c range p bytes selector target want depth bytes_are selector_is target_is want_is =
     ap (λ v. record (suspended c range p) { selector = v; target = target; want = want }) selector_is

@@ -28,7 +28,8 @@ use Rattle.mixed_machine.specs.State.{State}
 use Rattle.mixed_machine.specs.Next.{Next}
 use Rattle.mixed_machine.specs.Next.Next.{Goes}
 use Rattle.mixed_machine.specs.Exec.{Reads, said_of}
-use Rattle.mixed_machine.specs.Host.{effects_of, host_of, hosted_by, line_of_ask}
+use Rattle.mixed_machine.specs.Host.{effects_of, host_of, hosted_by}
+use Rattle.mixed_machine.specs.inner.Parts.{line_of_ask}
 use Rattle.mixed_machine.specs.Machine.{IsWhole, flat}
 use Rattle.mixed_machine.specs.OutsideClauses.{At, at}
 use Rattle.toolbox.specs.Calls.{around_at}

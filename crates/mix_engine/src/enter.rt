@@ -1,5 +1,5 @@
 // A call of PowerPC or CFM-68K code from 68K code, or a call from PowerPC code by CallUniversalProc.
-ghost use Rattle.std.specs.Prelude.{◌≡◌, ◌+◌, ◌≤◌, length, is_some, Ok};
+ghost use Rattle.std.specs.Prelude.{◌≡◌, ◌+◌, ◌≤◌, length, is_some, unwrap_or, Ok};
 ghost use Rattle.mix_bits.specs.declared.fault.Fault.{Fault as AFault};
 ghost use Rattle.big_memory.specs.Memory.{floor_of};
 ghost use Rattle.switch_frame.specs.declared.active.Active.{Active as AnActive};
@@ -11,7 +11,7 @@ ghost use Rattle.mode_switch.specs.Callee.{below as below_of};
 ghost use Rattle.mode_switch.specs.Views.{args_of, crossing, passage, wanted_of};
 ghost use Rattle.mode_switch.specs.declared.passed.Passed.{Passed as APassed};
 ghost use Rattle.mode_switch.specs.laws.Wanted.{IsMeant, Means};
-ghost use Rattle.mode_switch.specs.Wanted.{or_zero, passed_selector as passed_selector_of};
+ghost use Rattle.mode_switch.specs.Wanted.{passed_selector as passed_selector_of};
 ghost use Rattle.mixed_machine.specs.Enter.{crosses as crosses_of, enters, enters_with, suspended};
 ghost use Rattle.mixed_machine.specs.Machine.{IsWhole, callers_of};
 ghost use Rattle.mix_engine.specs.Worlds.{TracesOnly};
@@ -133,7 +133,7 @@ fn values(passed: &Passed) -> &[u32]
 
 /// The selector that a frame keeps, 0 without one.
 fn kept_selector(call: &Call) -> u32
-    ensures { result ≡ or_zero call.now.selector }
+    ensures { result ≡ unwrap_or call.now.selector 0 }
 {
     match call.selector {
         Some(selector) => selector,

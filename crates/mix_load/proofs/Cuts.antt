@@ -7,7 +7,8 @@ use Rattle.std.proofs.lemmas.Slice.Eq.{bytes_eq-Decides}
 use Rattle.pef_head.specs.Parts.{ImportParts}
 use Rattle.pef_head.specs.PartsByNumber.{cut}
 use Rattle.toolbox.specs.Table.{imports}
-use Rattle.toolbox.specs.Names.{import_index, is_named}
+use Rattle.toolbox.specs.Names.{import_index}
+use Rattle.toolbox.specs.inner.Parts.{is_named}
 use Rattle.mix_load.specs.Sections.{import_address, resolved}
 
 -- whether both names have fewer than 64 bytes

@@ -8,7 +8,7 @@ use Rattle.switch_frame.specs.Records.{isa_of}
 use Rattle.mixed_machine.specs.declared.body.Body.{Body}
 use Rattle.mixed_machine.specs.State.{State}
 use Rattle.mixed_machine.specs.laws.Crossings.{Counting}
-use Rattle.mixed_machine.specs.Crossings.{gives_up_frame, makes_frame}
+use Rattle.mixed_machine.specs.StepClauses.{gives_up_frame, makes_frame}
 use Rattle.mixed_machine.specs.Machine.{callers_of, flat}
 use Rattle.mixed_machine.proofs.Crossings.{count-exits, count-faults, count-goes_on, count-limit}
 use Rattle.mix_top.specs.Samples.{CountedRun, nothing}

@@ -11,7 +11,8 @@ use Rattle.toolbox.specs.Effects.{Around}
 use Rattle.dev_rack.specs.Accounts.{Accounts}
 use Rattle.toolbox.specs.Blames.{BlamesOnly}
 use Rattle.mixed_machine.specs.CountsClauses.{Blames}
-use Rattle.mixed_machine.specs.Exec.{GoesTo, Leads, Reads, Says, Tells, exec_to, goes_on, is_back, line_of, log, log_then, rests, said_of}
+use Rattle.mixed_machine.specs.Exec.{GoesTo, Leads, Reads, exec_to, goes_on, is_back, line_of, log, log_then, rests, said_of}
+use Rattle.mixed_machine.specs.StepClauses.{Says, Tells}
 use Rattle.mixed_machine.specs.Exec.How.{Limited, Exited, Faulted}
 use Rattle.mixed_machine.specs.Exec.End.{Ended}
 use Rattle.mixed_machine.specs.Machine.{callers_of, flat, memory_of}

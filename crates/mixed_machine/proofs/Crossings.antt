@@ -10,7 +10,8 @@ use Rattle.mixed_machine.specs.Step.{step}
 use Rattle.mixed_machine.specs.Exec.{exec, exec_to, goes_on, rests, is_back, Leads, GoesTo}
 use Rattle.mixed_machine.specs.Exec.How.{Limited, Exited, Faulted}
 use Rattle.mixed_machine.specs.Exec.End.{Ended}
-use Rattle.mixed_machine.specs.Crossings.{Crossed, count_of, count_with, gives_up_frame, makes_frame}
+use Rattle.mixed_machine.specs.Crossings.{Crossed, count_of, count_with}
+use Rattle.mixed_machine.specs.StepClauses.{gives_up_frame, makes_frame}
 use Rattle.mixed_machine.specs.laws.CrossingLaws.{CountBegins, CountExits, CountFaults, CountGoesOn, CountLimit}
 use Rattle.mixed_machine.proofs.Runs.{suc-more, no-steps}
 use Rattle.mixed_machine.proofs.Logs.{exec-exits, exec-faults, leads-more, leads-none}

@@ -9,7 +9,8 @@ use Rattle.mixed_machine.specs.State.{State}
 use Rattle.mixed_machine.specs.Next.{Next}
 use Rattle.mixed_machine.specs.Next.Next.{Goes, Exits, Faults}
 use Rattle.mixed_machine.specs.Step.{step}
-use Rattle.mixed_machine.specs.Exec.{How, exec_to, goes_on, rests, is_back, Leads, GoesTo, Says, Tells, Reads, log, said_of, line_of}
+use Rattle.mixed_machine.specs.Exec.{How, exec_to, goes_on, rests, is_back, Leads, GoesTo, Reads, log, said_of, line_of}
+use Rattle.mixed_machine.specs.StepClauses.{Says, Tells}
 use Rattle.mixed_machine.specs.Exec.How.{Limited, Exited, Faulted}
 use Rattle.mixed_machine.specs.Exec.End.{Back, Ended}
 use Rattle.mixed_machine.specs.Runs.{Sinks, SinksTook, Ran, ReadBroke, OutBroke, TraceBroke, Stops}

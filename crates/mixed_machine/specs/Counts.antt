@@ -3,13 +3,11 @@ use Rattle.std.specs.Prelude.{Option, None, Some}
 use Rattle.toolbox.specs.declared.broken.Broken.{Broken}
 use Rattle.toolbox.specs.declared.broken.Broken.TheVariants.{Input, Output, Trace}
 use Rattle.mixed_machine.specs.declared.stop.Stop.{Stop}
-use Rattle.mixed_machine.specs.declared.stop.Stop.TheVariants.{Exit, Fault, Limit, ReadFault, OutFault, TraceFault}
+use Rattle.mixed_machine.specs.declared.stop.Stop.TheVariants.{ReadFault, OutFault, TraceFault}
 
 -- what failed where a run stopped
 abbrev pub broken_at : Stop → Option Broken
-broken_at (Exit code) = None
-broken_at (Fault fault) = None
-broken_at Limit = None
 broken_at ReadFault = Some Input
 broken_at OutFault = Some Output
 broken_at TraceFault = Some Trace
+broken_at _ = None

@@ -1,12 +1,11 @@
 -- Crossings: 68K code calls PowerPC or CFM-68K code, or PowerPC code calls by CallUniversalProc. The caller is suspended
 -- in a switch frame, and the callee starts with a fresh register file
 -- (Inside Macintosh: PowerPC System Software, chapter 2; the order of the tests is this project's own).
-use Rattle.std.specs.Prelude.{ℕ, ◌-◌, ◌∷◌, ◌++◌, is_some, Result, Ok, Err}
+use Rattle.std.specs.Prelude.{ℕ, ◌-◌, ◌∷◌, ◌++◌, is_some, unwrap_or, Result, Ok, Err}
 use Rattle.mix_bits.specs.declared.fault.FaultKind.TheVariants.{FramesFull, StackOutside, StackCrossed, StackFull}
 use Rattle.big_memory.specs.declared.refusals.Access.{Access}
 use Rattle.big_memory.specs.Lists.{put}
 use Rattle.big_memory.specs.Memory.{floor_of}
-use Rattle.switch_frame.specs.declared.active.Active.{Active}
 use Rattle.switch_frame.specs.declared.full.Full.{Full}
 use Rattle.switch_frame.specs.declared.full.Full.TheVariants.{Frames, Outside, Crossed, Stack}
 use Rattle.switch_frame.specs.Sets.{callee_isa}
@@ -15,7 +14,7 @@ use Rattle.switch_frame.specs.Records.{Record}
 use Rattle.switch_frame.specs.Chain.{most_frames}
 use Rattle.big_memory.specs.Lists.{zeros}
 use Rattle.switch_frame.specs.Calls.{room_of}
-use Rattle.mode_switch.specs.Wanted.{Crossing, Want, address_of, passed_selector, or_zero}
+use Rattle.mode_switch.specs.Wanted.{Crossing, Want, address_of, passed_selector}
 use Rattle.mode_switch.specs.Wanted.Want.{Calls, Jumps, Refuses}
 use Rattle.mode_switch.specs.Passed.{Passage, passed}
 use Rattle.mode_switch.specs.Callee.{below, callee_sp, stack_of, fresh, return_sp}
@@ -35,16 +34,12 @@ suspended c range p =
       kind = c.kind;
       caller = p.caller;
       info = c.info;
-      selector = or_zero c.selector;
+      selector = unwrap_or c.selector 0;
       target = address_of c.target;
       lo = range.0;
       hi = range.1;
       want = return_sp (callee_isa c.kind) c.sig (passed_selector c) (sp_in c range);
     }
-
--- the callee's registers
-abbrev pub started : Crossing → ℕ × ℕ → Passage → Active
-started c range p = fresh (callee_isa c.kind) c.sig (passed_selector c) p.args (sp_in c range) p.entry
 
 -- the state in which the callee starts: its stack ends where the frame begins, and in the memory beside the frames
 -- the frame's range is 0
@@ -52,7 +47,7 @@ abbrev pub entered : State → Crossing → ℕ × ℕ → Passage → State
 entered s c range p =
     record s {
       memory = put (sp_in c range) (stack_of (callee_isa c.kind) c.sig (passed_selector c) p.args ++ zeros (range.1 - range.0)) s.memory;
-      active = started c range p;
+      active = fresh (callee_isa c.kind) c.sig (passed_selector c) p.args (sp_in c range) p.entry;
       callers = suspended c range p ∷ s.callers;
     }
 

@@ -1,5 +1,5 @@
 -- Runs of steps.
-use Rattle.std.specs.Prelude.{◌≡◌, ℕ, zero, suc, ◌<◌, nat_lt, Bool, true, false, List, [], ◌++◌, length}
+use Rattle.std.specs.Prelude.{◌≡◌, ℕ, zero, suc, nat_lt, Bool, true, false, List, [], ◌++◌, length}
 use Rattle.mix_bits.specs.declared.fault.Fault.{Fault}
 use Rattle.mixed_machine.specs.State.{State}
 use Rattle.mixed_machine.specs.Next.{Next}
@@ -49,13 +49,11 @@ Leads d j s t = exec_to d j s ≡ Ended Limited t 0
 -- what a step puts on the output, and what it puts on the trace
 abbrev pub said_of : Next → List ℕ
 said_of (Goes t effects) = effects.said
-said_of (Exits code) = []
-said_of (Faults fault) = []
+said_of _ = []
 
 abbrev pub line_of : Next → List ℕ
 line_of (Goes t effects) = effects.line
-line_of (Exits code) = []
-line_of (Faults fault) = []
+line_of _ = []
 
 abbrev pub log_then : (Next → List ℕ) → Next → (State → List ℕ) → List ℕ
 log_then pick (Goes t effects) rest = pick (Goes t effects) ++ rest t
@@ -70,18 +68,9 @@ log pick (suc n) s = log_then pick (step s) (log pick n)
 -- a step that goes on, to this state
 abbrev pub GoesTo : Next → State → Type 0
 GoesTo (Goes t effects) u = u ≡ t
-GoesTo (Exits code) u = ⊥
-GoesTo (Faults fault) u = ⊥
+GoesTo _ u = ⊥
 
--- a step that puts something on the output, and one that puts something on the trace
-abbrev pub Says : Next → Type 0
-Says x = 0 < length (said_of x)
-
-abbrev pub Tells : Next → Type 0
-Tells x = 0 < length (line_of x)
-
--- and one that reads the input
+-- a step that reads the input
 abbrev pub Reads : Next → Type 0
 Reads (Goes t effects) = effects.reads ≡ true
-Reads (Exits code) = ⊥
-Reads (Faults fault) = ⊥
+Reads _ = ⊥

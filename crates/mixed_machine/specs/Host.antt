@@ -1,11 +1,12 @@
 -- Host calls and traps in a run.
-use Rattle.std.specs.Prelude.{ℕ, ◌==◌, if◌then◌else◌, List, [], Option, Some, None}
+use Rattle.std.specs.Prelude.{ℕ, ◌==◌, if◌then◌else◌, [], Option, Some, None}
+use Rattle.std.specs.Option.{option_map_or}
 use Rattle.mix_bits.specs.declared.fault.FaultKind.TheVariants.{NoTrap}
 use Rattle.m68_isa.specs.declared.registers.Regs68.{Regs68}
 use Rattle.switch_frame.specs.declared.active.Active.{Active}
 use Rattle.switch_frame.specs.declared.active.Active.TheVariants.{M68, Ppc}
 use Rattle.routine_desc.specs.Layout.{mixed_mode_magic}
-use Rattle.toolbox.specs.Effects.{Ask, Effects as HostEffects}
+use Rattle.toolbox.specs.Effects.{Effects as HostEffects}
 use Rattle.toolbox.specs.Functions.{trap_number}
 use Rattle.toolbox.specs.Host.{Host, Hosted, host}
 use Rattle.toolbox.specs.Host.Hosted.{Goes as GoesOn, Crosses, Leaves, Stops}
@@ -22,12 +23,9 @@ abbrev pub host_of : State → Host
 host_of s = record { active = s.active; resources = record { memory = seen s; heap = s.heap; around = s.around } }
 
 -- an ask has a line of the trace
-abbrev pub line_of_ask : Option Ask → List ℕ
-line_of_ask None = []
-line_of_ask (Some a) = ask_line a.slot a.word a.answer
-
 abbrev pub effects_of : HostEffects → Effects
-effects_of e = record { said = e.said; line = line_of_ask e.asked; reads = e.reads }
+effects_of e =
+    record { said = e.said; line = option_map_or (λ a. ask_line a.slot a.word a.answer) e.asked []; reads = e.reads }
 
 -- the state after a host call
 abbrev pub after_host : State → Host → State

@@ -27,13 +27,10 @@ leaves_with s outer sig (Ok d) =
     Goes (record (with_seen d.memory s) { active = d.file; callers = outer }) (traced (ret_line sig d.value))
 leaves_with s outer sig (Err e) = access_fault s e
 
--- by the signature of the call
-abbrev pub leaves_by : State → Record → List Record → Signature → Next
-leaves_by s r outer sig = leaves_with s outer sig (given_back (seen s) sig s.active r.caller)
-
--- every live frame's procInfo has a signature
+-- by the signature of the call: every live frame's procInfo has one
 unfoldable pub leaves : State → Record → List Record → Next
-leaves s r outer = leaves_by s r outer (signature_in r.info)
+leaves s r outer =
+    leaves_with s outer (signature_in r.info) (given_back (seen s) (signature_in r.info) s.active r.caller)
 
 -- whether a callee is at its return gate, with the stack pointer that is expected of it
 abbrev pub is_return : Active → Record → Bool

@@ -15,5 +15,6 @@ pub mod Runs
 pub mod RunsClauses
 pub mod State
 pub mod Step
+pub mod StepClauses
 pub mod laws
 pub mod inner

@@ -32,13 +32,9 @@ flat b active around =
       start_sp = b.start_sp;
     }
 
--- its suspended callers stand in a whole chain of frames
-abbrev pub HasChain : Body → Type 0
-HasChain b = Chain b.ram b.top (callers_of b)
-
--- a whole machine while a set is active
+-- a whole machine while a set is active: its suspended callers stand in a whole chain of frames
 pub record IsWhole (b : Body) (set : Isa) : Type 0 where
-  pub chain : HasChain b
+  pub chain : Chain b.ram b.top (callers_of b)
   pub active : set ≡ active_set b.main (callers_of b)
   pub outermost : IsOutermost b.main (callers_of b)
   pub page : HasGatePage b.a5 (memory_of b)

@@ -1,11 +1,11 @@
 -- A run of the machine over an output and a trace. The input, the output or the trace may stop it.
-use Rattle.std.specs.Prelude.{◌≡◌, ℕ, suc, ◌-◌, ◌<◌, ◌≤◌}
+use Rattle.std.specs.Prelude.{◌≡◌, ℕ, suc, ◌-◌, ◌<◌, ◌≤◌, length}
 use Rattle.mix_io.specs.Streams.{Output, Grows, Breaks}
 use Rattle.mixed_machine.specs.declared.stop.Stop.{Stop}
 use Rattle.mixed_machine.specs.declared.stop.Stop.TheVariants.{Exit, Fault, Limit, ReadFault, OutFault, TraceFault}
 use Rattle.mixed_machine.specs.State.{State}
 use Rattle.mixed_machine.specs.Step.{step}
-use Rattle.mixed_machine.specs.Exec.{How, Leads, GoesTo, Says, Tells, Reads, exec_to, log, said_of, line_of}
+use Rattle.mixed_machine.specs.Exec.{How, Leads, GoesTo, Reads, exec_to, log, said_of, line_of}
 use Rattle.mixed_machine.specs.Exec.How.{Limited, Exited, Faulted}
 use Rattle.mixed_machine.specs.Exec.End.{Ended}
 
@@ -39,7 +39,7 @@ pub record OutBroke (d n left : ℕ) (s t : State) (old new : Sinks) : Type 0 wh
   pub some : 0 < left
   pub fewer : left ≤ n
   pub leads : Leads d (n - left) s t
-  pub says : Says (step t)
+  pub says : 0 < length (said_of (step t))
   pub said : Breaks old.out new.out (log said_of (n - left) s) (said_of (step t))
   pub traced : Grows old.trace new.trace (log line_of (n - left) s)
 
@@ -49,7 +49,7 @@ pub record TraceBroke (d n left : ℕ) (s t : State) (old new : Sinks) : Type 0 
   pub fewer : left < n
   pub leads : Leads d (n - suc left) s last
   pub goes : GoesTo (step last) t
-  pub tells : Tells (step last)
+  pub tells : 0 < length (line_of (step last))
   pub said : Grows old.out new.out (log said_of (n - left) s)
   pub traced : Breaks old.trace new.trace (log line_of (n - suc left) s) (line_of (step last))
 

@@ -26,7 +26,8 @@ use Rattle.args_ppc.specs.Words.{selector_in as selector_in_ppc}
 use Rattle.switch_frame.specs.Sets.{caller_isa, kind_of}
 use Rattle.mode_switch.specs.declared.wanted.Target.{Target}
 use Rattle.mode_switch.specs.declared.wanted.Target.TheVariants.{Code, Vector}
-use Rattle.mode_switch.specs.Wanted.{Want, call_of_record, described, goes_by, loaded_or_fault, matched, raw_call, raw_signature, selector_68k, selector_ppc, settled, taken, takes_68k, takes_by, takes_ppc, target_of, wants_68k, wants_desc_ppc, wants_ppc, wants_raw, wants_word}
+use Rattle.mode_switch.specs.Wanted.{Want, call_of_record, goes_by, matched, raw_call, selector_68k, selector_ppc, settled, taken, takes_68k, takes_by, takes_ppc, target_of, wants_68k, wants_ppc, wants_raw, wants_word}
+use Rattle.mode_switch.specs.inner.Parts.{described, loaded_or_fault, raw_signature, wants_desc_ppc}
 use Rattle.mode_switch.specs.laws.Wanted.{Means}
 use Rattle.mode_switch.specs.laws.Laws.{MeansWhatItWants}
 use Rattle.mode_switch.specs.Wanted.Want.{Calls}

@@ -5,4 +5,5 @@ pub mod Returned
 pub mod ReturnedClauses
 pub mod Views
 pub mod Wanted
+pub mod inner
 pub mod laws

@@ -1,6 +1,8 @@
 -- What code wants when it switches modes: 68K code by a routine descriptor at its pc, PowerPC code by the host function
 -- CallUniversalProc (Inside Macintosh: PowerPC System Software, chapter 2; the order of the tests is this project's own).
-use Rattle.std.specs.Prelude.{ℕ, ◌==◌, Bool, true, false, not, ◌&&◌, if◌then◌else◌, List, [], ◌∷◌, Option, Some, None, Result, Ok, Err}
+use Rattle.std.specs.Prelude.{ℕ, ◌==◌, Bool, true, false, not, ◌&&◌, if◌then◌else◌, List, [], ◌∷◌, Option, Some, None, unwrap_or, Result, Ok, Err}
+use Rattle.std.specs.Option.{ok_or}
+use Rattle.std.specs.Result.{result_map_both}
 use Rattle.mix_bits.specs.Results.{◌>>=◌}
 use Rattle.mix_bits.specs.declared.fault.Fault.{Fault}
 use Rattle.mix_bits.specs.declared.fault.FaultKind.TheVariants.{BadDesc as IsBadDesc, Info as IsInfo, Mismatch, NoRecord}
@@ -11,7 +13,6 @@ use Rattle.big_memory.specs.declared.refusals.Access.{Access}
 use Rattle.mix_bits.specs.Faults.{fault_at}
 use Rattle.big_memory.specs.Faults.{fault_of}
 use Rattle.big_memory.specs.Memory.{Memory, loaded}
-use Rattle.proc_info.specs.declared.bad_info.BadInfo.{BadInfo}
 use Rattle.proc_info.specs.Codes.{bad_info_code, is_dispatched}
 use Rattle.proc_info.specs.Signature.{Signature, signature_in, signature_of}
 use Rattle.routine_desc.specs.declared.record.Rec.{Rec}
@@ -74,11 +75,6 @@ settled (Err fault) = Refuses fault
 abbrev pub bad_desc : ℕ → ℕ → BadDesc → Fault
 bad_desc pc at bad = record { kind = IsBadDesc; pc = pc; detail = at; also = bad_desc_code bad }
 
--- its records
-abbrev pub described : ℕ → ℕ → Result (List Rec) BadDesc → Result (List Rec) Fault
-described pc at (Ok records) = Ok records
-described pc at (Err bad) = Err (bad_desc pc at bad)
-
 -- the selector of a dispatched call in 68K code, at whose A7 the return address is, or the refusal of its bytes
 abbrev pub selector_68k : Signature → Regs68 → Memory → Result (Option ℕ) Access
 selector_68k sig r m = if is_dispatched sig.conv then (selector_in_68k sig r m >>= λ v. Ok (Some v)) else Ok None
@@ -87,10 +83,6 @@ selector_68k sig r m = if is_dispatched sig.conv then (selector_in_68k sig r m >
 abbrev pub selector_among_68k : List Rec → Regs68 → Memory → Result (Option ℕ) Access
 selector_among_68k [] r m = Ok None
 selector_among_68k (first ∷ others) r m = selector_68k (signature_in first.info) r m
-
-abbrev pub loaded_or_fault : ℕ → Result (Option ℕ) Access → Result (Option ℕ) Fault
-loaded_or_fault pc (Ok selector) = Ok selector
-loaded_or_fault pc (Err access) = Err (fault_of pc access)
 
 -- the selector of a dispatched call by CallUniversalProc
 abbrev pub selector_ppc : Signature → RegsPpc → Option ℕ
@@ -101,13 +93,8 @@ selector_among_ppc [] r = None
 selector_among_ppc (first ∷ others) r = selector_ppc (signature_in first.info) r
 
 -- the record that was chosen
-abbrev pub or_zero : Option ℕ → ℕ
-or_zero None = 0
-or_zero (Some v) = v
-
 abbrev pub taken : ℕ → Option ℕ → Option Rec → Result Rec Fault
-taken pc selector (Some rec) = Ok rec
-taken pc selector None = Err (fault_at pc NoRecord (or_zero selector))
+taken pc selector rec = ok_or rec (fault_at pc NoRecord (unwrap_or selector 0))
 
 -- the call of a record by code of a set
 abbrev pub call_of_record : Isa → Rec → Option ℕ → Crossing
@@ -123,7 +110,7 @@ call_of_record caller rec selector =
 
 -- what code at pc wants at the descriptor at an address, of whose records it takes what it does
 abbrev pub wants_desc : Memory → ℕ → ℕ → (List Rec → Result Want Fault) → Result Want Fault
-wants_desc m pc at takes = described pc at (desc_of m at) >>= takes
+wants_desc m pc at takes = result_map_both (λ records. records) (bad_desc pc at) (desc_of m at) >>= takes
 
 -- 68K code
 
@@ -134,30 +121,25 @@ goes_by (Vector address) rec selector = Calls (call_of_record set_m68 rec select
 
 abbrev pub takes_68k : Memory → Regs68 → List Rec → Result Want Fault
 takes_68k m r records =
-    loaded_or_fault r.pc (selector_among_68k records r m) >>= λ selector.
+    result_map_both (λ selector. selector) (fault_of r.pc) (selector_among_68k records r m) >>= λ selector.
     taken r.pc selector (choice records set_m68 selector) >>= λ rec.
     Ok (goes_by (target_of rec) rec selector)
 
 -- the descriptor stands at pc
-abbrev pub wants_desc_68k : Memory → Regs68 → Result Want Fault
-wants_desc_68k m r = wants_desc m r.pc r.pc (takes_68k m r)
-
 abbrev pub wants_68k : Memory → Regs68 → Want
-wants_68k m r = settled (wants_desc_68k m r)
+wants_68k m r = settled (wants_desc m r.pc r.pc (takes_68k m r))
 
 -- PowerPC code, with a universal pointer and a procInfo
 
 -- raw 68K code at the pointer
-abbrev pub raw_signature : ℕ → ℕ → Result Signature BadInfo → Result Signature Fault
-raw_signature pc info (Ok sig) = Ok sig
-raw_signature pc info (Err bad) = Err (record { kind = IsInfo; pc = pc; detail = info; also = bad_info_code bad })
-
 abbrev pub raw_call : RegsPpc → ℕ → ℕ → Signature → Crossing
 raw_call r pointer info sig =
     record { kind = PpcToM68; info = info; sig = sig; selector = selector_ppc sig r; passes = is_dispatched sig.conv; target = Code pointer }
 
 abbrev pub wants_raw : RegsPpc → ℕ → ℕ → Result Want Fault
-wants_raw r pointer info = raw_signature r.pc info (signature_of info) >>= λ sig. Ok (Calls (raw_call r pointer info sig))
+wants_raw r pointer info =
+    result_map_both (λ sig. sig) (λ bad. record { kind = IsInfo; pc = r.pc; detail = info; also = bad_info_code bad })
+    (signature_of info) >>= λ sig. Ok (Calls (raw_call r pointer info sig))
 
 -- a descriptor at the pointer
 abbrev pub matched : ℕ → ℕ → ℕ → Result (Unit {0}) Fault
@@ -172,12 +154,10 @@ takes_by r info records selector = taken r.pc selector (choice records set_ppc s
 abbrev pub takes_ppc : RegsPpc → ℕ → List Rec → Result Want Fault
 takes_ppc r info records = takes_by r info records (selector_among_ppc records r)
 
-abbrev pub wants_desc_ppc : Memory → RegsPpc → ℕ → ℕ → Result Want Fault
-wants_desc_ppc m r pointer info = wants_desc m r.pc pointer (takes_ppc r info)
-
 -- the word at the pointer tells which of them stands there
 abbrev pub wants_word : Memory → RegsPpc → ℕ → ℕ → Result ℕ Access → Result Want Fault
-wants_word m r pointer info (Ok word) = if word == mixed_mode_magic then wants_desc_ppc m r pointer info else wants_raw r pointer info
+wants_word m r pointer info (Ok word) =
+    if word == mixed_mode_magic then wants_desc m r.pc pointer (takes_ppc r info) else wants_raw r pointer info
 wants_word m r pointer info (Err access) = Err (bad_desc r.pc pointer IsAccess)
 
 abbrev pub wants_ppc : Memory → RegsPpc → ℕ → ℕ → Want

@@ -3,7 +3,8 @@ ghost use Rattle.std.specs.Prelude.{◌≡◌};
 ghost use Rattle.proc_info.specs.Views.{signature};
 ghost use Rattle.mode_switch.specs.Views.{wanted_of};
 ghost use Rattle.mode_switch.specs.laws.Wanted.{Means};
-ghost use Rattle.mode_switch.specs.Wanted.{goes_by as goes_by_lem, loaded_or_fault, selector_68k as selector_68k_lem, selector_among_68k, takes_68k as takes_68k_lem, target_of as target_of_lem, wants_68k as wants_68k_lem};
+ghost use Rattle.mode_switch.specs.Wanted.{goes_by as goes_by_lem, selector_68k as selector_68k_lem, selector_among_68k, takes_68k as takes_68k_lem, target_of as target_of_lem, wants_68k as wants_68k_lem};
+ghost use Rattle.mode_switch.specs.inner.Parts.{loaded_or_fault};
 
 use crate::descriptor::{Asker, wants_desc};
 use crate::records::{call_of, no_record, target_of};

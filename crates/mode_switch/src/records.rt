@@ -1,11 +1,11 @@
 // What both sets ask of a routine descriptor.
-ghost use Rattle.std.specs.Prelude.{◌≡◌, ◌&&◌, not};
+ghost use Rattle.std.specs.Prelude.{◌≡◌, ◌&&◌, not, unwrap_or};
 ghost use Rattle.mix_bits.specs.Faults.{fault_at};
 ghost use Rattle.mix_bits.specs.declared.fault.FaultKind.TheVariants.{NoRecord};
 ghost use Rattle.proc_info.specs.Codes.{is_dispatched};
 ghost use Rattle.routine_desc.specs.Layout.{has_flag};
 ghost use Rattle.mode_switch.specs.Views.{crossing, wanted_of};
-ghost use Rattle.mode_switch.specs.Wanted.{bad_desc as bad_desc_lem, call_of_record, or_zero, target_of as target_of_lem};
+ghost use Rattle.mode_switch.specs.Wanted.{bad_desc as bad_desc_lem, call_of_record, target_of as target_of_lem};
 ghost use Rattle.mode_switch.specs.Wanted.Want.{Refuses};
 
 use crate::{Call, Target, Wanted};
@@ -29,7 +29,7 @@ pub fn bad_desc(pc: u32, at: u32, bad: BadDesc) -> Fault
 /// No record was chosen.
 #[cold]
 pub fn no_record(pc: u32, selector: Option<u32>) -> Wanted
-    ensures { wanted_of result ≡ Refuses (fault_at pc NoRecord (or_zero selector)) }
+    ensures { wanted_of result ≡ Refuses (fault_at pc NoRecord (unwrap_or selector 0)) }
 {
     Wanted::Refuses(Fault::at(pc, FaultKind::NoRecord, selector.unwrap_or(0)))
 }

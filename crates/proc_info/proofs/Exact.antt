@@ -18,7 +18,8 @@ use Rattle.proc_info.specs.declared.param.Param.{Param}
 use Rattle.proc_info.specs.Codes.{conv_at, shape_of, size_at, size_code, is_place}
 use Rattle.proc_info.specs.CodesClauses.{conv_code}
 use Rattle.proc_info.specs.Rules.{IsParam, IsRest, KeepsRules}
-use Rattle.proc_info.specs.Signature.{Signature, base, most_params, param_at, params_at, unless_twice, on_stack, with_selector, in_registers, signature_by, signature_of}
+use Rattle.proc_info.specs.Signature.{Signature, base, most_params, param_at, params_at, signature_by, signature_of}
+use Rattle.proc_info.specs.inner.Shapes.{unless_twice, on_stack, with_selector, in_registers}
 use Rattle.proc_info.specs.SignatureClauses.{digit_of_param, params_word, word_by, word_of}
 use Rattle.proc_info.proofs.Params.{params_zero, params_next}
 

@@ -13,7 +13,8 @@ use Rattle.proc_info.specs.declared.conv.Shape.TheVariants.{Stack, Dispatched, R
 use Rattle.proc_info.specs.declared.param.Param.{Param}
 use Rattle.proc_info.specs.declared.sig.Sig.{Sig}
 use Rattle.proc_info.specs.Codes.{conv_at, shape_of, size_at, is_place}
-use Rattle.proc_info.specs.Signature.{Signature, params_at, is_twice, unless_twice, with_selector, in_registers, signature_by, signature_of}
+use Rattle.proc_info.specs.Signature.{Signature, params_at, is_twice, signature_by, signature_of}
+use Rattle.proc_info.specs.inner.Shapes.{unless_twice, with_selector, in_registers}
 use Rattle.proc_info.specs.SignatureClauses.{word_of}
 use Rattle.proc_info.specs.Views.{answered, signature}
 use Rattle.proc_info.specs.Rules.{KeepsRules}

@@ -4,7 +4,8 @@ use Rattle.mix_bits.specs.Results.{◌>>=◌}
 use Rattle.proc_info.specs.declared.bad_info.BadInfo.{BadInfo}
 use Rattle.proc_info.specs.declared.bad_info.BadInfo.TheVariants.{Twice}
 use Rattle.proc_info.specs.declared.param.Param.{Param}
-use Rattle.proc_info.specs.Signature.{Signature, is_twice, unless_twice}
+use Rattle.proc_info.specs.Signature.{Signature, is_twice}
+use Rattle.proc_info.specs.inner.Shapes.{unless_twice}
 
 -- a test that refused nothing
 pub tested : (refused : Bool) (e : BadInfo) (r : Result Signature BadInfo) (s : Signature) → (if refused then Err e else r) ≡ Ok s → (refused ≡ false) × (r ≡ Ok s)

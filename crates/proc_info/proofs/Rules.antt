@@ -13,7 +13,8 @@ use Rattle.proc_info.specs.declared.conv.Shape.TheVariants.{Stack, Dispatched, R
 use Rattle.proc_info.specs.declared.param.Param.{Param}
 use Rattle.proc_info.specs.Codes.{conv_at, shape_of, size_at, size_code, is_place}
 use Rattle.proc_info.specs.Rules.{IsParam, IsRest, KeepsRules}
-use Rattle.proc_info.specs.Signature.{Signature, base, most_params, param_at, params_at, on_stack, with_selector, in_registers, signature_by, signature_of}
+use Rattle.proc_info.specs.Signature.{Signature, base, most_params, param_at, params_at, signature_by, signature_of}
+use Rattle.proc_info.specs.inner.Shapes.{on_stack, with_selector, in_registers}
 use Rattle.proc_info.specs.SignatureClauses.{word_of}
 use Rattle.proc_info.specs.inner.Signature.{IsSignature}
 use Rattle.proc_info.proofs.Makes.{made, made_once, tested}

@@ -12,7 +12,8 @@ use Rattle.proc_info.specs.declared.param.Param.{Param}
 use Rattle.proc_info.specs.Codes.{conv_at, shape_of, size_at, size_code, is_place}
 use Rattle.proc_info.specs.CodesClauses.{conv_code}
 use Rattle.proc_info.proofs.Makes.{made, made_once, tested}
-use Rattle.proc_info.specs.Signature.{Signature, base, no_parameters, param_at, params_at, on_stack, with_selector, in_registers, signature_by, signature_of}
+use Rattle.proc_info.specs.Signature.{Signature, base, no_parameters, param_at, params_at, signature_by, signature_of}
+use Rattle.proc_info.specs.inner.Shapes.{on_stack, with_selector, in_registers}
 use Rattle.proc_info.specs.SignatureClauses.{digit_of_param, params_word, word_by, word_of}
 use Rattle.proc_info.specs.inner.Signature.{IsSignature}
 

@@ -43,13 +43,10 @@ abbrev pub dispatch_of : Conv → Dispatch
 dispatch_of conv = (row conv).3
 
 -- the shape of a convention's words
-abbrev pub stack_shape : Dispatch → Shape
-stack_shape Nowhere = Stack
-stack_shape _ = Dispatched
-
 abbrev pub shape_by : Route → Dispatch → Shape
-shape_by Registers dispatch = InRegisters
-shape_by _ dispatch = stack_shape dispatch
+shape_by Registers _ = InRegisters
+shape_by _ Nowhere = Stack
+shape_by _ _ = Dispatched
 
 abbrev pub shape_of : Conv → Shape
 shape_of conv = shape_by (row conv).2 (row conv).3

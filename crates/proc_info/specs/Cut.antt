@@ -5,6 +5,5 @@ use Rattle.proc_info.specs.declared.param.Param.{Param}
 
 -- each value cut to its parameter's size
 abbrev pub cut : List Param → List ℕ → List ℕ
-cut [] vs = []
-cut (p ∷ ps) [] = []
 cut (p ∷ ps) (v ∷ vs) = truncated v p.size ∷ cut ps vs
+cut _ _ = []

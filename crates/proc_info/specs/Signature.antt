@@ -2,6 +2,7 @@
 -- (Inside Macintosh: PowerPC System Software, chapter 2).
 use Rattle.std.specs.Prelude.{ℕ, zero, suc, ◌/◌, ◌%◌, ◌^◌, Bool, false, not, Result, Ok, Err, is_ok, if◌then◌else◌, ◌==◌, ◌||◌, List, [], ◌∷◌}
 use Rattle.std.specs.List.{list_any}
+use Rattle.std.specs.Result.{result_unwrap_or}
 use Rattle.mix_bits.specs.Results.{◌>>=◌}
 use Rattle.mix_bits.specs.declared.size.Size.{Size}
 use Rattle.mix_bits.specs.declared.size.Size.TheVariants.{Zero}
@@ -24,9 +25,8 @@ pub record Signature : Type 0 where
 
 -- a word has one digit of this base for each parameter
 abbrev pub base : Shape → ℕ
-base Stack = 4
-base Dispatched = 4
 base Registers = 32
+base _ = 4
 
 -- how many parameters there may be
 abbrev pub most_params : Shape → ℕ
@@ -36,9 +36,8 @@ most_params Registers = 4
 
 -- the parameter that the lowest digit says: its size, and above that its register
 abbrev pub param_at : Shape → ℕ → Param
-param_at Stack v = record { size = size_at (v % 4); reg = 0 }
-param_at Dispatched v = record { size = size_at (v % 4); reg = 0 }
 param_at Registers v = record { size = size_at (v % 4); reg = v / 4 % 8 }
+param_at _ v = record { size = size_at (v % 4); reg = 0 }
 
 -- The parameters that a number's digits say, the lowest digit first, at most `most` of them: they end where all
 -- digits that are left are 0; a digit of size 0 at or before another digit than 0 is a gap.
@@ -54,31 +53,23 @@ abbrev pub is_twice : List Param → Bool
 is_twice [] = false
 is_twice (p ∷ ps) = list_any (λ q. q.reg == p.reg) ps || is_twice ps
 
--- the signature, if it names no register twice
-abbrev pub unless_twice : Signature → Result Signature BadInfo
-unless_twice s = if is_twice s.params then Err Twice else Ok s
-
--- the signatures of a word that has these parameters, in the three shapes
-abbrev pub on_stack : Conv → ℕ → List Param → Signature
-on_stack conv w ps = record { conv = conv; result = size_at (w / 16 % 4); place = 0; selector = Zero; params = ps }
-
-abbrev pub with_selector : Conv → ℕ → List Param → Signature
-with_selector conv w ps = record { conv = conv; result = size_at (w / 16 % 4); place = 0; selector = size_at (w / 64 % 4); params = ps }
-
-abbrev pub in_registers : Conv → ℕ → List Param → Signature
-in_registers conv w ps = record { conv = conv; result = size_at (w / 16 % 4); place = w / 64 % 32; selector = Zero; params = ps }
+-- the signature of a word that has these parameters, with a place of the result and a selector's size
+abbrev pub of_word : Conv → ℕ → ℕ → Size → List Param → Signature
+of_word conv w place selector ps =
+    record { conv = conv; result = size_at (w / 16 % 4); place = place; selector = selector; params = ps }
 
 -- the signature of a word whose convention has this shape: the result's size stands in bits 4 and 5, on top of it
 -- the selector's size or the result's place where the shape has one, and then the parameters
 unfoldable pub signature_by : Shape → Conv → ℕ → Result Signature BadInfo
-signature_by Stack conv w = params_at Stack (most_params Stack) (w / 64) >>= λ ps. Ok (on_stack conv w ps)
+signature_by Stack conv w = params_at Stack (most_params Stack) (w / 64) >>= λ ps. Ok (of_word conv w 0 Zero ps)
 signature_by Dispatched conv w =
     if w / 64 % 4 == 0 then Err Gap else
-    (params_at Dispatched (most_params Dispatched) (w / 256) >>= λ ps. Ok (with_selector conv w ps))
+    (params_at Dispatched (most_params Dispatched) (w / 256) >>= λ ps. Ok (of_word conv w 0 (size_at (w / 64 % 4)) ps))
 signature_by Registers conv w =
     if not (w / 2 ^ 31 == 0) then Err TopBit else
     (if not (is_place (w / 64 % 32) (size_at (w / 16 % 4))) then Err Place else
-    (params_at Registers (most_params Registers) (w / 2048) >>= λ ps. unless_twice (in_registers conv w ps)))
+    (params_at Registers (most_params Registers) (w / 2048) >>= λ ps.
+    if is_twice ps then Err Twice else Ok (of_word conv w (w / 64 % 32) Zero ps)))
 
 -- the signature of a word, or the first that holds of Convention, TopBit, Place, Gap and Twice
 unfoldable pub signature_of : ℕ → Result Signature BadInfo
@@ -92,10 +83,6 @@ has_signature w = is_ok (signature_of w)
 abbrev pub no_parameters : Signature
 no_parameters = record { conv = Pascal; result = Zero; place = 0; selector = Zero; params = [] }
 
-abbrev pub signed_or : Signature → Result Signature BadInfo → Signature
-signed_or other (Ok s) = s
-signed_or other (Err e) = other
-
--- the signature of a word that has one
+-- the signature of a word, or that of the word 0 where it has none
 abbrev pub signature_in : ℕ → Signature
-signature_in w = signed_or no_parameters (signature_of w)
+signature_in w = result_unwrap_or (signature_of w) no_parameters

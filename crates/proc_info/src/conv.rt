@@ -1,5 +1,5 @@
 ghost use Rattle.std.specs.Prelude.{◌≡◌, ◌<◌};
-ghost use Rattle.proc_info.specs.Codes.{conv_at, dispatch_of, is_dispatched, number_of, row as row_of, shape_of, stack_shape as stack_shape_of};
+ghost use Rattle.proc_info.specs.Codes.{conv_at, dispatch_of, is_dispatched, number_of, row as row_of, shape_by as shape_for, shape_of};
 ghost use Rattle.proc_info.specs.CodesClauses.{conv_code};
 ghost use Rattle.proc_info.specs.Routes.{route_of};
 
@@ -132,11 +132,7 @@ impl Conv {
     pub(crate) fn shape(self) -> Shape
         ensures { result ≡ shape_of self }
     {
-        match self.route() {
-            PascalStack => stack_shape(self.dispatch()),
-            CStack => stack_shape(self.dispatch()),
-            Registers => Shape::Registers,
-        }
+        shape_by(self.route(), self.dispatch())
     }
 
     /// Whether a selector chooses among the routines of one descriptor.
@@ -151,14 +147,13 @@ impl Conv {
     }
 }
 
-/// The shape of words of a convention that has its parameters on the stack.
-fn stack_shape(dispatch: Dispatch) -> Shape
-    ensures { result ≡ stack_shape_of dispatch }
+/// The shape of words of a convention that passes its parameters and its selector so.
+fn shape_by(route: Route, dispatch: Dispatch) -> Shape
+    ensures { result ≡ shape_for route dispatch }
 {
-    match dispatch {
-        Nowhere => Shape::Stack,
-        D0 => Shape::Dispatched,
-        D1 => Shape::Dispatched,
-        OnStack => Shape::Dispatched,
+    match (route, dispatch) {
+        (Registers, _) => Shape::Registers,
+        (_, Nowhere) => Shape::Stack,
+        _ => Shape::Dispatched,
     }
 }

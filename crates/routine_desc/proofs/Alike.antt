@@ -11,8 +11,10 @@ use Rattle.proc_info.specs.declared.conv.Shape.{Shape}
 use Rattle.proc_info.specs.declared.conv.Shape.TheVariants.{Stack, Dispatched, Registers}
 use Rattle.proc_info.specs.declared.param.Param.{Param}
 use Rattle.proc_info.specs.Codes.{conv_at, has_selector, shape_of, size_at, is_dispatched, is_place}
-use Rattle.proc_info.specs.Signature.{Signature, is_twice, in_registers, most_params, on_stack, params_at, signature_by, signature_of, unless_twice, with_selector}
-use Rattle.routine_desc.specs.Read.{is_alike, is_dispatched_in}
+use Rattle.proc_info.specs.Signature.{Signature, is_twice, most_params, params_at, signature_by, signature_of}
+use Rattle.proc_info.specs.inner.Shapes.{in_registers, on_stack, unless_twice, with_selector}
+use Rattle.routine_desc.specs.Read.{is_alike}
+use Rattle.routine_desc.specs.inner.Read.{is_dispatched_in}
 use Rattle.routine_desc.specs.laws.Laws.{IsCalledLike}
 use Rattle.routine_desc.proofs.RecordChains.{chain_done, if_refused, ok_same, same_parts}
 

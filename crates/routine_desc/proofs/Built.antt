@@ -10,7 +10,8 @@ use Rattle.big_memory.proofs.Lists.{drop-put, length-put}
 use Rattle.proc_info.specs.Signature.{Signature, signature_of}
 use Rattle.routine_desc.specs.declared.record.Rec.{Rec}
 use Rattle.routine_desc.specs.Layout.{bad_header, code_at}
-use Rattle.routine_desc.specs.Read.{read_record, first_records, unless_broken, body_of, desc_of, if_alike, all_alike}
+use Rattle.routine_desc.specs.Read.{read_record, first_records, body_of, desc_of, all_alike}
+use Rattle.routine_desc.specs.inner.Read.{unless_broken, if_alike}
 use Rattle.routine_desc.specs.inner.Build.{IsPut}
 use Rattle.routine_desc.specs.Build.{header_bytes, record_bytes, image}
 use Rattle.routine_desc.specs.BuildClauses.{asked_record, asked, ReadsBack}

@@ -12,7 +12,8 @@ use Rattle.routine_desc.specs.declared.record.Rec.{Rec}
 use Rattle.routine_desc.specs.declared.record.BadDesc.{BadDesc}
 use Rattle.routine_desc.specs.declared.record.BadDesc.TheVariants.{Access, Magic, Version, Reserved, Count, Isa, Flags, Mixed}
 use Rattle.routine_desc.specs.Layout.{are_good_flags, bad_header, bad_record, code_at, is_cfm, isa_of, record_at, target_of}
-use Rattle.routine_desc.specs.Read.{body_of, first_records, if_alike, if_signed, read_record, unless_broken}
+use Rattle.routine_desc.specs.Read.{body_of, first_records, read_record}
+use Rattle.routine_desc.specs.inner.Read.{if_alike, if_signed, unless_broken}
 use Rattle.routine_desc.specs.laws.Laws.{ReadsItsBytes}
 use Rattle.routine_desc.proofs.RecordChains.{none_broken}
 use Rattle.routine_desc.proofs.Held.{desc-read, length-first, next}

@@ -8,8 +8,8 @@ use Rattle.std.specs.Borrow.{Bor}
 use Rattle.routine_desc.specs.Layout.{has_flag}
 use Rattle.routine_desc.specs.RecordViews.{picked}
 use Rattle.mix_bits.specs.Isas.{is_isa}
-use Rattle.routine_desc.specs.inner.Choice.{Found, Scan, chosen_of, found_before, found_of, matches_selector, or_else, scan_of}
-use Rattle.routine_desc.specs.Choice.{candidates, choice, chosen_among, first_of, has_selector, head_of, is_default}
+use Rattle.routine_desc.specs.inner.Choice.{Found, Scan, chosen_of, found_before, found_of, matches_selector, or_else, scan_of, has_selector, head_of, is_default}
+use Rattle.routine_desc.specs.Choice.{candidates, choice, chosen_among, first_of}
 
 -- the head of a filtered list, with one more record before it
 head-filter : (b : Bool) (r : Rec) (rs : List Rec) → head_of (if b then r ∷ rs else rs) ≡ (if b then Some r else head_of rs)

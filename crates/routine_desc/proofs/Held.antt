@@ -8,11 +8,13 @@ use Rattle.mix_bits.specs.Results.{◌>>=◌}
 use Rattle.big_memory.specs.Memory.{Memory, in_memory}
 use Rattle.big_memory.specs.Numbers.{number_at}
 use Rattle.proc_info.specs.declared.bad_info.BadInfo.{BadInfo}
-use Rattle.proc_info.specs.Signature.{Signature, no_parameters, signature_in, signature_of, signed_or}
+use Rattle.std.specs.Result.{result_unwrap_or}
+use Rattle.proc_info.specs.Signature.{Signature, no_parameters, signature_in, signature_of}
 use Rattle.routine_desc.specs.declared.record.Rec.{Rec}
 use Rattle.routine_desc.specs.declared.record.BadDesc.TheVariants.{Access, Magic, Version, Reserved, Count, Mixed}
 use Rattle.routine_desc.specs.Layout.{bad_header, bad_record, record_at}
-use Rattle.routine_desc.specs.Read.{all_alike, body_of, desc_of, first_records, if_alike, if_signed, is_alike, read_record}
+use Rattle.routine_desc.specs.Read.{all_alike, body_of, desc_of, first_records, is_alike, read_record}
+use Rattle.routine_desc.specs.inner.Read.{if_alike, if_signed}
 use Rattle.routine_desc.specs.laws.Laws.{HoldsRecords, InfosAreSigned, RecordsAreAlike}
 use Rattle.routine_desc.proofs.RecordChains.{both, chain_done, if_kept, none_broken, ok_same, unbroken}
 use Rattle.routine_desc.proofs.Alike.{alike-same, called-alike}
@@ -52,7 +54,7 @@ all-first P m a each (suc k) rs h =
     subst (All P) (sym n.whole) (All-push P n.front n.last (all-first P m a each k n.front n.before) (each (a + 12 + 20 * k) n.last n.read))
 
 -- a record that is signed
-if_signed_is : (x : Result Signature BadInfo) (r q : Rec) → if_signed r x ≡ Ok q → (x ≡ Ok (signed_or no_parameters x)) × (r ≡ q)
+if_signed_is : (x : Result Signature BadInfo) (r q : Rec) → if_signed r x ≡ Ok q → (x ≡ Ok (result_unwrap_or x no_parameters)) × (r ≡ q)
 if_signed_is (Ok sig) r q h = (refl, ok_same r q (Ok r) refl h)
 if_signed_is (Err e) r q h = absurd (cc)
 

@@ -3,7 +3,7 @@ use Rattle.std.proofs.Common.{◌≡◌, ℕ, ◌==◌, Bool, true, false, ◌&&
 use Rattle.std.proofs.lemmas.Bool.Decides.{Decides-eqb}
 use Rattle.mix_bits.specs.Results.{◌>>=◌}
 use Rattle.routine_desc.specs.declared.record.BadDesc.{BadDesc}
-use Rattle.routine_desc.specs.Read.{unless_broken}
+use Rattle.routine_desc.specs.inner.Read.{unless_broken}
 
 -- a chain that is done had its first part done
 pub record IsChain (A B E : Type 0) (x : Result A E) (f : A → Result B E) (y : B) : Type 0 where

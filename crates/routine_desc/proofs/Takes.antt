@@ -7,8 +7,8 @@ use Rattle.mix_bits.specs.declared.isa.Isa.TheVariants.{Ppc}
 use Rattle.routine_desc.specs.declared.record.Rec.{Rec}
 use Rattle.routine_desc.specs.Layout.{has_flag}
 use Rattle.mix_bits.specs.Isas.{is_isa}
-use Rattle.routine_desc.specs.Choice.{candidates, chosen_among, first_of, has_selector, head_of, is_default}
-use Rattle.routine_desc.specs.inner.Choice.{or_else}
+use Rattle.routine_desc.specs.Choice.{candidates, chosen_among, first_of}
+use Rattle.routine_desc.specs.inner.Choice.{has_selector, head_of, is_default, or_else}
 use Rattle.routine_desc.specs.laws.Laws.{TakesARecord, TakesNone}
 use Rattle.routine_desc.proofs.ChoiceLemmas.{head-first_of}
 

@@ -3,8 +3,8 @@ ghost use Rattle.std.specs.Prelude.{◌≡◌, ◌≤◌};
 ghost use Rattle.routine_desc.specs.ReadClauses.{records_of};
 ghost use Rattle.routine_desc.specs.inner.Scans.{found as found_kept, scan as scan_kept};
 ghost use Rattle.routine_desc.specs.RecordViews.{picked};
-ghost use Rattle.routine_desc.specs.Choice.{choice, is_default as is_default_lem};
-ghost use Rattle.routine_desc.specs.inner.Choice.{choice_of_one, chosen_of, found_before, matches_selector, scan_of};
+ghost use Rattle.routine_desc.specs.Choice.{choice};
+ghost use Rattle.routine_desc.specs.inner.Choice.{is_default as is_default_lem, choice_of_one, chosen_of, found_before, matches_selector, scan_of};
 
 use super::flags::RoutineFlags;
 use super::record::{Desc, Rec};

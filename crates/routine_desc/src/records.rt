@@ -6,9 +6,9 @@ ghost use Rattle.big_memory.specs.Numbers.{number_at};
 ghost use Rattle.routine_desc.specs.Layout.{are_good_flags, bad_header, bad_record, code_at, record_at, target_of};
 ghost use Rattle.routine_desc.specs.LayoutClauses.{no_record};
 ghost use Rattle.proc_info.specs.Codes.{conv_at};
-ghost use Rattle.routine_desc.specs.inner.Read.{FillsRecord, FillsRecords, ReadsBody};
+ghost use Rattle.routine_desc.specs.inner.Read.{FillsRecord, FillsRecords, ReadsBody, is_dispatched_in};
 ghost use Rattle.routine_desc.specs.ReadClauses.{Counts, FillsBody, Reads, TellsHeader};
-ghost use Rattle.routine_desc.specs.Read.{all_alike as all_alike_lem, is_alike as is_alike_lem, is_dispatched_in};
+ghost use Rattle.routine_desc.specs.Read.{all_alike as all_alike_lem, is_alike as is_alike_lem};
 
 use super::flags::RoutineFlags;
 use super::record::{BadDesc, Desc, MIXED_MODE_MAGIC, MOST_RECORDS, Rec};
@@ -55,7 +55,7 @@ pub fn count_records(ram: &Ram, a: u32) -> Result<u32, BadDesc>
 }
 
 /// Fills the list with all records of a descriptor whose header is good, or answers the first rule that
-/// they break; then the list may hold anything. It leaves the procInfo that was read last with its signature.
+/// they break; then the list may hold anything. It may change `signed`, to the procInfo of any record.
 #[inline(always)]
 pub fn read_all(ram: &Ram, a: u32, recs: &mut [Rec], signed: &mut Signed) -> Result<(), BadDesc>
     requires header { a + 12 ≤ length ram.now.bytes }

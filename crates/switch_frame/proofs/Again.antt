@@ -21,7 +21,8 @@ use Rattle.switch_frame.specs.declared.active.Active.TheVariants.{M68, Ppc}
 use Rattle.switch_frame.specs.declared.kind.Kind.{Kind}
 use Rattle.switch_frame.specs.declared.kind.Kind.TheVariants.{M68ToPpc, PpcToM68, PpcToPpc, M68ToM68}
 use Rattle.switch_frame.specs.Sets.{caller_isa, frame_size, kind_at, kind_code, kind_told}
-use Rattle.switch_frame.specs.Records.{file_at, fill_of, head_of, image, isa_of, longs_of, longs_of_file, m68_at, ppc_at, record_at}
+use Rattle.switch_frame.specs.Records.{file_at, fill_of, head_of, image, isa_of, longs_of_file, record_at, m68_at, ppc_at}
+use Rattle.switch_frame.specs.inner.Parts.{longs_of}
 use Rattle.switch_frame.specs.Chain.{FitsAlone, IsFile, IsHeld}
 use Rattle.switch_frame.specs.Checks.{holds_file}
 use Rattle.switch_frame.proofs.Images.{bit-small, ccr-small, m68-longs, ppc-longs}

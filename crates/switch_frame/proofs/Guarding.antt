@@ -4,7 +4,8 @@ use Rattle.big_memory.specs.Memory.{Memory, IsRam}
 use Rattle.big_memory.specs.MemoryClauses.{with_marks}
 use Rattle.big_memory.specs.Numbers.{long_at}
 use Rattle.switch_frame.specs.Records.{Record}
-use Rattle.switch_frame.specs.Chain.{Chain, Frames, Links, covered, in_range, outer_of, records}
+use Rattle.switch_frame.specs.Chain.{Chain, Frames, Links, covered, outer_of, records}
+use Rattle.switch_frame.specs.ChainClauses.{in_range}
 use Rattle.switch_frame.specs.laws.Chain.{IsFrameRange}
 use Rattle.switch_frame.proofs.Images.{IsReadAt}
 use Rattle.switch_frame.proofs.Linked.{first-back, len-ram}

@@ -13,7 +13,8 @@ use Rattle.mix_bits.specs.declared.isa.Isa.TheVariants.{M68, Ppc}
 use Rattle.switch_frame.specs.Sets.{frame_size}
 use Rattle.switch_frame.specs.Records.{Record, isa_of}
 use Rattle.switch_frame.specs.laws.Chain.{Apart}
-use Rattle.switch_frame.specs.Chain.{Fits, Frames, Chain, covered, in_range, cleared}
+use Rattle.switch_frame.specs.Chain.{Fits, Frames, Chain, covered, cleared}
+use Rattle.switch_frame.specs.ChainClauses.{in_range}
 use Rattle.switch_frame.specs.laws.Laws.{IsStored, StoresBeside, GuardIsFrames, meets_frames}
 use Rattle.big_memory.proofs.Rams.{bytes_keep_ram}
 use Rattle.switch_frame.proofs.Linked.{IsLen, IsRange, frames-kept, len-ram, range-fits}

@@ -15,7 +15,8 @@ use Rattle.switch_frame.specs.declared.kind.Kind.{Kind}
 use Rattle.switch_frame.specs.declared.kind.Kind.TheVariants.{M68ToPpc, PpcToM68, PpcToPpc, M68ToM68}
 use Rattle.big_memory.specs.Numbers.{long_at, longs_at, bytes_of_longs}
 use Rattle.switch_frame.specs.Sets.{caller_isa, kind_code, kind_at, kind_told, frame_size}
-use Rattle.switch_frame.specs.Records.{Record, fill_of, head_of, isa_of, longs_of_file, longs_of, image, m68_at, ppc_at, file_at, record_at}
+use Rattle.switch_frame.specs.Records.{Record, fill_of, head_of, isa_of, longs_of_file, image, file_at, record_at, m68_at, ppc_at}
+use Rattle.switch_frame.specs.inner.Parts.{longs_of}
 use Rattle.switch_frame.specs.Chain.{AreM68, ArePpc, IsFile}
 use Rattle.big_memory.proofs.Numbers.{length_of_bytes, long_of_part, longs_of_part}
 use Rattle.switch_frame.proofs.Pieces.{long-behind, parted}

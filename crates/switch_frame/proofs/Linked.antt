@@ -7,7 +7,8 @@ use Rattle.big_memory.proofs.Lists.{length-put, part-put_apart}
 use Rattle.switch_frame.specs.Sets.{frame_size}
 use Rattle.switch_frame.specs.Records.{Record, isa_of, image}
 use Rattle.switch_frame.specs.laws.Chain.{Above, Apart}
-use Rattle.switch_frame.specs.Chain.{Fits, Frames, outer_of, records, read_chain, depth_at, cleared}
+use Rattle.switch_frame.specs.Chain.{Fits, Frames, outer_of, records, read_chain, cleared}
+use Rattle.switch_frame.specs.inner.Parts.{depth_at}
 use Rattle.big_memory.specs.Lists.{zeros}
 use Rattle.switch_frame.specs.laws.FrameLaws.{FramesAbove}
 use Rattle.switch_frame.specs.laws.Laws.{ReadsBack, ReadsOuter, BeginsEmpty, KeepsLength, TopIsLong}

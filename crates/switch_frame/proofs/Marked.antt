@@ -10,7 +10,7 @@ use Rattle.big_memory.proofs.Lists.{length-put, get_or-put_replicate}
 use Rattle.switch_frame.specs.Sets.{frame_size}
 use Rattle.switch_frame.specs.Records.{isa_of}
 use Rattle.switch_frame.specs.laws.Chain.{IsFrameRange}
-use Rattle.switch_frame.specs.Chain.{in_range}
+use Rattle.switch_frame.specs.ChainClauses.{in_range}
 use Rattle.switch_frame.specs.laws.RangeLaws.{FitsIsRange, MarkAt, MarksKept, MarksSame, RangeMoves, TopTells}
 use Rattle.switch_frame.proofs.Linked.{IsRange, len-ram, range-fits}
 

@@ -15,7 +15,8 @@ use Rattle.switch_frame.specs.Sets.{caller_isa, frame_size, kind_code, kind_at, 
 use Rattle.switch_frame.specs.Records.{Record, isa_of, image, record_at}
 use Rattle.switch_frame.specs.RecordsClauses.{record_of, held_of}
 use Rattle.switch_frame.specs.laws.Chain.{Above, Apart, IsFrameRange}
-use Rattle.switch_frame.specs.Chain.{Fits, Frames, IsHeld, IsInside, Links, Chain, outer_of, records, covered, in_range, cleared, most_frames}
+use Rattle.switch_frame.specs.Chain.{Fits, Frames, IsHeld, IsInside, Links, Chain, outer_of, records, covered, cleared, most_frames}
+use Rattle.switch_frame.specs.ChainClauses.{in_range}
 use Rattle.big_memory.specs.Lists.{zeros}
 use Rattle.switch_frame.specs.CallsClauses.{IsPlace, IsCalled, innermost}
 use Rattle.switch_frame.specs.Innermost.{IsInnermost}

@@ -20,13 +20,9 @@ unfoldable pub read_chain : ℕ → List ℕ → ℕ → List Record
 read_chain zero bytes top = []
 read_chain (suc n) bytes top = record_at top bytes ∷ read_chain n bytes (long_at top bytes)
 
--- how many frames are live, as the innermost one tells
-abbrev pub depth_at : List ℕ → ℕ → ℕ
-depth_at bytes top = if top == 0 then 0 else long_at (top + 28) bytes
-
--- the records of the frames from `top` outward, innermost first
+-- the records of the frames from `top` outward, innermost first, which tells how many are live
 unfoldable pub records : List ℕ → ℕ → List Record
-records bytes top = read_chain (depth_at bytes top) bytes top
+records bytes top = read_chain (if top == 0 then 0 else long_at (top + 28) bytes) bytes top
 
 -- at most so many frames are live
 abbrev pub most_frames : ℕ
@@ -91,13 +87,10 @@ pub record Links (m : Memory) (top : ℕ) (rs : List Record) : Type 0 where
   pub few : length rs ≤ most_frames
   pub frames : Frames (length m.bytes) m.bytes rs
 
--- whether a unit of 16 bytes lies in the range of a record
-abbrev pub in_range : ℕ → ℕ → ℕ → Bool
-in_range lo hi unit = nat_le lo (16 * unit) && nat_lt (16 * unit) hi
-
+-- whether a unit of 16 bytes lies in the range of one of these records
 abbrev pub covered : ℕ → List Record → Bool
 covered unit [] = false
-covered unit (r ∷ rs) = in_range r.lo r.hi unit || covered unit rs
+covered unit (r ∷ rs) = (nat_le r.lo (16 * unit) && nat_lt (16 * unit) r.hi) || covered unit rs
 
 -- a whole chain: its frames stand in memory, and exactly their units are guarded
 pub record Chain (m : Memory) (top : ℕ) (rs : List Record) : Type 0 where

@@ -1,6 +1,7 @@
 pub mod Calls
 pub mod CallsClauses
 pub mod Chain
+pub mod ChainClauses
 pub mod Checks
 pub mod ChecksClauses
 pub mod Files
@@ -12,4 +13,5 @@ pub mod Records
 pub mod RecordsClauses
 pub mod Seen
 pub mod Sets
+pub mod inner
 pub mod laws

@@ -45,13 +45,9 @@ abbrev pub fill_of : Isa → List ℕ
 fill_of set_m68 = 0 ∷ 0 ∷ []
 fill_of set_ppc = 0 ∷ 0 ∷ 0 ∷ []
 
--- the longs of a frame
-abbrev pub longs_of : Record → ℕ → ℕ → List ℕ
-longs_of r outer depth = head_of r outer depth ++ (longs_of_file r.caller ++ fill_of (isa_of r.caller))
-
--- the bytes of a frame
+-- the bytes of a frame: its longs
 abbrev pub image : Record → ℕ → ℕ → List ℕ
-image r outer depth = bytes_of_longs (longs_of r outer depth)
+image r outer depth = bytes_of_longs (head_of r outer depth ++ (longs_of_file r.caller ++ fill_of (isa_of r.caller)))
 
 -- the register file whose longs stand at an address
 abbrev pub m68_at : ℕ → List ℕ → Regs68

@@ -8,15 +8,13 @@ use Rattle.switch_frame.specs.declared.kind.Kind.TheVariants.{M68ToPpc, PpcToM68
 -- the instruction set of the caller, and that of the callee
 abbrev pub caller_isa : Kind → Isa
 caller_isa M68ToPpc = M68
-caller_isa PpcToM68 = Ppc
-caller_isa PpcToPpc = Ppc
 caller_isa M68ToM68 = M68
+caller_isa _ = Ppc
 
 abbrev pub callee_isa : Kind → Isa
-callee_isa M68ToPpc = Ppc
 callee_isa PpcToM68 = M68
-callee_isa PpcToPpc = Ppc
 callee_isa M68ToM68 = M68
+callee_isa _ = Ppc
 
 -- the kind of a call from one set into another
 abbrev pub kind_of : Isa → Isa → Kind

@@ -11,7 +11,8 @@ use Rattle.toolbox.specs.Table.{imports, number_of}
 use Rattle.toolbox.specs.Functions.{function_at}
 use Rattle.toolbox.specs.laws.Names.{ImportsHaveOneNumber, ImportsAreNumbered}
 use Rattle.toolbox.specs.NamesClauses.{IsImportIndex, import_of}
-use Rattle.toolbox.specs.Names.{import_index, is_named}
+use Rattle.toolbox.specs.Names.{import_index}
+use Rattle.toolbox.specs.inner.Parts.{is_named}
 use Rattle.toolbox.proofs.OneNumber.{own-number}
 
 unnamed : (library name : List ℕ) (o : Option (List ℕ × List ℕ)) → o ≢ Some (library, name) → is_named library name o ≡ false

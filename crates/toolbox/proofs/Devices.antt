@@ -20,9 +20,10 @@ use Rattle.toolbox.specs.declared.values.Results.{Results}
 use Rattle.toolbox.specs.declared.function.Function.{Function}
 use Rattle.toolbox.specs.declared.function.Function.TheVariants.{AskDevice, EjectDevice}
 use Rattle.toolbox.specs.declared.outcome.Outcome.TheVariants.{Given, Asked as AskedFor}
-use Rattle.toolbox.specs.Effects.{Around, quiet, results, results_of, answer_in, after_ask, first_answer, noted, holds_device, emptied, no_slot}
+use Rattle.toolbox.specs.Effects.{Around, quiet, results, results_of, answer_in, after_ask, first_answer, noted, holds_device, no_slot}
+use Rattle.toolbox.specs.inner.Parts.{emptied, around_of}
 use Rattle.toolbox.specs.Effects.Effect.{Gives}
-use Rattle.toolbox.specs.Calls.{Input, answers_since, around_of}
+use Rattle.toolbox.specs.Calls.{Input, answers_since}
 use Rattle.toolbox.specs.CallsClauses.{place, ask_of}
 use Rattle.toolbox.specs.inner.Calls.{with_rack}
 use Rattle.toolbox.specs.Calls.Taken.{Nothing}

@@ -9,9 +9,10 @@ use Rattle.toolbox.specs.declared.function.Function.{Function}
 use Rattle.toolbox.specs.declared.function.Function.TheVariants.{CallUniversalProc, UnloadSeg}
 use Rattle.toolbox.specs.declared.table.Row.{Row}
 use Rattle.toolbox.specs.declared.table.TheConstants.{FUNCTIONS, NOWHERE}
-use Rattle.toolbox.specs.Table.{number_of, row, rows}
+use Rattle.toolbox.specs.Table.{number_of, row}
+use Rattle.toolbox.specs.inner.Parts.{rows, has_trap}
 use Rattle.toolbox.specs.laws.Functions.{NumbersAreOwn}
-use Rattle.toolbox.specs.Functions.{function_at, has_trap, trap_number}
+use Rattle.toolbox.specs.Functions.{function_at, trap_number}
 use Rattle.toolbox.specs.FunctionsClauses.{trap_of}
 use Rattle.toolbox.specs.NamesClauses.{IsTrapIndex}
 use Rattle.toolbox.specs.laws.Names.{TrapsAreNumbered, TrapsHaveOneNumber}

@@ -20,11 +20,9 @@ abbrev pub answers_since : State → State → List (Option ℕ)
 answers_since old new = map (λ e. e.answer) (drop (length old.journal) new.journal)
 
 -- what a rack and an input hold for the machine, for some bytes that are left and some answers to come
-abbrev pub around_of : State → List ℕ → List (Option ℕ) → Around
-around_of rack input answers = record { input = input; slots = map is_some rack.slots; asks = rack.journal; answers = answers }
-
 abbrev pub around_at : Outside → List ℕ → List (Option ℕ) → Around
-around_at o input answers = around_of o.rack input answers
+around_at o input answers =
+    record { input = input; slots = map is_some o.rack.slots; asks = o.rack.journal; answers = answers }
 
 -- what a call takes from the input: nothing, a byte, or the news that none is left
 pub data Taken : Type 0 where

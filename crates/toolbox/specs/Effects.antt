@@ -64,14 +64,8 @@ error n = 2 ^ 32 - n
 abbrev pub no_slot : ℕ
 no_slot = error 21
 
-abbrev pub device_failed : ℕ
-device_failed = error 36
-
 abbrev pub no_room : ℕ
 no_room = error 108
-
-abbrev pub no_block : ℕ
-no_block = error 111
 
 -- a block of so many bytes is made, and memory becomes what it then is: the block's address and 0, or 0 and an error
 abbrev pub made_at : Resources → ℕ → (ℕ → Memory) → Option ℕ → Effect
@@ -85,10 +79,10 @@ makes r size memory = made_at r size memory (place_for r.heap size)
 abbrev pub makes_of : Resources → List ℕ → Effect
 makes_of r bytes = makes r (length bytes) (λ a. with_bytes a bytes r.memory)
 
--- the block that begins at an address is given up
+-- the block that begins at an address is given up; error 111 says that none begins there
 abbrev pub disposes : Resources → ℕ → Effect
 disposes r a =
-    Gives (record r { heap = freed r.heap a }) (results (if begins_at r.heap.blocks a then 0 else no_block) 0) quiet
+    Gives (record r { heap = freed r.heap a }) (results (if begins_at r.heap.blocks a then 0 else error 111) 0) quiet
 
 -- bytes are moved as if through another place
 abbrev pub moved_unless : Resources → Memory → Option Access → Effect
@@ -102,23 +96,16 @@ moves r from to n = moved_unless r (copied r.memory from to n) (copy_refusal r.m
 abbrev pub says : Resources → List ℕ → Effect
 says r bytes = Gives r (results 0 0) (record quiet { said = bytes })
 
-abbrev pub says_block : Resources → ℕ → ℕ → Effect
-says_block r a n = if in_memory r.memory a n then says r (part a n r.memory.bytes) else Refuses (Outside a)
-
 -- the first byte of the input is taken, or -1 is given at its end
 abbrev pub takes_from : Resources → List ℕ → Effect
 takes_from r [] = Gives r (results (error 1) 0) (record quiet { reads = true })
 takes_from r (byte ∷ left) =
     Gives (record r { around = record (r.around) { input = left } }) (results byte 0) (record quiet { reads = true })
 
-abbrev pub takes : Resources → Effect
-takes r = takes_from r r.around.input
-
 -- what comes of an ask: the slot is looked at first, then the journal's room
 abbrev pub first_answer : List (Option ℕ) → Answer
-first_answer [] = Failed
-first_answer (None ∷ answers) = Failed
 first_answer (Some word ∷ answers) = Word word
+first_answer _ = Failed
 
 abbrev pub holds_device : Around → ℕ → Bool
 holds_device around slot = slice_index_or around.slots slot false
@@ -135,13 +122,12 @@ noted around slot word answer =
 abbrev pub after_ask : Around → ℕ → ℕ → Answer → Around
 after_ask around slot word (Word answer) = noted around slot word (Some answer)
 after_ask around slot word Failed = noted around slot word None
-after_ask around slot word Empty = around
-after_ask around slot word Full = around
+after_ask around slot word _ = around
 
 -- the error and the answer of an ask
 abbrev pub results_of : Answer → Results
 results_of (Word answer) = results 0 answer
-results_of Failed = results device_failed 0
+results_of Failed = results (error 36) 0
 results_of Empty = results no_slot 0
 results_of Full = results no_room 0
 
@@ -150,16 +136,11 @@ asks_for r slot word answer =
     Gives (record r { around = after_ask r.around slot word answer }) (results_of answer)
     (record quiet { asked = Some (record { slot = slot; word = word; answer = answer }) })
 
-abbrev pub asks : Resources → ℕ → ℕ → Effect
-asks r slot word = asks_for r slot word (answer_in r.around slot)
-
 -- a slot is emptied; one that holds no device, or is none, stays as it is
-abbrev pub emptied : Around → ℕ → Around
-emptied around slot = record around { slots = slice_set around.slots slot false }
-
 abbrev pub ejects : Resources → ℕ → Effect
 ejects r slot =
-    Gives (record r { around = emptied r.around slot }) (results (if holds_device r.around slot then 0 else no_slot) 0) quiet
+    Gives (record r { around = record (r.around) { slots = slice_set r.around.slots slot false } })
+    (results (if holds_device r.around slot then 0 else no_slot) 0) quiet
 
 -- the table
 abbrev pub effect : Function → Operands → Resources → Effect
@@ -173,9 +154,11 @@ effect DisposePtr o r = disposes r o.first
 effect BlockMove o r = moves r o.first o.second o.third
 effect ExitToShell o r = Leaves 0
 effect PutByte o r = says r (o.first % 256 ∷ [])
-effect GetByte o r = takes r
-effect PutBlock o r = says_block r o.first o.second
-effect AskDevice o r = asks r o.first o.second
+effect GetByte o r = takes_from r r.around.input
+effect PutBlock o r =
+    if in_memory r.memory o.first o.second then says r (part o.first o.second r.memory.bytes)
+    else Refuses (Outside o.first)
+effect AskDevice o r = asks_for r o.first o.second (answer_in r.around o.first)
 effect EjectDevice o r = ejects r o.first
 effect ExitWith o r = Leaves o.first
 effect UnloadSeg o r = Gives r (results 0 0) quiet

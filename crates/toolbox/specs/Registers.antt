@@ -59,9 +59,6 @@ with_gprs Nothing x regs = regs
 with_gprs R3 x regs = record regs { gpr = slice_set regs.gpr 3 x.first }
 with_gprs R3AndR4 x regs = record regs { gpr = slice_set (slice_set regs.gpr 3 x.first) 4 x.second }
 
-abbrev pub with_results : Function → Results → RegsPpc → RegsPpc
-with_results f x regs = with_gprs (row f).ppc_results x regs
-
 -- PowerPC code goes on where its link register says
 abbrev pub at_link : RegsPpc → RegsPpc
 at_link regs = record regs { pc = aligned regs.lr }
@@ -69,4 +66,4 @@ at_link regs = record regs { pc = aligned regs.lr }
 -- the registers after a call that gave these results
 abbrev pub answered : Function → Results → Active → Active
 answered f x (M68 regs) = M68 (behind_trap (with_codes f (with_stack f (with_registers f x regs))))
-answered f x (Ppc regs) = Ppc (at_link (with_results f x regs))
+answered f x (Ppc regs) = Ppc (at_link (with_gprs (row f).ppc_results x regs))

@@ -7,9 +7,6 @@ use Rattle.toolbox.specs.declared.table.Row.{Row}
 use Rattle.toolbox.specs.declared.function.TheConstants.{ROWS, IMPORTS}
 use Rattle.toolbox.specs.declared.table.TheConstants.{NOWHERE}
 
-abbrev pub rows : List Row
-rows = ROWS
-
 -- the library and the name by which each function is imported, in the order of the rows
 abbrev pub imports : List (Option (List ℕ × List ℕ))
 imports = map (λ i. option_map (λ b. (b.0.now, b.1.now)) i) IMPORTS
@@ -34,4 +31,4 @@ number_of ExitWith = 14
 number_of UnloadSeg = 15
 
 abbrev pub row : Function → Row
-row f = slice_index_or rows (number_of f) NOWHERE
+row f = slice_index_or ROWS (number_of f) NOWHERE

@@ -3,7 +3,8 @@ ghost use Rattle.std.specs.List.{position_from};
 ghost use Rattle.std.specs.Option.{option_map};
 ghost use Rattle.big_memory.specs.Map.{host_functions};
 ghost use Rattle.toolbox.specs.NamesClauses.{IsImportIndex};
-ghost use Rattle.toolbox.specs.Names.{import_index, is_named as is_named_so};
+ghost use Rattle.toolbox.specs.Names.{import_index};
+ghost use Rattle.toolbox.specs.inner.Parts.{is_named as is_named_so};
 
 use crate::function::IMPORTS;
 use crate::table::Import;

@@ -1,6 +1,7 @@
 // Operands from registers, and results into them.
 ghost use Rattle.std.specs.Prelude.{◌≡◌};
-ghost use Rattle.toolbox.specs.Registers.{answered, at_link, codes_of_word, operands_of as operands_in, value_in, with_codes, with_gprs, with_register, with_registers, with_results, with_stack};
+ghost use Rattle.toolbox.specs.Registers.{answered, at_link, codes_of_word, operands_of as operands_in, value_in, with_codes, with_gprs, with_register, with_registers, with_stack};
+ghost use Rattle.toolbox.specs.inner.Parts.{with_results};
 
 use crate::function::Function;
 use crate::table::{PpcResults, Register};

@@ -1,6 +1,6 @@
 // The results that functions give, with the error numbers of the toolbox as 32 bits.
 ghost use Rattle.std.specs.Prelude.{◌≡◌, if◌then◌else◌};
-ghost use Rattle.toolbox.specs.Effects.{error, no_block, no_room, no_slot, results, results_of};
+ghost use Rattle.toolbox.specs.Effects.{error, no_room, no_slot, results, results_of};
 
 use crate::values::Results;
 use dev_rack::Answer;
@@ -39,7 +39,7 @@ pub fn no_address() -> Results
 
 /// Whether there was a block to give up.
 pub fn of_dispose(found: bool) -> Results
-    ensures { result ≡ results (if found then 0 else no_block) 0 }
+    ensures { result ≡ results (if found then 0 else error 111) 0 }
 {
     one(if found { 0 } else { NO_BLOCK })
 }

@@ -5,7 +5,8 @@ use Rattle.std.specs.Option.{option_and_then, option_map}
 use Rattle.std.proofs.Math.Seq.{take-append_seam}
 use Rattle.mix_bits.specs.Sizes.{truncated}
 use Rattle.proc_info.specs.Cut.{cut}
-use Rattle.proc_info.specs.Signature.{Signature, no_parameters, signature_in, signature_of, signed_or}
+use Rattle.std.specs.Result.{result_unwrap_or}
+use Rattle.proc_info.specs.Signature.{Signature, no_parameters, signature_in, signature_of}
 use Rattle.proc_info.specs.declared.bad_info.BadInfo.{BadInfo}
 use Rattle.call_trace.specs.Lines.{arguments, marked}
 use Rattle.trace_lines.specs.EventLines.{IsCrossing, args_of}
@@ -36,7 +37,7 @@ pub record IsCall (c : Crossing) (text : List ℕ) : Type 0 where
 made-is : (head : Head) (s : Signature) (v : ℕ) (vs text : List ℕ) → signature_of head.info ≡ Ok s → IsHead head text
     → truncated v s.selector ≡ v → AreSized s.params vs → drop 25 text ≡ values_text s v vs → IsCall (crossing_of head v vs) text
 made-is head s v vs text signed front sized args rest =
-    let own : signature_in head.info ≡ s = ap (signed_or no_parameters) signed in
+    let own : signature_in head.info ≡ s = ap (λ r. result_unwrap_or r no_parameters) signed in
     let held : take (length vs) (vs ++ replicate (13 - length vs) 0) ≡ vs = take-append_seam vs (replicate (13 - length vs) 0) in
     let written : values_text s v vs ≡ values_text (signature_in head.info) v (args_of (crossing_of head v vs)) =
     ap (λ t. values_text t v vs) (sym own) ∙ ap (values_text (signature_in head.info) v) (sym held) in
@@ -80,7 +81,7 @@ pub call-read : (text : List ℕ) (c : Crossing) → call_of text ≡ Some c →
 unfolding call_of
 call-read text c is = call-by text c (head_of text) refl is
 
-signed-is : (r : Result Signature BadInfo) → is_ok r ≡ true → r ≡ Ok (signed_or no_parameters r)
+signed-is : (r : Result Signature BadInfo) → is_ok r ≡ true → r ≡ Ok (result_unwrap_or r no_parameters)
 signed-is (Ok s) ok = refl
 signed-is (Err bad) ok = absurd (cc)
 

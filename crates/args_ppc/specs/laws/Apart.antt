@@ -7,7 +7,8 @@ use Rattle.ppc_isa.specs.declared.registers.RegsPpc.{RegsPpc}
 use Rattle.proc_info.specs.declared.param.Param.{Param}
 use Rattle.proc_info.specs.Signature.{Signature}
 use Rattle.args_ppc.specs.Words.{value_at, values_at, word_at}
-use Rattle.args_ppc.specs.Deliver.{below, first_param}
+use Rattle.args_ppc.specs.Deliver.{below}
+use Rattle.args_ppc.specs.DeliverClauses.{first_param}
 
 -- the word with a number stands in this register
 abbrev pub IsInRegister : ℕ → ℕ → Type 0

@@ -8,8 +8,8 @@ use Rattle.proc_info.specs.Signature.{Signature}
 use Rattle.ppc_isa.specs.declared.registers.RegsPpc.{RegsPpc}
 use Rattle.args_ppc.specs.Words.{value_at, values_at}
 use Rattle.args_ppc.specs.Results.{result_in, with_result}
-use Rattle.args_ppc.specs.Deliver.{below, callee_registers, callee_words, first_param, frame_of}
-use Rattle.args_ppc.specs.DeliverClauses.{callee_sp, delivered}
+use Rattle.args_ppc.specs.Deliver.{below, callee_registers, callee_words, frame_of}
+use Rattle.args_ppc.specs.DeliverClauses.{first_param, callee_sp, delivered}
 
 -- a callee may be handed these values, and a selector if one is passed, on a stack that ends at lo
 pub record MayBeHanded (sig : Signature) (selector : Option ℕ) (values : List ℕ) (lo : ℕ) (m : Memory) : Type 0 where

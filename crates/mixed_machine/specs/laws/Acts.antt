@@ -12,7 +12,8 @@ use Rattle.mixed_machine.specs.declared.did.Did.TheVariants.{Next as IsNext, Cal
 use Rattle.mixed_machine.specs.State.{State}
 use Rattle.mixed_machine.specs.Next.{Next}
 use Rattle.mixed_machine.specs.Next.Next.{Exits, Faults}
-use Rattle.mixed_machine.specs.Exec.{GoesTo, Says, Tells, Reads, said_of, line_of}
+use Rattle.mixed_machine.specs.Exec.{GoesTo, Reads, said_of, line_of}
+use Rattle.mixed_machine.specs.StepClauses.{Says, Tells}
 use Rattle.mixed_machine.specs.Machine.{IsWhole, callers_of}
 use Rattle.mixed_machine.specs.OutsideClauses.{At, Over}
 use Rattle.mixed_machine.specs.CountsClauses.{counts_of}

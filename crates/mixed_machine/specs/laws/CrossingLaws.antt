@@ -6,7 +6,8 @@ use Rattle.mixed_machine.specs.State.{State}
 use Rattle.mixed_machine.specs.Exec.{exec}
 use Rattle.mixed_machine.specs.Exec.How.{Limited, Exited, Faulted}
 use Rattle.mixed_machine.specs.Exec.End.{Ended}
-use Rattle.mixed_machine.specs.Crossings.{Counted, gives_up_frame, makes_frame}
+use Rattle.mixed_machine.specs.Crossings.{Counted}
+use Rattle.mixed_machine.specs.StepClauses.{gives_up_frame, makes_frame}
 use Rattle.mixed_machine.specs.laws.Crossings.{Counting}
 
 abbrev pub CountBegins : Type 0

@@ -1,11 +1,19 @@
 -- One scan over the records, and what is taken of it.
-use Rattle.std.specs.Prelude.{ℕ, Bool, true, false, if◌then◌else◌, List, filter, Option, Some, None}
+use Rattle.std.specs.Prelude.{ℕ, ◌==◌, Bool, true, false, if◌then◌else◌, List, filter, slice_get, Option, Some, None}
 use Rattle.mix_bits.specs.declared.isa.Isa.{Isa}
 use Rattle.mix_bits.specs.declared.isa.Isa.TheVariants.{Ppc}
 use Rattle.mix_bits.specs.Isas.{is_isa}
 use Rattle.routine_desc.specs.declared.record.Rec.{Rec}
 use Rattle.routine_desc.specs.Layout.{has_flag}
-use Rattle.routine_desc.specs.Choice.{has_selector, is_default, head_of}
+
+abbrev pub has_selector : ℕ → Rec → Bool
+has_selector selector r = r.selector == selector
+
+abbrev pub is_default : Rec → Bool
+is_default r = has_flag r.flags 16
+
+abbrev pub head_of : List Rec → Option Rec
+head_of rs = slice_get rs 0
 
 -- every record matches where there is no selector
 abbrev pub matches_selector : Option ℕ → Rec → Bool

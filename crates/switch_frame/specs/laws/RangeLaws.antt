@@ -4,7 +4,8 @@ use Rattle.big_memory.specs.Lists.{put}
 use Rattle.big_memory.specs.Memory.{Memory, IsRam}
 use Rattle.big_memory.specs.MemoryClauses.{with_marks}
 use Rattle.switch_frame.specs.Records.{Record}
-use Rattle.switch_frame.specs.Chain.{Chain, FitsAlone, Links, in_range, outer_of}
+use Rattle.switch_frame.specs.Chain.{Chain, FitsAlone, Links, outer_of}
+use Rattle.switch_frame.specs.ChainClauses.{in_range}
 use Rattle.switch_frame.specs.laws.Chain.{IsFrameRange}
 
 -- the innermost frame begins below the next outer one, if there is one

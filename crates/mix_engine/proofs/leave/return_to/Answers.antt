@@ -2,7 +2,8 @@ use Rattle.std.proofs.Common.{ap, drop, sym}
 use Rattle.proc_info.specs.Views.{signature}
 use Rattle.switch_frame.specs.RecordsClauses.{record_of}
 use Rattle.mode_switch.specs.Returned.{given_back}
-use Rattle.mixed_machine.specs.Leave.{leaves, leaves_by, leaves_with}
+use Rattle.mixed_machine.specs.Leave.{leaves, leaves_with}
+use Rattle.mixed_machine.specs.inner.Parts.{leaves_by}
 use Rattle.mixed_machine.specs.Machine.{callers_of, flat}
 use Rattle.mixed_machine.specs.State.{seen}
 use Rattle.mix_engine.proofs.Doing.{does-same}
