@@ -3,3 +3,4 @@ pub mod Loaded
 pub mod Outcome
 pub mod Sections
 pub mod Segments
+pub mod Container
