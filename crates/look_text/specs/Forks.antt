@@ -4,7 +4,8 @@ use Rattle.mix_bits.specs.Text.{hexadecimal}
 use Rattle.rsrc_fork.specs.Resources.{Resource}
 use Rattle.rsrc_fork.specs.declared.error.RsrcError.{RsrcError}
 use Rattle.switch_frame.specs.Program.{program_start}
-use Rattle.mix_load.specs.Segments.{a5_of, code_at, entry_count, has_table, header_of, is_bad_entry, jump_target, offset_in, segment_at, segment_in, segment_place, segment_places, segments_end, segments_start, table_start}
+use Rattle.mix_load.specs.Segments.{a5_of, code_at, entry_count, has_table, header_of, is_bad_entry, jump_target, offset_in, segment_at, segment_in, segment_place, segments_end, segments_start, table_start}
+use Rattle.mix_load.specs.SegmentsClauses.{segment_places}
 use Rattle.look_text.specs.Pieces.{address_text, joined}
 
 -- `CODE ID: at ADDRESS, SIZE bytes`

@@ -1,7 +1,8 @@
 // The segments of a fork: its CODEs above 0.
 ghost use Rattle.std.specs.Prelude.{◌≡◌, ◌+◌, ◌^◌, ◌<◌, ◌≤◌, ◌++◌, [], IfOk, IfSome, length, option_map};
 ghost use Rattle.mix_bits.specs.Multiples.{rounded_up};
-ghost use Rattle.mix_load.specs.Segments.{segment_places, segments_end, with_segment};
+ghost use Rattle.mix_load.specs.Segments.{segments_end, with_segment};
+ghost use Rattle.mix_load.specs.SegmentsClauses.{segment_places};
 ghost use Rattle.look_text.specs.Forks.{segment_line, segments_text};
 
 use crate::line::{Piece, add_line};

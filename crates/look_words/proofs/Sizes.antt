@@ -14,7 +14,8 @@ use Rattle.pef_reloc.specs.Program.{relocated}
 use Rattle.pef_reloc.specs.ProgramClauses.{relocated_in}
 use Rattle.pef_reloc.specs.laws.Laws.{HasSameRefusal}
 use Rattle.mix_load.specs.Pieces.{numbered}
-use Rattle.mix_load.specs.Sections.{address_at, section_base, sources}
+use Rattle.mix_load.specs.Sections.{section_base, sources}
+use Rattle.mix_load.specs.SectionsClauses.{address_at}
 use Rattle.mix_load.specs.laws.Sections.{total_at}
 use Rattle.look_words.specs.inner.Unmade.{HasSizes, is_badly_relocated}
 

@@ -13,11 +13,13 @@ use Rattle.switch_frame.specs.Pieces.{Piece, long_piece}
 use Rattle.mix_load.specs.declared.error.LoadError.{LoadError}
 use Rattle.mix_load.specs.declared.error.LoadError.TheVariants.{NoCode, Far, JumpTable}
 use Rattle.mix_load.specs.declared.image.Image.{Image}
-use Rattle.mix_load.specs.ForkImage.{fork_end, fork_image, fork_memory, fork_refusal, segments_refusal, table_refusal, too_large, with_codes, with_fork, with_resources}
+use Rattle.mix_load.specs.ForkImage.{fork_end, fork_image, fork_memory, fork_refusal, too_large, with_codes, with_fork, with_resources}
+use Rattle.mix_load.specs.inner.ForkImage.{segments_refusal, table_refusal}
 use Rattle.mix_load.specs.Outcome.{unless}
 use Rattle.mix_load.specs.OutcomeClauses.{Gives}
 use Rattle.mix_load.specs.Pieces.{with_pieces}
-use Rattle.mix_load.specs.Segments.{a5_of, added_segment, code_at, entry_count, entry_of, entry_place, has_table, header_of, is_bad_entry, is_far, is_far_code, is_segment, is_short, is_short_code, is_unloaded, jump_target, offset_in, reaches, segment_at, segment_in, segment_pieces, segment_place, segment_places, segments_end, segments_start, table_pieces, table_start, with_segment}
+use Rattle.mix_load.specs.Segments.{a5_of, added_segment, code_at, entry_count, entry_place, has_table, header_of, is_bad_entry, is_far_code, is_short_code, is_unloaded, jump_target, offset_in, reaches, segment_at, segment_in, segment_pieces, segment_place, segments_end, segments_start, table_pieces, table_start, with_segment}
+use Rattle.mix_load.specs.SegmentsClauses.{entry_of, is_far, is_segment, is_short, segment_places}
 use Rattle.mix_load.proofs.Forks.{fork-gives, ids-are}
 use Rattle.mix_load.proofs.Lying.{last-of, negated, neither, reached, unmapped}
 use Rattle.mix_load.proofs.Numbered.{numbered-at}

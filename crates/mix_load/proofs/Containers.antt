@@ -5,8 +5,8 @@ use Rattle.pef_reloc.specs.laws.Laws.{KeepsSize}
 use Rattle.big_memory.specs.Memory.{Memory}
 use Rattle.switch_frame.specs.Pieces.{puts}
 use Rattle.mix_load.specs.Pieces.{with_pieces}
-use Rattle.mix_load.specs.inner.Sections.{Stand, section_pieces}
-use Rattle.mix_load.specs.Sections.{contents_at, relocated_bytes, relocated_pieces, section_base, sections_end}
+use Rattle.mix_load.specs.inner.Sections.{Stand, section_pieces, relocated_bytes, relocated_pieces, contents_at}
+use Rattle.mix_load.specs.Sections.{section_base, sections_end}
 use Rattle.mix_load.specs.laws.Sections.{total_at}
 use Rattle.mix_load.proofs.Ends.{section_above, section_within, sections_apart}
 use Rattle.mix_load.proofs.Placing.{piece-back, pieces-behind, pieces-front, pieces-over}

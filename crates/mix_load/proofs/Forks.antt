@@ -11,7 +11,8 @@ use Rattle.mix_load.specs.declared.image.Image.{Image}
 use Rattle.mix_load.specs.Pieces.{with_pieces}
 use Rattle.mix_load.specs.OutcomeClauses.{Gives}
 use Rattle.mix_load.specs.Outcome.{unless}
-use Rattle.mix_load.specs.Segments.{a5_of, entry_count, entry_of, header_of, id_count, segment_pieces, segment_places, segments_start, table_pieces, table_start}
+use Rattle.mix_load.specs.Segments.{a5_of, entry_count, header_of, id_count, segment_pieces, segments_start, table_pieces, table_start}
+use Rattle.mix_load.specs.SegmentsClauses.{entry_of, segment_places}
 use Rattle.mix_load.specs.inner.ForkImage.{HasRoom}
 use Rattle.mix_load.specs.ForkImage.{fork_end, fork_image, fork_memory, fork_refusal, with_codes, with_fork, with_resources}
 use Rattle.mix_load.specs.inner.Loaded.{IsImage}

@@ -27,13 +27,16 @@ use Rattle.mix_load.specs.declared.files.Files.{Files}
 use Rattle.mix_load.specs.declared.header.CodeHeader.{CodeHeader}
 use Rattle.mix_load.specs.declared.image.Image.{Image}
 use Rattle.mix_load.specs.ContainerImage.{container_image, container_refusal, with_container, with_head, with_sections}
-use Rattle.mix_load.specs.ForkImage.{fork_end, fork_image, fork_memory, fork_refusal, segments_refusal, table_refusal, too_large, with_codes, with_fork, with_resources}
+use Rattle.mix_load.specs.ForkImage.{fork_end, fork_image, fork_memory, fork_refusal, too_large, with_codes, with_fork, with_resources}
+use Rattle.mix_load.specs.inner.ForkImage.{segments_refusal, table_refusal}
 use Rattle.mix_load.specs.laws.Laws.{ForkLies, Leads, PiecesLie, SectionsLie, SegmentsLie}
 use Rattle.mix_load.specs.LoadClauses.{IsAlone}
 use Rattle.mix_load.specs.Load.{flat_image, no_image, with_file, with_flat}
 use Rattle.mix_load.specs.Outcome.{unless}
-use Rattle.mix_load.specs.Sections.{relocated_bytes, section_base, sections_end}
-use Rattle.mix_load.specs.Segments.{code_at, entry_count, entry_place, has_table, header_of, id_count, is_bad_entry, is_unloaded, jump_target, offset_in, reaches, segment_at, segment_in, segment_pieces, segment_place, segment_places, segments_end, segments_start, table_start, with_segment}
+use Rattle.mix_load.specs.Sections.{section_base, sections_end}
+use Rattle.mix_load.specs.inner.Sections.{relocated_bytes}
+use Rattle.mix_load.specs.Segments.{code_at, entry_count, entry_place, has_table, header_of, id_count, is_bad_entry, is_unloaded, jump_target, offset_in, reaches, segment_at, segment_in, segment_pieces, segment_place, segments_end, segments_start, table_start, with_segment}
+use Rattle.mix_load.specs.SegmentsClauses.{segment_places}
 use Rattle.mix_load.specs.Start.{program_of}
 use Rattle.mix_load.proofs.Ends.{end_within, section_above, section_within, sections_apart, start_within, ends_grow}
 use Rattle.mix_load.proofs.Forks.{ids-are}

@@ -6,8 +6,8 @@ use Rattle.pef_head.specs.Parts.{SectionParts, section_at}
 use Rattle.big_memory.specs.Memory.{Memory, with_bytes}
 use Rattle.mix_load.specs.declared.error.LoadError.TheVariants.{Reloc}
 use Rattle.mix_load.specs.Pieces.{with_pieces}
-use Rattle.mix_load.specs.Sections.{base_behind, contents, section_base, sections_end}
-use Rattle.mix_load.specs.inner.Sections.{section_pieces}
+use Rattle.mix_load.specs.Sections.{base_behind, section_base, sections_end}
+use Rattle.mix_load.specs.inner.Sections.{contents, section_pieces}
 use Rattle.mix_load.specs.laws.Sections.{total_at}
 use Rattle.mix_load.proofs.Ends.{section_within, sections_grow}
 

@@ -12,9 +12,11 @@ use Rattle.mix_load.specs.declared.image.Image.{Image}
 use Rattle.mix_load.specs.Pieces.{with_pieces}
 use Rattle.mix_load.specs.OutcomeClauses.{Gives}
 use Rattle.mix_load.specs.Outcome.{unless}
-use Rattle.mix_load.specs.ContainerImage.{container_image, imports_refusal, main_refusal, patterns_of, relocations_refusal, with_container, with_head, with_sections}
+use Rattle.mix_load.specs.ContainerImage.{container_image, with_container, with_head, with_sections}
+use Rattle.mix_load.specs.inner.Container.{imports_refusal, main_refusal, patterns_of, relocations_refusal}
 use Rattle.mix_load.specs.ForkImage.{too_large}
-use Rattle.mix_load.specs.Sections.{main_vector, relocated_pieces, sections_end}
+use Rattle.mix_load.specs.Sections.{main_vector, sections_end}
+use Rattle.mix_load.specs.inner.Sections.{relocated_pieces}
 
 abbrev unpacking : List ℕ → ℕ → Option LoadError
 unpacking bytes start = patterns_of bytes or imports_refusal bytes or relocations_refusal bytes start

@@ -10,8 +10,9 @@ use Rattle.pef_reloc.specs.laws.Laws.{KeepsSize}
 use Rattle.pef_reloc.specs.Program.{relocated}
 use Rattle.pef_reloc.specs.ProgramClauses.{relocated_in}
 use Rattle.mix_load.specs.declared.sections.Placement.{Placement}
-use Rattle.mix_load.specs.inner.Sections.{HasBases, IsPlaced}
-use Rattle.mix_load.specs.Sections.{bases, contents_at, relocated_bytes, relocated_section, section_base, sources}
+use Rattle.mix_load.specs.inner.Sections.{HasBases, IsPlaced, relocated_bytes, contents_at}
+use Rattle.mix_load.specs.Sections.{relocated_section, section_base, sources}
+use Rattle.mix_load.specs.SectionsClauses.{bases}
 use Rattle.mix_load.specs.laws.Sections.{total_at}
 use Rattle.mix_load.proofs.Numbered.{numbered-at, numbered-length}
 

@@ -10,7 +10,8 @@ use Rattle.switch_frame.specs.Pieces.{puts}
 use Rattle.mix_load.specs.declared.header.CodeHeader.{CodeHeader}
 use Rattle.mix_load.specs.declared.image.Image.{Image}
 use Rattle.mix_bits.specs.Multiples.{rounded_up}
-use Rattle.mix_load.specs.Segments.{a5_of, entry_count, header_of, segment_pieces, segment_places, segments_end, segments_start, table_pieces, table_start}
+use Rattle.mix_load.specs.Segments.{a5_of, entry_count, header_of, segment_pieces, segments_end, segments_start, table_pieces, table_start}
+use Rattle.mix_load.specs.SegmentsClauses.{segment_places}
 use Rattle.std.proofs.lemmas.Bool.Decides.{nat_tests}
 use Rattle.mix_bits.specs.Search.{refused}
 use Rattle.mix_load.specs.declared.error.LoadError.TheVariants.{TooLarge}

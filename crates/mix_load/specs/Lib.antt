@@ -11,3 +11,5 @@ pub mod Segments
 pub mod Start
 pub mod laws
 pub mod inner
+pub mod SectionsClauses
+pub mod SegmentsClauses

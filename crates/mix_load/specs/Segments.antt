@@ -5,15 +5,13 @@
 -- CODE 0 begins with four longs: the size of the world above A5 and of that below it, the length of the jump
 -- table, and its offset from A5. The table's entries follow, of four words each: an offset, $3F3C, the
 -- number of a segment, and $A9F0. The segments are the CODEs above 0, each with a header of 4 bytes.
-use Rattle.std.specs.Prelude.{ℕ, zero, suc, ◌+◌, ◌*◌, ◌/◌, ◌%◌, ◌^◌, slice_index, pos, Bool, false, not, ◌==◌, ◌&&◌, ◌||◌, nat_lt, nat_le, if◌then◌else◌, List, [], ◌∷◌, length, Option, Some, None, is_some}
-use Rattle.std.specs.Option.{option_map_or}
+use Rattle.std.specs.Prelude.{ℕ, zero, suc, ◌+◌, ◌*◌, ◌/◌, ◌%◌, ◌^◌, slice_index, pos, Bool, false, not, ◌==◌, ◌&&◌, ◌||◌, nat_lt, nat_le, if◌then◌else◌, List, [], ◌∷◌, length, Option, Some, None}
 use Rattle.mix_bits.specs.Fields.{word_at, long_at}
 use Rattle.rsrc_fork.specs.Resources.{Resource, bytes_of, named}
 use Rattle.switch_frame.specs.Pieces.{Piece, piece, long_piece}
 use Rattle.switch_frame.specs.Program.{program_start}
 use Rattle.mix_load.specs.declared.header.CodeHeader.{CodeHeader}
 use Rattle.mix_bits.specs.Multiples.{rounded_up}
-use Rattle.mix_load.specs.Pieces.{numbered}
 
 -- 'CODE'
 abbrev pub code_kind : ℕ
@@ -52,10 +50,6 @@ segments_start h = a5_of h + rounded_up 16 h.above
 abbrev pub table_start : CodeHeader → ℕ
 table_start h = a5_of h + h.table_offset
 
--- where the program starts: behind the segment's number in the table's first entry
-abbrev pub entry_of : CodeHeader → ℕ
-entry_of h = table_start h + 2
-
 -- the segments below an id, in order of their ids, each at a multiple of 16: where they end
 abbrev pub with_segment : ℕ → Option (List ℕ) → ℕ
 with_segment end None = end
@@ -79,22 +73,13 @@ segment_pieces resources start zero = []
 segment_pieces resources start (suc id) =
     added_segment (segment_place resources start id) (segment_at resources id) (segment_pieces resources start id)
 
-abbrev pub is_segment : List Resource → ℕ → Bool
-is_segment resources id = is_some (segment_at resources id)
-
 -- a segment of the far model, whose header begins with $FFFF
 abbrev pub is_far_code : List ℕ → Bool
 is_far_code segment = nat_le 4 (length segment) && word_at segment 0 == 0xFFFF
 
-abbrev pub is_far : List Resource → ℕ → Bool
-is_far resources id = option_map_or is_far_code (segment_at resources id) false
-
 -- a segment without a whole header
 abbrev pub is_short_code : List ℕ → Bool
 is_short_code segment = nat_lt (length segment) 4
-
-abbrev pub is_short : List Resource → ℕ → Bool
-is_short resources id = option_map_or is_short_code (segment_at resources id) false
 
 -- CODE 0 has its four longs and a table of whole entries, which lies in the world above A5
 abbrev pub has_table : List ℕ → Bool
@@ -128,10 +113,6 @@ reaches offset (Some segment) = nat_le (4 + offset) (length segment)
 abbrev pub is_bad_entry : List Resource → List ℕ → ℕ → Bool
 is_bad_entry resources code0 i =
     not (is_unloaded code0 i && reaches (offset_in code0 i) (segment_at resources (segment_in code0 i)))
-
--- where the segments below an id stand, or would
-abbrev pub segment_places : List Resource → ℕ → ℕ → List ℕ
-segment_places resources start ids = numbered (segment_place resources start) ids
 
 -- where an entry jumps to, once its segment is loaded
 abbrev pub jump_target : List ℕ → List ℕ → ℕ → ℕ

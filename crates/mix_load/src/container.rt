@@ -5,12 +5,14 @@ ghost use Rattle.std.specs.Result.{result_err};
 ghost use Rattle.pef_head.specs.Container.{instantiated_count};
 ghost use Rattle.mix_bits.specs.SearchOperator.{◌or◌};
 ghost use Rattle.mix_bits.specs.Search.{refused};
-ghost use Rattle.mix_load.specs.ContainerImage.{imports_refusal, is_ppc, patterns_of, relocations_refusal, with_container, with_sections};
+ghost use Rattle.mix_load.specs.ContainerImage.{is_ppc, with_container, with_sections};
+ghost use Rattle.mix_load.specs.inner.Container.{imports_refusal, patterns_of, relocations_refusal};
 ghost use Rattle.mix_load.specs.inner.Loaded.{IsImage};
 ghost use Rattle.mix_load.specs.inner.Outcome.{Finds};
 ghost use Rattle.mix_load.specs.OutcomeClauses.{Gives};
 ghost use Rattle.mix_load.specs.Pieces.{with_pieces};
-ghost use Rattle.mix_load.specs.Sections.{main_vector, relocated_pieces, sections_end};
+ghost use Rattle.mix_load.specs.Sections.{main_vector, sections_end};
+ghost use Rattle.mix_load.specs.inner.Sections.{relocated_pieces};
 
 use crate::error::LoadError;
 use crate::image::{Image, test_end};

@@ -4,7 +4,8 @@ ghost use Rattle.std.specs.Result.{result_err};
 ghost use Rattle.pef_head.specs.Container.{is_pattern};
 ghost use Rattle.pef_head.specs.PartsClauses.{IsLoadable, parts};
 ghost use Rattle.mix_load.specs.inner.Outcome.{Finds};
-ghost use Rattle.mix_load.specs.Sections.{contents, pattern_refusal};
+ghost use Rattle.mix_load.specs.Sections.{pattern_refusal};
+ghost use Rattle.mix_load.specs.inner.Sections.{contents};
 
 use crate::error::LoadError;
 use pef_head::Section;

@@ -4,9 +4,11 @@ ghost use Rattle.pef_head.specs.Parts.{import_count, import_of};
 ghost use Rattle.pef_head.specs.PartsByNumber.{library_of};
 ghost use Rattle.pef_head.specs.PartsClauses.{names};
 ghost use Rattle.mix_bits.specs.Search.{least};
-ghost use Rattle.mix_load.specs.ContainerImage.{imports_refusal};
+ghost use Rattle.mix_load.specs.inner.Container.{imports_refusal};
 ghost use Rattle.mix_load.specs.inner.Outcome.{Finds};
-ghost use Rattle.mix_load.specs.Sections.{import_address, import_addresses, is_missing};
+ghost use Rattle.mix_load.specs.Sections.{import_address};
+ghost use Rattle.mix_load.specs.inner.Sections.{is_missing};
+ghost use Rattle.mix_load.specs.SectionsClauses.{import_addresses};
 
 use crate::error::LoadError;
 use big_memory::host_vector;

@@ -5,10 +5,10 @@ ghost use Rattle.big_memory.specs.Lists.{part};
 ghost use Rattle.big_memory.specs.Memory.{with_bytes};
 ghost use Rattle.pef_head.specs.Container.{instantiated_count};
 ghost use Rattle.pef_head.specs.PartsByNumber.{reloc_header_of};
-ghost use Rattle.mix_load.specs.ContainerImage.{relocations_refusal};
+ghost use Rattle.mix_load.specs.inner.Container.{relocations_refusal};
 ghost use Rattle.mix_load.specs.Pieces.{with_pieces};
-ghost use Rattle.mix_load.specs.inner.Sections.{IsPlaced, Stand};
-ghost use Rattle.mix_load.specs.Sections.{contents_at, first_refusal, relocated_bytes, relocated_pieces, relocs_refusal, section_base, sections_end};
+ghost use Rattle.mix_load.specs.inner.Sections.{IsPlaced, Stand, relocated_bytes, relocated_pieces, relocs_refusal, contents_at};
+ghost use Rattle.mix_load.specs.Sections.{first_refusal, section_base, sections_end};
 ghost use Rattle.mix_load.specs.laws.Sections.{total_at};
 
 use crate::error::LoadError;

@@ -3,11 +3,12 @@ ghost use Rattle.std.specs.Prelude.{true, false, ◌≡◌, ℕ, ◌+◌, ◌*�
 ghost use Rattle.pef_head.specs.Container.{instantiated_count, is_pattern};
 ghost use Rattle.pef_head.specs.PartsClauses.{IsLoadable, parts};
 ghost use Rattle.big_memory.specs.Memory.{with_bytes};
-ghost use Rattle.mix_load.specs.ContainerImage.{patterns_of};
+ghost use Rattle.mix_load.specs.inner.Container.{patterns_of};
 ghost use Rattle.mix_load.specs.inner.Outcome.{Finds};
 ghost use Rattle.mix_load.specs.Pieces.{with_pieces};
-ghost use Rattle.mix_load.specs.inner.Sections.{HasBases, section_pieces, totals};
-ghost use Rattle.mix_load.specs.Sections.{base_behind, bases, contents, contents_at, first_refusal, pattern_refusal, patterns_refusal, sections_end};
+ghost use Rattle.mix_load.specs.inner.Sections.{HasBases, section_pieces, totals, contents, contents_at};
+ghost use Rattle.mix_load.specs.Sections.{base_behind, first_refusal, pattern_refusal, sections_end};
+ghost use Rattle.mix_load.specs.SectionsClauses.{bases, patterns_refusal};
 ghost use Rattle.mix_load.specs.laws.Sections.{total_at};
 
 use crate::contents::contents;

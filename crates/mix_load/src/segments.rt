@@ -5,10 +5,11 @@ ghost use Rattle.std.specs.Result.{result_err};
 ghost use Rattle.std.specs.Option.{option_map_or};
 ghost use Rattle.mix_bits.specs.SearchOperator.{◌or◌};
 ghost use Rattle.mix_bits.specs.Search.{any_below, least, refused};
-ghost use Rattle.mix_load.specs.ForkImage.{segments_refusal};
+ghost use Rattle.mix_load.specs.inner.ForkImage.{segments_refusal};
 ghost use Rattle.mix_bits.specs.Multiples.{rounded_up};
 ghost use Rattle.mix_load.specs.Pieces.{with_pieces};
-ghost use Rattle.mix_load.specs.Segments.{added_segment, code_at, is_far, is_far_code, is_segment, is_short, is_short_code, segment_at, segment_pieces, segment_places, segments_end, with_segment};
+ghost use Rattle.mix_load.specs.Segments.{added_segment, code_at, is_far_code, is_short_code, segment_at, segment_pieces, segments_end, with_segment};
+ghost use Rattle.mix_load.specs.SegmentsClauses.{is_far, is_segment, is_short, segment_places};
 
 use crate::error::LoadError;
 use big_memory::Ram;

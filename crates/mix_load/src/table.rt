@@ -3,7 +3,7 @@ ghost use Rattle.std.specs.Prelude.{◌≡◌, ◌+◌, ◌*◌, ◌^◌, ◌≤
 ghost use Rattle.mix_bits.specs.declared.file.TheConstants.{MOST_BYTES};
 ghost use Rattle.std.specs.Result.{result_err};
 ghost use Rattle.mix_bits.specs.Search.{least};
-ghost use Rattle.mix_load.specs.ForkImage.{table_refusal};
+ghost use Rattle.mix_load.specs.inner.ForkImage.{table_refusal};
 ghost use Rattle.mix_load.specs.Pieces.{with_pieces};
 ghost use Rattle.mix_load.specs.JumpTable.{HasTable};
 ghost use Rattle.mix_load.specs.Segments.{entry_count, entry_place, header_of, is_bad_entry, is_unloaded, jump_target, offset_in, reaches, segment_at, segment_in, table_pieces, table_start};

@@ -10,3 +10,4 @@ pub mod Cuts
 pub mod MarkBits
 pub mod Marking
 pub mod Views
+pub mod Flat

@@ -7,8 +7,10 @@ use Rattle.pef_head.specs.ContainerClauses.{IsSection}
 use Rattle.pef_head.specs.Container.{exponent_of, packed_of, offset_of}
 use Rattle.mix_bits.specs.Fields.{long_at}
 use Rattle.pef_head.specs.PartsClauses.{IsLoadable}
-use Rattle.pef_head.specs.Parts.{relocs_at, section_at}
-use Rattle.pef_head.specs.Places.{is_for, relocation, words_end, words_start}
+use Rattle.pef_head.specs.Parts.{section_at}
+use Rattle.pef_head.specs.inner.Parts.{relocs_at}
+use Rattle.pef_head.specs.Places.{relocation, words_end, words_start}
+use Rattle.pef_head.specs.inner.Places.{is_for}
 use Rattle.mix_bits.specs.SearchOperator.{◌or◌}
 use Rattle.mix_bits.specs.Search.{refused, least}
 use Rattle.mix_bits.proofs.Searches.{fails_below}

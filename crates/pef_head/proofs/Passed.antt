@@ -6,13 +6,17 @@ use Rattle.pef_head.specs.ContainerClauses.{HasHeaders, HasSections}
 use Rattle.pef_head.specs.Container.{is_bad_section, is_malformed, packed_of, offset_of, exponent_of, section_count, section_header, instantiated_count, loader_section}
 use Rattle.pef_head.specs.Loader.{loader_in, loader_of}
 use Rattle.pef_head.specs.PlacesClauses.{HasTables}
-use Rattle.pef_head.specs.Places.{is_repeated, has_end, library_name, relocated, symbol_name, words_end}
+use Rattle.pef_head.specs.Places.{has_end, library_name, relocated, symbol_name, words_end}
+use Rattle.pef_head.specs.inner.Places.{is_repeated}
 use Rattle.pef_head.specs.Owners.{is_lost, owners}
-use Rattle.pef_head.specs.Parts.{ImportParts, import_at, import_of}
+use Rattle.pef_head.specs.Parts.{ImportParts, import_of}
+use Rattle.pef_head.specs.inner.Parts.{import_at}
 use Rattle.pef_head.specs.PartsByNumber.{cut}
 use Rattle.pef_head.specs.Read.{IsRead}
-use Rattle.pef_head.specs.Refusals.{entries_refusal, is_bad_relocation, is_nameless_library, is_nameless_symbol, loader_refusal, names_refusal, refusal_of}
+use Rattle.pef_head.specs.Refusals.{is_bad_relocation}
+use Rattle.pef_head.specs.inner.Refusals.{entries_refusal, is_nameless_library, is_nameless_symbol, loader_refusal, names_refusal, refusal_in_parts}
 use Rattle.mix_bits.specs.Search.{least}
+use Rattle.pef_head.proofs.Flat.{flat}
 use Rattle.pef_head.proofs.Outcomes.{or_none, map_none, or_false, not_false, not_below, not_other, inner_false, last_false}
 use Rattle.mix_bits.proofs.Searches.{fails_below}
 
@@ -79,13 +83,13 @@ module _ (bytes : List ℕ) where
         subst (λ (l : Loader). names_refusal bytes l ≡ None) (sym same) named.1,
       )
 
-  pub is_read : (l : Loader) → refusal_of bytes ≡ None → l ≡ loader_of bytes → HasHeaders bytes → HasSections bytes → HasTables bytes l → IsRead bytes l
+  pub is_read : (l : Loader) → refusal_in_parts bytes ≡ None → l ≡ loader_of bytes → HasHeaders bytes → HasSections bytes → HasTables bytes l → IsRead bytes l
   is_read l passes is headers sections tables =
       let facts = tested (loader_section bytes) refl (or_none _ _ passes).1 in
       let entries = subst (λ (l : Loader). entries_refusal bytes l ≡ None) (sym is) facts.0 in
       let named = subst (λ (l : Loader). names_refusal bytes l ≡ None) (sym is) facts.1 in
       record {
-        passes = passes;
+        passes = sym (flat bytes) ∙ passes;
         is = is;
         tables = tables;
         headers = headers;

@@ -5,7 +5,7 @@ use Rattle.std.proofs.lemmas.List.{get_or-set_same, get_or-set_other}
 use Rattle.pef_head.specs.declared.loader.Loader.{Loader}
 use Rattle.pef_head.specs.inner.Owners.{AreOwned}
 use Rattle.pef_head.specs.Owners.{owners}
-use Rattle.pef_head.specs.Parts.{owner_of}
+use Rattle.pef_head.specs.PartsByNumber.{owner_of}
 use Rattle.pef_head.specs.Places.{holds, symbols_start, symbols_end}
 use Rattle.mix_bits.specs.SearchOperator.{◌or◌}
 use Rattle.mix_bits.specs.Search.{refused, least, count_below}

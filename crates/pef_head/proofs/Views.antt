@@ -4,8 +4,9 @@ use Rattle.pef_head.specs.declared.loader.Loader.{Loader}
 use Rattle.pef_head.specs.Loader.{loader_of}
 use Rattle.pef_head.specs.inner.Owners.{HasOwners}
 use Rattle.pef_head.specs.Container.{instantiated_count}
-use Rattle.pef_head.specs.Parts.{header_for, import_count, owner_of, relocs_at, relocs_of}
-use Rattle.pef_head.specs.PartsByNumber.{library_of, reloc_header_of}
+use Rattle.pef_head.specs.Parts.{import_count, relocs_of}
+use Rattle.pef_head.specs.inner.Parts.{relocs_at}
+use Rattle.pef_head.specs.PartsByNumber.{header_for, owner_of, library_of, reloc_header_of}
 use Rattle.pef_head.specs.inner.Relocations.{HasHeadersFor}
 
 pub count_same : (bytes now : List ℕ) (l : Loader) → bytes ≡ now → l ≡ loader_of bytes → l.symbols ≡ import_count now

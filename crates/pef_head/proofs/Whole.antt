@@ -8,9 +8,11 @@ use Rattle.std.specs.Option.{option_map}
 use Rattle.mix_bits.specs.Fields.{long_at}
 use Rattle.pef_head.specs.Container.{is_bad_section, is_malformed, is_pattern, kind_of, total_of, unpacked_of, packed_of, offset_of, exponent_of, section_count, section_header, instantiated_count, loader_section}
 use Rattle.pef_head.specs.Loader.{loader_in, loader_of}
-use Rattle.pef_head.specs.Places.{holds, is_for, library, relocated, relocation, symbol, symbols_end, words_end}
+use Rattle.pef_head.specs.Places.{holds, library, relocated, relocation, symbol, symbols_end, words_end}
+use Rattle.pef_head.specs.inner.Places.{is_for}
 use Rattle.pef_head.specs.Owners.{is_lost, owners}
-use Rattle.pef_head.specs.Refusals.{entries_refusal, header_refusal, init_refusal, is_bad_relocation, is_nameless_library, is_nameless_symbol, leaves_symbols, loader_refusal, names_refusal, refusal_of, sections_refusal, tables_refusal}
+use Rattle.pef_head.specs.Refusals.{is_bad_relocation}
+use Rattle.pef_head.specs.inner.Refusals.{entries_refusal, header_refusal, init_refusal, is_nameless_library, is_nameless_symbol, leaves_symbols, loader_refusal, names_refusal, sections_refusal, tables_refusal, refusal_in_parts}
 use Rattle.mix_bits.specs.SearchOperator.{◌or◌}
 use Rattle.mix_bits.specs.Search.{least}
 use Rattle.pef_head.specs.Whole.{IsContainer, IsInstantiable, IsLoader}
@@ -117,7 +119,7 @@ module _ (bytes : List ℕ) where
       let same : loader_of bytes ≡ loader_in bytes k = ap (λ (o : Option ℕ). loader_in bytes (unwrap_or o 0)) q in
       loader_no (loader_in bytes k) (subst (IsLoader bytes) same s)
 
-  pub container_is : refusal_of bytes ≡ None → IsContainer bytes
+  pub container_is : refusal_in_parts bytes ≡ None → IsContainer bytes
   container_is passes =
       let loader = or_none _ _ passes in
       let heads = or_none _ _ loader.0 in
@@ -146,7 +148,7 @@ module _ (bytes : List ℕ) where
         loader = tested.1;
       }
 
-  pub passes_if : IsContainer bytes → refusal_of bytes ≡ None
+  pub passes_if : IsContainer bytes → refusal_in_parts bytes ≡ None
   passes_if s =
       or_both _ _ (or_both _ _ header sections) (loader_passes (loader_section bytes) refl s.found s.loader)
     where
@@ -165,7 +167,7 @@ module _ (bytes : List ℕ) where
           (none_map _ _ (least_none (is_bad_section bytes) (section_count bytes) (λ k lt. bad_no k (s.pieces k lt) (s.instantiable k))))
           (unrefused _ _ (is_below (section_count bytes) (instantiated_count bytes) s.enough))
 
-  pub no_container : (e : PefError) → refusal_of bytes ≡ Some e → IsContainer bytes → ⊥
+  pub no_container : (e : PefError) → refusal_in_parts bytes ≡ Some e → IsContainer bytes → ⊥
   no_container e refusal s = absurd (some_none _ (sym refusal ∙ passes_if s))
     where
       some_none : (x : PefError) → Some x ≡ None → ⊥

@@ -2,7 +2,7 @@
 use Rattle.std.proofs.Common.{◌≡◌, refl, ◌∙◌, ℕ, zero, suc, ◌+◌, ◌-◌, ◌<◌, ◌≤◌, Bool, true, false, ◌||◌, nat_lt, List, length, get_or, slice_range, drop-cons, zero-add, add-zero, arith}
 use Rattle.std.proofs.lemmas.Bool.Decides.{nat_tests}
 use Rattle.std.specs.List.{list_any}
-use Rattle.pef_head.specs.Places.{is_zero}
+use Rattle.pef_head.specs.inner.Names.{is_zero}
 
 abbrev has_zero : List ℕ → ℕ → ℕ → Bool
 has_zero bytes from stop = list_any is_zero (slice_range bytes from stop)

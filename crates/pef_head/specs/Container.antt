@@ -6,7 +6,7 @@
 -- instantiated, and a long. Section headers of 28 bytes follow: longs for the name, the default address,
 -- the total size, the unpacked size, the packed size and the place of the packed bytes, and then bytes
 -- for the kind, the share, the alignment as an exponent of two, and 0.
-use Rattle.std.specs.Prelude.{ℕ, ◌+◌, ◌*◌, Bool, ◌&&◌, ◌||◌, ◌==◌, not, nat_lt, List, length, slice_index, Option}
+use Rattle.std.specs.Prelude.{ℕ, ◌+◌, ◌*◌, Bool, ◌&&◌, ◌||◌, ◌==◌, not, nat_lt, List, slice_index, Option, length}
 use Rattle.mix_bits.specs.Fields.{word_at, long_at}
 use Rattle.mix_bits.specs.Search.{least}
 
@@ -42,27 +42,18 @@ exponent_of bytes k = slice_index bytes (section_header k + 26)
 abbrev pub is_pattern : ℕ → Bool
 is_pattern kind = kind == 2
 
--- kind 4 is the loader section
-abbrev pub is_loader : List ℕ → ℕ → Bool
-is_loader bytes k = kind_of bytes k == 4
-
--- kinds that are not instantiated: the loader's, debug's, and those above executable data
-abbrev pub is_uninstantiable : ℕ → Bool
-is_uninstantiable kind = kind == 4 || kind == 5 || nat_lt 6 kind
-
--- its packed bytes are not in the file
-abbrev pub leaves_file : List ℕ → ℕ → Bool
-leaves_file bytes k = nat_lt (length bytes) (offset_of bytes k + packed_of bytes k)
-
--- it cannot be instantiated as its header says
+-- it cannot be instantiated: it is the loader's, debug's or above executable data, or its header does not hold together
 abbrev pub is_malformed : List ℕ → ℕ → Bool
 is_malformed bytes k =
-    is_uninstantiable (kind_of bytes k) || nat_lt 12 (exponent_of bytes k) || nat_lt (total_of bytes k) (unpacked_of bytes k)
+    kind_of bytes k == 4 || kind_of bytes k == 5 || nat_lt 6 (kind_of bytes k)
+    || nat_lt 12 (exponent_of bytes k) || nat_lt (total_of bytes k) (unpacked_of bytes k)
     || (not (is_pattern (kind_of bytes k)) && not (packed_of bytes k == unpacked_of bytes k))
 
 abbrev pub is_bad_section : List ℕ → ℕ → Bool
-is_bad_section bytes k = leaves_file bytes k || (nat_lt k (instantiated_count bytes) && is_malformed bytes k)
+is_bad_section bytes k =
+    nat_lt (length bytes) (offset_of bytes k + packed_of bytes k)
+    || (nat_lt k (instantiated_count bytes) && is_malformed bytes k)
 
 -- the number of the first loader section
 abbrev pub loader_section : List ℕ → Option ℕ
-loader_section bytes = least (is_loader bytes) (section_count bytes)
+loader_section bytes = least (λ k. kind_of bytes k == 4) (section_count bytes)

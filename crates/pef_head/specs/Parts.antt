@@ -1,13 +1,12 @@
 -- What a container's accessors give: fields and slices of its file.
-use Rattle.std.specs.Prelude.{ℕ, ◌+◌, ◌^◌, Bool, ◌==◌, not, bit_and, if◌then◌else◌, List, [], slice_index, slice_range, Option, Some, None, unwrap_or}
-use Rattle.std.specs.Option.{option_map_or}
-use Rattle.pef_head.specs.declared.loader.Loader.{Loader}
+use Rattle.std.specs.Prelude.{ℕ, ◌+◌, ◌^◌, Bool, ◌==◌, if◌then◌else◌, List, [], slice_range, Option, Some, None, not, unwrap_or, slice_index, bit_and}
 use Rattle.mix_bits.specs.Fields.{long_at}
-use Rattle.mix_bits.specs.Search.{least}
-use Rattle.pef_head.specs.Names.{name_at}
 use Rattle.pef_head.specs.Container.{kind_of, total_of, unpacked_of, packed_of, offset_of, exponent_of}
 use Rattle.pef_head.specs.Loader.{loader_of}
-use Rattle.pef_head.specs.Places.{symbol, holds, is_for, words_start, words_end, library_name, symbol_name}
+use Rattle.pef_head.specs.Places.{holds, relocated, symbol, words_end, library_name, symbol_name, words_start}
+use Rattle.mix_bits.specs.Search.{least}
+use Rattle.std.specs.Option.{option_map_or}
+use Rattle.pef_head.specs.Names.{name_at}
 
 -- a section, with its packed bytes as a list
 pub record SectionParts : Type 0 where
@@ -42,32 +41,18 @@ pub record ImportParts : Type 0 where
   pub name : List ℕ
   pub weak : Bool
 
--- the library that has a symbol
-abbrev pub owner_of : List ℕ → Loader → ℕ → ℕ
-owner_of bytes l i = unwrap_or (least (holds bytes l i) l.libraries) 0
-
-abbrev pub is_weak : List ℕ → Loader → ℕ → Bool
-is_weak bytes l i = not (bit_and (slice_index bytes (symbol l i)) 0x80 == 0)
-
-abbrev pub import_at : List ℕ → Loader → ℕ → ImportParts
-import_at bytes l i =
+abbrev pub import_of : List ℕ → ℕ → ImportParts
+import_of bytes i =
+    let l = loader_of bytes in
+    let owner = unwrap_or (least (holds bytes l i) l.libraries) 0 in
     record {
-      library = name_at bytes l (library_name bytes l (owner_of bytes l i));
+      library = name_at bytes l (library_name bytes l owner);
       name = name_at bytes l (symbol_name bytes l i);
-      weak = is_weak bytes l i;
+      weak = not (bit_and (slice_index bytes (symbol l i)) 0x80 == 0);
     }
 
-abbrev pub import_of : List ℕ → ℕ → ImportParts
-import_of bytes i = import_at bytes (loader_of bytes) i
-
--- the first relocation header of a section
-abbrev pub header_for : List ℕ → Loader → ℕ → Option ℕ
-header_for bytes l k = least (is_for bytes l k) l.headers
-
--- the words of a section's relocation header
-abbrev pub relocs_at : List ℕ → Loader → ℕ → List ℕ
-relocs_at bytes l k =
-    option_map_or (λ h. slice_range bytes (words_start bytes l h) (words_end bytes l h)) (header_for bytes l k) []
-
 abbrev pub relocs_of : List ℕ → ℕ → List ℕ
-relocs_of bytes k = relocs_at bytes (loader_of bytes) k
+relocs_of bytes k =
+    let l = loader_of bytes in
+    let header = least (λ h. relocated bytes l h == k) l.headers in
+    option_map_or (λ h. slice_range bytes (words_start bytes l h) (words_end bytes l h)) header []

@@ -3,7 +3,8 @@ use Rattle.std.specs.Prelude.{◌≡◌, ◌%◌, ◌≤◌, ◌⊎◌, false, l
 use Rattle.mix_bits.specs.declared.file.TheConstants.{MOST_BYTES}
 use Rattle.pef_head.specs.declared.section.Section.{Section}
 use Rattle.pef_head.specs.declared.import.Import.{Import}
-use Rattle.pef_head.specs.Container.{is_pattern, is_uninstantiable}
+use Rattle.pef_head.specs.Container.{is_pattern}
+use Rattle.pef_head.specs.ContainerClauses.{is_uninstantiable}
 use Rattle.pef_head.specs.Parts.{SectionParts, ImportParts}
 
 abbrev pub parts : Section → SectionParts

@@ -5,11 +5,10 @@
 -- three for its name. A relocation header has a word for its section, a word 0, a long with the count of
 -- its words and a long with the place of the first of them, counted from the relocation area. Names count
 -- from the strings and end with a zero byte.
-use Rattle.std.specs.Prelude.{ℕ, ◌+◌, ◌*◌, Bool, ◌&&◌, ◌==◌, nat_lt, nat_le, List, slice_range}
+use Rattle.std.specs.Prelude.{ℕ, ◌+◌, ◌*◌, Bool, ◌&&◌, nat_lt, nat_le, List, slice_range, ◌==◌}
 use Rattle.std.specs.List.{list_any}
 use Rattle.pef_head.specs.declared.loader.Loader.{Loader}
 use Rattle.mix_bits.specs.Fields.{word_at, three_at, long_at}
-use Rattle.mix_bits.specs.Search.{any_below}
 
 abbrev pub library : Loader → ℕ → ℕ
 library l j = l.start + 56 + 24 * j
@@ -35,13 +34,6 @@ holds bytes l i j = nat_le (symbols_start bytes l j) i && nat_lt i (symbols_end 
 abbrev pub relocated : List ℕ → Loader → ℕ → ℕ
 relocated bytes l h = word_at bytes (relocation l h)
 
-abbrev pub is_for : List ℕ → Loader → ℕ → ℕ → Bool
-is_for bytes l k h = relocated bytes l h == k
-
--- an earlier header is for the same section
-abbrev pub is_repeated : List ℕ → Loader → ℕ → Bool
-is_repeated bytes l h = any_below (is_for bytes l (relocated bytes l h)) h
-
 -- the place of a header's first word, and the place behind its last
 abbrev pub words_start : List ℕ → Loader → ℕ → ℕ
 words_start bytes l h = l.start + l.area + long_at bytes (relocation l h + 8)
@@ -56,9 +48,6 @@ library_name bytes l j = l.start + l.strings + long_at bytes (library l j)
 abbrev pub symbol_name : List ℕ → Loader → ℕ → ℕ
 symbol_name bytes l i = l.start + l.strings + three_at bytes (symbol l i + 1)
 
-abbrev pub is_zero : ℕ → Bool
-is_zero byte = byte == 0
-
 -- a name at this place ends in the loader section
 abbrev pub has_end : List ℕ → Loader → ℕ → Bool
-has_end bytes l from = list_any is_zero (slice_range bytes from l.end)
+has_end bytes l from = list_any (λ byte. byte == 0) (slice_range bytes from l.end)

@@ -1,81 +1,45 @@
 -- Why a container is refused: the first of these rules, in this order, that it breaks. The rules and
 -- their order are this project's own. The refusal `Loader` is called `Table` here, beside the type of that name.
-use Rattle.std.specs.Prelude.{ℕ, ◌+◌, Bool, ◌&&◌, ◌||◌, ◌==◌, not, nat_lt, nat_le, List, length, Option, Some, None, option_map}
+use Rattle.std.specs.Prelude.{ℕ, ◌+◌, Bool, ◌&&◌, ◌||◌, ◌==◌, not, nat_lt, nat_le, List, length, Option, is_none, option_map}
 use Rattle.pef_head.specs.declared.error.PefError.{PefError}
 use Rattle.pef_head.specs.declared.error.PefError.TheVariants.{Short, Magic, Architecture, Version, Section, NoLoader, Loader as Table, Name, Init}
 use Rattle.pef_head.specs.declared.loader.Loader.{Loader}
 use Rattle.mix_bits.specs.Fields.{long_at}
 use Rattle.mix_bits.specs.SearchOperator.{◌or◌}
-use Rattle.mix_bits.specs.Search.{refused, least}
+use Rattle.mix_bits.specs.Search.{refused, least, count_below, any_below}
 use Rattle.pef_head.specs.Container.{section_count, instantiated_count, section_header, is_bad_section, loader_section}
-use Rattle.pef_head.specs.Loader.{loader_in}
-use Rattle.pef_head.specs.Places.{library, symbol, relocation, symbols_end, relocated, is_repeated, words_end, library_name, symbol_name, has_end}
-use Rattle.pef_head.specs.Owners.{is_lost}
-
--- 'Joy!' and 'peff'
-abbrev pub has_magic : List ℕ → Bool
-has_magic bytes = long_at bytes 0 == 0x4A6F_7921 && long_at bytes 4 == 0x7065_6666
-
--- 'pwpc'
-abbrev pub has_architecture : List ℕ → Bool
-has_architecture bytes = long_at bytes 8 == 0x7077_7063
-
-abbrev pub header_refusal : List ℕ → Option PefError
-header_refusal bytes =
-    refused (nat_lt (length bytes) 40) (Short (length bytes))
-    or refused (not (has_magic bytes)) Magic
-    or refused (not (has_architecture bytes)) Architecture
-    or refused (not (long_at bytes 12 == 1)) Version
-    or refused (nat_lt (length bytes) (section_header (section_count bytes))) (Short (length bytes))
-
-abbrev pub sections_refusal : List ℕ → Option PefError
-sections_refusal bytes =
-    option_map (λ k. Section k) (least (is_bad_section bytes) (section_count bytes))
-    or refused (nat_lt (section_count bytes) (instantiated_count bytes)) (Section (section_count bytes))
-
--- the tables leave the loader section
-abbrev pub tables_refusal : Loader → Option PefError
-tables_refusal l =
-    refused (nat_lt l.end (l.start + 56)) (Table l.start)
-    or refused (nat_lt l.end (library l l.libraries)) (Table (library l 0))
-    or refused (nat_lt l.end (symbol l l.symbols)) (Table (symbol l 0))
-    or refused (nat_lt l.end (relocation l l.headers)) (Table (relocation l 0))
-
--- a library's symbols leave the symbol table
-abbrev pub leaves_symbols : List ℕ → Loader → ℕ → Bool
-leaves_symbols bytes l j = nat_lt l.symbols (symbols_end bytes l j)
+use Rattle.pef_head.specs.Loader.{loader_of}
+use Rattle.pef_head.specs.Places.{library, symbol, relocation, symbols_end, holds, relocated, words_end, library_name, symbol_name, has_end}
 
 -- a relocation header's section is not instantiated or had one before, or its words leave the section
 abbrev pub is_bad_relocation : List ℕ → Loader → ℕ → Bool
 is_bad_relocation bytes l h =
-    nat_le (instantiated_count bytes) (relocated bytes l h) || is_repeated bytes l h || nat_lt l.end (words_end bytes l h)
+    nat_le (instantiated_count bytes) (relocated bytes l h)
+    || any_below (λ g. relocated bytes l g == relocated bytes l h) h
+    || nat_lt l.end (words_end bytes l h)
 
-abbrev pub entries_refusal : List ℕ → Loader → Option PefError
-entries_refusal bytes l =
-    option_map (λ j. Table (library l j)) (least (leaves_symbols bytes l) l.libraries)
-    or option_map (λ i. Table (symbol l i)) (least (is_lost bytes l) l.symbols)
-    or option_map (λ h. Table (relocation l h)) (least (is_bad_relocation bytes l) l.headers)
-
-abbrev pub is_nameless_library : List ℕ → Loader → ℕ → Bool
-is_nameless_library bytes l j = not (has_end bytes l (library_name bytes l j))
-
-abbrev pub is_nameless_symbol : List ℕ → Loader → ℕ → Bool
-is_nameless_symbol bytes l i = not (has_end bytes l (symbol_name bytes l i))
-
-abbrev pub names_refusal : List ℕ → Loader → Option PefError
-names_refusal bytes l =
-    option_map (λ j. Name (library l j)) (least (is_nameless_library bytes l) l.libraries)
-    or option_map (λ i. Name (symbol l i)) (least (is_nameless_symbol bytes l) l.symbols)
-
--- there is an initialization routine: its section is not -1
-abbrev pub init_refusal : List ℕ → Loader → Option PefError
-init_refusal bytes l = refused (not (long_at bytes (l.start + 8) == 0xFFFF_FFFF)) Init
-
-abbrev pub loader_refusal : List ℕ → Option ℕ → Option PefError
-loader_refusal bytes None = Some NoLoader
-loader_refusal bytes (Some k) =
-    let l = loader_in bytes k in
-    tables_refusal l or entries_refusal bytes l or names_refusal bytes l or init_refusal bytes l
-
+-- The header: it is in the file, with 'Joy!', 'peff', 'pwpc' and its version, and the section headers follow. The
+-- sections, of which no more are instantiated than there are. The loader section and its tables, which do not leave it;
+-- their entries: a library's symbols do not leave the symbol table, and a symbol is in one library. The names, which
+-- have an end. And there is no initialization routine: its section is -1.
 abbrev pub refusal_of : List ℕ → Option PefError
-refusal_of bytes = header_refusal bytes or sections_refusal bytes or loader_refusal bytes (loader_section bytes)
+refusal_of bytes =
+    let l = loader_of bytes in
+    refused (nat_lt (length bytes) 40) (Short (length bytes))
+    or refused (not (long_at bytes 0 == 0x4A6F_7921 && long_at bytes 4 == 0x7065_6666)) Magic
+    or refused (not (long_at bytes 8 == 0x7077_7063)) Architecture
+    or refused (not (long_at bytes 12 == 1)) Version
+    or refused (nat_lt (length bytes) (section_header (section_count bytes))) (Short (length bytes))
+    or option_map (λ k. Section k) (least (is_bad_section bytes) (section_count bytes))
+    or refused (nat_lt (section_count bytes) (instantiated_count bytes)) (Section (section_count bytes))
+    or refused (is_none (loader_section bytes)) NoLoader
+    or refused (nat_lt l.end (l.start + 56)) (Table l.start)
+    or refused (nat_lt l.end (library l l.libraries)) (Table (library l 0))
+    or refused (nat_lt l.end (symbol l l.symbols)) (Table (symbol l 0))
+    or refused (nat_lt l.end (relocation l l.headers)) (Table (relocation l 0))
+    or option_map (λ j. Table (library l j)) (least (λ j. nat_lt l.symbols (symbols_end bytes l j)) l.libraries)
+    or option_map (λ i. Table (symbol l i)) (least (λ i. not (count_below (holds bytes l i) l.libraries == 1)) l.symbols)
+    or option_map (λ h. Table (relocation l h)) (least (is_bad_relocation bytes l) l.headers)
+    or option_map (λ j. Name (library l j)) (least (λ j. not (has_end bytes l (library_name bytes l j))) l.libraries)
+    or option_map (λ i. Name (symbol l i)) (least (λ i. not (has_end bytes l (symbol_name bytes l i))) l.symbols)
+    or refused (not (long_at bytes (l.start + 8) == 0xFFFF_FFFF)) Init

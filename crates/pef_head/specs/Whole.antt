@@ -2,7 +2,8 @@
 use Rattle.std.specs.Prelude.{◌≡◌, ◌≢◌, ℕ, ◌+◌, ◌<◌, ◌≤◌, Bool, true, false, List, length, IsSome}
 use Rattle.pef_head.specs.declared.loader.Loader.{Loader}
 use Rattle.mix_bits.specs.Fields.{long_at}
-use Rattle.pef_head.specs.Container.{section_count, instantiated_count, section_header, kind_of, total_of, unpacked_of, packed_of, offset_of, exponent_of, is_pattern, is_uninstantiable, loader_section}
+use Rattle.pef_head.specs.Container.{section_count, instantiated_count, section_header, kind_of, total_of, unpacked_of, packed_of, offset_of, exponent_of, is_pattern, loader_section}
+use Rattle.pef_head.specs.ContainerClauses.{is_uninstantiable}
 use Rattle.pef_head.specs.Loader.{loader_of}
 use Rattle.pef_head.specs.Places.{library, symbol, relocation, symbols_end, holds, relocated, words_end, library_name, symbol_name, has_end}
 

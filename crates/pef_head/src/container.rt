@@ -4,8 +4,9 @@ ghost use Rattle.mix_bits.specs.declared.file.TheConstants.{MOST_BYTES};
 ghost use Rattle.std.specs.Result.{result_err};
 ghost use Rattle.mix_bits.specs.Search.{least};
 ghost use Rattle.pef_head.specs.ContainerClauses.{HasHeaders, HasSections};
-ghost use Rattle.pef_head.specs.Container.{instantiated_count, is_bad_section, is_loader, is_malformed, leaves_file, loader_section, section_count, section_header};
-ghost use Rattle.pef_head.specs.Refusals.{header_refusal, sections_refusal};
+ghost use Rattle.pef_head.specs.Container.{instantiated_count, is_bad_section, is_malformed, loader_section, section_count, section_header};
+ghost use Rattle.pef_head.specs.inner.Container.{is_loader, leaves_file};
+ghost use Rattle.pef_head.specs.inner.Refusals.{header_refusal, sections_refusal};
 
 use crate::error::PefError;
 use mix_bits::{long_at, word_at};

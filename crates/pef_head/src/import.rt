@@ -1,7 +1,7 @@
 ghost use Rattle.std.specs.Prelude.{◌≡◌, ℕ, ◌<◌, true};
 ghost use Rattle.pef_head.specs.Owners.{owners};
-ghost use Rattle.pef_head.specs.PartsByNumber.{cut};
-ghost use Rattle.pef_head.specs.Parts.{import_at, is_weak, owner_of};
+ghost use Rattle.pef_head.specs.PartsByNumber.{cut, owner_of};
+ghost use Rattle.pef_head.specs.inner.Parts.{import_at, is_weak};
 ghost use Rattle.pef_head.specs.PartsClauses.{names};
 ghost use Rattle.pef_head.specs.PlacesClauses.{HasTables};
 ghost use Rattle.pef_head.specs.Places.{has_end, holds, library_name, symbol_name};

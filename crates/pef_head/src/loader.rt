@@ -6,7 +6,7 @@ ghost use Rattle.pef_head.specs.Container.{offset_of, packed_of, section_header}
 ghost use Rattle.pef_head.specs.Loader.{loader_in};
 ghost use Rattle.pef_head.specs.PlacesClauses.{HasTables};
 ghost use Rattle.pef_head.specs.Places.{library, relocation, symbol};
-ghost use Rattle.pef_head.specs.Refusals.{tables_refusal};
+ghost use Rattle.pef_head.specs.inner.Refusals.{tables_refusal};
 
 use crate::container::{PACKED, PLACE, section_header};
 use crate::error::PefError;

@@ -1,10 +1,10 @@
 //! Names in the loader section, each with a zero byte behind it.
 ghost use Rattle.std.specs.Prelude.{◌≡◌, ◌≤◌, ◌<◌, true, length, take, IfSome};
 ghost use Rattle.pef_head.specs.PlacesClauses.{HasTables};
-ghost use Rattle.pef_head.specs.Places.{has_end, is_zero, library_name, symbol_name};
-ghost use Rattle.pef_head.specs.inner.Names.{IsNamesEnd};
+ghost use Rattle.pef_head.specs.Places.{has_end, library_name, symbol_name};
+ghost use Rattle.pef_head.specs.inner.Names.{is_zero, IsNamesEnd};
 ghost use Rattle.pef_head.specs.Names.{name_at};
-ghost use Rattle.pef_head.specs.Refusals.{names_refusal, is_nameless_library, is_nameless_symbol};
+ghost use Rattle.pef_head.specs.inner.Refusals.{names_refusal, is_nameless_library, is_nameless_symbol};
 ghost use Rattle.std.specs.List.{position};
 ghost use Rattle.std.specs.Result.{result_err};
 ghost use Rattle.mix_bits.specs.Search.{least};

@@ -2,7 +2,7 @@
 ghost use Rattle.std.specs.Prelude.{◌≡◌, ◌+◌, ◌*◌, ◌^◌, ◌<◌, IfSome};
 ghost use Rattle.pef_head.specs.PlacesClauses.{HasTables};
 ghost use Rattle.pef_head.specs.Places.{holds, library, library_name, relocation, symbol, symbol_name, symbols_end, symbols_start};
-ghost use Rattle.pef_head.specs.Refusals.{leaves_symbols};
+ghost use Rattle.pef_head.specs.inner.Refusals.{leaves_symbols};
 ghost use Rattle.mix_bits.specs.Search.{least};
 
 use crate::loader::Loader;

@@ -6,7 +6,8 @@ ghost use Rattle.pef_head.specs.ContainerClauses.{HasHeaders, HasSections};
 ghost use Rattle.pef_head.specs.Container.{offset_of, packed_of, section_header};
 ghost use Rattle.pef_head.specs.Loader.{loader_in, loader_of};
 ghost use Rattle.pef_head.specs.PlacesClauses.{HasTables};
-ghost use Rattle.pef_head.specs.Refusals.{entries_refusal, init_refusal, loader_refusal, refusal_of};
+ghost use Rattle.pef_head.specs.inner.Refusals.{refusal_in_parts};
+ghost use Rattle.pef_head.specs.inner.Refusals.{entries_refusal, init_refusal, loader_refusal};
 
 use crate::container::{loader_section, section_count, test_header, test_sections};
 use crate::error::PefError;
@@ -67,7 +68,7 @@ fn test_loader(bytes: &[u8], k: u16) -> Result<Loader, PefError>
 /// Tests a container whole, and gives what its loader section names.
 pub fn read_head(bytes: &[u8]) -> Result<Loader, PefError>
     requires { length bytes.now ≤ MOST_BYTES }
-    ensures refusal { result_err result ≡ refusal_of bytes.now }
+    ensures refusal { result_err result ≡ refusal_in_parts bytes.now }
     ensures is { IfOk result (λ l. l ≡ loader_of bytes.now) }
     ensures headers { OnOk result (HasHeaders bytes.now) }
     ensures sections { OnOk result (HasSections bytes.now) }

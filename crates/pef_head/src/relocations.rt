@@ -1,11 +1,13 @@
 //! The table of relocation headers.
 ghost use Rattle.std.specs.Prelude.{◌≡◌, ℕ, ◌+◌, ◌*◌, ◌^◌, ◌≤◌, ◌<◌, length, IfSome, IfOk};
 ghost use Rattle.pef_head.specs.PlacesClauses.{HasTables};
-ghost use Rattle.pef_head.specs.Places.{is_repeated, relocated, relocation, words_end, words_start};
+ghost use Rattle.pef_head.specs.Places.{relocated, relocation, words_end, words_start};
+ghost use Rattle.pef_head.specs.inner.Places.{is_repeated};
 ghost use Rattle.pef_head.specs.inner.Relocations.{HasHeadersFor, Seen};
 ghost use Rattle.pef_head.specs.Container.{instantiated_count};
 ghost use Rattle.pef_head.specs.Refusals.{is_bad_relocation};
-ghost use Rattle.pef_head.specs.Parts.{header_for, relocs_at};
+ghost use Rattle.pef_head.specs.inner.Parts.{relocs_at};
+ghost use Rattle.pef_head.specs.PartsByNumber.{header_for};
 ghost use Rattle.mix_bits.specs.Search.{least};
 
 use crate::container::instantiated_count;

@@ -15,8 +15,12 @@ use Rattle.pef_reloc.specs.declared.instruction.Instruction.{Instruction}
 use Rattle.pef_reloc.specs.declared.instruction.Reading.{Reading}
 use Rattle.pef_reloc.specs.declared.instruction.Reading.TheVariants.{Whole, Again}
 use Rattle.mix_bits.specs.Results.{◌>>=◌}
-use Rattle.pef_reloc.specs.Additions.{Operation, Add, Skip, Place, Import, SetC, SetD, Sources, State, Refused, refused, added, allowed, base_of, begun, counted, does, executed, finished, given, moved, operations, passed, runs, value_of, with_long}
-use Rattle.pef_reloc.specs.Program.{Relocated, can_repeat, each_by, end_of, read_and_run, reading_at, repeated, run_at, run_in_span, run_span, run_times, run_words, span_at, start, width_at}
+use Rattle.pef_reloc.specs.Additions.{Operation, Add, Skip, Place, Import, SetC, SetD, Sources, State, Refused, refused, added, allowed, counted, does, executed, finished, given, operations, passed, runs, value_of}
+use Rattle.pef_reloc.specs.AdditionsClauses.{with_long}
+use Rattle.pef_reloc.specs.inner.Additions.{base_of, begun, moved}
+use Rattle.pef_reloc.specs.Program.{Relocated, each_by, end_of, read_and_run, reading_at, repeated, run_span, run_times, start}
+use Rattle.pef_reloc.specs.inner.Program.{run_at, run_in_span, run_words}
+use Rattle.pef_reloc.specs.ProgramClauses.{can_repeat, span_at, width_at}
 use Rattle.pef_reloc.specs.laws.Laws.{Addition, HasPlan, IsAddend, IsAddition, IsItem, KeepsSize, Plan, with_additions}
 
 abbrev state : List ℕ → Cursor → State

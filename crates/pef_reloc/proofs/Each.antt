@@ -5,7 +5,8 @@ use Rattle.pef_reloc.specs.declared.instruction.First.{First}
 use Rattle.pef_reloc.specs.declared.instruction.First.TheVariants.{One, Two, Repeat, NoRow}
 use Rattle.pef_reloc.specs.Rows.{first_of}
 use Rattle.mix_bits.specs.Results.{◌>>=◌}
-use Rattle.pef_reloc.specs.Program.{width, width_at, each, each_by}
+use Rattle.pef_reloc.specs.Program.{width, each, each_by}
+use Rattle.pef_reloc.specs.ProgramClauses.{width_at}
 use Rattle.mix_bits.specs.Fields.{word_at}
 
 pub some_width : (f : First) → 1 ≤ width f

@@ -5,8 +5,10 @@ use Rattle.pef_reloc.specs.declared.error.RelocError.{RelocError}
 use Rattle.pef_reloc.specs.declared.error.RelocError.TheVariants.{OutsideSection, RepeatFront, Work}
 use Rattle.pef_reloc.specs.declared.section.Source.{Source}
 use Rattle.pef_reloc.specs.declared.section.Source.TheVariants.{FromC, FromD, FromImport, FromSection}
-use Rattle.pef_reloc.specs.Additions.{Add, Skip, Place, Import, SetC, SetD, State, Refused, allowed, base_of, counted, finished, given, import_at, refused, added}
-use Rattle.pef_reloc.specs.Program.{can_repeat, run_times, span_at}
+use Rattle.pef_reloc.specs.Additions.{Add, Skip, Place, Import, SetC, SetD, State, Refused, allowed, counted, finished, given, refused, added}
+use Rattle.pef_reloc.specs.inner.Additions.{base_of, import_at}
+use Rattle.pef_reloc.specs.Program.{run_times}
+use Rattle.pef_reloc.specs.ProgramClauses.{can_repeat, span_at}
 use Rattle.pef_reloc.specs.laws.Laws.{IsRepeatWorkLast, IsWorkLast, else_work, refusal_of, when_over, without_work}
 
 -- an addition, whose long may leave the section

@@ -2,7 +2,9 @@
 use Rattle.std.proofs.Common.{◌≡◌, ℕ, zero, suc, ◌+◌, ◌-◌, ◌<◌, ◌≤◌, ◌==◌, nat_le, if◌then◌else◌, Bool, true, false, List, [], ◌∷◌, ◌++◌, length, Option, None, Some, refl, arith, ap, sym, subst, ◌∙◌, length-append}
 use Rattle.std.proofs.lemmas.Bool.Decides.{nat_tests}
 use Rattle.pef_reloc.specs.Reads.{Read}
-use Rattle.pef_reloc.specs.Pattern.{with_rest, piece_in, Unpacked, with_piece, unpacked_by, ended, placed, refused}
+use Rattle.pef_reloc.specs.Pattern.{with_rest, Unpacked, unpacked_by, placed, refused}
+use Rattle.pef_reloc.specs.PatternClauses.{piece_in}
+use Rattle.pef_reloc.specs.inner.Pattern.{with_piece, ended}
 use Rattle.pef_reloc.specs.laws.Laws.{Writes, UnpacksPieces}
 use Rattle.pef_reloc.specs.laws.Laws.Writes.{Ends, Then}
 use Rattle.pef_reloc.proofs.Unpacked.{next_piece, leaves_piece, Leaves}

@@ -4,7 +4,9 @@ use Rattle.std.proofs.lemmas.Bool.Decides.{nat_tests}
 use Rattle.std.specs.Result.{is_ok}
 use Rattle.pef_reloc.specs.Rows.{first_of}
 use Rattle.mix_bits.specs.Results.{◌>>=◌}
-use Rattle.pef_reloc.specs.Program.{each_by, fill_span, fits_in, is_repeat, width_at}
+use Rattle.pef_reloc.specs.Program.{each_by, fits_in, is_repeat}
+use Rattle.pef_reloc.specs.inner.Program.{fill_span}
+use Rattle.pef_reloc.specs.ProgramClauses.{width_at}
 use Rattle.mix_bits.specs.Fields.{word_at}
 use Rattle.pef_reloc.specs.laws.Laws.{Fills, IsFilledSpan}
 use Rattle.pef_reloc.specs.laws.Laws.Fills.{Filled, Next}

@@ -3,7 +3,9 @@ use Rattle.std.proofs.Common.{◌≡◌, ℕ, zero, suc, ◌+◌, ◌-◌, ◌*�
 use Rattle.std.proofs.lemmas.List.{places}
 use Rattle.std.proofs.lemmas.Bool.Decides.{nat_tests}
 use Rattle.pef_reloc.specs.Reads.{Read}
-use Rattle.pef_reloc.specs.Pattern.{with_rest, number_after, number_in, count_in, bytes_in, repeated_in, parts_in, mixed_in, mixed_zeros_in, opcode_in, piece_in, Unpacked, placed, with_piece, refused, unpacked_by}
+use Rattle.pef_reloc.specs.Pattern.{with_rest, number_after, count_in, bytes_in, repeated_in, parts_in, mixed_in, mixed_zeros_in, opcode_in, Unpacked, placed, refused, unpacked_by}
+use Rattle.pef_reloc.specs.PatternClauses.{piece_in}
+use Rattle.pef_reloc.specs.inner.Pattern.{number_in, with_piece}
 use Rattle.pef_reloc.specs.PatternOperator.{◌>>=◌}
 
 -- no more than n bytes are left behind what was read

@@ -13,8 +13,11 @@ use Rattle.pef_reloc.specs.declared.instruction.First.TheVariants.{One, Two, Rep
 use Rattle.pef_reloc.specs.declared.instruction.Reading.TheVariants.{Whole}
 use Rattle.pef_reloc.specs.Rows.{first_of, whole_of}
 use Rattle.mix_bits.specs.Results.{◌>>=◌}
-use Rattle.pef_reloc.specs.Additions.{Operation, Add, Skip, Place, Import, SetC, SetD, Sources, State, Refused, refused, added, allowed, base_of, counted, does, executed, finished, given, operations, runs, value_of}
-use Rattle.pef_reloc.specs.Program.{can_repeat, each_by, end_of, read_and_run, reading_by, repeated, run_at, run_in_span, run_span, run_times, run_words, span_at, start, width_at}
+use Rattle.pef_reloc.specs.Additions.{Operation, Add, Skip, Place, Import, SetC, SetD, Sources, State, Refused, refused, added, allowed, counted, does, executed, finished, given, operations, runs, value_of}
+use Rattle.pef_reloc.specs.inner.Additions.{base_of}
+use Rattle.pef_reloc.specs.Program.{each_by, end_of, read_and_run, reading_by, repeated, run_span, run_times, start}
+use Rattle.pef_reloc.specs.inner.Program.{run_at, run_in_span, run_words}
+use Rattle.pef_reloc.specs.ProgramClauses.{can_repeat, span_at, width_at}
 use Rattle.mix_bits.specs.Fields.{word_at}
 use Rattle.pef_reloc.specs.laws.Laws.{IsBeyondLimit, IsWithinLimit, repeat_work, span_work, summed_by, work_by, work_of}
 

@@ -3,13 +3,10 @@
 --
 -- The order of refusals is this project's own: an addition is refused first where its long leaves the
 -- section, then where what it adds is missing, and last where its instruction is one too many.
-use Rattle.std.specs.Prelude.{ℕ, ◌+◌, ◌-◌, ◌*◌, ◌%◌, ◌^◌, ◌==◌, nat_lt, if◌then◌else◌, List, [], ◌∷◌, length, slice_index, Result, Ok, Err}
-use Rattle.byteorder.specs.Endian.{big_bytes}
+use Rattle.std.specs.Prelude.{ℕ, ◌+◌, ◌*◌, ◌%◌, ◌^◌, nat_lt, if◌then◌else◌, List, [], ◌∷◌, length, Result, Ok, Err, ◌==◌, ◌-◌, slice_index}
 use Rattle.mix_bits.specs.Results.{◌>>=◌}
-use Rattle.big_memory.specs.Lists.{put}
-use Rattle.big_memory.specs.Numbers.{long_at}
 use Rattle.pef_reloc.specs.declared.error.RelocError.{RelocError}
-use Rattle.pef_reloc.specs.declared.error.RelocError.TheVariants.{OutsideSection, ImportIndex, SectionIndex, Work}
+use Rattle.pef_reloc.specs.declared.error.RelocError.TheVariants.{OutsideSection, Work, ImportIndex, SectionIndex}
 use Rattle.pef_reloc.specs.declared.cursor.Cursor.{Cursor}
 use Rattle.pef_reloc.specs.declared.section.Source.{Source}
 use Rattle.pef_reloc.specs.declared.section.Source.TheVariants.{FromC, FromD, FromImport, FromSection}
@@ -18,6 +15,9 @@ use Rattle.pef_reloc.specs.declared.instruction.Instruction.TheVariants.{BySectD
 use Rattle.pef_reloc.specs.declared.instruction.Turn.{Turn}
 use Rattle.pef_reloc.specs.declared.instruction.Turn.TheVariants.{SectC, SectD, TVector12, TVector8, VTable8, ImportRun}
 use Rattle.pef_reloc.specs.Lists.{times}
+use Rattle.byteorder.specs.Endian.{big_bytes}
+use Rattle.big_memory.specs.Lists.{put}
+use Rattle.big_memory.specs.Numbers.{long_at}
 
 -- where the sections stand, and the addresses of the imports
 pub record Sources : Type 0 where
@@ -46,17 +46,13 @@ pub data Operation : Type 0 where
   SetC : (n : ℕ) → Operation
   SetD : (n : ℕ) → Operation
 
-abbrev pub base_of : Sources → ℕ → Result ℕ RelocError
-base_of sources n = if nat_lt n (length sources.bases) then Ok (slice_index sources.bases n) else Err (SectionIndex n)
-
-abbrev pub import_at : Sources → ℕ → Result ℕ RelocError
-import_at sources n = if nat_lt n (length sources.imports) then Ok (slice_index sources.imports n) else Err (ImportIndex n)
-
 abbrev pub value_of : Sources → Source → Cursor → Result ℕ RelocError
 value_of sources FromC cursor = Ok cursor.c
 value_of sources FromD cursor = Ok cursor.d
-value_of sources FromImport cursor = import_at sources cursor.index
-value_of sources (FromSection n) cursor = base_of sources n
+value_of sources FromImport cursor =
+    if nat_lt cursor.index (length sources.imports) then Ok (slice_index sources.imports cursor.index) else Err (ImportIndex cursor.index)
+value_of sources (FromSection n) cursor =
+    if nat_lt n (length sources.bases) then Ok (slice_index sources.bases n) else Err (SectionIndex n)
 
 -- a value, unless the instruction that asks for it is one too many
 abbrev pub allowed : Cursor → Result ℕ RelocError → Result ℕ RelocError
@@ -68,23 +64,15 @@ abbrev pub given : Result ℕ RelocError → State → (ℕ → State) → Resul
 given (Ok value) s next = Ok (next value)
 given (Err e) s next = refused e s
 
-abbrev pub moved : ℕ → Cursor → Cursor
-moved n cursor = record cursor { position = cursor.position + n }
-
 -- behind an addition: an import is followed by the next one
 abbrev pub passed : Source → Cursor → Cursor
 passed FromImport cursor = record cursor { position = cursor.position + 4; index = cursor.index + 1 }
-passed _ cursor = moved 4 cursor
-
--- the section with a value added to the long at a position
-abbrev pub with_long : ℕ → ℕ → List ℕ → List ℕ
-with_long position value section =
-    put position (big_bytes 4 ((long_at position section + value) % 2 ^ 32)) section
+passed _ cursor = record cursor { position = cursor.position + 4 }
 
 abbrev pub added : Source → State → ℕ → State
 added source s value =
     record {
-      section = with_long s.cursor.position value s.section;
+      section = put s.cursor.position (big_bytes 4 ((long_at s.cursor.position s.section + value) % 2 ^ 32)) s.section;
       cursor = passed source s.cursor;
     }
 
@@ -93,11 +81,13 @@ does sources (Add source) s =
     if nat_lt (length s.section) (s.cursor.position + 4)
     then refused (OutsideSection (s.cursor.position % 2 ^ 32)) s
     else given (allowed s.cursor (value_of sources source s.cursor)) s (added source s)
-does sources (Skip n) s = Ok (record s { cursor = moved n s.cursor })
+does sources (Skip n) s = Ok (record s { cursor = record s.cursor { position = s.cursor.position + n } })
 does sources (Place n) s = Ok (record s { cursor = record s.cursor { position = n } })
 does sources (Import n) s = Ok (record s { cursor = record s.cursor { index = n } })
-does sources (SetC n) s = given (allowed s.cursor (base_of sources n)) s (λ base. record s { cursor = record s.cursor { c = base } })
-does sources (SetD n) s = given (allowed s.cursor (base_of sources n)) s (λ base. record s { cursor = record s.cursor { d = base } })
+does sources (SetC n) s =
+    given (allowed s.cursor (value_of sources (FromSection n) s.cursor)) s (λ base. record s { cursor = record s.cursor { c = base } })
+does sources (SetD n) s =
+    given (allowed s.cursor (value_of sources (FromSection n) s.cursor)) s (λ base. record s { cursor = record s.cursor { d = base } })
 
 -- one operation after the other
 abbrev pub runs : Sources → List Operation → State → Result State Refused
@@ -124,16 +114,12 @@ operations (BySection n) = Add (FromSection n) ∷ []
 operations (IncrPosition n) = Skip n ∷ []
 operations (SetPosition n) = Place n ∷ []
 
--- an instruction is counted: one too many, where none is left
-abbrev pub begun : Cursor → Cursor
-begun cursor = record cursor { left = cursor.left - 1; over = cursor.left == 0 }
-
 -- the end of an instruction that was one too many, whatever it did
 abbrev pub finished : State → Result State Refused
 finished s = if s.cursor.over then refused Work s else Ok s
 
 abbrev pub counted : State → State
-counted s = record s { cursor = begun s.cursor }
+counted s = record s { cursor = record s.cursor { left = s.cursor.left - 1; over = s.cursor.left == 0 } }
 
 abbrev pub executed : Sources → Instruction → State → Result State Refused
 executed sources i s = runs sources (operations i) (counted s) >>= finished

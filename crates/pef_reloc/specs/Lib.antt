@@ -8,3 +8,5 @@ pub mod Reads
 pub mod Rows
 pub mod laws
 pub mod inner
+pub mod AdditionsClauses
+pub mod PatternClauses

@@ -4,7 +4,7 @@
 -- An instruction begins with a byte: the high three bits are its opcode, the low five its count, where
 -- 0 says that the count follows as a number. A number is given in groups of seven bits, the most
 -- significant first; all but the last have their top bit set.
-use Rattle.std.specs.Prelude.{ℕ, zero, suc, ◌+◌, ◌-◌, ◌*◌, ◌/◌, ◌%◌, ◌^◌, ◌==◌, nat_lt, nat_le, if◌then◌else◌, List, [], ◌∷◌, ◌++◌, length, take, drop, replicate, Option, Some, None}
+use Rattle.std.specs.Prelude.{ℕ, zero, suc, ◌+◌, ◌-◌, ◌*◌, ◌%◌, ◌^◌, ◌==◌, nat_lt, nat_le, if◌then◌else◌, List, [], ◌∷◌, ◌++◌, length, take, drop, replicate, Option, Some, None, ◌/◌}
 use Rattle.pef_reloc.specs.declared.error.RelocError.{RelocError}
 use Rattle.pef_reloc.specs.declared.error.RelocError.TheVariants.{Pattern}
 use Rattle.pef_reloc.specs.Lists.{times}
@@ -23,11 +23,8 @@ number_after value (group ∷ rest) =
     then (if nat_lt number (2 ^ 32) then Some (with_rest number rest) else None)
     else number_after number rest
 
-abbrev pub number_in : List ℕ → Option (Read ℕ)
-number_in bytes = number_after 0 bytes
-
 abbrev pub count_in : ℕ → List ℕ → Option (Read ℕ)
-count_in byte bytes = if byte % 32 == 0 then number_in bytes else Some (with_rest (byte % 32) bytes)
+count_in byte bytes = if byte % 32 == 0 then number_after 0 bytes else Some (with_rest (byte % 32) bytes)
 
 -- the first n bytes
 abbrev pub bytes_in : ℕ → List ℕ → Option (Read (List ℕ))
@@ -41,7 +38,7 @@ followed common size (suc n) parts = take size parts ++ (common ++ followed comm
 -- a block that is written once more than a number says
 abbrev pub repeated_in : ℕ → List ℕ → Option (Read (List ℕ))
 repeated_in count bytes =
-    number_in bytes >>= λ further behind. bytes_in count behind >>= λ block rest.
+    number_after 0 bytes >>= λ further behind. bytes_in count behind >>= λ block rest.
     Some (with_rest (times (suc further) block) rest)
 
 -- the parts of an instruction whose common block is known
@@ -52,13 +49,13 @@ parts_in common size n bytes =
 -- a common block that stands before the parts
 abbrev pub mixed_in : ℕ → List ℕ → Option (Read (List ℕ))
 mixed_in count bytes =
-    number_in bytes >>= λ size behind. number_in behind >>= λ n blocks.
+    number_after 0 bytes >>= λ size behind. number_after 0 behind >>= λ n blocks.
     bytes_in count blocks >>= λ common rest. parts_in common size n rest
 
 -- a common block of zeros, which does not stand there
 abbrev pub mixed_zeros_in : ℕ → List ℕ → Option (Read (List ℕ))
 mixed_zeros_in count bytes =
-    number_in bytes >>= λ size behind. number_in behind >>= λ n rest. parts_in (replicate count 0) size n rest
+    number_after 0 bytes >>= λ size behind. number_after 0 behind >>= λ n rest. parts_in (replicate count 0) size n rest
 
 abbrev pub opcode_in : ℕ → ℕ → List ℕ → Option (Read (List ℕ))
 opcode_in opcode count bytes =
@@ -69,11 +66,6 @@ opcode_in opcode count bytes =
     else (if opcode == 4 then mixed_zeros_in count bytes
     else None))))
 
--- what the first instruction writes
-abbrev pub piece_in : List ℕ → Option (Read (List ℕ))
-piece_in [] = None
-piece_in (byte ∷ bytes) = count_in byte bytes >>= λ count rest. opcode_in (byte / 32) count rest
-
 -- what was written, and why no more
 pub record Unpacked : Type 0 where
   pub written : List ℕ
@@ -82,26 +74,19 @@ pub record Unpacked : Type 0 where
 abbrev pub refused : ℕ → Unpacked
 refused place = record { written = []; refusal = Some (Pattern place) }
 
-abbrev pub with_piece : List ℕ → Unpacked → Unpacked
-with_piece piece later = record later { written = piece ++ later.written }
-
 -- a piece, if there is room for it, and what follows
 abbrev pub placed : ℕ → ℕ → Option (Read (List ℕ)) → (List ℕ → ℕ → Unpacked) → Unpacked
 placed place room None follow = refused place
 placed place room (Some read) follow =
-    if nat_le (length read.value) room
-    then with_piece read.value (follow read.rest (room - length read.value))
-    else refused place
-
-abbrev pub ended : ℕ → ℕ → Unpacked
-ended len room = if room == 0 then record { written = []; refusal = None } else refused len
+    let later = follow read.rest (room - length read.value) in
+    if nat_le (length read.value) room then record later { written = read.value ++ later.written } else refused place
 
 -- the pieces of at most n instructions, which stand at the end of pattern data of a length, one after the other
 abbrev pub unpacked_by : ℕ → ℕ → List ℕ → ℕ → Unpacked
-unpacked_by zero len bytes room = ended len room
-unpacked_by (suc n) len [] room = ended len room
 unpacked_by (suc n) len (byte ∷ bytes) room =
-    placed (len - length (byte ∷ bytes)) room (piece_in (byte ∷ bytes)) (unpacked_by n len)
+    let piece = count_in byte bytes >>= λ count rest. opcode_in (byte / 32) count rest in
+    placed (len - length (byte ∷ bytes)) room piece (unpacked_by n len)
+unpacked_by _ len _ room = if room == 0 then record { written = []; refusal = None } else refused len
 
 -- what pattern data writes into a room of so many bytes: an instruction takes a byte at least
 abbrev pub unpacked : List ℕ → ℕ → Unpacked

@@ -2,10 +2,9 @@
 -- Structure"). A place counts in bytes from the first of them.
 --
 -- Repeats, the limit of work and the order of refusals are this project's own.
-use Rattle.std.specs.Prelude.{ℕ, zero, suc, ◌+◌, ◌-◌, ◌*◌, nat_lt, nat_le, Bool, true, false, if◌then◌else◌, List, length, slice_index, Option, Some, None, Result, Ok, Err}
+use Rattle.std.specs.Prelude.{ℕ, zero, suc, ◌+◌, ◌-◌, ◌*◌, nat_lt, nat_le, Bool, true, false, if◌then◌else◌, List, length, slice_index, Option, Some, None, Result, Ok, Err, ◌&&◌}
 use Rattle.pef_reloc.specs.declared.program.TheConstants.{WORK_LIMIT}
 use Rattle.std.specs.Result.{is_ok}
-use Rattle.big_memory.specs.Lists.{part}
 use Rattle.mix_bits.specs.Fields.{word_at}
 use Rattle.pef_reloc.specs.declared.error.RelocError.{RelocError}
 use Rattle.pef_reloc.specs.declared.error.RelocError.TheVariants.{Short, Unsupported, RepeatFront}
@@ -17,14 +16,12 @@ use Rattle.pef_reloc.specs.declared.cursor.Cursor.{Cursor}
 use Rattle.pef_reloc.specs.Rows.{first_of, whole_of}
 use Rattle.mix_bits.specs.Results.{◌>>=◌}
 use Rattle.pef_reloc.specs.Additions.{Sources, State, Refused, refused, counted, finished, executed}
+use Rattle.big_memory.specs.Lists.{part}
 
 -- how many bytes it has; what is no instruction has those of its word
 abbrev pub width : First → ℕ
 width (Two large high) = 4
 width _ = 2
-
-abbrev pub width_at : List ℕ → ℕ → ℕ
-width_at words place = width (first_of (word_at words place))
 
 abbrev pub is_repeat : First → Bool
 is_repeat (Repeat count further) = true
@@ -47,7 +44,7 @@ abbrev pub each_by : {S E : Type 0} → ℕ → List ℕ → (ℕ → S → Resu
 each_by zero words step place s = Ok s
 each_by (suc n) words step place s =
     if nat_le (place + 2) (length words)
-    then step place s >>= each_by n words step (place + width_at words place)
+    then step place s >>= each_by n words step (place + width (first_of (word_at words place)))
     else Ok s
 
 -- a step at each instruction from a place on: there are no more than bytes
@@ -61,11 +58,8 @@ read_and_run sources again (Ok (Again count further)) s = again count further s
 read_and_run sources again (Err e) s = refused e s
 
 -- a span that is repeated has no repeat of its own
-abbrev pub run_in_span : Sources → List ℕ → ℕ → State → Result State Refused
-run_in_span sources span place s = read_and_run sources (λ _ _ t. Ok t) (reading_at span place) s
-
 abbrev pub run_span : Sources → List ℕ → State → Result State Refused
-run_span sources span s = each span (run_in_span sources span) 0 s
+run_span sources span s = each span (λ place. read_and_run sources (λ _ _ t. Ok t) (reading_at span place)) 0 s
 
 abbrev pub run_times : Sources → List ℕ → ℕ → State → Result State Refused
 run_times sources span zero s = Ok s
@@ -74,33 +68,19 @@ run_times sources span (suc n) s = run_span sources span s >>= run_times sources
 -- what stands there is no repeat, and ends within the span
 abbrev pub fits_in : List ℕ → ℕ → Bool
 fits_in span place =
-    if is_repeat (first_of (word_at span place)) then false else nat_le (place + width_at span place) (length span)
-
-abbrev pub fill_span : List ℕ → ℕ → Bool → Result Bool Bool
-fill_span span place b = if fits_in span place then Ok b else Err b
+    let first = first_of (word_at span place) in
+    if is_repeat first then false else nat_le (place + width first) (length span)
 
 abbrev pub is_span : List ℕ → Bool
-is_span span = is_ok (each span (fill_span span) 0 true)
+is_span span = is_ok (each span (λ place b. if fits_in span place then Ok b else Err b) 0 true)
 
--- the words that a repeat at a place goes back over
-abbrev pub span_at : List ℕ → ℕ → ℕ → List ℕ
-span_at words place count = part (place - 2 * count) (2 * count) words
-
-abbrev pub can_repeat : List ℕ → ℕ → ℕ → Bool
-can_repeat words place count = if nat_le (2 * count) place then is_span (span_at words place count) else false
-
--- a repeat counts as an instruction, and so does each one that it runs
+-- a repeat counts as an instruction, and so does each one that it runs of the words that it goes back over
 abbrev pub repeated : Sources → List ℕ → ℕ → ℕ → ℕ → State → Result State Refused
 repeated sources words place count further s =
-    if can_repeat words place count
-    then finished (counted s) >>= run_times sources (span_at words place count) further
+    let span = part (place - 2 * count) (2 * count) words in
+    if nat_le (2 * count) place && is_span span
+    then finished (counted s) >>= run_times sources span further
     else refused (RepeatFront place) s
-
-abbrev pub run_at : Sources → List ℕ → ℕ → State → Result State Refused
-run_at sources words place s = read_and_run sources (repeated sources words place) (reading_at words place) s
-
-abbrev pub run_words : Sources → List ℕ → State → Result State Refused
-run_words sources words s = each words (run_at sources words) 0 s
 
 -- sections C and D are at first sections 0 and 1, and count as at 0 where they are missing
 abbrev pub start : List ℕ → Cursor
@@ -126,4 +106,5 @@ end_of (Err r) = record { section = r.section; refusal = Some r.error }
 -- what relocation words make of a section
 abbrev pub relocated : Sources → List ℕ → List ℕ → Relocated
 relocated sources words section =
-    end_of (run_words sources words (record { section = section; cursor = start sources.bases }))
+    end_of (each words (λ place. read_and_run sources (repeated sources words place) (reading_at words place)) 0
+    (record { section = section; cursor = start sources.bases }))

@@ -1,8 +1,8 @@
 // The state of a run of relocations, beside the section.
 ghost use Rattle.std.specs.Prelude.{◌≡◌, ◌+◌, ◌^◌, ◌<◌};
 ghost use Rattle.std.specs.Result.{result_err};
-ghost use Rattle.pef_reloc.specs.Additions.{allowed, begun, moved, passed};
-ghost use Rattle.pef_reloc.specs.inner.Additions.{work_left};
+ghost use Rattle.pef_reloc.specs.Additions.{allowed, passed};
+ghost use Rattle.pef_reloc.specs.inner.Additions.{begun, moved, work_left};
 ghost use Rattle.pef_reloc.specs.inner.Held.{HasNext};
 
 use crate::error::RelocError;

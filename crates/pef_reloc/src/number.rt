@@ -1,7 +1,8 @@
 // The numbers of pattern data.
 ghost use Rattle.std.specs.Prelude.{◌≡◌, ◌≤◌, length, IfSome};
 ghost use Rattle.std.specs.Option.{option_map};
-ghost use Rattle.pef_reloc.specs.Pattern.{count_in, number_in, with_rest};
+ghost use Rattle.pef_reloc.specs.Pattern.{count_in, with_rest};
+ghost use Rattle.pef_reloc.specs.inner.Pattern.{number_in};
 
 /// The number at the front, and the bytes behind it.
 #[tactic(auto, using(crate::proofs::Numbers::number_after_large))]

@@ -2,7 +2,8 @@
 ghost use Rattle.std.specs.Prelude.{◌≡◌, ◌<◌, ◌≤◌, length, IfSome};
 ghost use Rattle.mix_bits.specs.declared.file.TheConstants.{MOST_BYTES};
 ghost use Rattle.std.specs.Option.{option_map};
-ghost use Rattle.pef_reloc.specs.Pattern.{bytes_in, mixed_in, mixed_zeros_in, opcode_in, piece_in, repeated_in, with_rest};
+ghost use Rattle.pef_reloc.specs.Pattern.{bytes_in, mixed_in, mixed_zeros_in, opcode_in, repeated_in, with_rest};
+ghost use Rattle.pef_reloc.specs.PatternClauses.{piece_in};
 ghost use Rattle.pef_reloc.specs.inner.Pieces.{IsSmall, bytes_of};
 
 use crate::number::{read_count, read_number};

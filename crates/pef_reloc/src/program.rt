@@ -7,8 +7,9 @@ ghost use Rattle.std.specs.Result.{result_err};
 ghost use Rattle.big_memory.specs.Memory.{in_memory, with_bytes};
 ghost use Rattle.pef_reloc.specs.inner.Held.{Fits, budget, outcome_of, outside_of, section_of, sources_of, state_of};
 ghost use Rattle.pef_reloc.specs.inner.Repeating.{repeated_span};
-ghost use Rattle.pef_reloc.specs.Program.{can_repeat, relocated, run_at, run_in_span, run_span, run_times, run_words, span_at, start};
-ghost use Rattle.pef_reloc.specs.ProgramClauses.{relocated_in};
+ghost use Rattle.pef_reloc.specs.Program.{relocated, run_span, run_times, start};
+ghost use Rattle.pef_reloc.specs.inner.Program.{run_at, run_in_span, run_words};
+ghost use Rattle.pef_reloc.specs.ProgramClauses.{can_repeat, span_at, relocated_in};
 ghost use Rattle.pef_reloc.specs.Rows.{first_of};
 
 use crate::additions::execute;

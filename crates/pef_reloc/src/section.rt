@@ -1,6 +1,8 @@
 // The section that is relocated, in memory.
 ghost use Rattle.std.specs.Prelude.{◌≡◌, ◌+◌, ◌^◌, ◌<◌, ◌≤◌, length, IfOk};
-ghost use Rattle.pef_reloc.specs.Additions.{base_of, import_at, value_of, with_long};
+ghost use Rattle.pef_reloc.specs.Additions.{value_of};
+ghost use Rattle.pef_reloc.specs.AdditionsClauses.{with_long};
+ghost use Rattle.pef_reloc.specs.inner.Additions.{base_of, import_at};
 ghost use Rattle.pef_reloc.specs.inner.Held.{Fits, HasNext, outside_of, section_of, sources_of};
 
 use crate::cursor::Cursor;

@@ -5,8 +5,9 @@ use Rattle.rsrc_fork.specs.declared.header.Areas.{Areas}
 use Rattle.rsrc_fork.specs.declared.name.Name.{Name}
 use Rattle.rsrc_fork.specs.declared.references.TypeEntry.{TypeEntry}
 use Rattle.rsrc_fork.specs.Resources.{Resource, bytes_of, named, with_resource}
-use Rattle.rsrc_fork.specs.ReferencesClauses.{count_below, count_in}
-use Rattle.rsrc_fork.specs.References.{data_at, entry_at, id_at, is_compressed, with_numbered, with_reference, with_references, with_type, with_types}
+use Rattle.rsrc_fork.specs.ReferencesClauses.{count_below, count_in, entry_at, id_at, is_compressed}
+use Rattle.rsrc_fork.specs.References.{data_at, with_reference, with_type}
+use Rattle.rsrc_fork.specs.inner.References.{with_numbered, with_references, with_types}
 use Rattle.rsrc_fork.proofs.Listing.{bind_ok, if_ok, keeps, ok_is}
 
 one_put : (before : List Resource) (name : Name) (piece : List ℕ) (after : List Resource) → with_resource before name piece ≡ Ok after → length after ≡ length before + 1

@@ -7,7 +7,8 @@ use Rattle.std.proofs.lemmas.Int.{ints}
 use Rattle.std.specs.Map.{keys_of}
 use Rattle.std.specs.Ordering.{int_eq}
 use Rattle.rsrc_fork.specs.declared.name.Name.{Name}
-use Rattle.rsrc_fork.specs.Resources.{Resource, named, same_name, bytes_of}
+use Rattle.rsrc_fork.specs.Resources.{Resource, named, bytes_of}
+use Rattle.rsrc_fork.specs.inner.Resources.{same_name}
 use Rattle.rsrc_fork.specs.ResourcesClauses.{AreSmall, IsSmall, names_of, IsIdsEnd, seen}
 use Rattle.rsrc_fork.specs.inner.Ids.{behind, end_with, ids_end}
 use Rattle.rsrc_fork.proofs.NextId.{later}

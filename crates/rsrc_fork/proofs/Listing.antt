@@ -16,8 +16,11 @@ use Rattle.mix_bits.specs.Fields.{long_at}
 use Rattle.mix_bits.specs.Results.{◌>>=◌}
 use Rattle.rsrc_fork.specs.Outcome.{each_below}
 use Rattle.rsrc_fork.specs.Header.{areas_at, areas_of, list_of}
-use Rattle.rsrc_fork.specs.Resources.{Resource, same_name, bytes_of, with_resource}
-use Rattle.rsrc_fork.specs.References.{data_at, id_at, is_compressed, with_reference, with_numbered, with_references, with_type, with_types, type_count, resources_of}
+use Rattle.rsrc_fork.specs.Resources.{Resource, bytes_of, with_resource}
+use Rattle.rsrc_fork.specs.inner.Resources.{same_name}
+use Rattle.rsrc_fork.specs.References.{data_at, with_reference, with_type, resources_of}
+use Rattle.rsrc_fork.specs.inner.References.{with_numbered, with_references, with_types}
+use Rattle.rsrc_fork.specs.ReferencesClauses.{id_at, is_compressed, type_count}
 use Rattle.rsrc_fork.specs.Listing.{Reference, reference_in, references_in, references_below, list_at, numbered_entry, name_at, start_at, end_at, resource_at, IsSound, HasAreas, AreSound, IsFork}
 
 -- what an answer says of the tests and steps before it

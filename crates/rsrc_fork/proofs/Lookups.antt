@@ -6,7 +6,8 @@ use Rattle.std.proofs.lemmas.Map.Made.{lookup-map_values}
 use Rattle.rsrc_fork.specs.declared.error.RsrcError.TheVariants.{Twice}
 use Rattle.rsrc_fork.specs.declared.name.Name.{Name}
 use Rattle.rsrc_fork.specs.ResourcesClauses.{seen}
-use Rattle.rsrc_fork.specs.Resources.{same_name, bytes_of, with_resource}
+use Rattle.rsrc_fork.specs.Resources.{bytes_of, with_resource}
+use Rattle.rsrc_fork.specs.inner.Resources.{same_name}
 
 pub lookup_seen : (name : Name) (entries : List (Name × Bor (List ℕ)))
     → bytes_of (seen entries) name ≡ option_map (λ (piece : Bor (List ℕ)). piece.now) (lookup (same_name name) entries)

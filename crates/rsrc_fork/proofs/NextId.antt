@@ -6,7 +6,8 @@ use Rattle.std.proofs.lemmas.Bool.Decides.{Decides-int_eq}
 use Rattle.std.proofs.lemmas.Int.{ints}
 use Rattle.std.specs.Ordering.{int_eq}
 use Rattle.rsrc_fork.specs.declared.name.Name.{Name}
-use Rattle.rsrc_fork.specs.Resources.{Resource, named, same_name, bytes_of}
+use Rattle.rsrc_fork.specs.Resources.{Resource, named, bytes_of}
+use Rattle.rsrc_fork.specs.inner.Resources.{same_name}
 use Rattle.rsrc_fork.specs.ResourcesClauses.{AreSmall, IsSmall, is_nearer, nearer, names_of, next_id, IsNextId}
 
 -- one more resource in front hides none

@@ -7,8 +7,10 @@ use Rattle.std.proofs.lemmas.List.Elements.{All-map, All-head, All-tail}
 use Rattle.rsrc_fork.specs.declared.name.Name.{Name}
 use Rattle.rsrc_fork.specs.Listing.{Reference, references_of, resource_at, start_at, end_at}
 use Rattle.mix_bits.specs.Fields.{word_at}
-use Rattle.rsrc_fork.specs.References.{id_at, resources_of}
-use Rattle.rsrc_fork.specs.Resources.{Resource, bytes_of, same_name}
+use Rattle.rsrc_fork.specs.References.{resources_of}
+use Rattle.rsrc_fork.specs.ReferencesClauses.{id_at}
+use Rattle.rsrc_fork.specs.Resources.{Resource, bytes_of}
+use Rattle.rsrc_fork.specs.inner.Resources.{same_name}
 use Rattle.rsrc_fork.specs.ResourcesClauses.{AreSmall, IsSmall}
 use Rattle.rsrc_fork.proofs.Listing.{fork_is}
 

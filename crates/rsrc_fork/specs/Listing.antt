@@ -4,7 +4,7 @@ use Rattle.rsrc_fork.specs.declared.name.Name.{Name}
 use Rattle.rsrc_fork.specs.declared.references.TypeEntry.{TypeEntry}
 use Rattle.mix_bits.specs.Fields.{word_at, three_at, long_at}
 use Rattle.rsrc_fork.specs.Header.{areas_at}
-use Rattle.rsrc_fork.specs.References.{entry_at, id_at, is_compressed, type_count}
+use Rattle.rsrc_fork.specs.ReferencesClauses.{entry_at, id_at, is_compressed, type_count}
 use Rattle.rsrc_fork.specs.Resources.{Resource, named}
 
 -- the lists of the numbers below a count, one after the other

@@ -8,21 +8,16 @@
 -- the data's start, and four bytes that the file leaves unused. At its place in the data a resource has
 -- a long, its length, and then its bytes. In the attributes the bit of value 1 says that the bytes are
 -- compressed.
-use Rattle.std.specs.Prelude.{ℕ, ℤ, ◌+◌, ◌*◌, ◌%◌, Bool, ◌||◌, ◌==◌, nat_lt, if◌then◌else◌, List, [], slice_index, slice_range, Result, Ok, Err}
+use Rattle.std.specs.Prelude.{ℕ, ◌+◌, ◌*◌, ◌||◌, nat_lt, if◌then◌else◌, List, slice_range, Result, Ok, Err, ◌%◌, ◌==◌, [], slice_index}
 use Rattle.rsrc_fork.specs.declared.error.RsrcError.{RsrcError}
 use Rattle.rsrc_fork.specs.declared.error.RsrcError.TheVariants.{BadOffset, Compressed}
 use Rattle.rsrc_fork.specs.declared.header.Areas.{Areas}
-use Rattle.rsrc_fork.specs.declared.references.TypeEntry.{TypeEntry}
-use Rattle.byteorder.specs.Endian.{twos_complement}
-use Rattle.mix_bits.specs.Fields.{word_at, three_at, long_at}
+use Rattle.mix_bits.specs.Fields.{three_at, long_at, word_at}
 use Rattle.rsrc_fork.specs.Header.{areas_of, list_of}
 use Rattle.mix_bits.specs.Results.{◌>>=◌}
-use Rattle.rsrc_fork.specs.Outcome.{each_below}
 use Rattle.rsrc_fork.specs.Resources.{Resource, named, with_resource}
-
--- the id in a reference, a signed word
-abbrev pub id_at : List ℕ → ℕ → ℤ
-id_at bytes place = twos_complement 2 (word_at bytes place)
+use Rattle.byteorder.specs.Endian.{twos_complement}
+use Rattle.rsrc_fork.specs.Outcome.{each_below}
 
 -- the bytes of the resource whose reference stands at a place
 abbrev pub data_at : List ℕ → Areas → ℕ → Result (List ℕ) RsrcError
@@ -33,48 +28,24 @@ data_at bytes areas place =
     then Err (BadOffset place)
     else Ok (slice_range bytes (start + 4) end)
 
-abbrev pub is_compressed : List ℕ → ℕ → Bool
-is_compressed bytes place = slice_index bytes (place + 4) % 2 == 1
-
 -- the resources before a reference, with the one that it names as the last
 abbrev pub with_reference : List ℕ → Areas → ℕ → List Resource → ℕ → Result (List Resource) RsrcError
 with_reference bytes areas kind before place =
-    let name = named kind (id_at bytes place) in
+    let name = named kind (twos_complement 2 (word_at bytes place)) in
     data_at bytes areas place >>= λ piece.
-    if is_compressed bytes place then Err (Compressed name.kind name.id) else with_resource before name piece
+    if slice_index bytes (place + 4) % 2 == 1 then Err (Compressed name.kind name.id) else with_resource before name piece
 
--- the type's entry at a place, with its first reference's place in the file
-abbrev pub entry_at : List ℕ → ℕ → ℕ → TypeEntry
-entry_at bytes list place =
-    record {
-      kind = long_at bytes place;
-      count = word_at bytes (place + 4) + 1;
-      first = list + word_at bytes (place + 6);
-    }
-
--- the same for the reference of a type with this number
-abbrev pub with_numbered : List ℕ → Areas → TypeEntry → List Resource → ℕ → Result (List Resource) RsrcError
-with_numbered bytes areas entry before j = with_reference bytes areas entry.kind before (entry.first + 12 * j)
-
--- the resources before a type, with those that its first references name
-abbrev pub with_references : List ℕ → Areas → TypeEntry → List Resource → ℕ → Result (List Resource) RsrcError
-with_references bytes areas entry before count = each_below (with_numbered bytes areas entry) before count
-
+-- the resources before a type of the list, with those that its references name
 abbrev pub with_type : List ℕ → Areas → ℕ → List Resource → ℕ → Result (List Resource) RsrcError
 with_type bytes areas list before k =
     let place = list + 2 + 8 * k in
-    let entry = entry_at bytes list place in
+    let first = list + word_at bytes (place + 6) in
+    let count = word_at bytes (place + 4) + 1 in
     if nat_lt areas.map_end (place + 8) then Err (BadOffset place)
-    else with_references bytes areas entry before entry.count
-
-abbrev pub type_count : List ℕ → ℕ → ℕ
-type_count bytes list = (word_at bytes list + 1) % 65536
-
--- the resources that the references of all types name, in the order of the type list
-abbrev pub with_types : List ℕ → Areas → ℕ → ℕ → Result (List Resource) RsrcError
-with_types bytes areas list count = each_below (with_type bytes areas list) [] count
+    else each_below (λ made j. with_reference bytes areas (long_at bytes place) made (first + 12 * j)) before count
 
 -- the resources of a fork, or its first refusal in the order of the type list
 abbrev pub resources_of : List ℕ → Result (List Resource) RsrcError
 resources_of bytes =
-    areas_of bytes >>= λ areas. list_of bytes areas >>= λ list. with_types bytes areas list (type_count bytes list)
+    areas_of bytes >>= λ areas. list_of bytes areas >>= λ list.
+    each_below (with_type bytes areas list) [] ((word_at bytes list + 1) % 65536)

@@ -1,2 +1,4 @@
 pub mod Header
 pub mod Ids
+pub mod References
+pub mod Resources

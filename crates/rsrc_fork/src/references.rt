@@ -5,8 +5,9 @@ ghost use Rattle.rsrc_fork.specs.inner.Header.{IsWithin};
 ghost use Rattle.rsrc_fork.specs.OutcomeClauses.{Gives};
 ghost use Rattle.rsrc_fork.specs.ResourcesClauses.{seen};
 ghost use Rattle.rsrc_fork.specs.Resources.{with_resource};
-ghost use Rattle.rsrc_fork.specs.ReferencesClauses.{count_below as count_below_lem, count_in as count_in_lem, reference_count, reference_limit};
-ghost use Rattle.rsrc_fork.specs.References.{data_at, entry_at, id_at, resources_of, with_reference, with_references, with_type, with_types};
+ghost use Rattle.rsrc_fork.specs.ReferencesClauses.{count_below as count_below_lem, count_in as count_in_lem, reference_count, reference_limit, entry_at, id_at};
+ghost use Rattle.rsrc_fork.specs.References.{data_at, resources_of, with_reference, with_type};
+ghost use Rattle.rsrc_fork.specs.inner.References.{with_references, with_types};
 
 use crate::error::RsrcError;
 use crate::header::{Areas, areas_of, list_of};

@@ -6,7 +6,8 @@ use Rattle.pef_head.specs.Parts.{import_count, relocs_of}
 use Rattle.pef_reloc.specs.declared.error.RelocError.{RelocError}
 use Rattle.pef_reloc.specs.declared.error.RelocError.TheVariants.{Pattern, Short, Unsupported, OutsideSection, ImportIndex, SectionIndex, RepeatFront, Work}
 use Rattle.pef_reloc.specs.Program.{relocated}
-use Rattle.mix_load.specs.Sections.{patterns_refusal, sources}
+use Rattle.mix_load.specs.Sections.{sources}
+use Rattle.mix_load.specs.SectionsClauses.{patterns_refusal}
 use Rattle.mix_load.specs.laws.Sections.{total_at}
 
 -- whether the pattern data of a section is refused

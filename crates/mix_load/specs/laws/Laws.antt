@@ -12,7 +12,8 @@ use Rattle.mix_load.specs.LoadClauses.{AreLoadable}
 use Rattle.mix_load.specs.Load.{load_of}
 use Rattle.mix_load.specs.Sections.{section_base}
 use Rattle.mix_load.specs.laws.Sections.{total_at}
-use Rattle.mix_load.specs.Segments.{a5_of, code_at, entry_count, header_of, id_count, jump_target, segment_at, segment_in, segment_place, segment_places, segments_start, table_start}
+use Rattle.mix_load.specs.Segments.{a5_of, code_at, entry_count, header_of, id_count, jump_target, segment_at, segment_in, segment_place, segments_start, table_start}
+use Rattle.mix_load.specs.SegmentsClauses.{segment_places}
 
 -- the segments of a fork lie behind `start` and below `end`, each behind those with a lower id
 pub record SegmentsLie (resources : List Resource) (start end : ℕ) : Type 0 where

@@ -3,7 +3,7 @@ use Rattle.std.specs.Prelude.{◌≡◌, ℕ, ◌<◌, List, length, slice_index
 use Rattle.pef_head.specs.declared.loader.Loader.{Loader}
 use Rattle.pef_head.specs.declared.marks.Marks.{Marks}
 use Rattle.pef_head.specs.inner.Marks.{is_marked}
-use Rattle.pef_head.specs.Places.{is_for}
+use Rattle.pef_head.specs.inner.Places.{is_for}
 use Rattle.mix_bits.specs.Search.{any_below, least}
 
 -- the marks are those of the sections of the first h relocation headers

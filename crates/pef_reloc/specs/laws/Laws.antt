@@ -12,10 +12,13 @@ use Rattle.pef_reloc.specs.declared.instruction.Large.{Large}
 use Rattle.pef_reloc.specs.declared.instruction.Large.TheVariants.{LgSetPosition, LgByImport, LgBySection, LgSetSectC, LgSetSectD}
 use Rattle.pef_reloc.specs.declared.instruction.First.{First}
 use Rattle.pef_reloc.specs.declared.instruction.First.TheVariants.{One, Two, Repeat, NoRow}
-use Rattle.pef_reloc.specs.Pattern.{with_rest, piece_in, unpacked}
+use Rattle.pef_reloc.specs.Pattern.{with_rest, unpacked}
+use Rattle.pef_reloc.specs.PatternClauses.{piece_in}
 use Rattle.pef_reloc.specs.Rows.{Row, rows, first_of}
-use Rattle.pef_reloc.specs.Additions.{Sources, State, Refused, Operation, Add, Skip, Place, Import, SetC, SetD, does, with_long}
-use Rattle.pef_reloc.specs.Program.{relocated, can_repeat, is_repeat, is_span, repeated, span_at, width_at}
+use Rattle.pef_reloc.specs.Additions.{Sources, State, Refused, Operation, Add, Skip, Place, Import, SetC, SetD, does}
+use Rattle.pef_reloc.specs.AdditionsClauses.{with_long}
+use Rattle.pef_reloc.specs.Program.{relocated, is_repeat, is_span, repeated}
+use Rattle.pef_reloc.specs.ProgramClauses.{can_repeat, span_at, width_at}
 use Rattle.mix_bits.specs.Fields.{word_at}
 
 -- pattern data writes the pieces of its instructions, one after the other

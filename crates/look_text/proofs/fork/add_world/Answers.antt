@@ -1,6 +1,7 @@
 -- The world of A5, the segments and the table, one behind the other.
 use Rattle.std.proofs.Common.{◌≡◌, ◌∙◌, ℕ, List, ◌++◌, ap}
-use Rattle.mix_load.specs.Segments.{a5_of, has_table, header_of, segment_places, segments_end, segments_start}
+use Rattle.mix_load.specs.Segments.{a5_of, has_table, header_of, segments_end, segments_start}
+use Rattle.mix_load.specs.SegmentsClauses.{segment_places}
 use Rattle.look_text.specs.Forks.{a5_line, segments_text, table_text}
 use Rattle.look_text.proofs.Lines.{next}
 use Rattle.look_text.proofs.fork.add_world.Goals as goal

@@ -2,7 +2,8 @@
 use Rattle.std.proofs.Common.{◌≡◌, ◌∙◌, ℕ, List, [], ◌∷◌, ◌++◌, Option, add-one, ap, arith}
 use Rattle.mix_bits.specs.Multiples.{rounded_up}
 use Rattle.rsrc_fork.specs.Resources.{Resource}
-use Rattle.mix_load.specs.Segments.{segment_at, segment_place, segment_places, segments_end, with_segment}
+use Rattle.mix_load.specs.Segments.{segment_at, segment_place, segments_end, with_segment}
+use Rattle.mix_load.specs.SegmentsClauses.{segment_places}
 use Rattle.look_text.specs.Forks.{segment_line, segments_text}
 use Rattle.look_text.proofs.Lines.{at_end, next}
 use Rattle.look_text.proofs.segments.add_segments.Goals as goal

@@ -1,6 +1,7 @@
 -- The segments so far, and how far the end can have come.
 use Rattle.std.proofs.Common.{◌≡◌, ◌+◌, ◌*◌, ◌^◌, ◌≤◌, ◌++◌}
-use Rattle.mix_load.specs.Segments.{segment_places, segments_end}
+use Rattle.mix_load.specs.Segments.{segments_end}
+use Rattle.mix_load.specs.SegmentsClauses.{segment_places}
 use Rattle.look_text.specs.Forks.{segments_text}
 use Rattle.look_text.proofs.segments.add_segments.Given as goal
 

@@ -4,7 +4,7 @@ use Rattle.big_memory.specs.Memory.{Memory}
 use Rattle.pef_head.specs.Container.{instantiated_count}
 use Rattle.mix_bits.specs.SearchOperator.{◌or◌}
 use Rattle.mix_load.specs.declared.error.LoadError.{LoadError}
-use Rattle.mix_load.specs.ContainerImage.{imports_refusal, relocations_refusal}
+use Rattle.mix_load.specs.inner.Container.{imports_refusal, relocations_refusal}
 use Rattle.mix_load.specs.Sections.{main_vector, sections_end}
 use Rattle.mix_load.proofs.Containers.{over-in, relocated-front, stand-in}
 use Rattle.mix_load.proofs.container.put_container.Goals as goal

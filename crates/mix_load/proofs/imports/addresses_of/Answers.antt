@@ -3,7 +3,8 @@ use Rattle.std.proofs.lemmas.Result.{err_from_is_err_and}
 use Rattle.mix_bits.specs.Search.{least, refused}
 use Rattle.mix_bits.proofs.Searches.{least_at}
 use Rattle.mix_load.specs.declared.error.LoadError.TheVariants.{Unresolved}
-use Rattle.mix_load.specs.Sections.{address_at, import_addresses, is_missing}
+use Rattle.mix_load.specs.inner.Sections.{is_missing}
+use Rattle.mix_load.specs.SectionsClauses.{address_at, import_addresses}
 use Rattle.mix_load.proofs.imports.addresses_of.Goals as goal
 
 pub import_at-requires-clause-below : goal.import_at-requires-clause-below

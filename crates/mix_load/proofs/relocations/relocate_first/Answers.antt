@@ -2,7 +2,8 @@ use Rattle.std.proofs.Common.{add-one, ap, ◌∙◌, sym, option_map, arith}
 use Rattle.big_memory.specs.Lists.{part}
 use Rattle.big_memory.specs.Memory.{Memory, with_bytes}
 use Rattle.pef_head.specs.Container.{instantiated_count}
-use Rattle.mix_load.specs.Sections.{relocated_bytes, relocs_refusal, section_base}
+use Rattle.mix_load.specs.Sections.{section_base}
+use Rattle.mix_load.specs.inner.Sections.{relocated_bytes, relocs_refusal}
 use Rattle.mix_load.specs.laws.Sections.{total_at}
 use Rattle.mix_load.specs.declared.error.LoadError.TheVariants.{Reloc}
 use Rattle.mix_load.proofs.Containers.{next-stands}

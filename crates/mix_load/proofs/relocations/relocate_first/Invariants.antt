@@ -1,6 +1,7 @@
 use Rattle.std.proofs.Common.{◌≡◌, length, None}
 use Rattle.mix_load.specs.Pieces.{with_pieces}
-use Rattle.mix_load.specs.Sections.{first_refusal, relocated_pieces, relocs_refusal}
+use Rattle.mix_load.specs.Sections.{first_refusal}
+use Rattle.mix_load.specs.inner.Sections.{relocated_pieces, relocs_refusal}
 use Rattle.mix_load.proofs.relocations.relocate_first.Given as goal
 
 abbrev pub invariant-loop-k : goal.invariant-loop-k

@@ -1,7 +1,7 @@
 use Rattle.std.proofs.Common.{◌≡◌, ℕ, ◌∷◌, [], ◌++◌, add-one, le_antisymm, List, refl, ap, subst, ◌∙◌}
 use Rattle.std.proofs.lemmas.Result.{err_from_is_err_and}
 use Rattle.pef_head.specs.Parts.{SectionParts}
-use Rattle.mix_load.specs.Sections.{bases}
+use Rattle.mix_load.specs.SectionsClauses.{bases}
 use Rattle.mix_load.specs.inner.Sections.{totals}
 use Rattle.mix_load.proofs.Next.{base-is, base-small, end-small, next-end, section-near}
 use Rattle.mix_load.proofs.sections.place_first.Goals as goal

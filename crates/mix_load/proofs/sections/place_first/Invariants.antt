@@ -1,5 +1,6 @@
 use Rattle.std.proofs.Common.{◌≡◌}
-use Rattle.mix_load.specs.Sections.{bases, sections_end}
+use Rattle.mix_load.specs.Sections.{sections_end}
+use Rattle.mix_load.specs.SectionsClauses.{bases}
 use Rattle.mix_load.specs.inner.Sections.{totals}
 use Rattle.mix_load.proofs.sections.place_first.Given as goal
 

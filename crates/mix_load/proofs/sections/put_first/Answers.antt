@@ -5,8 +5,9 @@ use Rattle.mix_load.proofs.Searches.{reloc-first}
 use Rattle.mix_load.specs.declared.error.LoadError.TheVariants.{Reloc}
 use Rattle.pef_head.specs.Parts.{SectionParts}
 use Rattle.mix_load.specs.Pieces.{with_pieces}
-use Rattle.mix_load.specs.Sections.{contents, contents_at, first_refusal, pattern_refusal, patterns_refusal}
-use Rattle.mix_load.specs.inner.Sections.{section_pieces}
+use Rattle.mix_load.specs.Sections.{first_refusal, pattern_refusal}
+use Rattle.mix_load.specs.inner.Sections.{contents, section_pieces, contents_at}
+use Rattle.mix_load.specs.SectionsClauses.{patterns_refusal}
 use Rattle.mix_load.specs.laws.Sections.{total_at}
 use Rattle.mix_load.proofs.Next.{base-is, base-small, end-small, next-end, next-memory, reloc_none, section-fits, section-near, small_room}
 use Rattle.mix_load.proofs.sections.put_first.Goals as goal

@@ -1,7 +1,8 @@
 use Rattle.std.proofs.Common.{◌≡◌, ℕ, ◌<◌, length, None}
 use Rattle.mix_load.specs.Pieces.{with_pieces}
-use Rattle.mix_load.specs.Sections.{contents_at, first_refusal, patterns_refusal, sections_end}
-use Rattle.mix_load.specs.inner.Sections.{section_pieces}
+use Rattle.mix_load.specs.Sections.{first_refusal, sections_end}
+use Rattle.mix_load.specs.SectionsClauses.{patterns_refusal}
+use Rattle.mix_load.specs.inner.Sections.{contents_at, section_pieces}
 use Rattle.mix_load.specs.laws.Sections.{total_at}
 use Rattle.mix_load.proofs.sections.put_first.Given as goal
 

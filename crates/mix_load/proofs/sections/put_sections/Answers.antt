@@ -3,8 +3,9 @@ use Rattle.std.specs.Prelude.{OnOk}
 use Rattle.mix_load.specs.declared.error.LoadError.TheVariants.{Reloc}
 use Rattle.mix_load.specs.inner.Outcome.{Finds}
 use Rattle.mix_load.specs.Pieces.{with_pieces}
-use Rattle.mix_load.specs.Sections.{contents_at, first_refusal, patterns_refusal, sections_end}
-use Rattle.mix_load.specs.inner.Sections.{section_pieces}
+use Rattle.mix_load.specs.Sections.{first_refusal, sections_end}
+use Rattle.mix_load.specs.SectionsClauses.{patterns_refusal}
+use Rattle.mix_load.specs.inner.Sections.{contents_at, section_pieces}
 use Rattle.mix_load.specs.laws.Sections.{total_at}
 use Rattle.mix_load.proofs.sections.put_sections.Goals as goal
 

@@ -2,7 +2,8 @@ use Rattle.std.proofs.Common.{ℕ, ◌≡◌, List, [], ◌∷◌, ◌++◌, add
 use Rattle.std.proofs.lemmas.Result.{err_from_is_err_and}
 use Rattle.mix_bits.specs.Multiples.{rounded_up}
 use Rattle.mix_load.specs.Pieces.{with_pieces}
-use Rattle.mix_load.specs.Segments.{segment_pieces, segment_places}
+use Rattle.mix_load.specs.Segments.{segment_pieces}
+use Rattle.mix_load.specs.SegmentsClauses.{segment_places}
 use Rattle.mix_load.proofs.Ends.{end_within, ends_grow, step-end, step-memory}
 use Rattle.mix_load.proofs.segments.put_segments.Goals as goal
 

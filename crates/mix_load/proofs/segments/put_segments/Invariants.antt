@@ -1,6 +1,7 @@
 use Rattle.std.proofs.Common.{◌≡◌, length}
 use Rattle.mix_load.specs.Pieces.{with_pieces}
-use Rattle.mix_load.specs.Segments.{segment_pieces, segment_places, segments_end}
+use Rattle.mix_load.specs.Segments.{segment_pieces, segments_end}
+use Rattle.mix_load.specs.SegmentsClauses.{segment_places}
 use Rattle.mix_load.proofs.segments.put_segments.Given as goal
 
 abbrev pub invariant-loop-id : goal.invariant-loop-id

@@ -1,6 +1,6 @@
 use Rattle.std.proofs.Common.{◌≡◌, ℕ, ◌<◌, IfSome}
 use Rattle.mix_bits.specs.Search.{any_below, least}
-use Rattle.mix_load.specs.Segments.{is_far, is_segment, is_short}
+use Rattle.mix_load.specs.SegmentsClauses.{is_far, is_segment, is_short}
 use Rattle.mix_load.proofs.segments.walk_segments.Given as goal
 
 -- what the ids so far show

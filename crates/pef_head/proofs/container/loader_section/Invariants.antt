@@ -1,5 +1,5 @@
 use Rattle.std.proofs.Common.{◌≡◌, None}
-use Rattle.pef_head.specs.Container.{is_loader}
+use Rattle.pef_head.specs.inner.Container.{is_loader}
 use Rattle.mix_bits.specs.Search.{least}
 use Rattle.pef_head.proofs.container.loader_section.Given as goal
 

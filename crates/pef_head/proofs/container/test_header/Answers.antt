@@ -6,7 +6,7 @@ use Rattle.mix_bits.specs.Search.{refused}
 use Rattle.pef_head.specs.declared.error.PefError.{PefError}
 use Rattle.pef_head.specs.declared.error.PefError.TheVariants.{Short, Magic, Architecture, Version}
 use Rattle.pef_head.specs.Container.{section_count, section_header}
-use Rattle.pef_head.specs.Refusals.{has_architecture, has_magic, header_refusal}
+use Rattle.pef_head.specs.inner.Refusals.{has_architecture, has_magic, header_refusal}
 use Rattle.pef_head.proofs.container.test_header.Goals as goal
 use Rattle.pef_head.proofs.container.test_header.Goals.{then-long_at-ne-JOY-via-then-long_at-ne-JOY, then-long_at-ne-JOY-via-else-long_at-ne-JOY+then-long_at-ne-PEFF}
 

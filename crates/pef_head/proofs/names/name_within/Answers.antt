@@ -1,5 +1,5 @@
 use Rattle.std.proofs.Common.{slice_range}
-use Rattle.pef_head.specs.Places.{is_zero}
+use Rattle.pef_head.specs.inner.Names.{is_zero}
 use Rattle.pef_head.proofs.Cuts.{cut_none, cut_some}
 use Rattle.pef_head.proofs.names.name_within.Goals as goal
 

@@ -1,5 +1,5 @@
 use Rattle.std.proofs.Common.{◌≡◌, None}
-use Rattle.pef_head.specs.Refusals.{is_nameless_symbol}
+use Rattle.pef_head.specs.inner.Refusals.{is_nameless_symbol}
 use Rattle.mix_bits.specs.Search.{least}
 use Rattle.pef_head.proofs.names.nameless_symbol.Given as goal
 

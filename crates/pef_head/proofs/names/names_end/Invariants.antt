@@ -1,6 +1,6 @@
 use Rattle.std.proofs.Common.{◌≡◌, ◌≤◌, false, slice_range}
 use Rattle.std.specs.List.{list_any}
-use Rattle.pef_head.specs.Places.{is_zero}
+use Rattle.pef_head.specs.inner.Names.{is_zero}
 use Rattle.pef_head.proofs.names.names_end.Given as goal
 
 abbrev pub invariant-loop-end : goal.invariant-loop-end

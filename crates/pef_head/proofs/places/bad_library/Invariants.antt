@@ -1,5 +1,5 @@
 use Rattle.std.proofs.Common.{◌≡◌, None}
-use Rattle.pef_head.specs.Refusals.{leaves_symbols}
+use Rattle.pef_head.specs.inner.Refusals.{leaves_symbols}
 use Rattle.mix_bits.specs.Search.{least}
 use Rattle.pef_head.proofs.places.bad_library.Given as goal
 

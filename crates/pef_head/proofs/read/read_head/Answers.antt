@@ -4,9 +4,10 @@ use Rattle.mix_bits.specs.SearchOperator.{◌or◌}
 use Rattle.mix_bits.specs.Search.{least}
 use Rattle.pef_head.specs.declared.error.PefError.{PefError}
 use Rattle.pef_head.specs.declared.loader.Loader.{Loader}
-use Rattle.pef_head.specs.Container.{is_loader, loader_section}
+use Rattle.pef_head.specs.Container.{loader_section}
+use Rattle.pef_head.specs.inner.Container.{is_loader}
 use Rattle.pef_head.specs.Loader.{loader_in, loader_of}
-use Rattle.pef_head.specs.Refusals.{header_refusal, loader_refusal, sections_refusal}
+use Rattle.pef_head.specs.inner.Refusals.{header_refusal, loader_refusal, sections_refusal}
 use Rattle.pef_head.proofs.read.read_head.Goals as goal
 
 -- which of three refusals is the first

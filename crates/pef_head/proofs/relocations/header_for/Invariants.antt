@@ -1,5 +1,5 @@
 use Rattle.std.proofs.Common.{◌≡◌, None}
-use Rattle.pef_head.specs.Places.{is_for}
+use Rattle.pef_head.specs.inner.Places.{is_for}
 use Rattle.mix_bits.specs.Search.{least}
 use Rattle.pef_head.proofs.relocations.header_for.Given as goal
 

@@ -1,5 +1,6 @@
 use Rattle.std.proofs.Common.{◌≡◌, ◌<◌, ◌≤◌, ◌^◌, length}
-use Rattle.pef_reloc.specs.Pattern.{number_in, number_after}
+use Rattle.pef_reloc.specs.Pattern.{number_after}
+use Rattle.pef_reloc.specs.inner.Pattern.{number_in}
 use Rattle.pef_reloc.proofs.number.read_number.Given as goal
 
 abbrev pub invariant-loop-rest : goal.invariant-loop-rest

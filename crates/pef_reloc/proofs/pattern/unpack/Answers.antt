@@ -1,5 +1,6 @@
 use Rattle.std.proofs.Common.{◌≡◌, ◌+◌, ◌-◌, ◌≤◌, ◌<◌, ◌++◌, length, take, drop, arith, ap, sym, ◌∙◌, append_assoc}
-use Rattle.pef_reloc.specs.Pattern.{with_piece, with_rest, unpacked, unpacked_by}
+use Rattle.pef_reloc.specs.Pattern.{with_rest, unpacked, unpacked_by}
+use Rattle.pef_reloc.specs.inner.Pattern.{with_piece}
 use Rattle.pef_reloc.specs.inner.Pieces.{bytes_of}
 use Rattle.pef_reloc.proofs.Unpacked.{next_piece}
 use Rattle.pef_reloc.proofs.Written.{take_put, drop_put_behind, drop_more}

@@ -1,7 +1,8 @@
 use Rattle.std.proofs.Common.{◌+◌, ◌∙◌, ap, arith, sym}
 use Rattle.std.proofs.lemmas.Result.{err_from_is_err_and}
 use Rattle.pef_reloc.specs.inner.Held.{sources_of, state_of}
-use Rattle.pef_reloc.specs.Program.{each, width, run_in_span}
+use Rattle.pef_reloc.specs.Program.{each, width}
+use Rattle.pef_reloc.specs.inner.Program.{run_in_span}
 use Rattle.pef_reloc.proofs.Each.{each_next, each_err, each_end}
 use Rattle.pef_reloc.proofs.program.run_span.Goals as goal
 

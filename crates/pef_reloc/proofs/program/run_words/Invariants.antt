@@ -1,6 +1,7 @@
 use Rattle.std.proofs.Common.{◌≡◌, ◌+◌, ◌-◌, ◌≤◌, length}
 use Rattle.pef_reloc.specs.inner.Held.{budget, outside_of, sources_of, state_of}
-use Rattle.pef_reloc.specs.Program.{each, run_at}
+use Rattle.pef_reloc.specs.Program.{each}
+use Rattle.pef_reloc.specs.inner.Program.{run_at}
 use Rattle.pef_reloc.proofs.program.run_words.Given as goal
 
 abbrev pub invariant-loop-place : goal.invariant-loop-place

@@ -1,6 +1,7 @@
 use Rattle.std.proofs.Common.{◌≡◌, ◌+◌, ℕ, List, Result, Bool, true, false, Ok, Err, if◌then◌else◌, arith, refl, ap, sym, ◌∙◌}
 use Rattle.std.specs.Result.{is_ok}
-use Rattle.pef_reloc.specs.Program.{each, width, fill_span, fits_in}
+use Rattle.pef_reloc.specs.Program.{each, width, fits_in}
+use Rattle.pef_reloc.specs.inner.Program.{fill_span}
 use Rattle.pef_reloc.proofs.Each.{each_next, each_end, each_err}
 use Rattle.pef_reloc.proofs.words.is_span.Goals as goal
 

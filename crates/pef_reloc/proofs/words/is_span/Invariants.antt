@@ -1,6 +1,7 @@
 use Rattle.std.proofs.Common.{◌≡◌, ◌+◌, ◌-◌, ◌≤◌, true, length}
 use Rattle.std.specs.Result.{is_ok}
-use Rattle.pef_reloc.specs.Program.{each, fill_span, is_span}
+use Rattle.pef_reloc.specs.Program.{each, is_span}
+use Rattle.pef_reloc.specs.inner.Program.{fill_span}
 use Rattle.pef_reloc.proofs.words.is_span.Given as goal
 
 abbrev pub invariant-loop-place : goal.invariant-loop-place

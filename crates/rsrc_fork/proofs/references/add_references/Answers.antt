@@ -1,5 +1,5 @@
 use Rattle.std.proofs.lemmas.Result.{err_from_is_err_and}
-use Rattle.rsrc_fork.specs.References.{with_numbered}
+use Rattle.rsrc_fork.specs.inner.References.{with_numbered}
 use Rattle.rsrc_fork.specs.ResourcesClauses.{seen}
 use Rattle.rsrc_fork.proofs.Steps.{failed_below}
 use Rattle.rsrc_fork.proofs.references.add_references.Goals as goal

@@ -1,5 +1,5 @@
 use Rattle.std.proofs.Common.{◌≡◌, Ok}
-use Rattle.rsrc_fork.specs.References.{with_types}
+use Rattle.rsrc_fork.specs.inner.References.{with_types}
 use Rattle.rsrc_fork.specs.ResourcesClauses.{seen}
 use Rattle.rsrc_fork.proofs.references.add_types.Given as goal
 
