@@ -18,7 +18,8 @@ use Rattle.big_memory.specs.declared.steps.Did.TheVariants.{Next, Leave, Stop}
 use Rattle.big_memory.specs.Memory.{Memory}
 use Rattle.big_memory.specs.Steps.{After}
 use Rattle.big_memory.specs.StepsClauses.{Does}
-use Rattle.m68_effects.specs.Arithmetic.{dividend_high, div_long, long_quotient_into}
+use Rattle.m68_effects.specs.Arithmetic.{dividend_high, long_quotient_into}
+use Rattle.m68_effects.specs.inner.Rows.{div_long}
 use Rattle.m68_effects.specs.laws.Operations.{runs_with}
 use Rattle.m68_effects.specs.Parts.{after}
 use Rattle.m68_effects.specs.Step.{stops}

@@ -7,7 +7,7 @@ ghost use Rattle.m68_isa.specs.Operands.{immediate_at as immediate_at_of, immedi
 ghost use Rattle.big_memory.specs.StepsClauses.{Does};
 ghost use Rattle.m68_effects.specs.laws.Tried.{Tries};
 ghost use Rattle.m68_ea.specs.Words.{words_at};
-ghost use Rattle.m68_effects.specs.Arithmetic.{cmp, cmpa, cmpi, cmpm, comparison};
+ghost use Rattle.m68_effects.specs.inner.Rows.{cmp, cmpa, cmpi, cmpm, comparison};
 ghost use Rattle.m68_effects.specs.laws.Operations.{runs_with};
 ghost use Rattle.m68_effects.specs.laws.Ops.{by_op};
 ghost use Rattle.m68_effects.specs.Parts.{after};

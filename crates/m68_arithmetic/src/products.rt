@@ -7,7 +7,8 @@ ghost use Rattle.m68_isa.specs.First.{first_of};
 ghost use Rattle.m68_isa.specs.Operands.{operand_at};
 ghost use Rattle.big_memory.specs.StepsClauses.{Does};
 ghost use Rattle.m68_ea.specs.Words.{words_at};
-ghost use Rattle.m68_effects.specs.Arithmetic.{div, is_out as is_out_of, mul};
+ghost use Rattle.m68_effects.specs.Arithmetic.{is_out as is_out_of};
+ghost use Rattle.m68_effects.specs.inner.Rows.{div, mul};
 ghost use Rattle.m68_effects.specs.laws.Operations.{runs_with};
 ghost use Rattle.m68_effects.specs.laws.Ops.{by_op};
 

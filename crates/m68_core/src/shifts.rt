@@ -8,7 +8,8 @@ ghost use Rattle.m68_isa.specs.Shifts.{shift_count};
 ghost use Rattle.big_memory.specs.StepsClauses.{Does};
 ghost use Rattle.m68_effects.specs.laws.Ops.{by_op};
 ghost use Rattle.m68_effects.specs.Parts.{after};
-ghost use Rattle.m68_effects.specs.Shifts.{count_of as count_in, shift as shift_effect};
+ghost use Rattle.m68_effects.specs.Shifts.{count_of as count_in};
+ghost use Rattle.m68_effects.specs.inner.Rows.{shift as shift_effect};
 
 use big_memory::{Did, Ram};
 use m68_alu::shift;

@@ -13,7 +13,8 @@ use Rattle.mix_bits.proofs.Every.{every_at}
 use Rattle.m68_isa.specs.declared.registers.Regs68.{Regs68}
 use Rattle.big_memory.specs.Memory.{Memory, loaded}
 use Rattle.m68_ea.specs.Places.{with_address, with_data}
-use Rattle.m68_effects.specs.Multiple.{loaded_along, register_of, sixteen, with_register}
+use Rattle.m68_effects.specs.Multiple.{loaded_along, register_of, with_register}
+use Rattle.m68_effects.specs.inner.Rows.{sixteen}
 use Rattle.m68_effects.proofs.Stood.{Stand}
 
 -- eight and eight

@@ -19,7 +19,8 @@ use Rattle.mix_bits.specs.Addresses.{backward}
 use Rattle.m68_ea.specs.Places.{with_address}
 use Rattle.m68_effects.specs.laws.Laws.{IsFile}
 use Rattle.m68_effects.specs.laws.MovemLaws.{IsRestored, LeavesNumbers, NameTheSame, RestoresLongs, RestoresWords}
-use Rattle.m68_effects.specs.Multiple.{listed, loaded_along, register_of, sixteen, span_of, stored_down}
+use Rattle.m68_effects.specs.Multiple.{listed, loaded_along, register_of, span_of, stored_down}
+use Rattle.m68_effects.specs.inner.Rows.{sixteen}
 use Rattle.m68_effects.specs.Parts.{Effect, goes_on}
 use Rattle.m68_effects.specs.Rows.{effect}
 use Rattle.m68_effects.proofs.Called.{behind-one}

@@ -7,7 +7,7 @@ use Rattle.mix_bits.specs.declared.size.Size.TheVariants.{Four}
 use Rattle.m68_isa.specs.declared.instructions.Exchange.TheVariants.{Data, Address, DataAddress}
 use Rattle.m68_alu.specs.Sizes.{result_flags}
 use Rattle.m68_effects.specs.laws.Laws.{ExchangesBack, SwapsBack}
-use Rattle.m68_effects.specs.Movement.{halves_swapped}
+use Rattle.m68_effects.specs.inner.Rows.{halves_swapped}
 use Rattle.m68_effects.specs.Parts.{Effect}
 
 -- two elements in each other's place

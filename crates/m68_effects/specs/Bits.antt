@@ -1,5 +1,5 @@
 -- Single bits (M68000 Family Programmer's Reference Manual, section 4: BTST, BCHG, BCLR, BSET).
-use Rattle.std.specs.Prelude.{ℕ, ◌-◌, ◌*◌, ◌%◌, ◌==◌, slice_index}
+use Rattle.std.specs.Prelude.{ℕ, ◌-◌, ◌*◌, ◌%◌, ◌==◌}
 use Rattle.mix_bits.specs.declared.size.Size.{Size}
 use Rattle.mix_bits.specs.declared.size.Size.TheVariants.{One, Four}
 use Rattle.mix_bits.specs.Digits.{digit_of, digit_replaced}
@@ -21,10 +21,6 @@ abbrev pub bit_size : Ea → Size
 bit_size (Dn n) = Four
 bit_size e = One
 
--- a bit's number is taken modulo the bits that there are
-abbrev pub bit_place : Size → ℕ → ℕ
-bit_place size number = number % (8 * bytes_of size)
-
 -- Z: the bit was 0; no other flag changes
 abbrev pub bit_flags : Ccr → ℕ → ℕ → Ccr
 bit_flags old v at = record old { z = digit_of v at 1 == 0 }
@@ -38,23 +34,13 @@ bit_changed Bset v at = digit_replaced v at 1 1
 abbrev pub bit_result : BitOp → Ccr → ℕ → ℕ → Out
 bit_result op old v at = record { value = bit_changed op v at; ccr = bit_flags old v at }
 
--- BTST: of any data operand
-abbrev pub bit_tested : Regs68 → Memory → ℕ → Size → ℕ → Ea → Effect
-bit_tested r m next size at of =
+-- BTST of any data operand; BCHG, BCLR, BSET
+abbrev pub bit_done : Regs68 → Memory → ℕ → BitOp → Size → ℕ → Ea → Effect
+bit_done r m next Btst size at of =
     sourced r m size of >>= λ (q, v).
     goes_on next (with_ccr q (bit_flags r.ccr v at)) m
+bit_done r m next op size at to = changed r m next size to (λ d. bit_result op r.ccr d at)
 
--- BTST, BCHG, BCLR, BSET of the bit with a number
-abbrev pub bit_done : Regs68 → Memory → ℕ → BitOp → Size → ℕ → Ea → Effect
-bit_done r m next Btst size at to = bit_tested r m next size at to
-bit_done r m next Bchg size at to = changed r m next size to (λ d. bit_result Bchg r.ccr d at)
-bit_done r m next Bclr size at to = changed r m next size to (λ d. bit_result Bclr r.ccr d at)
-bit_done r m next Bset size at to = changed r m next size to (λ d. bit_result Bset r.ccr d at)
-
--- the number in the instruction
+-- the bit with a number, which is taken modulo the bits that there are
 abbrev pub bit_by_number : Regs68 → Memory → ℕ → BitOp → ℕ → Ea → Effect
-bit_by_number r m next op number to = bit_done r m next op (bit_size to) (bit_place (bit_size to) number) to
-
--- the number in a data register
-abbrev pub bit_by_register : Regs68 → Memory → ℕ → BitOp → ℕ → Ea → Effect
-bit_by_register r m next op n to = bit_by_number r m next op (slice_index r.d n) to
+bit_by_number r m next op number to = bit_done r m next op (bit_size to) (number % (8 * bytes_of (bit_size to))) to

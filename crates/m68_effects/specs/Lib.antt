@@ -1,7 +1,6 @@
 pub mod Arithmetic
 pub mod Bits
 pub mod Control
-pub mod Decimal
 pub mod Logic
 pub mod Movement
 pub mod Multiple
@@ -12,4 +11,5 @@ pub mod Shifts
 pub mod Stack
 pub mod StackClauses
 pub mod Step
+pub mod inner
 pub mod laws

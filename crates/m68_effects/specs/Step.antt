@@ -13,7 +13,8 @@ use Rattle.m68_ea.specs.Words.{words_at}
 use Rattle.mix_bits.specs.Addresses.{onward}
 use Rattle.big_memory.specs.Steps.{After}
 use Rattle.big_memory.specs.Steps.After.{Leaves, Stops}
-use Rattle.m68_effects.specs.Rows.{runs}
+use Rattle.m68_effects.specs.Parts.{after}
+use Rattle.m68_effects.specs.Rows.{effect}
 
 -- the instruction stops with a fault that tells one number
 abbrev pub stops : Regs68 → FaultKind → ℕ → After Regs68
@@ -22,7 +23,7 @@ stops r kind detail = Stops (fault_at r.pc kind detail)
 -- what the words at `pc` are, of which so many lie in memory; a word of line A leaves the set, and one of
 -- line F is the exception with vector 11
 abbrev pub runs_decoded : Regs68 → Memory → List ℕ → Decoded68 → After Regs68
-runs_decoded r m ws (Op i used) = runs r m (onward r.pc (2 * used)) i
+runs_decoded r m ws (Op i used) = after (effect r m (onward r.pc (2 * used)) i)
 runs_decoded r m ws (LineA word) = Leaves word
 runs_decoded r m ws LineF = stops r Vector 11
 runs_decoded r m ws Privileged = stops r IsPrivileged (slice_index ws 0)

@@ -18,7 +18,8 @@ use Rattle.m68_isa.specs.Operands.{operand_at}
 use Rattle.big_memory.specs.Memory.{Memory}
 use Rattle.m68_ea.specs.Places.{address_of}
 use Rattle.m68_ea.specs.FindsClauses.{FindsControl}
-use Rattle.m68_effects.specs.Multiple.{movem_from_memory, movem_onto, movem_out_of, movem_to_memory}
+use Rattle.m68_effects.specs.Rows.{effect}
+use Rattle.m68_effects.specs.inner.Rows.{movem_onto, movem_out_of}
 use Rattle.m68_effects.specs.laws.Ops.{runs_made}
 use Rattle.m68_effects.specs.Parts.{after}
 
@@ -31,9 +32,9 @@ either P true x y left right = left
 either P false x y left right = right
 
 pub onto_memory : (r : Regs68) (m : Memory) (next : ℕ) (s : Size) (mask at mode lower : ℕ) (ws : List ℕ) → mode ≢ 4
-    → movem_to_memory r m next s mask (operand_at ws at s mode lower).ea ≡ movem_onto r m next s mask (address_of r (operand_at ws at s mode lower).ea)
+    → effect r m next (MovemToMemory s mask (operand_at ws at s mode lower).ea) ≡ movem_onto r m next s mask (address_of r (operand_at ws at s mode lower).ea)
 onto_memory r m next s mask at mode lower ws other =
-    let P : Ea → Type 0 = λ e. movem_to_memory r m next s mask e ≡ movem_onto r m next s mask (address_of r e) in
+    let P : Ea → Type 0 = λ e. effect r m next (MovemToMemory s mask e) ≡ movem_onto r m next s mask (address_of r e) in
     rw (apart mode 4 other)
     (either P (mode == 0) _ _ refl (either P (mode == 1) _ _ refl (either P (mode == 2) _ _ refl (either P (mode == 3) _ _ refl
     (either P (mode == 5) _ _ refl (either P (mode == 6) _ _ refl
@@ -62,9 +63,9 @@ onto_found r q m n first bit mask at mode lower a next ws did old cell other wor
 
 -- the same from memory
 pub out_of_memory : (r : Regs68) (m : Memory) (next : ℕ) (s : Size) (mask at mode lower : ℕ) (ws : List ℕ) → mode ≢ 3
-    → movem_from_memory r m next s mask (operand_at ws at s mode lower).ea ≡ movem_out_of r m next s mask (address_of r (operand_at ws at s mode lower).ea)
+    → effect r m next (MovemFromMemory s mask (operand_at ws at s mode lower).ea) ≡ movem_out_of r m next s mask (address_of r (operand_at ws at s mode lower).ea)
 out_of_memory r m next s mask at mode lower ws other =
-    let P : Ea → Type 0 = λ e. movem_from_memory r m next s mask e ≡ movem_out_of r m next s mask (address_of r e) in
+    let P : Ea → Type 0 = λ e. effect r m next (MovemFromMemory s mask e) ≡ movem_out_of r m next s mask (address_of r e) in
     rw (apart mode 3 other)
     (either P (mode == 0) _ _ refl (either P (mode == 1) _ _ refl (either P (mode == 2) _ _ refl (either P (mode == 4) _ _ refl
     (either P (mode == 5) _ _ refl (either P (mode == 6) _ _ refl

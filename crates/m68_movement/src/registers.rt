@@ -3,8 +3,7 @@ ghost use Rattle.std.specs.Prelude.{◌≡◌};
 ghost use Rattle.m68_isa.specs.First.{first_of};
 ghost use Rattle.mix_bits.specs.Addresses.{onward};
 ghost use Rattle.big_memory.specs.StepsClauses.{Does};
-ghost use Rattle.m68_effects.specs.Arithmetic.{ext};
-ghost use Rattle.m68_effects.specs.Movement.{halves_swapped};
+ghost use Rattle.m68_effects.specs.inner.Rows.{ext, halves_swapped};
 ghost use Rattle.m68_effects.specs.Parts.{after};
 ghost use Rattle.m68_effects.specs.laws.Ops.{by_op};
 

@@ -1,5 +1,5 @@
 -- Each instruction of 68K code leaves memory as it was beside where it stores.
-use Rattle.std.proofs.Common.{ℕ, ◌-◌, ◌*◌, ◌≤◌, ◌==◌, Bool, true, false, if◌then◌else◌, List, length, map, slice_index, arith, refl}
+use Rattle.std.proofs.Common.{ℕ, ◌-◌, ◌*◌, ◌%◌, ◌≤◌, ◌==◌, Bool, true, false, if◌then◌else◌, List, length, map, slice_index, arith, refl}
 use Rattle.std.specs.Prelude.{bit_or, not}
 use Rattle.std.proofs.lemmas.List.{length-map}
 use Rattle.std.proofs.lemmas.List.Filters.{length-filter_both}
@@ -40,13 +40,14 @@ use Rattle.m68_alu.specs.declared.quotients.LongQuotient.TheVariants.{ByZero as 
 use Rattle.m68_ea.specs.Places.{address_of, placed, with_address}
 use Rattle.mix_bits.specs.Addresses.{backward}
 use Rattle.m68_ea.specs.Operands.{put_into, sourced, stored_at}
-use Rattle.m68_effects.specs.Arithmetic.{addq, is_out, long_quotient_into, quotient_into, subq}
-use Rattle.m68_effects.specs.Bits.{bit_done, bit_place, bit_size}
-use Rattle.m68_effects.specs.Control.{bcc, called, counted, dbcc}
-use Rattle.m68_effects.specs.Movement.{exg, link, move}
-use Rattle.m68_effects.specs.Multiple.{listed, loaded_along, movem_before, movem_behind, movem_from_memory, movem_onto, movem_out_of, movem_to_memory, movep, peripheral_number, register_of, sixteen, stored_along, stored_down}
+use Rattle.m68_effects.specs.Arithmetic.{is_out, long_quotient_into, quotient_into}
+use Rattle.m68_effects.specs.Bits.{bit_done, bit_size}
+use Rattle.m68_effects.specs.Control.{bcc, called, counted}
+use Rattle.m68_effects.specs.Movement.{link}
+use Rattle.m68_effects.specs.Multiple.{listed, loaded_along, peripheral_number, register_of, stored_along, stored_down}
 use Rattle.m68_effects.specs.Parts.{Effect, goes_on, popped}
-use Rattle.m68_effects.specs.Rows.{effect, immediate}
+use Rattle.m68_effects.specs.Rows.{effect}
+use Rattle.m68_effects.specs.inner.Rows.{movem_before, movem_behind, movem_onto, movem_out_of, sixteen}
 use Rattle.mix_reach.specs.laws.Ranges.{Beside, nothing, range}
 use Rattle.mix_reach.specs.laws.Rows68.{behind, below, branches, into, links, pushes, several, stores}
 use Rattle.mix_reach.proofs.Leaving.{IsShort, Leaves, stores as one-store}
@@ -68,7 +69,7 @@ bits r m next Bclr size at to = changes r m next size to _
 bits r m next Bset size at to = changes r m next size to _
 
 -- an address register is changed without a store
-add-quick : (r : Regs68) (m : Memory) (next : ℕ) (size : Size) (number : ℕ) (to : Ea) → Kept (into r size to) m (addq r m next size number to)
+add-quick : (r : Regs68) (m : Memory) (next : ℕ) (size : Size) (number : ℕ) (to : Ea) → Kept (into r size to) m (effect r m next (Quick Addq size number to))
 add-quick r m next size number (An n) = still nothing m _
 add-quick r m next size number (Dn n) = changes r m next size (Dn n) (λ d. sum size d number)
 add-quick r m next size number (Ind n) = changes r m next size (Ind n) (λ d. sum size d number)
@@ -82,7 +83,7 @@ add-quick r m next size number (PcDisp at d) = changes r m next size (PcDisp at 
 add-quick r m next size number (PcIndexed at i) = changes r m next size (PcIndexed at i) (λ d. sum size d number)
 add-quick r m next size number (Imm v) = changes r m next size (Imm v) (λ d. sum size d number)
 
-subtract-quick : (r : Regs68) (m : Memory) (next : ℕ) (size : Size) (number : ℕ) (to : Ea) → Kept (into r size to) m (subq r m next size number to)
+subtract-quick : (r : Regs68) (m : Memory) (next : ℕ) (size : Size) (number : ℕ) (to : Ea) → Kept (into r size to) m (effect r m next (Quick Subq size number to))
 subtract-quick r m next size number (An n) = still nothing m _
 subtract-quick r m next size number (Dn n) = changes r m next size (Dn n) (λ d. difference size d number)
 subtract-quick r m next size number (Ind n) = changes r m next size (Ind n) (λ d. difference size d number)
@@ -133,7 +134,7 @@ before r m next size mask base short =
     (downwards r m size (slice_index r.a base) (map (λ k. register_of r (15 - k)) (listed mask)) short (few-before r mask))
     (λ n beside. ends (several r size (Pre base)) m _ n beside)
 
-to-memory : (r : Regs68) (m : Memory) (next : ℕ) (size : Size) (mask : ℕ) (to : Ea) → IsShort m → Kept (several r size to) m (movem_to_memory r m next size mask to)
+to-memory : (r : Regs68) (m : Memory) (next : ℕ) (size : Size) (mask : ℕ) (to : Ea) → IsShort m → Kept (several r size to) m (effect r m next (MovemToMemory size mask to))
 to-memory r m next size mask (Pre base) short = before r m next size mask base short
 to-memory r m next size mask (An n) short = onto r m next size mask (address_of r (An n)) short
 to-memory r m next size mask (Dn n) short = onto r m next size mask (address_of r (Dn n)) short
@@ -153,7 +154,7 @@ behind-loads r m next size mask base = reads nothing m (loaded_along r.pc r m (s
 out-of : (r : Regs68) (m : Memory) (next : ℕ) (size : Size) (mask a : ℕ) → Kept nothing m (movem_out_of r m next size mask a)
 out-of r m next size mask a = reads nothing m (loaded_along r.pc r m a size (listed mask)) _ (λ q. still nothing m _)
 
-from-memory : (r : Regs68) (m : Memory) (next : ℕ) (size : Size) (mask : ℕ) (from : Ea) → Kept nothing m (movem_from_memory r m next size mask from)
+from-memory : (r : Regs68) (m : Memory) (next : ℕ) (size : Size) (mask : ℕ) (from : Ea) → Kept nothing m (effect r m next (MovemFromMemory size mask from))
 from-memory r m next size mask (Post base) = behind-loads r m next size mask base
 from-memory r m next size mask (Pre n) = out-of r m next size mask (address_of r (Pre n))
 from-memory r m next size mask (An n) = out-of r m next size mask (address_of r (An n))
@@ -173,7 +174,7 @@ length-digits One v = omega arith
 length-digits Two v = omega arith
 length-digits Four v = omega arith
 
-peripheral : (r : Regs68) (m : Memory) (next : ℕ) (size : Size) (to_memory : Bool) (n base disp : ℕ) → IsShort m → Kept (range (onward (slice_index r.a base) disp) 16) m (movep r m next size to_memory n base disp)
+peripheral : (r : Regs68) (m : Memory) (next : ℕ) (size : Size) (to_memory : Bool) (n base disp : ℕ) → IsShort m → Kept (range (onward (slice_index r.a base) disp) 16) m (effect r m next (Movep size to_memory n base disp))
 peripheral r m next size true n base disp short =
     let a = onward (slice_index r.a base) disp in
     let few = length-digits size (slice_index r.d n) in
@@ -195,7 +196,7 @@ long-quotients q m next high low LongByZero = refused nothing m _
 long-quotients q m next high low (LongOverflow ccr) = still nothing m _
 long-quotients q m next high low (LongDone out) = still nothing m _
 
-moved : (r : Regs68) (m : Memory) (next : ℕ) (size : Size) (from to : Ea) → Kept (behind r size from to) m (move r m next size from to)
+moved : (r : Regs68) (m : Memory) (next : ℕ) (size : Size) (from to : Ea) → Kept (behind r size from to) m (effect r m next (Move size from to))
 moved r m next size from to =
     from-source (behind r size from to) r m size from _
     (λ v. put-then (placed r from size).0 m size to v _ (λ q n beside. ends (behind r size from to) m _ n beside))
@@ -219,16 +220,16 @@ branches-keep r m next condition disp = by-test (condition == 1)
     by-test true = calls r m next (branch_target r.pc disp)
     by-test false = either nothing m (holds condition r.ccr) _ _ (still nothing m _) (still nothing m _)
 
-counts : (r : Regs68) (m : Memory) (next condition n disp : ℕ) → Kept nothing m (dbcc r m next condition n disp)
+counts : (r : Regs68) (m : Memory) (next condition n disp : ℕ) → Kept nothing m (effect r m next (Dbcc condition n disp))
 counts r m next condition n disp =
     either nothing m (holds condition r.ccr) _ _ (still nothing m _) (either nothing m (counted r n == 0xFFFF) _ _ (still nothing m _) (still nothing m _))
 
-exchanged : (r : Regs68) (m : Memory) (next : ℕ) (kind : Exchange) (x y : ℕ) → Kept nothing m (exg r m next kind x y)
+exchanged : (r : Regs68) (m : Memory) (next : ℕ) (kind : Exchange) (x y : ℕ) → Kept nothing m (effect r m next (Exg kind x y))
 exchanged r m next Data x y = still nothing m _
 exchanged r m next Address x y = still nothing m _
 exchanged r m next DataAddress x y = still nothing m _
 
-immediates : (r : Regs68) (m : Memory) (next : ℕ) (op : ImmediateOp) (size : Size) (value : ℕ) (to : Ea) → Kept (into r size to) m (immediate r m next op size value to)
+immediates : (r : Regs68) (m : Memory) (next : ℕ) (op : ImmediateOp) (size : Size) (value : ℕ) (to : Ea) → Kept (into r size to) m (effect r m next (Immediate op size value to))
 immediates r m next Ori size value to = changes r m next size to _
 immediates r m next Andi size value to = changes r m next size to _
 immediates r m next Subi size value to = changes r m next size to _
@@ -239,8 +240,8 @@ immediates r m next Cmpi size value to = reads (into r size to) m (sourced r m s
 pub rows : (r : Regs68) (m : Memory) (next : ℕ) (i : Instr68) → IsShort m → Kept (stores r i) m (effect r m next i)
 rows r m next (Immediate op size value to) short = immediates r m next op size value to
 rows r m next (ImmediateToCcr op value) short = still nothing m _
-rows r m next (BitByRegister op register to) short = bits r m next op (bit_size to) (bit_place (bit_size to) (slice_index r.d register)) to
-rows r m next (BitByNumber op bit to) short = bits r m next op (bit_size to) (bit_place (bit_size to) bit) to
+rows r m next (BitByRegister op register to) short = bits r m next op (bit_size to) (slice_index r.d register % (8 * bytes_of (bit_size to))) to
+rows r m next (BitByNumber op bit to) short = bits r m next op (bit_size to) (bit % (8 * bytes_of (bit_size to))) to
 rows r m next (Movep size to_memory register base disp) short = peripheral r m next size to_memory register base disp short
 rows r m next (Move size from to) short = moved r m next size from to
 rows r m next (Movea size from to) short = reads nothing m (sourced r m size from) _ (λ p. still nothing m _)

@@ -14,12 +14,13 @@ use Rattle.big_memory.specs.Memory.{Memory}
 use Rattle.big_memory.specs.Steps.{After}
 use Rattle.big_memory.specs.Steps.After.{Leaves}
 use Rattle.m68_ea.specs.Words.{words_at}
-use Rattle.m68_effects.specs.Rows.{runs}
+use Rattle.m68_effects.specs.Parts.{after}
+use Rattle.m68_effects.specs.Rows.{effect}
 use Rattle.m68_effects.specs.Step.{stops}
 
 -- the instruction that a first word `w` begins, or why there is none
 abbrev pub runs_made : Regs68 → Memory → ℕ → Found → After Regs68
-runs_made r m w (Made i used good) = if good then runs r m (onward r.pc (2 * used)) i else stops r IsIllegal w
+runs_made r m w (Made i used good) = if good then after (effect r m (onward r.pc (2 * used)) i) else stops r IsIllegal w
 runs_made r m w Privileged = stops r IsPrivileged w
 runs_made r m w Illegal = stops r IsIllegal w
 

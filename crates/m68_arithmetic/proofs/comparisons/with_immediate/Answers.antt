@@ -3,7 +3,7 @@ use Rattle.mix_bits.specs.Addresses.{onward}
 use Rattle.m68_isa.specs.declared.registers.Regs68.{Regs68}
 use Rattle.m68_isa.specs.First.{first_of}
 use Rattle.m68_isa.specs.Operands.{immediate_at, immediate_words, operand_at}
-use Rattle.m68_effects.specs.Arithmetic.{comparison}
+use Rattle.m68_effects.specs.inner.Rows.{comparison}
 use Rattle.m68_effects.specs.Parts.{Effect, goes_on, with_ccr}
 use Rattle.m68_ea.specs.Words.{words_at}
 use Rattle.m68_effects.proofs.Steps.{goes, operand_is, refused, taken}

@@ -9,7 +9,8 @@ use Rattle.m68_isa.specs.Operands.{operand_at}
 use Rattle.m68_isa.specs.Rows.{taken}
 use Rattle.big_memory.specs.Steps.{After}
 use Rattle.big_memory.specs.StepsClauses.{Does}
-use Rattle.m68_effects.specs.Multiple.{movem_out_of, span_of}
+use Rattle.m68_effects.specs.Multiple.{span_of}
+use Rattle.m68_effects.specs.inner.Rows.{movem_out_of}
 use Rattle.m68_effects.specs.laws.Ops.{runs_made}
 use Rattle.m68_effects.specs.Parts.{Effect, after, goes_on}
 use Rattle.m68_ea.specs.Places.{with_address}
