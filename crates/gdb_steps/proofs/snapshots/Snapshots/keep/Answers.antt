@@ -1,10 +1,9 @@
 -- One more is kept, or none.
-use Rattle.std.proofs.Common.{◌∷◌, All, is_ok, subst, sym}
+use Rattle.std.proofs.Common.{is_ok}
 use Rattle.gdb_steps.specs.Places.{IsKept}
 use Rattle.gdb_steps.specs.inner.Held.{IsSafe}
 use Rattle.gdb_steps.proofs.Keeping.{all-kept, all-pushed, kept-image, safe-image}
 use Rattle.gdb_steps.proofs.snapshots.Snapshots.keep.Goals as goal
-use Rattle.gdb_steps.proofs.snapshots.Snapshots.keep.Goals.{in-Ok-push, in-Err}
 
 pub returns-then-past-gt0-clause-kept : goal.returns-then-past-gt0-clause-kept
 returns-then-past-gt0-clause-kept c =
@@ -17,16 +16,14 @@ returns-then-past-gt0-clause-safe c =
 pub returns-clause-kept : goal.returns-clause-kept
 returns-clause-kept c =
     λ b g all is.
-    let more : All (IsKept b g) (c.self.inside.first ∷ c.push.new.self.items) = all-pushed (IsKept b g) c.self.inside.first c.self.inside.later.items c.push.new.self.items c.make_room.new.self c.in-Ok.snapshot (is_ok c.push.result) c.self.view_is c.push.ensures.items (c.make_room.ensures.kept b g all)
-    (kept-image b g c.args.machine.now c.args.used c.args.steps c.in-Ok.snapshot c.in-Ok.ensures is) in
-    elim c.match-push.branch [ in-Ok-push w ↦ subst (All (IsKept b g)) (sym w.self-is) more | in-Err w ↦ subst (All (IsKept b g)) (sym w.self-is) more ]
+    all-pushed (IsKept b g) c.self.inside.first c.self.inside.later.items c.push.new.self.items c.make_room.new.self c.in-Ok.snapshot (is_ok c.push.result) c.self.view_is c.push.ensures.items (c.make_room.ensures.kept b g all)
+    (kept-image b g c.args.machine.now c.args.used c.args.steps c.in-Ok.snapshot c.in-Ok.ensures is)
 
 pub returns-clause-safe : goal.returns-clause-safe
 returns-clause-safe c =
     λ input real all is.
-    let more : All (IsSafe input real) (c.self.inside.first ∷ c.push.new.self.items) = all-pushed (IsSafe input real) c.self.inside.first c.self.inside.later.items c.push.new.self.items c.make_room.new.self c.in-Ok.snapshot (is_ok c.push.result) c.self.view_is c.push.ensures.items (c.make_room.ensures.safe input real all)
-    (safe-image input real c.args.machine.now c.args.used c.args.steps c.in-Ok.snapshot c.in-Ok.ensures is) in
-    elim c.match-push.branch [ in-Ok-push w ↦ subst (All (IsSafe input real)) (sym w.self-is) more | in-Err w ↦ subst (All (IsSafe input real)) (sym w.self-is) more ]
+    all-pushed (IsSafe input real) c.self.inside.first c.self.inside.later.items c.push.new.self.items c.make_room.new.self c.in-Ok.snapshot (is_ok c.push.result) c.self.view_is c.push.ensures.items (c.make_room.ensures.safe input real all)
+    (safe-image input real c.args.machine.now c.args.used c.args.steps c.in-Ok.snapshot c.in-Ok.ensures is)
 
 pub returns-in_default-clause-kept : goal.returns-in_default-clause-kept
 returns-in_default-clause-kept c =
