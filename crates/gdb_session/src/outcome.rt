@@ -9,6 +9,8 @@ pub enum Outcome {
     Walked(Halt),
     /// A point was to be set, and whether there was room for it.
     Placed(bool),
+    /// A command was done, and whether the machine went elsewhere by it.
+    Obeyed(bool),
     /// The talk is at its end.
     Ended,
 }

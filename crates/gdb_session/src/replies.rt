@@ -1,9 +1,7 @@
 //! What is sent at a packet of gdb's.
 ghost use Rattle.std.specs.Prelude.{◌≡◌, ◌++◌, [], IfOk, OnOk};
 ghost use Rattle.gdb_session.specs.Replies.{DoneBy, Replies, console_packet, placed as placed_by, rules_of, said};
-ghost use Rattle.gdb_session.specs.Commands.{command_of};
 ghost use Rattle.gdb_session.specs.Stops.{halt_answer as halt_told, halt_talk, is_end as is_end_told};
-ghost use Rattle.gdb_answers.specs.declared.answer.Answer.TheVariants.{Done as done};
 
 use crate::commands::read_command;
 use crate::outcome::Outcome;
@@ -65,7 +63,7 @@ fn obey<T: Target>(
             answer_alone(alloc, target, Answer::Done, sent)?;
             Ok(Outcome::Answered)
         }
-        Deed::Command => command(alloc, target, data, console, sent),
+        Deed::Command => command(alloc, target, talk, data, console, sent),
         Deed::Leave => {
             answer_alone(alloc, target, Answer::Done, sent)?;
             Ok(Outcome::Ended)
@@ -179,20 +177,21 @@ fn placed(is_set: bool) -> Answer
 fn command<T: Target>(
     alloc: Global,
     target: &mut T,
+    talk: &mut Talk,
     data: &[u8],
     console: &mut Vec<u8>,
     sent: &mut Vec<u8>,
 ) -> Result<Outcome, NoMemory>
     requires console { console.old.items ≡ [] }
     requires sent { sent.old.items ≡ [] }
-    ensures answered { IfOk result (λ outcome. outcome ≡ Outcome.Answered) }
-    ensures same { T.scene target.new ≡ T.scene target.old }
-    ensures obeyed { OnOk result (T.obeys target.old (command_of «data».now) console.new.items target.new) }
-    ensures sent { OnOk result (sent.new.items ≡ console_packet console.new.items ++ said (T.scene target.old) done) }
+    ensures { IfOk result (λ outcome. DoneBy (rules_of T.scene T.walks T.inserts T.removes T.obeys) «data».now talk.old talk.new target.old target.new console.new.items sent.new.items Deed.Command outcome) }
 {
     let text = read_command(alloc, data)?;
-    target.obey(&text, console)?;
+    let has_moved = target.obey(&text, console)?;
+    if has_moved {
+        talk.go_elsewhere();
+    }
     put_console(alloc, console, sent)?;
     put_answer(alloc, target, Answer::Done, sent)?;
-    Ok(Outcome::Answered)
+    Ok(Outcome::Obeyed(has_moved))
 }

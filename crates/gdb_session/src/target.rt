@@ -1,5 +1,5 @@
 //! What a debugger needs of a machine.
-ghost use Rattle.std.specs.Prelude.{◌≡◌, ℕ, ◌++◌, List, IfOk, OnOk, Bool, []};
+ghost use Rattle.std.specs.Prelude.{◌≡◌, ℕ, ◌++◌, List, IfOk, OnOk, Bool, [], false};
 ghost use Rattle.switch_frame.specs.Records.{isa_of};
 ghost use Rattle.gdb_answers.specs.Answers.{Scene, answer_text};
 ghost use Rattle.gdb_requests.specs.declared.request.Point.{Point as PointOf};
@@ -33,8 +33,8 @@ pub trait Target {
 
     ghost removes: { Self → PointOf → ℕ → ℕ → Self → Type 0 };
 
-    /// What a command of the user's does, and what it tells on the console.
-    ghost obeys: { Self → List ℕ → List ℕ → Self → Type 0 };
+    /// What a command of the user's does, what it tells on the console, and whether the machine went elsewhere by it.
+    ghost obeys: { Self → List ℕ → List ℕ → Bool → Self → Type 0 };
 
     /// The active set.
     fn set(&self) -> Isa
@@ -59,9 +59,10 @@ pub trait Target {
         ensures done { removes self.old point address count self.new }
         ensures same { scene self.new ≡ scene self.old };
 
-    /// Does a command that the user gives behind `monitor`, and puts what it tells on the console into an empty buffer.
-    fn obey(&mut self, text: &[u8], console: &mut Vec<u8>) -> Result<(), NoMemory>
+    /// Does a command that the user gives behind `monitor`, puts what it tells on the console into an empty buffer, and says
+    /// whether the machine went elsewhere by it.
+    fn obey(&mut self, text: &[u8], console: &mut Vec<u8>) -> Result<bool, NoMemory>
         requires { console.old.items ≡ [] }
-        ensures done { OnOk result (obeys self.old text.now console.new.items self.new) }
-        ensures same { scene self.new ≡ scene self.old };
+        ensures done { IfOk result (λ moved. obeys self.old text.now console.new.items moved self.new) }
+        ensures same { IfOk result (λ moved. moved ≡ false → scene self.new ≡ scene self.old) };
 }

@@ -1,5 +1,5 @@
 -- Machines that are kept.
-use Rattle.std.proofs.Common.{◌≡◌, ℕ, suc, ◌<◌, [], ◌∷◌, ◌++◌, All, Bool, Contains, List, filter, length, slice_index_or, sym, subst, arith}
+use Rattle.std.proofs.Common.{◌≡◌, ◌∙◌, ℕ, suc, ◌+◌, ◌<◌, ◌≤◌, [], ◌∷◌, ◌++◌, All, Bool, true, false, Contains, List, ap, filter, if◌then◌else◌, length, length-append, slice_index_or, sym, subst, arith}
 use Rattle.std.proofs.lemmas.List.Elements.{All-cons, All-filter, All-head, All-push, All-same, All-tail}
 use Rattle.dev_rack.specs.Rack.{State as Rack}
 use Rattle.mix_engine.specs.declared.machine.Machine.{Machine}
@@ -36,6 +36,22 @@ pub all-more : (P : Snapshot → Type 0) (first : Snapshot) (later more all : Li
 all-more P first later more all s is pushed holds one =
     let both : All P (first ∷ later) = all-kept P first later all is holds in
     All-cons P first more (All-head P first later both) (All-same P more (later ++ s ∷ []) pushed (All-push P later s (All-tail P first later both) one))
+
+-- one more, where there was memory for it
+pub all-pushed : (P : Snapshot → Type 0) (first : Snapshot) (later more all : List Snapshot) (s : Snapshot) (there : Bool) → first ∷ later ≡ all → more ≡ (if there then later ++ s ∷ [] else later) → All P all → P s → All P (first ∷ more)
+all-pushed P first later more all s true is pushed holds one = all-more P first later more all s is pushed holds one
+all-pushed P first later more all s false is pushed holds one = subst (λ xs. All P (first ∷ xs)) (sym pushed) (all-kept P first later all is holds)
+
+pub few-pushed : (first : Snapshot) (later more : List Snapshot) (s : Snapshot) (there : Bool) (n : ℕ) → length later < n → more ≡ (if there then later ++ s ∷ [] else later) → length (first ∷ more) ≤ suc n
+few-pushed first later more s true n few pushed =
+    let long : length more ≡ length later + 1 = ap length pushed ∙ length-append later (s ∷ []) in up (length more) (length later) n long few
+  where
+    up : (m k n : ℕ) → m ≡ k + 1 → k < n → suc m ≤ suc n
+    up m k n e h = omega (arith, e, h)
+few-pushed first later more s false n few pushed = up (length more) (length later) n (ap length pushed) few
+  where
+    up : (m k n : ℕ) → m ≡ k → k < n → suc m ≤ suc n
+    up m k n e h = omega (arith, e, h)
 
 pub contains-later : (first : Snapshot) (later : List Snapshot) (i : ℕ) (s : Snapshot) → i < length later → s ≡ slice_index_or later i s → Contains (first ∷ later) s
 contains-later first later i s few is = (suc i, up i (length later) few, sym is)

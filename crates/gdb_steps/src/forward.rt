@@ -39,19 +39,22 @@ use std::alloc::Global;
 
 impl<D: Devices + Drop> Walker<D> {
     /// A machine before its first step, with the whole of its input, and with devices in so many slots from 0 on, none of
-    /// which was asked. All memory is taken here; where there is none, all of these are dropped.
+    /// which was asked. This machine is kept, and so many later ones at the most, to go back from. All other memory is taken
+    /// here; where there is none, all of these are dropped.
     pub fn new(
         alloc: Global,
         machine: Machine,
         input: Vec<u8>,
         devices: D,
         slots: usize,
+        most_kept: usize,
     ) -> Result<Walker<D>, NoMemory>
         requires whole { IsWhole machine.body (isa_of machine.active) }
         requires few { slots ≤ 8 }
         requires fresh { IsFresh slots (D.state devices) }
         ensures begins { IfOk result (Begins machine input.items slots) }
         ensures devices { IfOk result (λ w. w.real ≡ D.state devices) }
+        ensures most_kept { IfOk result (λ w. w.most_kept ≡ most_kept) }
     {
         let replay = Replay::new(alloc, slots)?;
         let real = Real::new(devices, slots);
@@ -72,6 +75,7 @@ impl<D: Devices + Drop> Walker<D> {
             steps: 0,
             furthest: 0,
             snapshots,
+            most_kept,
             breakpoints: Breakpoints::new(alloc)?,
             watches: Watches::new(alloc)?,
         })
@@ -211,8 +215,13 @@ impl<D: Devices + Drop> Walker<D> {
         ensures breakpoints { self.new.breakpoints ≡ self.old.breakpoints }
         ensures watches { self.new.watches ≡ self.old.watches }
     {
-        self.snapshots
-            .keep(self.alloc, self.debug.machine(), self.used, self.steps);
+        self.snapshots.keep(
+            self.alloc,
+            self.debug.machine(),
+            self.used,
+            self.steps,
+            self.most_kept,
+        );
     }
 
     /// Does a step, and says what stops the walk at it or behind it, if anything does.

@@ -1,5 +1,5 @@
 // Machines that are kept on the way, to go back to.
-ghost use Rattle.std.specs.Prelude.{◌≡◌, ◌∷◌, ◌≤◌, [], All, Contains, IfOk, List, ℕ};
+ghost use Rattle.std.specs.Prelude.{◌≡◌, ◌∷◌, ◌≤◌, [], All, Contains, IfOk, List, ℕ, length, suc};
 ghost use Rattle.switch_frame.specs.Records.{isa_of};
 ghost use Rattle.dev_rack.specs.Rack.{State};
 ghost use Rattle.mixed_machine.specs.Machine.{IsWhole};
@@ -17,9 +17,6 @@ use mix_io::MemKeep;
 use std::alloc::Global;
 use std::marker::Model;
 
-/// How many machines are kept at the most, beside the first of all.
-const MOST: usize = 31;
-
 /// The machine before the first step, and later ones, the nearest to the first step first.
 #[derive(Drop)]
 pub struct Snapshots {
@@ -32,14 +29,14 @@ pub struct Snapshots {
 }
 
 impl Model for Snapshots {
-    ghost use Rattle.std.specs.Prelude.{◌≡◌, ◌∷◌, ◌<◌, ◌≤◌, List, vec_capacity, vec_len};
+    ghost use Rattle.std.specs.Prelude.{◌≡◌, ◌∷◌, ◌<◌, List};
     ghost use Rattle.gdb_steps.specs.declared.snapshot.Snapshot.{Snapshot};
 
     ghost Value = { List Snapshot };
 
     ghost view = { λ s. s.first ∷ s.later.items };
 
-    ghost invariant = { λ s. (s.first.steps ≡ 0) × (0 < s.distance) × (31 ≤ vec_capacity s.later) × (vec_len s.later ≤ 31) };
+    ghost invariant = { λ s. (s.first.steps ≡ 0) × (0 < s.distance) };
 }
 
 impl Snapshots {
@@ -51,7 +48,7 @@ impl Snapshots {
         let distance = (machine.body.ram.bytes().len() as u64 / 8).max(1);
         Ok(Snapshots {
             first: take(alloc, machine, used, 0)?,
-            later: Vec::with_capacity(alloc, MOST)?,
+            later: Vec::new(alloc),
             next: distance,
             distance,
         })
@@ -63,29 +60,37 @@ impl Snapshots {
         steps == self.next
     }
 
-    /// Keeps the machine after so many steps behind the others, every second of which is given up where there are many.
-    /// Where there is no memory for it, it is not kept.
-    pub fn keep(&mut self, alloc: Global, machine: &Machine, used: Used, steps: u64)
+    /// Keeps the machine after so many steps behind the others, of which there are `most` at the most beside the first: where
+    /// there are so many, every second one is given up, and twice as many steps lie between two from there on. Where there
+    /// is no memory for it, it is not kept.
+    pub fn keep(&mut self, alloc: Global, machine: &Machine, used: Used, steps: u64, most: usize)
         requires whole { IsWhole machine.now.body (isa_of machine.now.active) }
+        ensures few { length self.old ≤ suc most → length self.new ≤ suc most }
         ensures kept { (b : Begin) (g : Given) → All (IsKept b g) self.old → IsPlace b g steps (record { machine = machine.now; used = used }) → All (IsKept b g) self.new }
         ensures safe { (input : List ℕ) (real : State) → All (IsSafe input real) self.old → IsWithin input real used → All (IsSafe input real) self.new }
     {
-        self.make_room();
-        self.next = steps.saturating_add(self.distance);
-        if self.later.len() == MOST {
+        self.make_room(most);
+        let past = steps % self.distance;
+        self.next = (steps - past).saturating_add(self.distance);
+        if past > 0 || self.later.len() >= most {
             return;
         }
-        if let Ok(snapshot) = take(alloc, machine, used, steps) {
-            self.later.push_reserved(snapshot);
+        let Ok(snapshot) = take(alloc, machine, used, steps) else {
+            return;
+        };
+        match self.later.push(snapshot) {
+            Ok(()) => {}
+            Err(_unkept) => {}
         }
     }
 
-    /// Gives up every second one, where there are many.
-    fn make_room(&mut self)
+    /// Gives up every second one, where there are as many as there may be.
+    fn make_room(&mut self, most: usize)
+        ensures few { length self.old ≤ suc most → length self.new ≤ suc most }
         ensures kept { (b : Begin) (g : Given) → All (IsKept b g) self.old → All (IsKept b g) self.new }
         ensures safe { (input : List ℕ) (real : State) → All (IsSafe input real) self.old → All (IsSafe input real) self.new }
     {
-        if self.later.len() < MOST {
+        if self.later.len() < most {
             return;
         }
         let distance = self.distance.saturating_mul(2);

@@ -1,5 +1,5 @@
 // What a walker holds.
-ghost use Rattle.std.specs.Prelude.{All};
+ghost use Rattle.std.specs.Prelude.{◌≤◌, All, length, suc};
 ghost use Rattle.gdb_steps.specs.inner.Held.{IsCounted, IsHeld, IsSafe, IsWithin};
 
 use crate::breakpoints::Breakpoints;
@@ -31,10 +31,13 @@ pub struct Walker<D: Devices + Drop> {
     pub(crate) furthest: u64,
     /// Machines that are kept on the way, to go back to.
     pub(crate) snapshots: Snapshots,
+    /// How many are kept at the most, beside the first.
+    pub(crate) most_kept: usize,
     pub(crate) breakpoints: Breakpoints,
     pub(crate) watches: Watches,
     ghost held: { IsHeld input.items real replay used },
     ghost kept: { All (IsWithin input.items real) past.items },
     ghost counted: { IsCounted past.items steps furthest },
     ghost safe: { All (IsSafe input.items real) snapshots },
+    ghost few: { length snapshots ≤ suc most_kept },
 }

@@ -100,6 +100,10 @@ after active t _ = t
 abbrev pub stopped : Isa → Reason → Talk → Talk
 stopped active reason t = record t { looked_at = stopped_set t active; reason = reason }
 
+-- where the machine went elsewhere by a command, the reason of the last stop holds no more
+abbrev pub elsewhere : Talk → Talk
+elsewhere t = record t { reason = Stepped }
+
 -- what the end of the program leaves, once gdb was told: the process that a stop names is gone
 abbrev pub exited : Isa → Talk → Talk
 exited active t = detached t (One (stopped_set t active))

@@ -1,5 +1,5 @@
 ghost use Rattle.std.specs.Prelude.{◌≡◌};
-ghost use Rattle.gdb_talk.specs.Talks.{after, attached as attached_of, attached_by, attached_one, detached as detached_of, exited, first_talk, id_of, is_attached, looking as looking_of, name_of, numbered as numbered_by, other_set, running as running_of, set_numbered, stopped as stopped_of, stopped_set, who_is, who_of};
+ghost use Rattle.gdb_talk.specs.Talks.{after, attached as attached_of, attached_by, attached_one, detached as detached_of, elsewhere, exited, first_talk, id_of, is_attached, looking as looking_of, name_of, numbered as numbered_by, other_set, running as running_of, set_numbered, stopped as stopped_of, stopped_set, who_is, who_of};
 
 use crate::who::Who;
 use gdb_answers::{Reason, ThreadName};
@@ -70,6 +70,13 @@ impl Talk {
     {
         self.looked_at = self.stopped_set(active);
         self.reason = reason;
+    }
+
+    /// Takes note that the machine went elsewhere by a command: the reason of the last stop holds no more.
+    pub fn go_elsewhere(&mut self)
+        ensures { self.new ≡ elsewhere self.old }
+    {
+        self.reason = Reason::Stepped;
     }
 
     /// Takes note that gdb was told of the end of the program, while code of a set is active: the process that a stop names

@@ -42,7 +42,7 @@ impl Target for Still {
 
     ghost removes = { λ _ _ _ _ _. Unit {0} };
 
-    ghost obeys = { λ _ _ _ _. Unit {0} };
+    ghost obeys = { λ _ _ _ _ _. Unit {0} };
 
     fn set(&self) -> Isa {
         self.active.isa()
@@ -70,9 +70,9 @@ impl Target for Still {
 
     fn remove(&mut self, _point: Point, _address: u32, _count: u32) {}
 
-    fn obey(&mut self, text: &[u8], console: &mut Vec<u8>) -> Result<(), NoMemory> {
+    fn obey(&mut self, text: &[u8], console: &mut Vec<u8>) -> Result<bool, NoMemory> {
         console.extend_from_slice(text)?;
-        Ok(())
+        Ok(false)
     }
 }
 

@@ -5,6 +5,7 @@ use Rattle.job_words.specs.declared.job.BadWord.{BadWord}
 use Rattle.job_words.specs.declared.job.Command.{Command}
 use Rattle.job_words.specs.declared.job.Command.TheVariants.{Run}
 use Rattle.look_words.specs.inner.Requests.{IsUnmet, is_run}
+use Rattle.look_gdb.specs.declared.start.Settings.{Settings}
 use Rattle.look_commands.specs.inner.Served.{ServesRun}
 use Rattle.look_commands.specs.inner.Told.{Loads, WritesMap}
 
@@ -18,7 +19,7 @@ unloaded true old new status (inr (inl lost)) same = λ is. cc
 unloaded true old new status (inr (inr lost)) same = λ is. cc
 unloaded false old new status lost same = (lost, same)
 
-pub unserved : (words : Result Command BadWord) (has_input traced : Bool) (left old new : Option (List ℕ)) (status : ℕ) → IsUnmet (is_run words) status → new ≡ old
-    → ServesRun words has_input traced left old new status
-unserved (Ok (Run job)) has_input traced left old new status lost same = inr (lost, same)
-unserved words has_input traced left old new status lost same = (lost, same)
+pub unserved : (words : Result Command BadWord) (has_input : Bool) (settings : Settings) (left old new : Option (List ℕ)) (status : ℕ) → IsUnmet (is_run words) status → new ≡ old
+    → ServesRun words has_input settings left old new status
+unserved (Ok (Run job)) has_input settings left old new status lost same = inr (lost, same)
+unserved words has_input settings left old new status lost same = (lost, same)

@@ -15,6 +15,7 @@ use crate::runs::{Shown, end};
 use crate::said::{print, print_made, say, tell};
 use crate::streams::Streams;
 use crate::traces::trace;
+use look_gdb::Settings;
 use look_report::Shape;
 use look_text::info_text;
 use look_words::status::{BAD_WORDS, NO_MEMORY};
@@ -73,13 +74,16 @@ fn obey<F: Files, R: Read + Drop, W: Write + Drop, E: Write + Drop>(
         ),
         Ok(Look::Fork(file)) => fork(alloc, files, name_at(words, file), Fork::Resource, streams),
         Ok(Look::Data(file)) => fork(alloc, files, name_at(words, file), Fork::Data, streams),
-        Ok(Look::Gdb(input, is_traced)) => gdb(
+        Ok(Look::Gdb(server)) => gdb(
             alloc,
             files,
             words,
             Program {
-                input: input.map(|place| name_at(words, place)),
-                is_traced,
+                input: server.input.map(|place| name_at(words, place)),
+                settings: Settings {
+                    is_traced: server.is_traced,
+                    keep: server.keep,
+                },
             },
             streams,
         ),

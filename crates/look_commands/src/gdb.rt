@@ -18,7 +18,7 @@ use crate::said::fail;
 use crate::streams::Streams;
 use gdb_session::Broken;
 use job_words::{Job, Key};
-use look_gdb::{Start, serve_machine};
+use look_gdb::{Settings, Start, serve_machine};
 use look_words::status::{INPUT_FAILED, NO_MEMORY, OUTPUT_FAILED, SUCCESS};
 use look_words::{Failure, Request, fetch, requested};
 use mix_bits::NoMemory;
@@ -30,18 +30,18 @@ use std::io::{BufReader, Read, Write};
 use std::rt::Files;
 use switch_frame::Program as Loaded;
 
-/// What surrounds the program: the file that is its input, if there is one, and whether lines of calls across are told.
+/// What surrounds the program: the file that is its input, if there is one, and how gdb is served.
 #[derive(Clone, Copy)]
 pub struct Program<'a> {
     pub input: Option<&'a str>,
-    pub is_traced: bool,
+    pub settings: Settings,
 }
 
-/// What surrounds a program that gdb is served with: its whole input, and whether lines of calls across are told.
+/// What surrounds a program that gdb is served with: its whole input, and how that is done.
 #[derive(Drop)]
 pub struct Given {
     pub input: Vec<u8>,
-    pub is_traced: bool,
+    pub settings: Settings,
 }
 
 /// Serves gdb over the input and the output with the program that words name.
@@ -53,7 +53,7 @@ pub fn gdb<F: Files, R: Read + Drop, W: Write + Drop, E: Write + Drop>(
     program: Program,
     streams: &mut Streams<R, W, E>,
 ) -> u8
-    ensures { ServesRun (command_of (run_words_of (map string_bytes words.now))) (is_some program.entry.input) program.entry.is_traced (R.remaining streams.old.input) (W.contents streams.old.out) (W.contents streams.new.out) result }
+    ensures { ServesRun (command_of (run_words_of (map string_bytes words.now))) (is_some program.entry.input) program.entry.settings (R.remaining streams.old.input) (W.contents streams.old.out) (W.contents streams.new.out) result }
 {
     match requested(alloc, files, words) {
         Ok(request) => serve_request(alloc, files, &request, program, streams),
@@ -71,15 +71,15 @@ fn serve_request<F: Files, R: Read + Drop, W: Write + Drop, E: Write + Drop>(
 ) -> u8
     requires job { IsProperJob request.now.job }
     requires files { AreLoadable request.now.program request.now.job.main }
-    ensures { ServesJob request.now.job (is_some program.entry.input) program.entry.is_traced (R.remaining streams.old.input) (W.contents streams.old.out) (W.contents streams.new.out) result }
+    ensures { ServesJob request.now.job (is_some program.entry.input) program.entry.settings (R.remaining streams.old.input) (W.contents streams.old.out) (W.contents streams.new.out) result }
 {
-    let is_traced = program.is_traced;
+    let settings = program.settings;
     match read_input(alloc, files, program.input) {
         Ok(input) => serve_over(
             alloc,
             &request.program,
             request.job,
-            Given { input, is_traced },
+            Given { input, settings },
             &mut streams.input,
             &mut streams.out,
             &mut streams.errors,
@@ -111,7 +111,7 @@ fn serve_over<R: Read, W: Write, E: Write>(
 ) -> u8
     requires job { IsProperJob job }
     requires files { AreLoadable files.now job.main }
-    ensures { ServesOver files.now job given.input.items given.is_traced (wire (R.remaining input.old) 0 (W.contents out.old) 0) result }
+    ensures { ServesOver files.now job given.input.items given.settings (wire (R.remaining input.old) 0 (W.contents out.old) 0) result }
 {
     let Ok(reader) = BufReader::new(alloc, input) else {
         return NO_MEMORY;
@@ -133,7 +133,7 @@ pub fn serve_files<I: Source, O: Sink, E: Write>(
 ) -> u8
     requires job { IsProperJob job }
     requires files { AreLoadable files.now job.main }
-    ensures { ServesFiles files.now job given.input.items given.is_traced (wire (I.left input.old) (I.faults input.old) (O.held out.old) (O.faults out.old)) (wire (I.left input.new) (I.faults input.new) (O.held out.new) (O.faults out.new)) result }
+    ensures { ServesFiles files.now job given.input.items given.settings (wire (I.left input.old) (I.faults input.old) (O.held out.old) (O.faults out.old)) (wire (I.left input.new) (I.faults input.new) (O.held out.new) (O.faults out.new)) result }
 {
     match load(alloc, files, job.main, job.kib) {
         Ok(program) => serve_program(alloc, program, given, input, out),
@@ -151,14 +151,14 @@ fn serve_program<I: Source, O: Sink>(
     out: &mut O,
 ) -> u8
     requires { IsProgram program }
-    ensures { ServesProgram program given.input.items given.is_traced (wire (I.left input.old) (I.faults input.old) (O.held out.old) (O.faults out.old)) (wire (I.left input.new) (I.faults input.new) (O.held out.new) (O.faults out.new)) result }
+    ensures { ServesProgram program given.input.items given.settings (wire (I.left input.old) (I.faults input.old) (O.held out.old) (O.faults out.old)) (wire (I.left input.new) (I.faults input.new) (O.held out.new) (O.faults out.new)) result }
 {
     match Machine::start(alloc, program) {
         Ok(machine) => {
             let start = Start {
                 machine,
                 input: given.input,
-                is_traced: given.is_traced,
+                settings: given.settings,
             };
             serve(alloc, start, input, out)
         }
@@ -169,7 +169,7 @@ fn serve_program<I: Source, O: Sink>(
 /// The same of a machine at the start of its program.
 fn serve<I: Source, O: Sink>(alloc: Global, start: Start, input: &mut I, out: &mut O) -> u8
     requires { IsWhole start.machine.body (isa_of start.machine.active) }
-    ensures { ServesWith start.machine start.input.items start.is_traced (wire (I.left input.old) (I.faults input.old) (O.held out.old) (O.faults out.old)) (wire (I.left input.new) (I.faults input.new) (O.held out.new) (O.faults out.new)) result }
+    ensures { ServesWith start.machine start.input.items start.settings (wire (I.left input.old) (I.faults input.old) (O.held out.old) (O.faults out.old)) (wire (I.left input.new) (I.faults input.new) (O.held out.new) (O.faults out.new)) result }
 {
     status(serve_machine(alloc, start, input, out))
 }

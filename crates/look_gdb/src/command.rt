@@ -1,6 +1,6 @@
 //! The commands that the user gives behind `monitor`.
 ghost use Rattle.std.specs.Prelude.{◌≡◌, drop};
-ghost use Rattle.look_gdb.specs.Commands.{command_of, tale_named as tale_of, with_budget as budget_with, with_word as word_with};
+ghost use Rattle.look_gdb.specs.Commands.{command_of, tale_named as tale_of, with_budget as budget_with, with_steps as steps_with, with_word as word_with};
 
 use mix_bits::{read_decimal, read_hexadecimal};
 
@@ -9,6 +9,8 @@ use mix_bits::{read_decimal, read_hexadecimal};
 pub enum Command {
     /// A walk is to have at most so many steps from here on.
     Budget(u32),
+    /// The machine is to go to the place of the run behind so many steps.
+    Go(u32),
     /// Something is to be told.
     Tell(Tale),
 }
@@ -38,6 +40,9 @@ pub fn read_command(text: &[u8]) -> Command
     if text.starts_with(b"budget ") {
         return with_budget(read_decimal(behind(text, 7)));
     }
+    if text.starts_with(b"go ") {
+        return with_steps(read_decimal(behind(text, 3)));
+    }
     if text.starts_with(b"info ") {
         return with_word(read_hexadecimal(behind(text, 5), 8));
     }
@@ -66,6 +71,15 @@ fn with_budget(budget: Option<u32>) -> Command
     match budget {
         None => Command::Tell(Tale::Help),
         Some(budget) => Command::Budget(budget),
+    }
+}
+
+fn with_steps(steps: Option<u32>) -> Command
+    ensures { result ≡ steps_with steps }
+{
+    match steps {
+        None => Command::Tell(Tale::Help),
+        Some(steps) => Command::Go(steps),
     }
 }
 

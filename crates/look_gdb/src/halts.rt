@@ -1,5 +1,5 @@
 // gdb's walks as those of a walker, and how they end.
-ghost use Rattle.std.specs.Prelude.{◌≡◌, IfOk};
+ghost use Rattle.std.specs.Prelude.{◌≡◌, IfOk, min};
 ghost use Rattle.look_gdb.specs.Halts.{halt_of, is_end, spent, steps_of, until_of};
 
 use gdb_answers::Reason;
@@ -26,6 +26,17 @@ pub fn steps_for(goal: Goal, budget: u32) -> u32
     match goal {
         Goal::Stop | Goal::StepOf(_) => budget,
         Goal::Step => 1,
+    }
+}
+
+/// The lesser one of a count of steps and of what a walk has at most.
+pub fn lesser(count: u64, budget: u32) -> u32
+    ensures { result ≡ min count budget }
+{
+    if count < u64::from(budget) {
+        count as u32
+    } else {
+        budget
     }
 }
 

@@ -18,4 +18,4 @@ mod walks;
 pub use command::{Command, Tale, read_command};
 pub use served::Served;
 pub use serving::{serve_beside, serve_machine};
-pub use start::Start;
+pub use start::{Settings, Start};

@@ -1,20 +1,20 @@
-ghost use Rattle.std.specs.Prelude.{◌≡◌, ◌≤◌, ◌++◌, ◌∷◌, [], IfOk, OnOk, false, if◌then◌else◌, length, nat_lt};
+ghost use Rattle.std.specs.Prelude.{◌≡◌, ◌≤◌, ◌++◌, ◌||◌, ◌∷◌, [], IfOk, OnOk, false, if◌then◌else◌, length, nat_lt};
 ghost use Rattle.mixed_machine.specs.Machine.{IsWhole};
 ghost use Rattle.switch_frame.specs.Records.{isa_of};
 ghost use Rattle.gdb_steps.specs.Walkers.{IsFresh};
 
 use crate::command::{Command, Tale, read_command};
-use crate::halts::{does_end, halt_for, steps_for, until_for};
+use crate::halts::{does_end, halt_for, lesser, steps_for, until_for};
 use crate::notes::{Ending, append_note};
 use crate::start::Start;
-use crate::tales::append_tale;
+use crate::tales::{append_place, append_tale};
 use crate::walks::{Bounds, go_on};
 use dev_rack::Devices;
 use gdb_answers::{Answer, append_answer};
 use gdb_requests::Point;
 use gdb_session::{Halt, Target};
-use gdb_steps::{Halt as Came, Walker};
-use gdb_talk::Walk;
+use gdb_steps::{Halt as Came, Until, Walker};
+use gdb_talk::{Goal, Walk};
 use mix_bits::{Isa, NoMemory};
 use std::alloc::Global;
 use std::marker::Model;
@@ -42,13 +42,16 @@ impl<D: Devices + Drop> Model for Served<D> {
       run = run_of s.walker;
       points = points_of s.walker;
       budget = s.budget;
+      most_kept = s.walker.most_kept;
       is_traced = s.is_traced;
       is_end_told = s.is_end_told;
     } };
 }
 
 impl<D: Devices + Drop> Served<D> {
-    ghost use Rattle.look_gdb.specs.Commands.{tale_text};
+    ghost use Rattle.look_gdb.specs.Halts.{is_end};
+    ghost use Rattle.look_gdb.specs.Notes.{note_of};
+    ghost use Rattle.look_gdb.specs.Commands.{GoesTo, GoesTowards, tale_text};
     ghost use Rattle.look_gdb.specs.Views.{Starts};
     ghost use Rattle.look_gdb.specs.Walks.{Goes, has_room, other_breaks, other_watches, range, without};
 
@@ -57,18 +60,25 @@ impl<D: Devices + Drop> Served<D> {
         requires whole { IsWhole start.machine.body (isa_of start.machine.active) }
         requires few { slots ≤ 8 }
         requires fresh { IsFresh slots (D.state devices) }
-        ensures { IfOk result (λ v. Starts start.machine start.input.items (D.state devices) slots start.is_traced v) }
+        ensures { IfOk result (λ v. Starts start.machine start.input.items (D.state devices) slots start.settings v) }
     {
         let Start {
             machine,
             input,
-            is_traced,
+            settings,
         } = start;
         Ok(Served {
             alloc,
-            walker: Walker::new(alloc, machine, input, devices, slots)?,
+            walker: Walker::new(
+                alloc,
+                machine,
+                input,
+                devices,
+                slots,
+                settings.keep as usize,
+            )?,
             budget: BUDGET,
-            is_traced,
+            is_traced: settings.is_traced,
             is_end_told: false,
         })
     }
@@ -94,6 +104,64 @@ impl<D: Devices + Drop> Served<D> {
                 console,
             )
         }
+    }
+
+    /// Goes to the place behind so many steps, and puts what is told by the way, and where it came, into an empty buffer. It
+    /// has as many steps for that as a walk of gdb's, and what is set to stop at stops it too. In front of the program's end
+    /// it stays, as a walk does, and tells the end, if it was not told before.
+    fn go_to(&mut self, steps: u32, console: &mut Vec<u8>) -> Result<(), NoMemory>
+        requires { console.old.items ≡ [] }
+        ensures { OnOk result (GoesTo self.old steps console.new.items self.new) }
+    {
+        let came = self.go_towards(u64::from(steps), console)?;
+        self.tell_end(Goal::Step, came, console)?;
+        append_place(
+            self.alloc,
+            self.walker.debug(),
+            self.walker.steps(),
+            console,
+        )
+    }
+
+    /// Walks towards a place, and puts what is told by the way into an empty buffer.
+    fn go_towards(&mut self, steps: u64, console: &mut Vec<u8>) -> Result<Came, NoMemory>
+        requires { console.old.items ≡ [] }
+        ensures goes { IfOk result (λ came. GoesTowards (nat_lt steps self.old.run.steps) steps came console.new.items self.old self.new) }
+        ensures same { self.new ≡ record self.old { run = self.new.run } }
+    {
+        let here = self.walker.steps();
+        if steps < here {
+            let count = lesser(here - steps, self.budget);
+            return self.walker.back(Until::Stopped, u64::from(count));
+        }
+        let bounds = Bounds {
+            until: Until::Stopped,
+            steps: lesser(steps - here, self.budget),
+        };
+        go_on(
+            self.alloc,
+            &mut self.walker,
+            bounds,
+            self.is_traced,
+            console,
+        )
+    }
+
+    /// Tells what is told at the end of a walk, and takes note of the end of the program.
+    fn tell_end(&mut self, goal: Goal, came: Came, console: &mut Vec<u8>) -> Result<(), NoMemory>
+        ensures tells { OnOk result (console.new.items ≡ console.old.items ++ note_of self.old.is_end_told (isa_of self.old.run.here.machine.active) goal self.old.budget came) }
+        ensures same { OnOk result (self.new ≡ record self.old { is_end_told = self.old.is_end_told || is_end came }) }
+    {
+        let ending = Ending {
+            is_told: self.is_end_told,
+            set: self.walker.machine().active.isa(),
+            goal,
+            budget: self.budget,
+            came,
+        };
+        append_note(self.alloc, console, ending)?;
+        self.is_end_told = self.is_end_told || does_end(came);
+        Ok(())
     }
 
     /// Sets an address to stop at, behind all others, if there is room.
@@ -151,7 +219,7 @@ impl<D: Devices + Drop> Target for Served<D> {
 
     ghost removes = { λ v point address count w. Removes v point address count w };
 
-    ghost obeys = { λ v text console w. Obeys v text console w };
+    ghost obeys = { λ v text console moved w. Obeys v text console moved w };
 
     fn set(&self) -> Isa {
         self.walker.machine().active.isa()
@@ -170,15 +238,7 @@ impl<D: Devices + Drop> Target for Served<D> {
 
     fn walk(&mut self, walk: Walk, console: &mut Vec<u8>) -> Result<Halt, NoMemory> {
         let came = self.go(walk, console)?;
-        let ending = Ending {
-            is_told: self.is_end_told,
-            set: self.walker.machine().active.isa(),
-            goal: walk.goal,
-            budget: self.budget,
-            came,
-        };
-        append_note(self.alloc, console, ending)?;
-        self.is_end_told = self.is_end_told || does_end(came);
+        self.tell_end(walk.goal, came, console)?;
         halt_for(walk.goal, came)
     }
 
@@ -194,13 +254,20 @@ impl<D: Devices + Drop> Target for Served<D> {
         self.clear(point, address, count);
     }
 
-    fn obey(&mut self, text: &[u8], console: &mut Vec<u8>) -> Result<(), NoMemory> {
+    fn obey(&mut self, text: &[u8], console: &mut Vec<u8>) -> Result<bool, NoMemory> {
         match read_command(text) {
             Command::Budget(budget) => {
                 self.budget = budget;
-                Ok(())
+                Ok(false)
             }
-            Command::Tell(tale) => self.tell_tale(tale, console),
+            Command::Go(steps) => {
+                self.go_to(steps, console)?;
+                Ok(true)
+            }
+            Command::Tell(tale) => {
+                self.tell_tale(tale, console)?;
+                Ok(false)
+            }
         }
     }
 }

@@ -28,7 +28,7 @@ pub fn serve_machine<I: Source, O: Sink>(
     requires { IsWhole start.machine.body (isa_of start.machine.active) }
     ensures input { BlamesInput (I.faults input.old) (I.faults input.new) result }
     ensures output { BlamesOutput (O.faults out.old) (O.faults out.new) result }
-    ensures serves { ServesFresh start.machine start.input.items 2 start.is_traced (I.left input.old) (I.left input.new) (output (O.held out.old) (O.faults out.old)) (output (O.held out.new) (O.faults out.new)) result }
+    ensures serves { ServesFresh start.machine start.input.items 2 start.settings (I.left input.old) (I.left input.new) (output (O.held out.old) (O.faults out.old)) (output (O.held out.new) (O.faults out.new)) result }
 {
     match serve_beside_two(alloc, start, input, out) {
         Ok(served) => served,
@@ -46,7 +46,7 @@ fn serve_beside_two<I: Source, O: Sink>(
     requires { IsWhole start.machine.body (isa_of start.machine.active) }
     ensures input { MatchResult result (λ served. BlamesInput (I.faults input.old) (I.faults input.new) served) (λ _. I.faults input.new ≡ I.faults input.old) }
     ensures output { MatchResult result (λ served. BlamesOutput (O.faults out.old) (O.faults out.new) served) (λ _. O.faults out.new ≡ O.faults out.old) }
-    ensures serves { MatchResult result (λ served. ServesFresh start.machine start.input.items 2 start.is_traced (I.left input.old) (I.left input.new) (output (O.held out.old) (O.faults out.old)) (output (O.held out.new) (O.faults out.new)) served) (λ _. (I.left input.new ≡ I.left input.old) × (O.held out.new ≡ O.held out.old)) }
+    ensures serves { MatchResult result (λ served. ServesFresh start.machine start.input.items 2 start.settings (I.left input.old) (I.left input.new) (output (O.held out.old) (O.faults out.old)) (output (O.held out.new) (O.faults out.new)) served) (λ _. (I.left input.new ≡ I.left input.old) × (O.held out.new ≡ O.held out.old)) }
 {
     let mut devices: Vec<Box<dyn Device>> = Vec::new(alloc);
     devices.push(Box::new(alloc, Counter::new(alloc)?)?)?;
@@ -67,7 +67,7 @@ fn serve_two<D: Devices + Drop, I: Source, O: Sink>(
     requires fresh { IsFresh 2 (D.state devices) }
     ensures input { BlamesInput (I.faults input.old) (I.faults input.new) result }
     ensures output { BlamesOutput (O.faults out.old) (O.faults out.new) result }
-    ensures serves { ServesFresh start.machine start.input.items 2 start.is_traced (I.left input.old) (I.left input.new) (output (O.held out.old) (O.faults out.old)) (output (O.held out.new) (O.faults out.new)) result }
+    ensures serves { ServesFresh start.machine start.input.items 2 start.settings (I.left input.old) (I.left input.new) (output (O.held out.old) (O.faults out.old)) (output (O.held out.new) (O.faults out.new)) result }
 {
     serve_beside(alloc, start, devices, SLOTS, input, out)
 }
@@ -86,7 +86,7 @@ pub fn serve_beside<D: Devices + Drop, I: Source, O: Sink>(
     requires fresh { IsFresh slots (D.state devices) }
     ensures input { BlamesInput (I.faults input.old) (I.faults input.new) result }
     ensures output { BlamesOutput (O.faults out.old) (O.faults out.new) result }
-    ensures serves { ServesMachine start.machine start.input.items (D.state devices) slots start.is_traced (I.left input.old) (I.left input.new) (output (O.held out.old) (O.faults out.old)) (output (O.held out.new) (O.faults out.new)) result }
+    ensures serves { ServesMachine start.machine start.input.items (D.state devices) slots start.settings (I.left input.old) (I.left input.new) (output (O.held out.old) (O.faults out.old)) (output (O.held out.new) (O.faults out.new)) result }
 {
     match Served::new(alloc, start, devices, slots) {
         Ok(served) => serve(alloc, served, input, out),

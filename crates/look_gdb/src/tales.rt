@@ -5,7 +5,7 @@ ghost use Rattle.mixed_machine.specs.Machine.{IsWhole, callers_of};
 ghost use Rattle.mix_debug.specs.CrawlClauses.{crawl_of};
 ghost use Rattle.look_text.specs.Info.{info_of};
 ghost use Rattle.look_report.specs.Callers.{frames_text};
-ghost use Rattle.look_gdb.specs.Commands.{help_text, steps_text, tale_text};
+ghost use Rattle.look_gdb.specs.Commands.{flush_text, help_text, steps_text, tale_text};
 
 use crate::command::Tale;
 use crate::heard::Heard;
@@ -21,6 +21,7 @@ use std::alloc::Global;
 /// Which commands there are.
 const HELP: &[u8] = b"\
 monitor budget N: a walk stops after N steps at the latest
+monitor go N: goes to the place behind N steps, forward or back
 monitor where: how many steps were done, the code that runs, and each suspended caller
 monitor step: how many steps were done
 monitor calls: each open call across, with its procInfo in words
@@ -41,16 +42,42 @@ pub fn append_tale(
     ensures { OnOk result (console.new.items ≡ tale_text tale debug.now.machine steps) }
 {
     match tale {
-        Tale::Where => {
-            append_steps(console, steps)?;
-            append_crawl(alloc, console, debug)
-        }
+        Tale::Where => append_where(alloc, debug, steps, console),
         Tale::Step => append_steps(console, steps),
         Tale::Calls => append_calls(alloc, console, debug.machine()),
         Tale::Heap => add_heap(console, &debug.machine().body.heap),
         Tale::Info(word) => append_info(alloc, console, word),
         Tale::Help => append_help(console),
     }
+}
+
+/// Appends where a machine came by a command, and how gdb sees it.
+pub fn append_place(
+    alloc: Global,
+    debug: &Debug,
+    steps: u64,
+    console: &mut Vec<u8>,
+) -> Result<(), NoMemory>
+    ensures { OnOk result (console.new.items ≡ console.old.items ++ tale_text Tale.Where debug.now.machine steps ++ flush_text) }
+{
+    append_where(alloc, debug, steps, console)?;
+    append(
+        console,
+        b"maintenance flush register-cache makes gdb read the registers anew\n",
+    )
+}
+
+#[tactic(auto, using(std::proofs::Common::append_assoc))]
+fn append_where(
+    alloc: Global,
+    debug: &Debug,
+    steps: u64,
+    console: &mut Vec<u8>,
+) -> Result<(), NoMemory>
+    ensures { OnOk result (console.new.items ≡ console.old.items ++ tale_text Tale.Where debug.now.machine steps) }
+{
+    append_steps(console, steps)?;
+    append_crawl(alloc, console, debug)
 }
 
 #[tactic(auto, using(std::proofs::Common::append_assoc))]

@@ -23,6 +23,6 @@ mod unmade;
 pub use failure::Failure;
 pub use files::{fetch, name_at, unread};
 pub use load_error::load_error_text;
-pub use look::{Frames, Key, Look, Refusal, Span, read_look};
+pub use look::{Frames, Key, Look, Refusal, Server, Span, read_look};
 pub use request::{Request, explanation, requested};
 pub use sentence::{refusal_text, why_text};

@@ -34,9 +34,8 @@ pub enum Look {
     End(u32, Frames),
     /// The state of a machine that was kept, or a part of its memory.
     Image(usize, Option<Span>, Frames),
-    /// A server for gdb of the program that the other words name, with the place of the word that names its input, and
-    /// whether lines of calls across are told.
-    Gdb(Option<usize>, bool),
+    /// A server for gdb of the program that the other words name.
+    Gdb(Server),
     /// Why mixedrun refuses the words behind the first one.
     Words,
     /// Why mixedrun refuses the script in a file.
@@ -58,6 +57,17 @@ pub enum Frames {
 pub struct Span {
     pub at: u32,
     pub count: u32,
+}
+
+/// A server for gdb.
+#[derive(Clone, Copy)]
+pub struct Server {
+    /// The place of the word that names the input of the program.
+    pub input: Option<usize>,
+    /// Whether lines of calls across are told.
+    pub is_traced: bool,
+    /// How many machines are kept to go back from, beside the first.
+    pub keep: u32,
 }
 
 /// Why words ask for nothing.
@@ -90,6 +100,7 @@ pub enum Key {
     Frames,
     Input,
     Trace,
+    Keep,
     Script,
     Text,
     Set,
@@ -259,6 +270,7 @@ impl Key {
             Key::Frames => "frames",
             Key::Input => "input",
             Key::Trace => "trace",
+            Key::Keep => "keep",
             Key::Script => "script",
             Key::Text => "text",
             Key::Set => "set",
@@ -273,7 +285,7 @@ fn is_given(draft: &Draft, key: Key) -> bool
         Key::Word => draft.word.is_some(),
         Key::File | Key::Image | Key::Script | Key::Text => draft.file.is_some(),
         Key::Names => draft.names.is_some(),
-        Key::Last | Key::Input | Key::Trace => false,
+        Key::Last | Key::Input | Key::Trace | Key::Keep => false,
         Key::At => draft.at.is_some(),
         Key::Count => draft.count.is_some(),
         Key::Frames => draft.frames == Frames::All,
@@ -295,7 +307,7 @@ fn set(draft: Draft, place: usize, key: Key, value: &str) -> Result<Draft, Refus
         Key::File | Key::Image | Key::Names | Key::Script | Key::Text => {
             set_file(draft, place, key, value)
         }
-        Key::Last | Key::Input | Key::Trace => Err(Refusal::Unknown(place)),
+        Key::Last | Key::Input | Key::Trace | Key::Keep => Err(Refusal::Unknown(place)),
     }
 }
 

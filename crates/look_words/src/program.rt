@@ -190,7 +190,7 @@ fn is_own(word: &str) -> bool
 fn is_session(word: &str) -> bool
     ensures { result ≡ is_session_by word.now }
 {
-    has_key(word, "input") || has_key(word, "trace")
+    has_key(word, "input") || has_key(word, "trace") || has_key(word, "keep")
 }
 
 fn is_frames(word: &str) -> bool

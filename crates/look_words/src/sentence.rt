@@ -36,7 +36,7 @@ fn refused<'a>(words: &'a [String], refusal: Refusal) -> (&'a str, &'a str, &'a 
 }
 
 /// What a key of mixedlook wants.
-#[tactic(auto, using(crate::proofs::Ranges::wants_last, crate::proofs::Ranges::wants_count))]
+#[tactic(auto, using(crate::proofs::Ranges::wants_last, crate::proofs::Ranges::wants_count, crate::proofs::Ranges::wants_keep))]
 fn key_wants(key: Key) -> &'static str
     ensures { result.now ≡ key_wants_text key }
 {
@@ -51,6 +51,7 @@ fn key_wants(key: Key) -> &'static str
         Key::Frames => "all",
         Key::Input => "the name of a file",
         Key::Trace => "yes or no",
+        Key::Keep => "a number from 0 to 1000, in decimal without a leading zero",
         Key::Script => "the name of a file",
         Key::Text => "the name of a file",
         Key::Set => "68k or ppc",

@@ -1,22 +1,32 @@
 // The words of `gdb` that are not those of a run.
 ghost use Rattle.std.specs.Prelude.{◌≡◌, ◌+◌, ◌^◌, ◌<◌, length, map};
 ghost use Rattle.std.specs.String.{string_bytes};
-ghost use Rattle.look_words.specs.inner.Looks.{gdb_of, session_by, trace_said, with_input, with_trace};
+ghost use Rattle.look_words.specs.inner.Looks.{gdb_of, server_of, session_by, trace_said, with_input, with_keep, with_trace};
 
-use crate::look::{Key, Look, Refusal};
+use crate::look::{Key, Look, Refusal, Server};
 use crate::program::{has_key, is_unmapped, value};
+use mix_bits::read_decimal;
 
-/// What words say of a session of gdb's: the place of the word that names the input, and whether lines are told.
+/// How many machines are kept, if nothing is said of it.
+const FEW_KEPT: u32 = 32;
+
+/// How many of them can be kept.
+const MOST_KEPT: u32 = 1000;
+
+/// What words say of a session of gdb's: the place of the word that names the input, whether lines are told, and how many
+/// machines are kept.
 #[derive(Clone, Copy)]
 pub struct Session {
     pub input: Option<usize>,
     pub trace: Option<bool>,
+    pub keep: Option<u32>,
 }
 
 /// That nothing was said of it.
 pub const UNSAID: Session = Session {
     input: None,
     trace: None,
+    keep: None,
 };
 
 /// Reads the words of `gdb` from a place on, where those before said this of the session.
@@ -25,11 +35,22 @@ pub fn read_gdb(place: usize, words: &[String], session: Session) -> Result<Look
     ensures { result ≡ gdb_of place (map string_bytes words.now) session }
 {
     match words {
-        [] => Ok(Look::Gdb(session.input, session.trace.unwrap_or(false))),
+        [] => Ok(Look::Gdb(server(session))),
         [word, rest @ ..] => match read_session(place, word.as_str(), session) {
             Ok(session) => read_gdb(place + 1, rest, session),
             Err(refusal) => Err(refusal),
         },
+    }
+}
+
+/// The server that is asked for behind all words.
+fn server(session: Session) -> Server
+    ensures { result ≡ server_of session }
+{
+    Server {
+        input: session.input,
+        is_traced: session.trace.unwrap_or(false),
+        keep: session.keep.unwrap_or(FEW_KEPT),
     }
 }
 
@@ -41,6 +62,8 @@ fn read_session(place: usize, word: &str, session: Session) -> Result<Session, R
         read_input(place, word, session)
     } else if has_key(word, "trace") {
         read_trace(place, word, session)
+    } else if has_key(word, "keep") {
+        read_keep(place, word, session)
     } else if is_unmapped(word) {
         Err(Refusal::Unknown(place))
     } else {
@@ -58,6 +81,7 @@ fn read_input(place: usize, word: &str, session: Session) -> Result<Session, Ref
         None => Ok(Session {
             input: Some(place),
             trace: session.trace,
+            keep: session.keep,
         }),
     }
 }
@@ -70,8 +94,24 @@ fn read_trace(place: usize, word: &str, session: Session) -> Result<Session, Ref
         (None, Some(trace)) => Ok(Session {
             input: session.input,
             trace: Some(trace),
+            keep: session.keep,
         }),
         (None, None) => Err(Refusal::Value(place, Key::Trace)),
+    }
+}
+
+/// How many machines are kept.
+fn read_keep(place: usize, word: &str, session: Session) -> Result<Session, Refusal>
+    ensures { result ≡ with_keep place word.now session }
+{
+    match (session.keep, read_decimal(value(word).as_bytes())) {
+        (Some(_), _) => Err(Refusal::Twice(place)),
+        (None, Some(count)) if count <= MOST_KEPT => Ok(Session {
+            input: session.input,
+            trace: session.trace,
+            keep: Some(count),
+        }),
+        (None, _) => Err(Refusal::Value(place, Key::Keep)),
     }
 }
 

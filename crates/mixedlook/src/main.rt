@@ -20,6 +20,7 @@ usage: mixedlook map FILES [main=68k|ppc] [ram=KIB]
        mixedlook end FILES [main=68k|ppc] [ram=KIB] [steps=N] [last=K]
                      [frames=all]
        mixedlook gdb FILES [main=68k|ppc] [ram=KIB] [input=F] [trace=yes|no]
+                     [keep=K]
        mixedlook image image=IMAGE [frames=all]
        mixedlook image image=IMAGE at=HHHHHHHH [count=N]
        mixedlook info word=HHHHHHHH
@@ -54,6 +55,8 @@ script or of a text it refuses first, and the rule that the line breaks.
                  eight alone
   input=F        the file that is the program's input (default: none)
   trace=yes      the lines of calls across come to gdb's console, too
+  keep=K         how many machines gdb's walks back begin from at the most, beside
+                 the first, 0 to 1000 (default 32)
   image=IMAGE    a machine that mixedrun kept
   at=HHHHHHHH    the address of the first byte that is written
   count=N        how many are written, 1 to 65536 (default 256)

@@ -83,7 +83,8 @@ Tells words (Ok (Data file)) left old new status = WritesFork data_fork old new 
 Tells words (Ok Map) left old new status = WritesMap (command_of (run_words words)) old new status
 Tells words (Ok Scan) left old new status = Loads (is_run (command_of (run_words words))) old new status
 Tells words (Ok (End last frames)) left old new status = Loads (is_run (command_of (run_words words))) old new status
-Tells words (Ok (Gdb input traced)) left old new status = ServesRun (command_of (run_words words)) (is_some input) traced left old new status
+Tells words (Ok (Gdb server)) left old new status =
+    ServesRun (command_of (run_words words)) (is_some server.input) (record { is_traced = server.is_traced; keep = server.keep }) left old new status
 Tells words (Ok (Trace file names)) left old new status = status ≢ 2
 Tells words (Ok (Picture file names)) left old new status = status ≢ 2
 Tells words (Ok (Image file span frames)) left old new status = status ≢ 2

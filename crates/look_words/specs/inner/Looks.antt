@@ -11,11 +11,12 @@ use Rattle.look_words.specs.declared.look.Draft.{Draft}
 use Rattle.look_words.specs.declared.look.Frames.{Frames}
 use Rattle.look_words.specs.declared.look.Frames.TheVariants.{Few, All}
 use Rattle.look_words.specs.declared.look.Key.{Key}
-use Rattle.look_words.specs.declared.look.Key.TheVariants.{Word, File, Names, Image as image_key, Last, At, Count, Frames as frames_key, Input as input_key, Trace as trace_key, Script, Text, Set}
+use Rattle.look_words.specs.declared.look.Key.TheVariants.{Word, File, Names, Image as image_key, Last, At, Count, Frames as frames_key, Input as input_key, Trace as trace_key, Keep, Script, Text, Set}
 use Rattle.look_words.specs.declared.look.Look.{Look}
 use Rattle.look_words.specs.declared.look.Look.TheVariants.{Info, Trace, Picture, Fork, Data, Map, Scan, End, Image, Gdb, Words, WhyScript, WhyText}
 use Rattle.look_words.specs.declared.look.Refusal.{Refusal}
 use Rattle.look_words.specs.declared.look.Refusal.TheVariants.{Empty, Command, Unknown, Twice, Value, Missing}
+use Rattle.look_words.specs.declared.look.Server.{Server}
 use Rattle.look_words.specs.declared.program.Told.{Told}
 use Rattle.look_words.specs.declared.session.Session.{Session}
 use Rattle.look_words.specs.declared.look.Topic.{Topic}
@@ -83,6 +84,7 @@ key_text Count = codes "count"
 key_text frames_key = codes "frames"
 key_text input_key = codes "input"
 key_text trace_key = codes "trace"
+key_text Keep = codes "keep"
 key_text Script = codes "script"
 key_text Text = codes "text"
 key_text Set = codes "set"
@@ -115,6 +117,7 @@ is_given draft image_key = is_some draft.file
 is_given draft Last = false
 is_given draft input_key = false
 is_given draft trace_key = false
+is_given draft Keep = false
 is_given draft At = is_some draft.at
 is_given draft Count = is_some draft.count
 is_given draft frames_key = is_all draft.frames
@@ -164,6 +167,7 @@ with_given draft place Text value = with_file draft place Text value
 with_given draft place Last value = Err (Unknown place)
 with_given draft place input_key value = Err (Unknown place)
 with_given draft place trace_key value = Err (Unknown place)
+with_given draft place Keep value = Err (Unknown place)
 with_given draft place key value = with_own draft place key value
 
 abbrev pub with_value : Draft → ℕ → Key → List ℕ → Result Draft Refusal
@@ -230,7 +234,7 @@ is_frames word = has_key (codes "frames") word
 
 -- whether a word is `gdb`'s own
 abbrev pub is_session : List ℕ → Bool
-is_session word = has_key (codes "input") word || has_key (codes "trace") word
+is_session word = has_key (codes "input") word || has_key (codes "trace") word || has_key (codes "keep") word
 
 -- whether a word is `end`'s or `gdb`'s own
 abbrev pub is_own : List ℕ → Bool
@@ -304,22 +308,47 @@ trace_given place word session None =
 abbrev pub with_trace : ℕ → List ℕ → Session → Result Session Refusal
 with_trace place word session = trace_given place word session session.trace
 
--- `gdb` takes the words of a run that say what is loaded, and two of its own: which file is the input, and whether lines of
--- calls across are told
+-- how many machines are kept, and how many can be
+abbrev pub most_kept : ℕ
+most_kept = 1000
+
+abbrev pub keep_in : ℕ → Session → Option ℕ → Result Session Refusal
+keep_in place session (Some count) = if nat_le count most_kept then Ok (record session { keep = Some count }) else Err (Value place Keep)
+keep_in place session None = Err (Value place Keep)
+
+abbrev pub keep_given : ℕ → List ℕ → Session → Option ℕ → Result Session Refusal
+keep_given place word session (Some old) = Err (Twice place)
+keep_given place word session None = keep_in place session (decimal_number (value_in word))
+
+abbrev pub with_keep : ℕ → List ℕ → Session → Result Session Refusal
+with_keep place word session = keep_given place word session session.keep
+
+-- `gdb` takes the words of a run that say what is loaded, and three of its own: which file is the input, whether lines of
+-- calls across are told, and how many machines are kept
 abbrev pub session_by : ℕ → List ℕ → Session → Result Session Refusal
 session_by place word session =
     if has_key (codes "input") word then with_input place word session
     else (if has_key (codes "trace") word then with_trace place word session
-    else (if is_unmapped word then Err (Unknown place) else Ok session))
+    else (if has_key (codes "keep") word then with_keep place word session
+    else (if is_unmapped word then Err (Unknown place) else Ok session)))
 
 abbrev pub unsaid : Session
 unsaid = record {
   input = None;
   trace = None;
+  keep = None;
+}
+
+-- no lines are told unless it is said, and 32 machines kept
+abbrev pub server_of : Session → Server
+server_of session = record {
+  input = session.input;
+  is_traced = unwrap_or session.trace false;
+  keep = unwrap_or session.keep 32;
 }
 
 abbrev pub gdb_of : ℕ → List (List ℕ) → Session → Result Look Refusal
-gdb_of place [] session = Ok (Gdb session.input (unwrap_or session.trace false))
+gdb_of place [] session = Ok (Gdb (server_of session))
 gdb_of place (word ∷ words) session = session_by place word session >>= gdb_of (place + 1) words
 
 -- the words of mixedrun for those of `map`, `scan`, `end` and `gdb`

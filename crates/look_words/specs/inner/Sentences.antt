@@ -2,13 +2,13 @@
 use Rattle.std.specs.Prelude.{ℕ, ◌++◌, List, codes, decimal, if◌then◌else◌}
 use Rattle.std.specs.Str.{bytes_eq}
 use Rattle.look_text.specs.Labels.{text_of}
-use Rattle.look_words.specs.inner.Looks.{key_text, most_bytes, most_told}
+use Rattle.look_words.specs.inner.Looks.{key_text, most_bytes, most_kept, most_told}
 use Rattle.look_text.specs.Wants.{range_text, wants_text}
 use Rattle.look_text.specs.Whys.{at_place}
 use Rattle.look_text.specs.declared.label.Label.{Label}
 use Rattle.look_text.specs.declared.label.Label.TheVariants.{Flat, Rsrc, Pef}
 use Rattle.look_words.specs.declared.look.Key.{Key}
-use Rattle.look_words.specs.declared.look.Key.TheVariants.{Word, File, Names, Image, Last, At, Count, Frames, Input, Trace, Script, Text, Set}
+use Rattle.look_words.specs.declared.look.Key.TheVariants.{Word, File, Names, Image, Last, At, Count, Frames, Input, Trace, Keep, Script, Text, Set}
 use Rattle.look_words.specs.declared.look.Refusal.{Refusal}
 use Rattle.look_words.specs.declared.look.Refusal.TheVariants.{Empty as no_word, Command as no_command, Unknown, Twice, Value as bad_value, Missing as missing_key}
 use Rattle.look_text.specs.declared.why.Why.{Why}
@@ -26,6 +26,7 @@ key_wants Count = codes "a number from " ++ range_text 1 most_bytes
 key_wants Frames = codes "all"
 key_wants Input = codes "the name of a file"
 key_wants Trace = codes "yes or no"
+key_wants Keep = codes "a number from " ++ range_text 0 most_kept
 key_wants Script = codes "the name of a file"
 key_wants Text = codes "the name of a file"
 key_wants Set = codes "68k or ppc"

@@ -34,4 +34,5 @@ invariant_of-self-2 g c =
           c.step_once-once.ensures.step.devices past c.args.self.now.held c.args.self.now.kept;
       counted = counted-one c.args.self.now.past.capacity c.args.self.now.used c.args.self.now.past.items c.go_on.new.past.items c.args.self.now.steps c.args.self.now.furthest past c.args.self.now.counted;
       safe = safe-later c.args.self.now.input.items c.args.self.now.real c.step_once-once.new.rack c.args.self.now.snapshots c.step_once-once.ensures.step.devices c.args.self.now.safe;
+      few = c.args.self.now.few;
     }

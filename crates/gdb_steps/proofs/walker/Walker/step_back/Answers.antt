@@ -34,6 +34,7 @@ invariant_of-self-2 g c =
       kept = kept-less c.args.self.now.input.items c.args.self.now.real c.args.self.now.past.items c.pop_front.new.self.items left c.args.self.now.kept;
       counted = counted-less c.args.self.now.past.items c.pop_front.new.self.items c.args.self.now.steps c.args.self.now.furthest left c.args.self.now.counted;
       safe = c.args.self.now.safe;
+      few = c.args.self.now.few;
     }
 
 pub returns-clause-back : goal.returns-clause-back
