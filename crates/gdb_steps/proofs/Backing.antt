@@ -7,13 +7,13 @@ use Rattle.gdb_steps.specs.Backs.{EndsBack, StopsBack}
 use Rattle.gdb_steps.specs.Places.{Begin, Given, IsPlace, IsRun, Run}
 use Rattle.gdb_steps.specs.Points.{Points, halt_at}
 use Rattle.gdb_steps.specs.Walkers.{points_of, run_of}
-use Rattle.gdb_steps.specs.WalkersClauses.{Backs, GoesBack}
+use Rattle.gdb_steps.specs.WalkersClauses.{Backs, GoesBack, Moved}
 use Rattle.gdb_steps.specs.declared.halt.Halt.{Halt}
 use Rattle.gdb_steps.specs.declared.halt.Halt.TheVariants.{Beginning, Spent}
 use Rattle.gdb_steps.specs.declared.halt.Until.{Until}
 use Rattle.gdb_steps.specs.declared.lost.Lost.{Lost}
 use Rattle.gdb_steps.specs.declared.walker.Walker.{Walker}
-use Rattle.gdb_steps.specs.inner.Backing.{Backed, BackedTo, IsFirst, IsLost, Moved, StepsBack, StopsOr}
+use Rattle.gdb_steps.specs.inner.Backing.{Backed, BackedTo, IsFirst, IsLost, StepsBack, StopsOr}
 use Rattle.gdb_steps.specs.inner.Looks.{HasSeen, Plain}
 use Rattle.gdb_steps.specs.inner.Looks.Plain.{AtBreak, AtWatch, There}
 use Rattle.gdb_steps.specs.inner.Onces.{halt_seen}

@@ -9,12 +9,13 @@ use Rattle.gdb_steps.specs.Backs.{Passes, StopsBack, halt_back}
 use Rattle.gdb_steps.specs.Places.{ArePlaces, Begin, Given, IsPlace, IsRun, Place, Run, first_state, state_at}
 use Rattle.gdb_steps.specs.Points.{Points, halt_at}
 use Rattle.gdb_steps.specs.Walks.{Strays}
+use Rattle.gdb_steps.specs.WalkersClauses.{Moved}
 use Rattle.gdb_steps.specs.declared.found.Found.{Found}
 use Rattle.gdb_steps.specs.declared.halt.Halt.{Halt}
 use Rattle.gdb_steps.specs.declared.halt.Until.{Until}
 use Rattle.gdb_steps.specs.declared.lost.Lost.{Lost}
 use Rattle.gdb_steps.specs.declared.lost.Lost.TheVariants as By
-use Rattle.gdb_steps.specs.inner.Backing.{IsFirst, IsLast, IsLost, Moved, Returns, StopsAt}
+use Rattle.gdb_steps.specs.inner.Backing.{IsFirst, IsLast, IsLost, Returns, StopsAt}
 use Rattle.gdb_steps.proofs.Firsting.{only-state}
 use Rattle.gdb_steps.proofs.Onward.{seen-bytes}
 

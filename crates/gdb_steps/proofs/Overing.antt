@@ -10,9 +10,9 @@ use Rattle.mix_engine.specs.Ends.{goes_on}
 use Rattle.gdb_steps.specs.Places.{Begin, Given, IsPlace, IsRun, Place, Run, first_state, state_at}
 use Rattle.gdb_steps.specs.Walkers.{run_of, sinks}
 use Rattle.gdb_steps.specs.Walks.{Strays}
+use Rattle.gdb_steps.specs.WalkersClauses.{Moved}
 use Rattle.gdb_steps.specs.declared.snapshot.Snapshot.{Snapshot}
 use Rattle.gdb_steps.specs.declared.walker.Walker.{Walker}
-use Rattle.gdb_steps.specs.inner.Backing.{Moved}
 use Rattle.gdb_steps.specs.inner.Goings.{given}
 use Rattle.gdb_steps.specs.inner.Onces.{AgainStep, nothing}
 use Rattle.gdb_steps.proofs.Againing.{again-went, never-says, never-traces, strays-at}

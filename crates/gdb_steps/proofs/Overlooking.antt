@@ -3,10 +3,11 @@ use Rattle.std.proofs.Common.{◌≡◌, ℕ, suc, ◌<◌, ◌≤◌, IfSome, O
 use Rattle.gdb_steps.specs.Backs.{StopsBack}
 use Rattle.gdb_steps.specs.Places.{Begin, IsRun, Given, Run}
 use Rattle.gdb_steps.specs.Points.{Points}
+use Rattle.gdb_steps.specs.WalkersClauses.{Moved}
 use Rattle.gdb_steps.specs.declared.found.Found.{Found}
 use Rattle.gdb_steps.specs.declared.halt.Halt.{Halt}
 use Rattle.gdb_steps.specs.declared.halt.Until.{Until}
-use Rattle.gdb_steps.specs.inner.Backing.{Backed, IsFirst, IsLast, Looked, Moved, Passed, StopsAt, halt_in, place_in}
+use Rattle.gdb_steps.specs.inner.Backing.{Backed, IsFirst, IsLast, Looked, Passed, StopsAt, halt_in, place_in}
 use Rattle.gdb_steps.proofs.Backward.{last-more, last-new, moved-given, moved-join}
 
 abbrev Within : ℕ → ℕ → Option Found → Type 0

@@ -10,12 +10,13 @@ use Rattle.dev_rack.specs.declared.devices.Devices.{Ghosts}
 use Rattle.gdb_steps.specs.Places.{IsPlace, Run}
 use Rattle.gdb_steps.specs.Points.{first_changed, halt_at, halt_by, range_of}
 use Rattle.gdb_steps.specs.Walkers.{points_of, run_of}
+use Rattle.gdb_steps.specs.WalkersClauses.{Moved}
 use Rattle.gdb_steps.specs.declared.halt.Halt.{Halt}
 use Rattle.gdb_steps.specs.declared.halt.Halt.TheVariants.{Breakpoint}
 use Rattle.gdb_steps.specs.declared.halt.Until.{Until}
 use Rattle.gdb_steps.specs.declared.walker.Walker.{Walker}
 use Rattle.gdb_steps.specs.declared.watch.Watch.{Watch}
-use Rattle.gdb_steps.specs.inner.Backing.{Moved, Passed}
+use Rattle.gdb_steps.specs.inner.Backing.{Passed}
 use Rattle.gdb_steps.specs.inner.Looks.{HasSeen, first_unlike}
 use Rattle.gdb_steps.specs.inner.Onces.{Keeps}
 use Rattle.gdb_steps.proofs.Backing.{given-place, stops-or}

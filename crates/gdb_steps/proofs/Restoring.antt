@@ -9,9 +9,9 @@ use Rattle.mix_image.specs.declared.error.ImageError.{ImageError}
 use Rattle.mix_io.specs.Memory.{kept_as}
 use Rattle.gdb_steps.specs.Places.{Begin, Given, IsKept, IsPlace, IsRun}
 use Rattle.gdb_steps.specs.Walkers.{places}
+use Rattle.gdb_steps.specs.WalkersClauses.{Moved}
 use Rattle.gdb_steps.specs.declared.snapshot.Snapshot.{Snapshot}
 use Rattle.gdb_steps.specs.declared.used.Used.{Used}
-use Rattle.gdb_steps.specs.inner.Backing.{Moved}
 use Rattle.gdb_steps.specs.inner.Goings.{given}
 use Rattle.gdb_steps.proofs.Beginnings.{fresh_trail}
 use Rattle.gdb_steps.proofs.Firsts.{place-at, run}

@@ -11,13 +11,13 @@ use Rattle.gdb_steps.specs.Places.{Begin, IsRun, Run}
 use Rattle.gdb_steps.specs.Points.{Points, Range, halt_at, range_of}
 use Rattle.gdb_steps.specs.Walkers.{points_of, run_of, sinks}
 use Rattle.gdb_steps.specs.Walks.{Forward, GoesForward}
+use Rattle.gdb_steps.specs.WalkersClauses.{Moved}
 use Rattle.gdb_steps.specs.declared.halt.Halt.{Halt}
 use Rattle.gdb_steps.specs.declared.halt.Halt.TheVariants.{End, Strayed}
 use Rattle.gdb_steps.specs.declared.halt.Until.{Until}
 use Rattle.gdb_steps.specs.declared.snapshot.Snapshot.{Snapshot}
 use Rattle.gdb_steps.specs.declared.walker.Walker.{Walker}
 use Rattle.gdb_steps.specs.declared.watch.Watch.{Watch}
-use Rattle.gdb_steps.specs.inner.Backing.{Moved}
 use Rattle.gdb_steps.specs.inner.Goings.{Going, OneMore}
 use Rattle.gdb_steps.specs.inner.Looks.{HasSeen}
 use Rattle.gdb_steps.specs.inner.Onces.{AfterAgain, AgainStep, FirstStep, Keeps, halt_seen}

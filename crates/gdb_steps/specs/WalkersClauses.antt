@@ -21,6 +21,11 @@ pub record Begins {D : Type 0} {G : Ghosts D} (first : Machine) (input : List �
   pub breaks : w.breakpoints ≡ []
   pub watches : w.watches ≡ []
 
+-- another place of the same run
+pub record Moved (r s : Run) : Type 0 where
+  pub run : (b : Begin) → IsRun b r → IsRun b s
+  pub same : s ≡ record r { here = s.here; past = s.past; steps = s.steps }
+
 -- a walk back from one place of a run to another, in which nothing is told and no device asked
 pub record GoesBack (b : Begin) (p : Points) (until : Until) (n : ℕ) (halt : Halt) (r s : Run) : Type 0 where
   pub run : IsRun b s

@@ -7,9 +7,9 @@ ghost use Rattle.mixed_machine.specs.Machine.{IsWhole};
 ghost use Rattle.gdb_steps.specs.Places.{Begin, IsRun};
 ghost use Rattle.gdb_steps.specs.Points.{halt_by};
 ghost use Rattle.gdb_steps.specs.Walkers.{points_of, run_of};
-ghost use Rattle.gdb_steps.specs.WalkersClauses.{Backs};
+ghost use Rattle.gdb_steps.specs.WalkersClauses.{Backs, Moved};
 ghost use Rattle.gdb_steps.specs.declared.halt.Halt.TheVariants as Halts;
-ghost use Rattle.gdb_steps.specs.inner.Backing.{Backed, BackedTo, IsLost, Looked, Moved, Passed, StepsBack, halt_in, place_in};
+ghost use Rattle.gdb_steps.specs.inner.Backing.{Backed, BackedTo, IsLost, Looked, Passed, StepsBack, halt_in, place_in};
 ghost use Rattle.gdb_steps.specs.inner.Looks.{HasSeen};
 ghost use Rattle.gdb_steps.specs.inner.Onces.{Keeps};
 

@@ -193,7 +193,7 @@ pub fn walker_of<D: Devices + Drop>(
         panic!(rt; "no machine")
     };
     let input = b"A".to_vec(alloc).expect(rt, "no input");
-    Walker::new(alloc, machine, input, rack, slots).expect(rt, "no walker")
+    Walker::new(alloc, machine, input, rack, slots, 31).expect(rt, "no walker")
 }
 
 /// The program of the code, in 128 KiB of RAM.

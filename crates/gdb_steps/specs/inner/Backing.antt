@@ -5,6 +5,7 @@ use Rattle.gdb_steps.specs.Backs.{Passes, StopsBack}
 use Rattle.gdb_steps.specs.Places.{Begin, Given, IsRun, Place, Run}
 use Rattle.gdb_steps.specs.Points.{Points}
 use Rattle.gdb_steps.specs.Walkers.{run_of}
+use Rattle.gdb_steps.specs.WalkersClauses.{Moved}
 use Rattle.gdb_steps.specs.Walks.{Strays}
 use Rattle.gdb_steps.specs.declared.found.Found.{Found}
 use Rattle.gdb_steps.specs.declared.halt.Halt.{Halt}
@@ -25,11 +26,6 @@ Returns false (p ∷ ps) r s = ⊥
 pub record StepsBack {D : Type 0} {G : Ghosts D} (done : Bool) (w v : Walker D G) : Type 0 where
   pub returns : Returns done (run_of w).past (run_of w) (run_of v)
   pub keeps : Keeps w v
-
--- another place of the same run
-pub record Moved (r s : Run) : Type 0 where
-  pub run : (b : Begin) → IsRun b r → IsRun b s
-  pub same : s ≡ record r { here = s.here; past = s.past; steps = s.steps }
 
 -- there was no memory to go on, and it stands somewhere in the run; or a device did not answer again as before
 abbrev pub IsLost : Lost → Run → Run → Type 0

@@ -2,7 +2,8 @@
 use Rattle.std.proofs.Common.{◌≡◌, ◌-◌, ◌<◌, ◌≤◌, IfSome}
 use Rattle.gdb_steps.specs.Places.{Begin, IsRun}
 use Rattle.gdb_steps.specs.Walkers.{points_of, run_of}
-use Rattle.gdb_steps.specs.inner.Backing.{IsLast, Moved}
+use Rattle.gdb_steps.specs.WalkersClauses.{Moved}
+use Rattle.gdb_steps.specs.inner.Backing.{IsLast}
 use Rattle.gdb_steps.proofs.walker.Walker.look_over.Given as goal
 
 abbrev pub decreases-steps : goal.decreases-steps

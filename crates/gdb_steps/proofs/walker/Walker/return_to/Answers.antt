@@ -1,7 +1,7 @@
 -- Steps are taken back or not, and where they do not reach the run goes on from a machine that was kept.
 use Rattle.std.proofs.Common.{◌≡◌, sym, subst}
 use Rattle.gdb_steps.specs.Walkers.{run_of}
-use Rattle.gdb_steps.specs.inner.Backing.{Moved}
+use Rattle.gdb_steps.specs.WalkersClauses.{Moved}
 use Rattle.gdb_steps.proofs.Backward.{moved-join, moved-none, moves-result}
 use Rattle.gdb_steps.proofs.walker.Walker.return_to.Goals as goal
 use Rattle.gdb_steps.proofs.walker.Walker.return_to.Goals.{else-is_near-via-then-is_near+else-take_back, else-is_near-via-else-is_near}

@@ -1,7 +1,7 @@
 -- One step back after the other.
 use Rattle.std.proofs.Common.{◌≡◌, ◌≤◌}
 use Rattle.gdb_steps.specs.Walkers.{points_of, run_of}
-use Rattle.gdb_steps.specs.inner.Backing.{Moved}
+use Rattle.gdb_steps.specs.WalkersClauses.{Moved}
 use Rattle.gdb_steps.proofs.walker.Walker.take_back.Given as goal
 
 abbrev pub decreases-steps : goal.decreases-steps
