@@ -4,7 +4,7 @@ use Rattle.std.specs.Prelude.{Result, Ok}
 use Rattle.job_words.specs.declared.job.BadWord.{BadWord}
 use Rattle.job_words.specs.declared.job.Command.{Command}
 use Rattle.job_words.specs.declared.job.Command.TheVariants.{Run}
-use Rattle.look_words.specs.inner.Requests.{IsUnmet, is_run}
+use Rattle.look_words.specs.Requests.{IsUnmet, is_run}
 use Rattle.look_gdb.specs.declared.start.Settings.{Settings}
 use Rattle.look_commands.specs.inner.Served.{ServesRun}
 use Rattle.look_commands.specs.inner.Told.{Loads, WritesMap}

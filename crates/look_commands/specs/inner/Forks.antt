@@ -10,7 +10,7 @@ use Rattle.wrapped_forks.specs.declared.wrapping.ForkPlace.{ForkPlace}
 use Rattle.binhex.specs.Forks.{ForkBytes, forks_of}
 use Rattle.binhex.specs.declared.error.BinHexError.{BinHexError}
 use Rattle.binhex.specs.declared.error.BinHexError.TheVariants.{NoMemory}
-use Rattle.look_words.specs.inner.Requests.{IsLost}
+use Rattle.look_words.specs.Requests.{IsLost}
 use Rattle.look_commands.specs.inner.Puts.{LacksMemory, Prints}
 
 -- that a file was not read for want of memory alone

@@ -23,9 +23,9 @@ use Rattle.look_text.specs.Maps.{files_text, start_text}
 use Rattle.look_text.specs.Info.{info_of}
 use Rattle.look_text.specs.Whys.{Explains}
 use Rattle.look_text.specs.declared.why.Why.{Why}
-use Rattle.look_words.specs.inner.Looks.{look_of, run_words}
-use Rattle.look_words.specs.inner.Requests.{IsLost, is_run}
-use Rattle.look_words.specs.inner.Sentences.{why_text}
+use Rattle.look_words.specs.Looks.{look_of, run_words}
+use Rattle.look_words.specs.Requests.{IsLost, is_run}
+use Rattle.look_words.specs.Sentences.{why_text}
 use Rattle.look_words.specs.declared.look.Look.{Look}
 use Rattle.look_words.specs.declared.look.Look.TheVariants.{Info, Trace, Picture, Fork, Data, Map, Scan, End, Image, Gdb, Words, WhyScript, WhyText}
 use Rattle.look_words.specs.declared.look.Refusal.{Refusal}

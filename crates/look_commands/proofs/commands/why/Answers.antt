@@ -1,7 +1,7 @@
 -- The sentence on the words that are asked about is the one on the words behind the first.
 use Rattle.std.proofs.Common.{◌≡◌, ◌++◌, ◌∙◌, inl, ℕ, List, Option, subst}
 use Rattle.std.specs.Prelude.{codes}
-use Rattle.look_words.specs.inner.Sentences.{why_text}
+use Rattle.look_words.specs.Sentences.{why_text}
 use Rattle.look_text.specs.Whys.{Explains}
 use Rattle.look_text.specs.declared.why.Why.{Why}
 use Rattle.look_commands.specs.inner.Told.{WritesWhy}
