@@ -5,10 +5,10 @@
 use Rattle.std.specs.Prelude.{◌≡◌, ◌≢◌, ◌*◌, ◌++◌, ◌⊎◌, ℕ, Bool, true, false, List, [], ◌∷◌, codes, Option, is_some, Result, Ok, Err}
 use Rattle.std.specs.Io.KnownBytes.{Appends}
 use Rattle.wrapped_forks.specs.declared.fork.Fork.TheVariants.{Data as data_fork, Resource as resource_fork}
-use Rattle.look_commands.specs.inner.Puts.{LacksMemory, Prints, PutsFront, Writes}
-use Rattle.look_commands.specs.inner.Forks.{WritesFork}
-use Rattle.look_commands.specs.inner.Served.{ServesRun}
-use Rattle.look_commands.specs.inner.Whys.{WritesScriptWhy, WritesTextWhy}
+use Rattle.look_commands.specs.Puts.{LacksMemory, Prints, PutsFront, Writes}
+use Rattle.look_commands.specs.Forks.{WritesFork}
+use Rattle.look_commands.specs.Served.{ServesRun}
+use Rattle.look_commands.specs.Whys.{WritesScriptWhy, WritesTextWhy}
 use Rattle.job_words.specs.declared.job.BadWord.{BadWord}
 use Rattle.job_words.specs.declared.job.Command.{Command}
 use Rattle.job_words.specs.declared.job.Command.TheVariants.{Run}
