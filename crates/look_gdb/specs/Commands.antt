@@ -12,7 +12,7 @@ use Rattle.gdb_steps.specs.declared.halt.Halt.{Halt as Came}
 use Rattle.gdb_steps.specs.declared.halt.Until.TheVariants.{Stopped}
 use Rattle.gdb_talk.specs.declared.deed.Goal.TheVariants as Goals
 use Rattle.switch_frame.specs.Records.{isa_of}
-use Rattle.look_gdb.specs.Halts.{is_end}
+use Rattle.look_gdb.specs.Halts.{is_cut, is_end}
 use Rattle.look_gdb.specs.Notes.{note_of}
 use Rattle.look_gdb.specs.Views.{View}
 use Rattle.look_gdb.specs.Walks.{GoesBack, GoesOn}
@@ -83,10 +83,11 @@ pub record GoesTo (v : View) (steps : ℕ) (console : List ℕ) (w : View) : Typ
   pub came : Came
   pub put : List ℕ
   pub goes : GoesTowards (nat_lt steps v.run.steps) steps came put v w
+  pub whole : is_cut came ≡ false
   pub tells : console
       ≡ put ++ note_of v.is_end_told (isa_of w.run.here.machine.active) Goals.Step v.budget came
       ++ tale_text Where w.run.here.machine w.run.steps ++ flush_text
-  pub same : w ≡ record v { run = w.run; is_end_told = v.is_end_told || is_end came }
+  pub same : w ≡ record v { run = w.run; most_kept = w.most_kept; is_end_told = v.is_end_told || is_end came }
 
 -- a command changes the budget of a walk alone, or goes elsewhere, or changes nothing
 abbrev pub ObeysCommand : Command → View → List ℕ → Bool → View → Type 0

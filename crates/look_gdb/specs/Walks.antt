@@ -16,7 +16,7 @@ use Rattle.gdb_steps.specs.declared.halt.Halt.{Halt as Came}
 use Rattle.gdb_steps.specs.declared.halt.Until.{Until}
 use Rattle.gdb_talk.specs.declared.deed.Goal.{Goal}
 use Rattle.gdb_talk.specs.declared.deed.Walk.{Walk as Way}
-use Rattle.look_gdb.specs.Halts.{halt_of, is_end, steps_of, until_of}
+use Rattle.look_gdb.specs.Halts.{halt_of, is_cut, is_end, steps_of, until_of}
 use Rattle.look_gdb.specs.Notes.{note_of}
 use Rattle.look_gdb.specs.Views.{View}
 
@@ -53,9 +53,10 @@ pub record Walks (v : View) (way : Way) (console : List ℕ) (halt : Halt) (w : 
   pub came : Came
   pub put : List ℕ
   pub goes : Goes way.is_back way.goal came put v w
+  pub whole : is_cut came ≡ false
   pub stops : halt ≡ halt_of way.goal came
   pub tells : console ≡ put ++ note_of v.is_end_told (isa_of w.run.here.machine.active) way.goal v.budget came
-  pub same : w ≡ record v { run = w.run; is_end_told = v.is_end_told || is_end came }
+  pub same : w ≡ record v { run = w.run; most_kept = w.most_kept; is_end_told = v.is_end_told || is_end came }
 
 -- the other addresses and ranges
 abbrev pub other_breaks : Points → ℕ → List ℕ

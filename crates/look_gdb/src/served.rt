@@ -4,7 +4,7 @@ ghost use Rattle.switch_frame.specs.Records.{isa_of};
 ghost use Rattle.gdb_steps.specs.Walkers.{IsFresh};
 
 use crate::command::{Command, Tale, read_command};
-use crate::halts::{does_end, halt_for, lesser, steps_for, until_for};
+use crate::halts::{does_end, halt_for, lesser, steps_for, until_for, was_cut};
 use crate::notes::{Ending, append_note};
 use crate::start::Start;
 use crate::tales::{append_place, append_tale};
@@ -49,7 +49,7 @@ impl<D: Devices + Drop> Model for Served<D> {
 }
 
 impl<D: Devices + Drop> Served<D> {
-    ghost use Rattle.look_gdb.specs.Halts.{is_end};
+    ghost use Rattle.look_gdb.specs.Halts.{is_cut, is_end};
     ghost use Rattle.look_gdb.specs.Notes.{note_of};
     ghost use Rattle.look_gdb.specs.Commands.{GoesTo, GoesTowards, tale_text};
     ghost use Rattle.look_gdb.specs.Views.{Starts};
@@ -87,7 +87,7 @@ impl<D: Devices + Drop> Served<D> {
     fn go(&mut self, walk: Walk, console: &mut Vec<u8>) -> Result<Came, NoMemory>
         requires { console.old.items ≡ [] }
         ensures goes { IfOk result (λ came. Goes walk.is_back walk.goal came console.new.items self.old self.new) }
-        ensures same { self.new ≡ record self.old { run = self.new.run } }
+        ensures same { self.new ≡ record self.old { run = self.new.run; most_kept = self.new.most_kept } }
     {
         let bounds = Bounds {
             until: until_for(walk.goal),
@@ -127,31 +127,36 @@ impl<D: Devices + Drop> Served<D> {
     fn go_towards(&mut self, steps: u64, console: &mut Vec<u8>) -> Result<Came, NoMemory>
         requires { console.old.items ≡ [] }
         ensures goes { IfOk result (λ came. GoesTowards (nat_lt steps self.old.run.steps) steps came console.new.items self.old self.new) }
-        ensures same { self.new ≡ record self.old { run = self.new.run } }
+        ensures same { self.new ≡ record self.old { run = self.new.run; most_kept = self.new.most_kept } }
     {
         let here = self.walker.steps();
         if steps < here {
             let count = lesser(here - steps, self.budget);
-            return self.walker.back(Until::Stopped, u64::from(count));
+            self.walker.back(Until::Stopped, u64::from(count))
+        } else {
+            let bounds = Bounds {
+                until: Until::Stopped,
+                steps: lesser(steps - here, self.budget),
+            };
+            go_on(
+                self.alloc,
+                &mut self.walker,
+                bounds,
+                self.is_traced,
+                console,
+            )
         }
-        let bounds = Bounds {
-            until: Until::Stopped,
-            steps: lesser(steps - here, self.budget),
-        };
-        go_on(
-            self.alloc,
-            &mut self.walker,
-            bounds,
-            self.is_traced,
-            console,
-        )
     }
 
     /// Tells what is told at the end of a walk, and takes note of the end of the program.
     fn tell_end(&mut self, goal: Goal, came: Came, console: &mut Vec<u8>) -> Result<(), NoMemory>
+        ensures whole { OnOk result (is_cut came ≡ false) }
         ensures tells { OnOk result (console.new.items ≡ console.old.items ++ note_of self.old.is_end_told (isa_of self.old.run.here.machine.active) goal self.old.budget came) }
         ensures same { OnOk result (self.new ≡ record self.old { is_end_told = self.old.is_end_told || is_end came }) }
     {
+        if was_cut(came) {
+            return Err(NoMemory);
+        }
         let ending = Ending {
             is_told: self.is_end_told,
             set: self.walker.machine().active.isa(),
@@ -239,7 +244,7 @@ impl<D: Devices + Drop> Target for Served<D> {
     fn walk(&mut self, walk: Walk, console: &mut Vec<u8>) -> Result<Halt, NoMemory> {
         let came = self.go(walk, console)?;
         self.tell_end(walk.goal, came, console)?;
-        halt_for(walk.goal, came)
+        Ok(halt_for(walk.goal, came))
     }
 
     fn insert(&mut self, point: Point, address: u32, count: u32) -> bool {
