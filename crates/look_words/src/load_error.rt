@@ -204,7 +204,7 @@ fn unresolved_in(alloc: Global, pef: &Pef, i: u32) -> Result<Vec<u8>, NoMemory>
     )
 }
 
-#[tactic(auto, unfolding(crate::specs::inner::Refusals::lacking_text))]
+#[tactic(auto, unfolding(crate::specs::Refusals::lacking_text))]
 fn named(alloc: Global, i: u32, import: Import) -> Result<Vec<u8>, NoMemory>
     ensures { IfOk result (λ text. text.items ≡ lacking_text i (names import.entry)) }
 {

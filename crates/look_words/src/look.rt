@@ -229,7 +229,7 @@ fn read_settings(
 }
 
 /// The draft with what a word sets.
-#[tactic(auto, unfolding(crate::specs::inner::Looks::with_word))]
+#[tactic(auto, unfolding(crate::specs::Looks::with_word))]
 fn read_word(topic: Topic, place: usize, word: &str, draft: Draft) -> Result<Draft, Refusal>
     ensures { result ≡ with_word topic place word.now draft }
 {
