@@ -6,8 +6,8 @@ use Rattle.gdb_packets.specs.declared.event.Event.{Event}
 use Rattle.gdb_packets.specs.declared.event.Event.TheVariants.{Packet, Acknowledged, Refused, Interrupt, BadSum, TooLong}
 use Rattle.gdb_session.specs.Hearing.{acknowledged}
 use Rattle.gdb_session.specs.Replies.{Rules}
-use Rattle.gdb_session.specs.Serving.{BreaksAt, IsBegun, Meets, Standing}
-use Rattle.gdb_session.specs.inner.Listening.{CutsOff, Hears, ListensUntil, RepliesTo, RepliesUntil}
+use Rattle.gdb_session.specs.Serving.{BreaksAt, IsBegun, Meets, MeetsWhole, Standing}
+use Rattle.gdb_session.specs.inner.Listening.{CutsOff, ListensUntil, RepliesTo, RepliesUntil}
 use Rattle.gdb_session.specs.declared.broken.Broken.{Broken}
 use Rattle.gdb_session.specs.declared.broken.Broken.TheVariants.{Input, NoMemory, Output as OutputFailed}
 use Rattle.gdb_session.specs.declared.outcome.Outcome.{Outcome}
@@ -63,7 +63,7 @@ module _ {X : Type 0} (rules : Rules X) where
   refusal-cut e bytes s out end result (inr is) h = said-cut e TooLong bytes (acknowledged s.talk.acknowledges 45) s out end result is (refl, (refl, refl)) h
 
   -- an event is told with the data that it has
-  pub hears-told : (e : Event) (kept : List ℕ) (r : Option Outcome) (s t : Standing X) (out end : Output) → Hears rules (e, kept) r s t out end → Hears rules (told_with e kept) r s t out end
+  pub hears-told : (e : Event) (kept : List ℕ) (r : Option Outcome) (s t : Standing X) (out end : Output) → MeetsWhole rules (e, kept) r s t out end → MeetsWhole rules (told_with e kept) r s t out end
   hears-told Packet kept r s t out end h = h
   hears-told Acknowledged kept r s t out end h = h
   hears-told Refused kept r s t out end h = h

@@ -13,10 +13,10 @@ use Rattle.gdb_talk.specs.declared.talk.Talk.{Talk}
 use Rattle.gdb_talk.specs.Talks.{first_talk}
 use Rattle.gdb_session.specs.Hearing.{BlamesOutput}
 use Rattle.gdb_session.specs.Replies.{Rules, active_in}
-use Rattle.gdb_session.specs.Serving.{BreaksAt, Meets, Reached, Serves, Standing, Talks, Took, first_standing, is_end, standing}
+use Rattle.gdb_session.specs.Serving.{BreaksAt, Meets, MeetsWhole, Reached, Serves, Standing, Talks, Took, first_standing, is_end, standing}
 use Rattle.gdb_session.specs.Serving.Talks.{begins, goes_on}
 use Rattle.gdb_session.specs.Serving.Serves.{bytes_ended, gdb_ended, input_ended, input_failed, no_memory, no_memory_to_begin, output_failed}
-use Rattle.gdb_session.specs.inner.Listening.{Hears, Listens, ListensUntil}
+use Rattle.gdb_session.specs.inner.Listening.{Listens, ListensUntil}
 use Rattle.gdb_session.specs.declared.broken.Broken.{Broken}
 use Rattle.gdb_session.specs.declared.broken.Broken.TheVariants.{Input, NoMemory, Output as OutputFailed}
 use Rattle.gdb_session.specs.declared.outcome.Outcome.{Outcome}
@@ -134,7 +134,7 @@ module _ {X : Type 0} (rules : Rules X) (first : Standing X) (left now next : Op
       }
 
   went : (o : Option Event) (r : Option Outcome) (u : Standing X) (d' : Reading) → event_at d b ≡ o
-      → MatchOption o ((r ≡ None) × (u ≡ t) × (end ≡ mid)) (λ e. Hears rules (told_with e (after d b).kept) r t u mid end) → is_end r ≡ false → d' ≡ after d b
+      → MatchOption o ((r ≡ None) × (u ≡ t) × (end ≡ mid)) (λ e. MeetsWhole rules (told_with e (after d b).kept) r t u mid end) → is_end r ≡ false → d' ≡ after d b
       → Going rules first left next out end d' u (count + 1)
   went None r u d' tells heard on is = going-more None r u [] d' tells (heard.1, refl) on (subst (λ o. Grows mid o []) (sym heard.2) (grows-none mid)) is
   went (Some e) r u d' tells heard on is = going-more (Some e) r u heard.0 d' tells heard.1 on heard.2 is
@@ -149,7 +149,7 @@ module _ {X : Type 0} (rules : Rules X) (first : Standing X) (left now next : Op
   last (Some _) is = cc
 
   ended : (o : Option Event) (r : Option Outcome) (u : Standing X) → event_at d b ≡ o
-      → MatchOption o ((r ≡ None) × (u ≡ t) × (end ≡ mid)) (λ e. Hears rules (told_with e (after d b).kept) r t u mid end) → r ≡ Some Ended
+      → MatchOption o ((r ≡ None) × (u ≡ t) × (end ≡ mid)) (λ e. MeetsWhole rules (told_with e (after d b).kept) r t u mid end) → r ≡ Some Ended
       → Serves rules first left next out end (Ok (record {}))
   ended None r u tells heard is = cc
   ended (Some e) r u tells heard is =

@@ -38,6 +38,10 @@ Meets rules event r s t put =
     × (put ≡ acknowledged s.talk.acknowledges 43 ++ t.sent))
     ((t ≡ s) × (put ≡ sent_at event.0 s.talk.acknowledges s.sent))
 
+-- and these bytes were put whole
+abbrev pub MeetsWhole : {X : Type 0} → Rules X → Event × List ℕ → Option Outcome → Standing X → Standing X → Output → Output → Type 0
+MeetsWhole rules event r s t out after = (put : List ℕ) × Meets rules event r s t put × Grows out after put
+
 -- gdb left, or ended the program
 abbrev pub is_end : Option Outcome → Bool
 is_end (Some Ended) = true

@@ -6,8 +6,8 @@ ghost use Rattle.gdb_packets.specs.Reading.{after};
 ghost use Rattle.gdb_talk.specs.Talks.{first_talk};
 ghost use Rattle.gdb_session.specs.Hearing.{BlamesInput, BlamesOutput, acknowledged};
 ghost use Rattle.gdb_session.specs.Replies.{rules_of};
-ghost use Rattle.gdb_session.specs.Serving.{BreaksAt, Serves, first_standing, is_end, standing};
-ghost use Rattle.gdb_session.specs.inner.Listening.{CutsOff, Hears, Listens, ListensUntil, RepliesTo, RepliesUntil};
+ghost use Rattle.gdb_session.specs.Serving.{BreaksAt, MeetsWhole, Serves, first_standing, is_end, standing};
+ghost use Rattle.gdb_session.specs.inner.Listening.{CutsOff, Listens, ListensUntil, RepliesTo, RepliesUntil};
 
 use crate::broken::Broken;
 use crate::outcome::Outcome;
@@ -54,7 +54,7 @@ impl<T: Target + Drop> Server<T> {
         data: &[u8],
         out: &mut O,
     ) -> Result<Option<Outcome>, Broken>
-        ensures heard { IfOk result (λ outcome. Hears (rules_of T.scene T.walks T.inserts T.removes T.obeys) (event, «data».now) outcome (standing self.old.target self.old.talk self.old.console.items self.old.sent.items) (standing self.new.target self.new.talk self.new.console.items self.new.sent.items) (output (O.held out.old) (O.faults out.old)) (output (O.held out.new) (O.faults out.new))) }
+        ensures heard { IfOk result (λ outcome. MeetsWhole (rules_of T.scene T.walks T.inserts T.removes T.obeys) (event, «data».now) outcome (standing self.old.target self.old.talk self.old.console.items self.old.sent.items) (standing self.new.target self.new.talk self.new.console.items self.new.sent.items) (output (O.held out.old) (O.faults out.old)) (output (O.held out.new) (O.faults out.new))) }
         ensures broken { IfErr result (λ broken. BreaksAt (rules_of T.scene T.walks T.inserts T.removes T.obeys) (event, «data».now) (standing self.old.target self.old.talk self.old.console.items self.old.sent.items) (output (O.held out.old) (O.faults out.old)) (output (O.held out.new) (O.faults out.new)) broken) }
     {
         match event {
@@ -74,7 +74,7 @@ impl<T: Target + Drop> Server<T> {
         data: &[u8],
         out: &mut O,
     ) -> Result<Outcome, Broken>
-        ensures heard { IfOk result (λ outcome. Hears (rules_of T.scene T.walks T.inserts T.removes T.obeys) (Event.Packet, «data».now) (Some outcome) (standing self.old.target self.old.talk self.old.console.items self.old.sent.items) (standing self.new.target self.new.talk self.new.console.items self.new.sent.items) (output (O.held out.old) (O.faults out.old)) (output (O.held out.new) (O.faults out.new))) }
+        ensures heard { IfOk result (λ outcome. MeetsWhole (rules_of T.scene T.walks T.inserts T.removes T.obeys) (Event.Packet, «data».now) (Some outcome) (standing self.old.target self.old.talk self.old.console.items self.old.sent.items) (standing self.new.target self.new.talk self.new.console.items self.new.sent.items) (output (O.held out.old) (O.faults out.old)) (output (O.held out.new) (O.faults out.new))) }
         ensures broken { IfErr result (λ broken. BreaksAt (rules_of T.scene T.walks T.inserts T.removes T.obeys) (Event.Packet, «data».now) (standing self.old.target self.old.talk self.old.console.items self.old.sent.items) (output (O.held out.old) (O.faults out.old)) (output (O.held out.new) (O.faults out.new)) broken) }
     {
         match acknowledge(self.talk.acknowledges, b'+', out) {

@@ -24,7 +24,8 @@ use Rattle.mixed_machine.specs.Runs.{OutBroke, Ran, ReadBroke, Sinks, SinksTook,
 use Rattle.mixed_machine.specs.RunsClauses.{Runs, sinks_of}
 use Rattle.mixed_machine.proofs.Machines.{begins-at, cut-goes-on, limit-at, stops-imply}
 use Rattle.mixed_machine.proofs.Runs.{exec-stays, limits-last}
-use Rattle.look_commands.specs.inner.Counted.{RanSteps, ends, is_done}
+use Rattle.look_commands.specs.inner.Counted.{ends, is_done}
+use Rattle.look_commands.specs.Runs.{RanSteps}
 
 -- a run of one step that ended with an exit has no step left, and one with a fault has it left
 rests-exit : (b : Bool) (s t : State) (left code : ℕ) → rests b s ≡ Ended (Exited code) t left → left ≡ 0

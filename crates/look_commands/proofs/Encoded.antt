@@ -5,7 +5,8 @@ use Rattle.wrapped_forks.specs.declared.fork.Fork.{Fork}
 use Rattle.binhex.specs.Forks.{ForkBytes}
 use Rattle.binhex.specs.declared.error.BinHexError.{BinHexError}
 use Rattle.binhex.specs.declared.error.BinHexError.TheVariants.{NoMemory, Unmarked, Unopened, Unended, Foreign, Run, Long, Cut, Sum}
-use Rattle.look_commands.specs.inner.Forks.{PutsEncoded, PutsFork, PutsRead, encoded_fork, is_want_of_memory}
+use Rattle.look_commands.specs.Forks.{PutsEncoded, PutsFork, PutsRead, encoded_fork}
+use Rattle.look_commands.specs.inner.Encoded.{is_want_of_memory}
 
 other : (error : BinHexError) → is_want_of_memory error ≡ false → error ≢ NoMemory
 other NoMemory is = absurd (cc)

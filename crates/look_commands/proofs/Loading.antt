@@ -4,10 +4,10 @@ use Rattle.std.specs.Prelude.{Result, Ok}
 use Rattle.job_words.specs.declared.job.BadWord.{BadWord}
 use Rattle.job_words.specs.declared.job.Command.{Command}
 use Rattle.job_words.specs.declared.job.Command.TheVariants.{Run}
-use Rattle.look_words.specs.inner.Requests.{IsUnmet, is_run}
+use Rattle.look_words.specs.Requests.{IsUnmet, is_run}
 use Rattle.look_gdb.specs.declared.start.Settings.{Settings}
-use Rattle.look_commands.specs.inner.Served.{ServesRun}
-use Rattle.look_commands.specs.inner.Told.{Loads, WritesMap}
+use Rattle.look_commands.specs.Served.{ServesRun}
+use Rattle.look_commands.specs.Told.{Loads, WritesMap}
 
 pub unmapped : (words : Result Command BadWord) (old new : Option (List ℕ)) (status : ℕ) → IsUnmet (is_run words) status → new ≡ old → WritesMap words old new status
 unmapped (Ok (Run job)) old new status lost same = inr (lost, same)

@@ -12,7 +12,7 @@ use Rattle.look_gdb.specs.declared.start.Settings.{Settings}
 use Rattle.look_commands.specs.Gdb.{ServesFiles, ServesLoaded, ServesProgram, Wire}
 use Rattle.look_commands.specs.Gdb.ServesProgram.{no_memory}
 use Rattle.look_commands.specs.GdbClauses.{wire}
-use Rattle.look_commands.specs.inner.Served.{ServesOver}
+use Rattle.look_commands.specs.Served.{ServesOver}
 
 pub loaded : (found : Result Program LoadError) (program : Program) (input : List ℕ) (settings : Settings) (before after : Wire) (status : ℕ) → found ≡ Ok program
     → ServesProgram program input settings before after status → ServesLoaded found input settings before after status

@@ -1,3 +1,9 @@
+pub mod Forks
 pub mod Gdb
 pub mod GdbClauses
+pub mod Puts
+pub mod Runs
+pub mod Served
+pub mod Told
+pub mod Whys
 pub mod inner

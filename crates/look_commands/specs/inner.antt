@@ -1,7 +1,3 @@
 pub mod Counted
-pub mod Forks
-pub mod Puts
-pub mod Served
+pub mod Encoded
 pub mod Statuses
-pub mod Told
-pub mod Whys

@@ -3,8 +3,8 @@ ghost use Rattle.std.specs.Prelude.{◌≡◌, ◌<◌, ◌++◌, IfOk, codes, m
 ghost use Rattle.std.specs.String.{string_bytes};
 ghost use Rattle.look_text.specs.Whys.{Explains};
 ghost use Rattle.look_text.specs.declared.why.Why.{Why};
-ghost use Rattle.look_words.specs.inner.Sentences.{why_text as why_of};
-ghost use Rattle.look_commands.specs.inner.Told.{Answers, WritesWhy, behind};
+ghost use Rattle.look_words.specs.Sentences.{why_text as why_of};
+ghost use Rattle.look_commands.specs.Told.{Answers, WritesWhy, behind};
 
 use crate::forks::fork;
 use crate::gdb::{Program, gdb};

@@ -2,7 +2,8 @@
 ghost use Rattle.std.specs.Prelude.{◌≡◌, ◌^◌, ◌<◌, length};
 ghost use Rattle.wrapped_forks.specs.Forks.{fork_of};
 ghost use Rattle.binhex.specs.Forks.{forks_of};
-ghost use Rattle.look_commands.specs.inner.Forks.{PutsEncoded, PutsFork, PutsForkOf, PutsUnwrapped, WritesFork, encoded_fork, is_want_of_memory};
+ghost use Rattle.look_commands.specs.Forks.{PutsEncoded, PutsFork, PutsForkOf, PutsUnwrapped, WritesFork, encoded_fork};
+ghost use Rattle.look_commands.specs.inner.Encoded.{is_want_of_memory};
 
 use crate::said::{fail, print, say};
 use crate::streams::Streams;

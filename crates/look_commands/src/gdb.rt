@@ -7,11 +7,11 @@ ghost use Rattle.mixed_machine.specs.Machine.{IsWhole};
 ghost use Rattle.mix_load.specs.LoadClauses.{AreLoadable};
 ghost use Rattle.job_words.specs.JobsClauses.{IsProperJob};
 ghost use Rattle.job_words.specs.Words.{command_of};
-ghost use Rattle.look_words.specs.inner.Looks.{run_words as run_words_of};
-ghost use Rattle.look_words.specs.inner.Requests.{IsLost};
+ghost use Rattle.look_words.specs.Looks.{run_words as run_words_of};
+ghost use Rattle.look_words.specs.Requests.{IsLost};
 ghost use Rattle.look_commands.specs.Gdb.{ServesFiles, ServesProgram, ServesWith, status_of};
 ghost use Rattle.look_commands.specs.GdbClauses.{wire};
-ghost use Rattle.look_commands.specs.inner.Served.{ServesJob, ServesOver, ServesRun};
+ghost use Rattle.look_commands.specs.Served.{ServesJob, ServesOver, ServesRun};
 
 use crate::maps::refuse;
 use crate::said::fail;

@@ -4,9 +4,9 @@ ghost use Rattle.std.specs.String.{string_bytes};
 ghost use Rattle.job_words.specs.JobsClauses.{IsProperJob};
 ghost use Rattle.job_words.specs.Words.{command_of};
 ghost use Rattle.mix_load.specs.LoadClauses.{AreLoadable, IsSmall};
-ghost use Rattle.look_words.specs.inner.Looks.{run_words as run_words_of};
-ghost use Rattle.look_words.specs.inner.Requests.{is_run};
-ghost use Rattle.look_commands.specs.inner.Told.{Loads, PutsMapOf, WritesMap};
+ghost use Rattle.look_words.specs.Looks.{run_words as run_words_of};
+ghost use Rattle.look_words.specs.Requests.{is_run};
+ghost use Rattle.look_commands.specs.Told.{Loads, PutsMapOf, WritesMap};
 
 use crate::said::{fail, print, say};
 use crate::streams::Streams;

@@ -1,6 +1,6 @@
 // Why scripts and texts are refused.
 ghost use Rattle.std.specs.Prelude.{◌≡◌};
-ghost use Rattle.look_commands.specs.inner.Whys.{PutsReport, WritesScriptWhy, WritesTextWhy};
+ghost use Rattle.look_commands.specs.Whys.{PutsReport, WritesScriptWhy, WritesTextWhy};
 
 use crate::said::{fail, print};
 use crate::streams::Streams;

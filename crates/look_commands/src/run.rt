@@ -9,7 +9,8 @@ ghost use Rattle.mixed_machine.specs.CountsClauses.{Blames};
 ghost use Rattle.mixed_machine.specs.Machine.{IsWhole};
 ghost use Rattle.mixed_machine.specs.OutsideClauses.{at};
 ghost use Rattle.mix_io.specs.StreamsClauses.{output};
-ghost use Rattle.look_commands.specs.inner.Counted.{RanSteps, ends as ends_at, is_done as is_done_at};
+ghost use Rattle.look_commands.specs.inner.Counted.{ends as ends_at, is_done as is_done_at};
+ghost use Rattle.look_commands.specs.Runs.{RanSteps};
 
 use dev_rack::Devices;
 use look_report::{Ending, History, step_at};

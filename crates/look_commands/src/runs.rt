@@ -6,10 +6,10 @@ ghost use Rattle.mixed_machine.specs.Machine.{IsWhole};
 ghost use Rattle.mix_load.specs.LoadClauses.{AreLoadable};
 ghost use Rattle.job_words.specs.JobsClauses.{IsProperJob};
 ghost use Rattle.job_words.specs.Words.{command_of};
-ghost use Rattle.look_words.specs.inner.Looks.{run_words as run_words_of};
-ghost use Rattle.look_words.specs.inner.Requests.{is_run};
+ghost use Rattle.look_words.specs.Looks.{run_words as run_words_of};
+ghost use Rattle.look_words.specs.Requests.{is_run};
 ghost use Rattle.look_commands.specs.inner.Statuses.{status_at};
-ghost use Rattle.look_commands.specs.inner.Told.{Loads};
+ghost use Rattle.look_commands.specs.Told.{Loads};
 
 use super::run_keeping;
 use crate::counted::Counted;

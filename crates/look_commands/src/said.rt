@@ -1,6 +1,6 @@
 // What is said, and to whom.
 ghost use Rattle.std.specs.Prelude.{◌≡◌, IfErr, IfOk};
-ghost use Rattle.look_commands.specs.inner.Puts.{LacksMemory, Prints};
+ghost use Rattle.look_commands.specs.Puts.{LacksMemory, Prints};
 
 use look_words::Failure;
 use look_words::status::{NO_MEMORY, OUTPUT_FAILED, SUCCESS};

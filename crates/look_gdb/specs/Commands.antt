@@ -1,5 +1,6 @@
 -- The commands that the user gives behind `monitor`, and what each does and tells. They are this project's own.
-use Rattle.std.specs.Prelude.{◌≡◌, ℕ, ◌-◌, ◌||◌, min, bytes_eq, nat_eq, nat_lt, Bool, true, false, List, [], ◌++◌, drop, codes, decimal, Option, Some, None, if◌then◌else◌}
+use Rattle.std.specs.Prelude.{◌≡◌, ℕ, ◌||◌, min, bytes_eq, nat_eq, nat_lt, Bool, true, false, List, [], ◌++◌, drop, codes, decimal, Option, Some, None, if◌then◌else◌}
+use Rattle.std.specs.Int.{abs_diff}
 use Rattle.std.specs.List.{starts_with}
 use Rattle.mix_bits.specs.Numbers.{decimal_number, hexadecimal_number}
 use Rattle.mix_engine.specs.declared.machine.Machine.{Machine}
@@ -12,10 +13,10 @@ use Rattle.gdb_steps.specs.declared.halt.Halt.{Halt as Came}
 use Rattle.gdb_steps.specs.declared.halt.Until.TheVariants.{Stopped}
 use Rattle.gdb_talk.specs.declared.deed.Goal.TheVariants as Goals
 use Rattle.switch_frame.specs.Records.{isa_of}
-use Rattle.look_gdb.specs.Halts.{is_end}
+use Rattle.look_gdb.specs.Halts.{is_cut, is_end}
 use Rattle.look_gdb.specs.Notes.{note_of}
 use Rattle.look_gdb.specs.Views.{View}
-use Rattle.look_gdb.specs.Walks.{GoesBack, GoesOn}
+use Rattle.look_gdb.specs.Walks.{Goes}
 use Rattle.look_gdb.specs.declared.command.Command.{Command}
 use Rattle.look_gdb.specs.declared.command.Command.TheVariants.{Budget, Go, Tell}
 use Rattle.look_gdb.specs.declared.command.Tale.{Tale}
@@ -73,20 +74,17 @@ tale_text Help machine steps = help_text
 abbrev pub flush_text : List ℕ
 flush_text = codes "maintenance flush register-cache makes gdb read the registers anew\n"
 
--- a walk back or forward towards the place behind so many steps, of as many as a walk may have, up to what is set to stop at
-abbrev pub GoesTowards : Bool → ℕ → Came → List ℕ → View → View → Type 0
-GoesTowards true steps came console v w = GoesBack v.points Stopped (min (v.run.steps - steps) v.budget) came console v.run w.run
-GoesTowards false steps came console v w = GoesOn v.points Stopped (min (steps - v.run.steps) v.budget) came v.is_traced console v.run w.run
-
--- and then it is told where that came. In front of the end of the program it stays, and the end is told once, as by a walk
+-- a walk back or forward towards the place behind so many steps, of as many as a walk may have; and then it is told where
+-- that came. In front of the end of the program it stays, and the end is told once, as by a walk
 pub record GoesTo (v : View) (steps : ℕ) (console : List ℕ) (w : View) : Type 0 where
   pub came : Came
   pub put : List ℕ
-  pub goes : GoesTowards (nat_lt steps v.run.steps) steps came put v w
+  pub goes : Goes (nat_lt steps v.run.steps) Stopped (min (abs_diff v.run.steps steps) v.budget) came put v w
+  pub whole : is_cut came ≡ false
   pub tells : console
       ≡ put ++ note_of v.is_end_told (isa_of w.run.here.machine.active) Goals.Step v.budget came
       ++ tale_text Where w.run.here.machine w.run.steps ++ flush_text
-  pub same : w ≡ record v { run = w.run; is_end_told = v.is_end_told || is_end came }
+  pub same : w ≡ record v { run = w.run; most_kept = w.most_kept; is_end_told = v.is_end_told || is_end came }
 
 -- a command changes the budget of a walk alone, or goes elsewhere, or changes nothing
 abbrev pub ObeysCommand : Command → View → List ℕ → Bool → View → Type 0

@@ -1,6 +1,6 @@
 -- gdb's walks as those of a walker, and how gdb is told of their ends.
 -- Source: GDB manual, appendix 'GDB Remote Serial Protocol', sections 'Packets' and 'Stop Reply Packets'.
-use Rattle.std.specs.Prelude.{ℕ, Bool, true, false}
+use Rattle.std.specs.Prelude.{ℕ, not, Bool, true, false}
 use Rattle.gdb_answers.specs.declared.stops.Reason.{Reason}
 use Rattle.gdb_answers.specs.declared.stops.Reason.TheVariants.{Stepped, Changed, Begins, Faults, Interrupted}
 use Rattle.gdb_answers.specs.declared.stops.Reason.TheVariants as Why
@@ -55,3 +55,8 @@ ends _ = false
 abbrev pub is_end : Came → Bool
 is_end (End stop) = ends stop
 is_end _ = false
+
+-- its output or its trace failed, which they do only for want of memory
+abbrev pub is_cut : Came → Bool
+is_cut (End stop) = not (ends stop)
+is_cut _ = false

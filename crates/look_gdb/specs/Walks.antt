@@ -14,9 +14,8 @@ use Rattle.gdb_steps.specs.WalkersClauses.{Backs}
 use Rattle.gdb_steps.specs.Walks.{Forward}
 use Rattle.gdb_steps.specs.declared.halt.Halt.{Halt as Came}
 use Rattle.gdb_steps.specs.declared.halt.Until.{Until}
-use Rattle.gdb_talk.specs.declared.deed.Goal.{Goal}
 use Rattle.gdb_talk.specs.declared.deed.Walk.{Walk as Way}
-use Rattle.look_gdb.specs.Halts.{halt_of, is_end, steps_of, until_of}
+use Rattle.look_gdb.specs.Halts.{halt_of, is_cut, is_end, steps_of, until_of}
 use Rattle.look_gdb.specs.Notes.{note_of}
 use Rattle.look_gdb.specs.Views.{View}
 
@@ -44,18 +43,20 @@ pub record GoesBack (p : Points) (until : Until) (n : ℕ) (came : Came) (consol
   pub devices : s.rack ≡ r.rack
   pub tells : console ≡ []
 
-abbrev pub Goes : Bool → Goal → Came → List ℕ → View → View → Type 0
-Goes true goal came console v w = GoesBack v.points (until_of goal) (steps_of goal v.budget) came console v.run w.run
-Goes false goal came console v w = GoesOn v.points (until_of goal) (steps_of goal v.budget) came v.is_traced console v.run w.run
+-- a walk back or forward, of so many steps at most, up to what is set to stop at
+abbrev pub Goes : Bool → Until → ℕ → Came → List ℕ → View → View → Type 0
+Goes true until n came console v w = GoesBack v.points until n came console v.run w.run
+Goes false until n came console v w = GoesOn v.points until n came v.is_traced console v.run w.run
 
 -- a walk of gdb's: it leaves the points and all else that is agreed, and tells the end of the program once
 pub record Walks (v : View) (way : Way) (console : List ℕ) (halt : Halt) (w : View) : Type 0 where
   pub came : Came
   pub put : List ℕ
-  pub goes : Goes way.is_back way.goal came put v w
+  pub goes : Goes way.is_back (until_of way.goal) (steps_of way.goal v.budget) came put v w
+  pub whole : is_cut came ≡ false
   pub stops : halt ≡ halt_of way.goal came
   pub tells : console ≡ put ++ note_of v.is_end_told (isa_of w.run.here.machine.active) way.goal v.budget came
-  pub same : w ≡ record v { run = w.run; is_end_told = v.is_end_told || is_end came }
+  pub same : w ≡ record v { run = w.run; most_kept = w.most_kept; is_end_told = v.is_end_told || is_end came }
 
 -- the other addresses and ranges
 abbrev pub other_breaks : Points → ℕ → List ℕ

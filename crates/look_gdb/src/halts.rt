@@ -1,12 +1,11 @@
 // gdb's walks as those of a walker, and how they end.
-ghost use Rattle.std.specs.Prelude.{◌≡◌, IfOk, min};
-ghost use Rattle.look_gdb.specs.Halts.{halt_of, is_end, spent, steps_of, until_of};
+ghost use Rattle.std.specs.Prelude.{◌≡◌, min};
+ghost use Rattle.look_gdb.specs.Halts.{halt_of, is_cut, is_end, spent, steps_of, until_of};
 
 use gdb_answers::Reason;
 use gdb_session::Halt;
 use gdb_steps::{Halt as Came, Until};
 use gdb_talk::Goal;
-use mix_bits::NoMemory;
 use mix_engine::Stop;
 
 /// Where a walk ends beside the places at which every walk does.
@@ -40,11 +39,11 @@ pub fn lesser(count: u64, budget: u32) -> u32
     }
 }
 
-/// How the end of a walk is told. Output and trace of a walk fail only for want of memory.
-pub fn halt_for(goal: Goal, came: Came) -> Result<Halt, NoMemory>
-    ensures { IfOk result (λ halt. halt ≡ halt_of goal came) }
+/// How the end of a walk is told.
+pub fn halt_for(goal: Goal, came: Came) -> Halt
+    ensures { result ≡ halt_of goal came }
 {
-    Ok(match came {
+    match came {
         Came::Breakpoint => Halt::Stopped(Reason::Breakpoint),
         Came::Watched(address) => Halt::Stopped(Reason::Changed(address)),
         Came::Arrived => Halt::Stopped(Reason::Stepped),
@@ -52,9 +51,9 @@ pub fn halt_for(goal: Goal, came: Came) -> Result<Halt, NoMemory>
         Came::Beginning => Halt::Stopped(Reason::Begins),
         Came::End(Stop::Exit(code)) => Halt::Exit(code),
         Came::End(Stop::Fault(fault)) => Halt::Stopped(Reason::Faults(fault)),
-        Came::End(_) => return Err(NoMemory),
+        Came::End(_) => Halt::Stopped(Reason::Interrupted),
         Came::Strayed => Halt::Stopped(Reason::Interrupted),
-    })
+    }
 }
 
 fn spent_for(goal: Goal) -> Reason
@@ -72,6 +71,16 @@ pub fn does_end(came: Came) -> bool
 {
     match came {
         Came::End(Stop::Exit(_) | Stop::Fault(_)) => true,
+        _ => false,
+    }
+}
+
+/// Whether the output or the trace of a walk failed, which they do only for want of memory.
+pub fn was_cut(came: Came) -> bool
+    ensures { result ≡ is_cut came }
+{
+    match came {
+        Came::End(_) => !does_end(came),
         _ => false,
     }
 }

@@ -4,7 +4,7 @@ ghost use Rattle.switch_frame.specs.Records.{isa_of};
 ghost use Rattle.gdb_steps.specs.Walkers.{IsFresh};
 
 use crate::command::{Command, Tale, read_command};
-use crate::halts::{does_end, halt_for, lesser, steps_for, until_for};
+use crate::halts::{does_end, halt_for, lesser, steps_for, until_for, was_cut};
 use crate::notes::{Ending, append_note};
 use crate::start::Start;
 use crate::tales::{append_place, append_tale};
@@ -49,9 +49,9 @@ impl<D: Devices + Drop> Model for Served<D> {
 }
 
 impl<D: Devices + Drop> Served<D> {
-    ghost use Rattle.look_gdb.specs.Halts.{is_end};
+    ghost use Rattle.look_gdb.specs.Halts.{is_cut, is_end};
     ghost use Rattle.look_gdb.specs.Notes.{note_of};
-    ghost use Rattle.look_gdb.specs.Commands.{GoesTo, GoesTowards, tale_text};
+    ghost use Rattle.look_gdb.specs.Commands.{GoesTo, tale_text};
     ghost use Rattle.look_gdb.specs.Views.{Starts};
     ghost use Rattle.look_gdb.specs.Walks.{Goes, has_room, other_breaks, other_watches, range, without};
 
@@ -83,17 +83,13 @@ impl<D: Devices + Drop> Served<D> {
         })
     }
 
-    /// Walks, and puts what is told by the way into an empty buffer.
-    fn go(&mut self, walk: Walk, console: &mut Vec<u8>) -> Result<Came, NoMemory>
+    /// Walks back or forward, and puts what is told by the way into an empty buffer.
+    fn go(&mut self, is_back: bool, bounds: Bounds, console: &mut Vec<u8>) -> Result<Came, NoMemory>
         requires { console.old.items ≡ [] }
-        ensures goes { IfOk result (λ came. Goes walk.is_back walk.goal came console.new.items self.old self.new) }
-        ensures same { self.new ≡ record self.old { run = self.new.run } }
+        ensures goes { IfOk result (λ came. Goes is_back bounds.until bounds.steps came console.new.items self.old self.new) }
+        ensures same { self.new ≡ record self.old { run = self.new.run; most_kept = self.new.most_kept } }
     {
-        let bounds = Bounds {
-            until: until_for(walk.goal),
-            steps: steps_for(walk.goal, self.budget),
-        };
-        if walk.is_back {
+        if is_back {
             self.walker.back(bounds.until, u64::from(bounds.steps))
         } else {
             go_on(
@@ -113,7 +109,12 @@ impl<D: Devices + Drop> Served<D> {
         requires { console.old.items ≡ [] }
         ensures { OnOk result (GoesTo self.old steps console.new.items self.new) }
     {
-        let came = self.go_towards(u64::from(steps), console)?;
+        let (here, there) = (self.walker.steps(), u64::from(steps));
+        let bounds = Bounds {
+            until: Until::Stopped,
+            steps: lesser(here.abs_diff(there), self.budget),
+        };
+        let came = self.go(there < here, bounds, console)?;
         self.tell_end(Goal::Step, came, console)?;
         append_place(
             self.alloc,
@@ -123,35 +124,15 @@ impl<D: Devices + Drop> Served<D> {
         )
     }
 
-    /// Walks towards a place, and puts what is told by the way into an empty buffer.
-    fn go_towards(&mut self, steps: u64, console: &mut Vec<u8>) -> Result<Came, NoMemory>
-        requires { console.old.items ≡ [] }
-        ensures goes { IfOk result (λ came. GoesTowards (nat_lt steps self.old.run.steps) steps came console.new.items self.old self.new) }
-        ensures same { self.new ≡ record self.old { run = self.new.run } }
-    {
-        let here = self.walker.steps();
-        if steps < here {
-            let count = lesser(here - steps, self.budget);
-            return self.walker.back(Until::Stopped, u64::from(count));
-        }
-        let bounds = Bounds {
-            until: Until::Stopped,
-            steps: lesser(steps - here, self.budget),
-        };
-        go_on(
-            self.alloc,
-            &mut self.walker,
-            bounds,
-            self.is_traced,
-            console,
-        )
-    }
-
     /// Tells what is told at the end of a walk, and takes note of the end of the program.
     fn tell_end(&mut self, goal: Goal, came: Came, console: &mut Vec<u8>) -> Result<(), NoMemory>
+        ensures whole { OnOk result (is_cut came ≡ false) }
         ensures tells { OnOk result (console.new.items ≡ console.old.items ++ note_of self.old.is_end_told (isa_of self.old.run.here.machine.active) goal self.old.budget came) }
         ensures same { OnOk result (self.new ≡ record self.old { is_end_told = self.old.is_end_told || is_end came }) }
     {
+        if was_cut(came) {
+            return Err(NoMemory);
+        }
         let ending = Ending {
             is_told: self.is_end_told,
             set: self.walker.machine().active.isa(),
@@ -237,9 +218,13 @@ impl<D: Devices + Drop> Target for Served<D> {
     }
 
     fn walk(&mut self, walk: Walk, console: &mut Vec<u8>) -> Result<Halt, NoMemory> {
-        let came = self.go(walk, console)?;
+        let bounds = Bounds {
+            until: until_for(walk.goal),
+            steps: steps_for(walk.goal, self.budget),
+        };
+        let came = self.go(walk.is_back, bounds, console)?;
         self.tell_end(walk.goal, came, console)?;
-        halt_for(walk.goal, came)
+        Ok(halt_for(walk.goal, came))
     }
 
     fn insert(&mut self, point: Point, address: u32, count: u32) -> bool {

@@ -7,7 +7,7 @@ use Rattle.job_words.specs.Jobs.{main_file}
 use Rattle.job_words.specs.JobsClauses.{IsProperJob}
 use Rattle.job_words.specs.declared.job.Job.{Job}
 use Rattle.mix_load.specs.LoadClauses.{AreLoadable, IsAlone, IsSmall}
-use Rattle.look_words.specs.inner.Requests.{IsUnmet}
+use Rattle.look_words.specs.Requests.{IsUnmet}
 
 none : {A B : Type 0} (o : Option A) (q : Option B) → is_some o ≡ is_some q → q ≡ None → o ≡ None
 none None q same is = refl

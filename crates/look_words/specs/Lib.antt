@@ -1,1 +1,5 @@
+pub mod Looks
+pub mod Refusals
+pub mod Requests
+pub mod Sentences
 pub mod inner

@@ -3,7 +3,7 @@ ghost use Rattle.std.specs.Prelude.{◌≡◌, ◌≤◌, IfErr, IfOk, length, m
 ghost use Rattle.std.specs.String.{string_bytes};
 ghost use Rattle.job_words.specs.Jobs.{limit_of};
 ghost use Rattle.job_words.specs.Asks.{name_at as name_of};
-ghost use Rattle.look_words.specs.inner.Requests.{IsLost};
+ghost use Rattle.look_words.specs.Requests.{IsLost};
 
 use crate::failure::Failure;
 use crate::program::value;

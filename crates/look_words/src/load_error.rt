@@ -5,7 +5,7 @@ ghost use Rattle.std.specs.String.{string_bytes};
 ghost use Rattle.mix_load.specs.LoadClauses.{IsSmall};
 ghost use Rattle.pef_head.specs.PartsClauses.{names};
 ghost use Rattle.pef_head.specs.Refusals.{refusal_of};
-ghost use Rattle.look_words.specs.inner.Refusals.{empty_text as empty_sentence, far_text, fork_refusal_text, lacking_by, lacking_in, lacking_text, large_by, large_text, no_code_text, resource_text, sentence_of, table_refusal_text};
+ghost use Rattle.look_words.specs.Refusals.{empty_text as empty_sentence, far_text, fork_refusal_text, lacking_by, lacking_in, lacking_text, large_by, large_text, no_code_text, resource_text, sentence_of, table_refusal_text};
 
 use crate::unmade::unmade_section;
 use look_text::{Piece, line_of};
@@ -204,7 +204,7 @@ fn unresolved_in(alloc: Global, pef: &Pef, i: u32) -> Result<Vec<u8>, NoMemory>
     )
 }
 
-#[tactic(auto, unfolding(crate::specs::inner::Refusals::lacking_text))]
+#[tactic(auto, unfolding(crate::specs::Refusals::lacking_text))]
 fn named(alloc: Global, i: u32, import: Import) -> Result<Vec<u8>, NoMemory>
     ensures { IfOk result (λ text. text.items ≡ lacking_text i (names import.entry)) }
 {

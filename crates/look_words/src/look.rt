@@ -1,7 +1,7 @@
 // The words of mixedlook.
 ghost use Rattle.std.specs.Prelude.{◌≡◌, ◌+◌, ◌^◌, ◌<◌, length, map};
 ghost use Rattle.std.specs.String.{string_bytes};
-ghost use Rattle.look_words.specs.inner.Looks.{by_verb, command_by, count_in, draft_of, image_of, is_given as is_given_in, key_for, key_text, keys_of, look_of, made, set_in, text_in, verb_for, why_topic as why_topic_of, with_file, with_own, with_value as draft_with, with_word};
+ghost use Rattle.look_words.specs.Looks.{by_verb, command_by, count_in, draft_of, image_of, is_given as is_given_in, key_for, key_text, keys_of, look_of, made, set_in, text_in, verb_for, why_topic as why_topic_of, with_file, with_own, with_value as draft_with, with_word};
 
 use crate::program::{UNTOLD, has_key, read_end, read_map};
 use crate::session::{UNSAID, read_gdb};
@@ -229,7 +229,7 @@ fn read_settings(
 }
 
 /// The draft with what a word sets.
-#[tactic(auto, unfolding(crate::specs::inner::Looks::with_word))]
+#[tactic(auto, unfolding(crate::specs::Looks::with_word))]
 fn read_word(topic: Topic, place: usize, word: &str, draft: Draft) -> Result<Draft, Refusal>
     ensures { result ≡ with_word topic place word.now draft }
 {

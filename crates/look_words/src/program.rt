@@ -2,7 +2,7 @@
 ghost use Rattle.std.specs.Prelude.{◌≡◌, ◌+◌, ◌^◌, ◌<◌, ◌++◌, [], not, IfOk, OnOk, filter, length, map};
 ghost use Rattle.std.specs.String.{string_bytes};
 ghost use Rattle.job_words.specs.Settings.{value_in};
-ghost use Rattle.look_words.specs.inner.Looks.{end_of, has_key as has_key_by, is_frames as is_frames_by, is_last as is_last_by, is_own as is_own_by, is_session as is_session_by, is_unmapped as is_unmapped_by, map_of, run_words as run_words_of, told_by, with_frames, with_last};
+ghost use Rattle.look_words.specs.Looks.{end_of, has_key as has_key_by, is_frames as is_frames_by, is_last as is_last_by, is_own as is_own_by, is_session as is_session_by, is_unmapped as is_unmapped_by, map_of, run_words as run_words_of, told_by, with_frames, with_last};
 ghost use Rattle.look_words.specs.inner.Typed.{typed_behind as behind_typed, typed_place as place_typed};
 
 use crate::look::{Frames, Key, Look, Refusal};

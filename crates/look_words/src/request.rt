@@ -6,9 +6,9 @@ ghost use Rattle.job_words.specs.Words.{command_of};
 ghost use Rattle.mix_load.specs.LoadClauses.{AreLoadable, IsSmall};
 ghost use Rattle.look_text.specs.Whys.{Explains};
 ghost use Rattle.look_text.specs.declared.why.Why.{Why};
-ghost use Rattle.look_words.specs.inner.Looks.{run_words as run_words_of};
-ghost use Rattle.look_words.specs.inner.Requests.{IsLost, IsUnmet, is_run};
-ghost use Rattle.look_words.specs.inner.Sentences.{why_text as why_of};
+ghost use Rattle.look_words.specs.Looks.{run_words as run_words_of};
+ghost use Rattle.look_words.specs.Requests.{IsLost, IsUnmet, is_run};
+ghost use Rattle.look_words.specs.Sentences.{why_text as why_of};
 ghost use Rattle.look_words.specs.inner.Typed.{typed_why as typed_why_of};
 
 use crate::failure::Failure;

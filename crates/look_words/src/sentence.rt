@@ -1,7 +1,7 @@
 // Sentences about words.
 ghost use Rattle.std.specs.Prelude.{◌≡◌, ◌++◌, IfOk, codes, map};
 ghost use Rattle.std.specs.String.{string_bytes};
-ghost use Rattle.look_words.specs.inner.Sentences.{before_text, key_wants as key_wants_text, missing_text, needs_of, of_word, refusal_text as refusal_of, why_by, why_text as why_of};
+ghost use Rattle.look_words.specs.Sentences.{before_text, key_wants as key_wants_text, missing_text, needs_of, of_word, refusal_text as refusal_of, why_by, why_text as why_of};
 ghost use Rattle.look_text.specs.Whys.{at_place};
 
 use crate::look::{Key, Refusal};

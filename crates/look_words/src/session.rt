@@ -1,7 +1,7 @@
 // The words of `gdb` that are not those of a run.
 ghost use Rattle.std.specs.Prelude.{◌≡◌, ◌+◌, ◌^◌, ◌<◌, length, map};
 ghost use Rattle.std.specs.String.{string_bytes};
-ghost use Rattle.look_words.specs.inner.Looks.{gdb_of, server_of, session_by, trace_said, with_input, with_keep, with_trace};
+ghost use Rattle.look_words.specs.Looks.{gdb_of, server_of, session_by, trace_said, with_input, with_keep, with_trace};
 
 use crate::look::{Key, Look, Refusal, Server};
 use crate::program::{has_key, is_unmapped, value};

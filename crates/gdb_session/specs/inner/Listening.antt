@@ -4,7 +4,7 @@ use Rattle.mix_io.specs.Streams.{Breaks, Grows, Output}
 use Rattle.gdb_packets.specs.declared.event.Event.{Event}
 use Rattle.gdb_packets.specs.Reading.{Reading, after, event_at, told_with}
 use Rattle.gdb_session.specs.Replies.{Replies, Rules}
-use Rattle.gdb_session.specs.Serving.{BreaksAt, Meets, Standing}
+use Rattle.gdb_session.specs.Serving.{BreaksAt, MeetsWhole, Standing}
 use Rattle.gdb_session.specs.declared.broken.Broken.{Broken}
 use Rattle.gdb_session.specs.declared.broken.Broken.TheVariants.{Input, NoMemory, Output as OutputFailed}
 use Rattle.gdb_session.specs.declared.outcome.Outcome.{Outcome}
@@ -25,14 +25,10 @@ RepliesUntil rules bytes s out end NoMemory = Grows out end []
 RepliesUntil rules bytes s out end Input = ⊥
 RepliesUntil {X = X} rules bytes s out end OutputFailed = (outcome : Outcome) × (t : Standing X) × RepliesTo rules bytes s t outcome × Breaks out end [] t.sent
 
--- what is put at something that a stream says is put whole
-abbrev pub Hears : {X : Type 0} → Rules X → Event × List ℕ → Option Outcome → Standing X → Standing X → Output → Output → Type 0
-Hears rules event r s t out after = (put : List ℕ) × Meets rules event r s t put × Grows out after put
-
 -- a byte completes what a decoder then tells of, or nothing
 abbrev pub Listens : {X : Type 0} → Rules X → Reading → ℕ → Option Outcome → Standing X → Standing X → Output → Output → Type 0
 Listens rules d byte r s t out end =
-    MatchOption (event_at d byte) ((r ≡ None) × (t ≡ s) × (end ≡ out)) (λ e. Hears rules (told_with e (after d byte).kept) r s t out end)
+    MatchOption (event_at d byte) ((r ≡ None) × (t ≡ s) × (end ≡ out)) (λ e. MeetsWhole rules (told_with e (after d byte).kept) r s t out end)
 
 abbrev pub ListensUntil : {X : Type 0} → Rules X → Reading → ℕ → Standing X → Output → Output → Broken → Type 0
 ListensUntil rules d byte s out end broken = MatchOption (event_at d byte) ⊥ (λ e. BreaksAt rules (told_with e (after d byte).kept) s out end broken)

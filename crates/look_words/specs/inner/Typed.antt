@@ -2,7 +2,7 @@
 use Rattle.std.specs.Prelude.{ℕ, ◌+◌, ◌-◌, ◌^◌, ◌==◌, List, [], ◌∷◌, if◌then◌else◌, min}
 use Rattle.look_text.specs.declared.why.Why.{Why}
 use Rattle.look_text.specs.declared.why.Why.TheVariants.{Keyless, Key as no_key, Value, Again}
-use Rattle.look_words.specs.inner.Looks.{is_own}
+use Rattle.look_words.specs.Looks.{is_own}
 
 -- the next place; no command line has so many words that it would be the last one of 32 bits
 abbrev pub next_place : ℕ → ℕ

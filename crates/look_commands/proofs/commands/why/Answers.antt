@@ -1,11 +1,11 @@
 -- The sentence on the words that are asked about is the one on the words behind the first.
 use Rattle.std.proofs.Common.{◌≡◌, ◌++◌, ◌∙◌, inl, ℕ, List, Option, subst}
 use Rattle.std.specs.Prelude.{codes}
-use Rattle.look_words.specs.inner.Sentences.{why_text}
+use Rattle.look_words.specs.Sentences.{why_text}
 use Rattle.look_text.specs.Whys.{Explains}
 use Rattle.look_text.specs.declared.why.Why.{Why}
-use Rattle.look_commands.specs.inner.Told.{WritesWhy}
-use Rattle.look_commands.specs.inner.Puts.{Prints}
+use Rattle.look_commands.specs.Told.{WritesWhy}
+use Rattle.look_commands.specs.Puts.{Prints}
 use Rattle.look_commands.proofs.commands.why.Goals as goal
 
 written : (asked words : List (List ℕ)) (text piece : List ℕ) (old new : Option (List ℕ)) (status : ℕ) → asked ≡ words

@@ -3,7 +3,7 @@ use Rattle.std.proofs.Common.{◌≡◌, ℕ, List, Option, Result, subst}
 use Rattle.wrapped_forks.specs.declared.fork.Fork.{Fork}
 use Rattle.wrapped_forks.specs.declared.wrapping.ForkError.{ForkError}
 use Rattle.wrapped_forks.specs.declared.wrapping.ForkPlace.{ForkPlace}
-use Rattle.look_commands.specs.inner.Forks.{PutsForkOf}
+use Rattle.look_commands.specs.Forks.{PutsForkOf}
 use Rattle.look_commands.proofs.forks.write_fork.Goals as goal
 
 put : (bytes : List ℕ) (which : Fork) (given found : Result ForkPlace ForkError) (old new : Option (List ℕ)) (status : ℕ) → given ≡ found

@@ -1,7 +1,7 @@
 -- The sentence about a file's import is that about the bytes of the file.
 use Rattle.std.proofs.Common.{◌≡◌, List, ℕ, Option, IfOk, IfSome, sym, subst}
 use Rattle.pef_head.specs.Refusals.{refusal_of}
-use Rattle.look_words.specs.inner.Refusals.{lacking_by, lacking_in}
+use Rattle.look_words.specs.Refusals.{lacking_by, lacking_in}
 use Rattle.look_words.proofs.load_error.unresolved.Goals as goal
 
 pub returns-in-Some : goal.returns-in-Some

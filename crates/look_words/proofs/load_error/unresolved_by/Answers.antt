@@ -2,7 +2,7 @@
 use Rattle.std.proofs.Common.{◌≡◌, ℕ, List, Option, None, IfOk, IfSome, ap, sym, subst, ◌∙◌}
 use Rattle.std.specs.Result.{result_err}
 use Rattle.pef_head.specs.declared.error.PefError.{PefError}
-use Rattle.look_words.specs.inner.Refusals.{lacking_in}
+use Rattle.look_words.specs.Refusals.{lacking_in}
 use Rattle.look_words.proofs.load_error.unresolved_by.Goals as goal
 
 pub returns-in-Ok : goal.returns-in-Ok

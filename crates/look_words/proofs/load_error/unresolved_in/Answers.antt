@@ -3,7 +3,7 @@ use Rattle.std.proofs.Common.{◌≡◌, Bool, true, IfOk, IfSome, if◌then◌e
 use Rattle.std.proofs.lemmas.Bool.Decides.{nat_tests}
 use Rattle.pef_head.specs.Parts.{ImportParts, import_count, import_of}
 use Rattle.pef_head.specs.PartsByNumber.{cut}
-use Rattle.look_words.specs.inner.Refusals.{lacking_text}
+use Rattle.look_words.specs.Refusals.{lacking_text}
 use Rattle.look_words.proofs.load_error.unresolved_in.Goals as goal
 
 pub returns : goal.returns

@@ -1,6 +1,6 @@
 -- The text is none of the keys before.
 use Rattle.std.proofs.Common.{◌≡◌, drop}
-use Rattle.look_words.specs.inner.Looks.{key_for}
+use Rattle.look_words.specs.Looks.{key_for}
 use Rattle.look_words.proofs.look.find.Given as goal
 
 abbrev pub invariant-loop-key : goal.invariant-loop-key

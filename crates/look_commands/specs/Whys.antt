@@ -5,8 +5,8 @@ use Rattle.mix_bits.specs.declared.isa.Isa.{Isa}
 use Rattle.mix_top.specs.Scripts.{script_of}
 use Rattle.look_why.specs.Scripts.{script_text, takes}
 use Rattle.look_why.specs.Texts.{IsTold}
-use Rattle.look_words.specs.inner.Requests.{IsLost}
-use Rattle.look_commands.specs.inner.Puts.{PutsFront}
+use Rattle.look_words.specs.Requests.{IsLost}
+use Rattle.look_commands.specs.Puts.{PutsFront}
 
 -- what is said is put, or a front of it where the output failed; the status tells whether every line is taken
 abbrev pub PutsReport : List ℕ → Bool → Option (List ℕ) → Option (List ℕ) → ℕ → Type 0

@@ -8,7 +8,7 @@ use Rattle.job_words.specs.declared.job.Command.TheVariants.{Run}
 use Rattle.job_words.specs.declared.job.Job.{Job}
 use Rattle.mix_load.specs.declared.files.Files.{Files}
 use Rattle.mix_load.specs.LoadClauses.{AreLoadable}
-use Rattle.look_words.specs.inner.Requests.{IsLost}
+use Rattle.look_words.specs.Requests.{IsLost}
 use Rattle.look_gdb.specs.declared.start.Settings.{Settings}
 use Rattle.look_commands.specs.Gdb.{ServesFiles, Wire}
 use Rattle.look_commands.specs.GdbClauses.{wire}

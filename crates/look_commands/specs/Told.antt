@@ -5,10 +5,10 @@
 use Rattle.std.specs.Prelude.{◌≡◌, ◌≢◌, ◌*◌, ◌++◌, ◌⊎◌, ℕ, Bool, true, false, List, [], ◌∷◌, codes, Option, is_some, Result, Ok, Err}
 use Rattle.std.specs.Io.KnownBytes.{Appends}
 use Rattle.wrapped_forks.specs.declared.fork.Fork.TheVariants.{Data as data_fork, Resource as resource_fork}
-use Rattle.look_commands.specs.inner.Puts.{LacksMemory, Prints, PutsFront, Writes}
-use Rattle.look_commands.specs.inner.Forks.{WritesFork}
-use Rattle.look_commands.specs.inner.Served.{ServesRun}
-use Rattle.look_commands.specs.inner.Whys.{WritesScriptWhy, WritesTextWhy}
+use Rattle.look_commands.specs.Puts.{LacksMemory, Prints, PutsFront, Writes}
+use Rattle.look_commands.specs.Forks.{WritesFork}
+use Rattle.look_commands.specs.Served.{ServesRun}
+use Rattle.look_commands.specs.Whys.{WritesScriptWhy, WritesTextWhy}
 use Rattle.job_words.specs.declared.job.BadWord.{BadWord}
 use Rattle.job_words.specs.declared.job.Command.{Command}
 use Rattle.job_words.specs.declared.job.Command.TheVariants.{Run}
@@ -23,9 +23,9 @@ use Rattle.look_text.specs.Maps.{files_text, start_text}
 use Rattle.look_text.specs.Info.{info_of}
 use Rattle.look_text.specs.Whys.{Explains}
 use Rattle.look_text.specs.declared.why.Why.{Why}
-use Rattle.look_words.specs.inner.Looks.{look_of, run_words}
-use Rattle.look_words.specs.inner.Requests.{IsLost, is_run}
-use Rattle.look_words.specs.inner.Sentences.{why_text}
+use Rattle.look_words.specs.Looks.{look_of, run_words}
+use Rattle.look_words.specs.Requests.{IsLost, is_run}
+use Rattle.look_words.specs.Sentences.{why_text}
 use Rattle.look_words.specs.declared.look.Look.{Look}
 use Rattle.look_words.specs.declared.look.Look.TheVariants.{Info, Trace, Picture, Fork, Data, Map, Scan, End, Image, Gdb, Words, WhyScript, WhyText}
 use Rattle.look_words.specs.declared.look.Refusal.{Refusal}

@@ -1,5 +1,5 @@
 -- What the output holds behind a fork of a file, and the status.
-use Rattle.std.specs.Prelude.{◌≡◌, ◌+◌, ◌⊎◌, ℕ, ◌==◌, Bool, true, false, List, length, slice_range, Option, Result, Ok, Err}
+use Rattle.std.specs.Prelude.{◌≡◌, ◌+◌, ◌⊎◌, ℕ, ◌==◌, List, length, slice_range, Option, Result, Ok, Err}
 use Rattle.std.specs.Bool.{MatchBool}
 use Rattle.wrapped_forks.specs.Forks.{fork_of}
 use Rattle.wrapped_forks.specs.declared.fork.Fork.{Fork}
@@ -9,14 +9,8 @@ use Rattle.wrapped_forks.specs.declared.wrapping.ForkError.TheVariants.{Unknown}
 use Rattle.wrapped_forks.specs.declared.wrapping.ForkPlace.{ForkPlace}
 use Rattle.binhex.specs.Forks.{ForkBytes, forks_of}
 use Rattle.binhex.specs.declared.error.BinHexError.{BinHexError}
-use Rattle.binhex.specs.declared.error.BinHexError.TheVariants.{NoMemory}
-use Rattle.look_words.specs.inner.Requests.{IsLost}
-use Rattle.look_commands.specs.inner.Puts.{LacksMemory, Prints}
-
--- that a file was not read for want of memory alone
-abbrev pub is_want_of_memory : BinHexError → Bool
-is_want_of_memory NoMemory = true
-is_want_of_memory error = false
+use Rattle.look_words.specs.Requests.{IsLost}
+use Rattle.look_commands.specs.Puts.{LacksMemory, Prints}
 
 -- a fork that was text
 abbrev pub encoded_fork : Fork → ForkBytes → List ℕ

@@ -2,7 +2,7 @@
 use Rattle.std.specs.Prelude.{ℕ, ◌++◌, List, codes, decimal, if◌then◌else◌}
 use Rattle.std.specs.Str.{bytes_eq}
 use Rattle.look_text.specs.Labels.{text_of}
-use Rattle.look_words.specs.inner.Looks.{key_text, most_bytes, most_kept, most_told}
+use Rattle.look_words.specs.Looks.{key_text, most_bytes, most_kept, most_told}
 use Rattle.look_text.specs.Wants.{range_text, wants_text}
 use Rattle.look_text.specs.Whys.{at_place}
 use Rattle.look_text.specs.declared.label.Label.{Label}
